@@ -9,7 +9,8 @@ use Rattle.aes_block.specs.KeyExpansion.{key_schedule, round_key}
 abbrev pub schedule_key : Inside → List ℕ
 schedule_key k = take (4 * (k.rounds - 6)) k.schedule
 
--- 10 or 14 rounds; the first bytes of one array are the key's schedule, and each round key of the other is unmixed
+-- the key has 10 or 14 rounds, `schedule` begins with its key schedule, and `unmixed` holds InvMixColumns of each
+-- round key
 pub record HoldsSchedule (k : Inside) : Type 0 where
   pub rounds : (k.rounds ≡ 10) ⊎ (k.rounds ≡ 14)
   pub bytes : IsBytes k.schedule

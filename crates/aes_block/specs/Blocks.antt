@@ -6,15 +6,15 @@ use Rattle.aes_block.specs.Cipher.{cipher, inverse_cipher}
 abbrev pub block : List ℕ → ℕ → List ℕ
 block bytes j = take 16 (drop (16 * j) bytes)
 
--- the first m blocks of a sequence, joined
+-- the first m blocks of a sequence, concatenated
 unfoldable pub joined : (ℕ → List ℕ) → ℕ → List ℕ
 joined blocks zero = []
 joined blocks (suc m) = joined blocks m ++ blocks m
 
--- each block enciphered
+-- each 16-byte block encrypted
 unfoldable pub cipher_blocks : List ℕ → List ℕ → List ℕ
 cipher_blocks key bytes = joined (λ j. cipher key (block bytes j)) (length bytes / 16)
 
--- each block deciphered
+-- each 16-byte block decrypted
 unfoldable pub inverse_cipher_blocks : List ℕ → List ℕ → List ℕ
 inverse_cipher_blocks key bytes = joined (λ j. inverse_cipher key (block bytes j)) (length bytes / 16)

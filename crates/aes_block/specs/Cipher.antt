@@ -12,11 +12,11 @@ state_after w block (suc n) = add_round_key (mix_columns (shift_rows (sub_bytes 
 unfoldable pub cipher_with : ℕ → List ℕ → List ℕ → List ℕ
 cipher_with nr w block = add_round_key (shift_rows (sub_bytes (state_after w block (nr - 1)))) (round_key w nr)
 
--- 5.1: the block enciphered under a key of 16 or 32 bytes
+-- 5.1: the encryption of a block with a key of 16 or 32 bytes
 unfoldable pub cipher : List ℕ → List ℕ → List ℕ
 cipher key block = cipher_with (rounds key) (key_schedule key) block
 
--- 5.3: the rounds n to 1 of INVCIPHER on the state s, and then its last round, which has no InvMixColumns
+-- 5.3: rounds n to 1 of INVCIPHER on the state s, followed by its last round, which has no InvMixColumns
 abbrev pub inverse_rounds : List ℕ → ℕ → List ℕ → List ℕ
 inverse_rounds w zero s = add_round_key (inv_sub_bytes (inv_shift_rows s)) (round_key w 0)
 inverse_rounds w (suc n) s = inverse_rounds w n (inv_mix_columns (add_round_key (inv_sub_bytes (inv_shift_rows s)) (round_key w (suc n))))
@@ -25,6 +25,6 @@ inverse_rounds w (suc n) s = inverse_rounds w n (inv_mix_columns (add_round_key 
 unfoldable pub inverse_cipher_with : ℕ → List ℕ → List ℕ → List ℕ
 inverse_cipher_with nr w block = inverse_rounds w (nr - 1) (add_round_key block (round_key w nr))
 
--- 5.3: the block deciphered under a key of 16 or 32 bytes
+-- 5.3: the decryption of a block with a key of 16 or 32 bytes
 unfoldable pub inverse_cipher : List ℕ → List ℕ → List ℕ
 inverse_cipher key block = inverse_cipher_with (rounds key) (key_schedule key) block

@@ -1,4 +1,4 @@
--- A state as four words: word c is column c, and row r of it stands in the bits from 8 * r on.
+-- A state as four words: word c is column c, with row r in bits 8r to 8r + 7.
 use Rattle.std.specs.Prelude.{◌≡◌, ℕ, ◌*◌, ◌/◌, ◌%◌, ◌^◌, ◌<◌, List, slice_index}
 use Rattle.aes_block.specs.State.{byte_at, state_of}
 

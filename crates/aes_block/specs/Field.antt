@@ -16,12 +16,12 @@ product_low (suc n) a b = bit_xor (b % 2 * a) (product_low n (xtimes a) (b / 2))
 unfoldable pub product : ℕ → ℕ → ℕ
 product a b = product_low 8 a b
 
--- the first of the n numbers from k on whose product by a is 1; 0 where there is none
+-- the first of the n numbers from k on whose product with a is 1; 0 if there is none
 abbrev pub inverse_from : ℕ → ℕ → ℕ → ℕ
 inverse_from zero k a = 0
 inverse_from (suc n) k a = if product a k == 1 then k else inverse_from n (k + 1) a
 
--- 4.4: the inverse of a byte; 0 has 0
+-- 4.4: the multiplicative inverse of a byte; that of 0 is 0
 unfoldable pub inverse : ℕ → ℕ
 inverse a = inverse_from 255 1 a
 

@@ -1,4 +1,4 @@
--- The key expansion (FIPS 197, 5.2). Words lie one after the other, four bytes each.
+-- The key expansion (FIPS 197, 5.2). Words are stored consecutively, four bytes each.
 use Rattle.std.specs.Prelude.{ℕ, zero, suc, ◌+◌, ◌-◌, ◌*◌, ◌/◌, ◌%◌, ◌==◌, ◌&&◌, List, [], ◌∷◌, ◌++◌, length, map, take, drop, slice_index, bit_xor, if◌then◌else◌}
 use Rattle.std.specs.List.{range_with_len}
 use Rattle.aes_block.specs.Field.{power_of_x, sub_byte}
@@ -23,11 +23,11 @@ add_words v w = map (λ k. bit_xor (slice_index v k) (slice_index w k)) (range_w
 abbrev pub round_constant : ℕ → List ℕ
 round_constant j = power_of_x (j - 1) ∷ 0 ∷ 0 ∷ 0 ∷ []
 
--- 5.2: what is added to word i - nk of a key of nk words to give word i, where w is word i - 1
+-- 5.2: the term added to word i - nk to give word i, for a key of nk words, where w is word i - 1
 unfoldable pub key_term : ℕ → List ℕ → ℕ → List ℕ
 key_term nk w i = if i % nk == 0 then add_words (sub_word (rot_word w)) (round_constant (i / nk)) else (if nk == 8 && i % nk == 4 then sub_word w else w)
 
--- 5.2: the words before word i, and then word i
+-- 5.2: the words before word i, followed by word i
 unfoldable pub with_word : ℕ → List ℕ → ℕ → List ℕ
 with_word nk words i = words ++ add_words (word words (i - nk)) (key_term nk (word words (i - 1)) i)
 
@@ -48,6 +48,6 @@ rounds key = key_words key + 6
 unfoldable pub key_schedule : List ℕ → List ℕ
 key_schedule key = expansion (key_words key) key (4 * (rounds key + 1) - key_words key)
 
--- the four words of the round key r
+-- round key r: four words
 abbrev pub round_key : List ℕ → ℕ → List ℕ
 round_key schedule r = take 16 (drop (16 * r) schedule)

@@ -1,8 +1,8 @@
--- The state (FIPS 197, 3.4): byte i of a block stands in row i % 4 and column i / 4.
+-- The state (FIPS 197, 3.4): byte i of a block is in row i % 4 and column i / 4.
 use Rattle.std.specs.Prelude.{◌≡◌, ℕ, ◌+◌, ◌*◌, ◌/◌, ◌%◌, ◌<◌, List, length, map, slice_index}
 use Rattle.std.specs.List.{range_with_len}
 
--- each number of the list is a byte
+-- each element of the list is a byte
 abbrev pub IsBytes : List ℕ → Type 0
 IsBytes bytes = (i : ℕ) → slice_index bytes i < 256
 

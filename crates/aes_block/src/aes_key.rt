@@ -1,4 +1,4 @@
-//! An AES key.
+//! An AES key and its operations on blocks.
 
 ghost use Rattle.std.specs.Prelude.{◌≡◌, ◌↔◌, ◌+◌, ◌*◌, ◌%◌, length, IsSome, IfSome};
 ghost use Rattle.aes_block.specs.Blocks.{cipher_blocks, inverse_cipher_blocks};
@@ -12,7 +12,7 @@ use crate::cipher::{cipher_with, inverse_cipher_with};
 use crate::key_expansion::{MAX_SCHEDULE, expand, unmixed};
 use std::marker::Model;
 
-/// A key of 16 or 32 bytes, with its key schedule. Contracts see it as those bytes.
+/// An AES key of 16 or 32 bytes, with its key schedule. Contracts treat it as the list of its bytes.
 #[derive(Drop)]
 pub struct AesKey {
     rounds: usize,
@@ -33,7 +33,7 @@ impl Model for AesKey {
 }
 
 impl AesKey {
-    /// The key of these bytes; None unless they are 16 or 32.
+    /// Returns the AES key with these bytes, or `None` unless there are 16 or 32 of them.
     pub fn new(key: &[u8]) -> Option<AesKey>
         ensures found { IsSome result ↔ IsKeyLength (length key.now) }
         ensures value { IfSome result (λ k. k ≡ key.now) }
@@ -51,7 +51,8 @@ impl AesKey {
         }
     }
 
-    /// The key schedule: the round keys one after the other, 16 bytes each.
+    /// Returns the key schedule: 11 round keys (key of 16 bytes) or 15 (32 bytes), stored consecutively, 16 bytes
+    /// each.
     pub fn schedule(&self) -> &[u8]
         ensures value { result.now ≡ key_schedule self.now }
         ensures len { length result.now ≡ 16 * rounds self.now + 16 }
@@ -60,7 +61,7 @@ impl AesKey {
         &self.schedule[..16 * (self.rounds + 1)]
     }
 
-    /// The block enciphered.
+    /// Encrypts a block.
     pub fn encrypt(&self, block: &[u8; 16]) -> [u8; 16]
         ensures value { result ≡ cipher self.now block.now }
         ensures inverse { inverse_cipher self.now result ≡ block.now }
@@ -68,7 +69,7 @@ impl AesKey {
         cipher_with(self.rounds, &self.schedule[..16 * (self.rounds + 1)], block)
     }
 
-    /// The block deciphered.
+    /// Decrypts a block.
     pub fn decrypt(&self, block: &[u8; 16]) -> [u8; 16]
         ensures value { result ≡ inverse_cipher self.now block.now }
         ensures inverse { cipher self.now result ≡ block.now }
@@ -77,7 +78,8 @@ impl AesKey {
         inverse_cipher_with(self.rounds, &self.schedule[..len], &self.unmixed, block)
     }
 
-    /// Enciphers each of whole blocks in place, one after the other.
+    /// Encrypts each block of `bytes` in place, independently of the others (ECB). The length must be a multiple of
+    /// 16.
     pub fn encrypt_blocks(&self, bytes: &mut [u8])
         requires { length bytes.old % 16 ≡ 0 }
         ensures value { bytes.new ≡ cipher_blocks self.now bytes.old }
@@ -89,7 +91,8 @@ impl AesKey {
         }
     }
 
-    /// Deciphers each of whole blocks in place, one after the other.
+    /// Decrypts each block of `bytes` in place, independently of the others (ECB). The length must be a multiple of
+    /// 16.
     pub fn decrypt_blocks(&self, bytes: &mut [u8])
         requires { length bytes.old % 16 ≡ 0 }
         ensures value { bytes.new ≡ inverse_cipher_blocks self.now bytes.old }

@@ -5,7 +5,7 @@ ghost use Rattle.aes_block.specs.Blocks.{block};
 
 use crate::state::State;
 
-/// Block `j` of whole blocks.
+/// Returns block `j` of `bytes`, the 16 bytes from byte `16 * j` on.
 pub fn block(bytes: &[u8], j: usize) -> State
     requires { 16 * j + 16 ≤ length bytes.now }
     ensures { result ≡ block bytes.now j }

@@ -1,4 +1,4 @@
-//! The cipher (FIPS 197, 5.1) and its inverse (5.3), with a key schedule.
+//! The cipher (FIPS 197, 5.1) and its inverse (5.3), for a given key schedule.
 
 ghost use Rattle.std.specs.Prelude.{◌≡◌, ℕ, ◌+◌, ◌*◌, ◌<◌, ◌≤◌, length};
 ghost use Rattle.aes_block.specs.Rounds.{inv_mix_columns};
@@ -9,7 +9,7 @@ use crate::columns::{add_round_key, block_of, columns_of, round_key};
 use crate::rounds::{inverse_round, last_inverse_round, last_round, round};
 use crate::state::State;
 
-/// CIPHER (5.1).
+/// Encrypts a block: CIPHER (5.1).
 pub fn cipher_with(rounds: usize, schedule: &[u8], block: &State) -> State
     requires rounds { 0 < rounds }
     requires schedule { 16 * rounds + 16 ≤ length schedule.now }
@@ -22,7 +22,7 @@ pub fn cipher_with(rounds: usize, schedule: &[u8], block: &State) -> State
     block_of(last_round(&state, round_key(schedule, rounds)))
 }
 
-/// INVCIPHER (5.3), where `unmixed` has the round keys after InvMixColumns.
+/// Decrypts a block: INVCIPHER (5.3). `unmixed` holds InvMixColumns of each round key.
 pub fn inverse_cipher_with(rounds: usize, schedule: &[u8], unmixed: &[u8], block: &State) -> State
     requires rounds { 0 < rounds }
     requires schedule { 16 * rounds + 16 ≤ length schedule.now }

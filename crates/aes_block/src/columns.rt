@@ -10,7 +10,7 @@ use crate::state::State;
 /// The columns of a state, with row r in bits 8r to 8r + 7.
 pub type Columns = [u32; 4];
 
-/// The column of the four bytes from byte `i` on.
+/// Returns the column stored in the four bytes from byte `i` on.
 #[inline(always)]
 fn column_at(bytes: &[u8], i: usize) -> u32
     requires { i + 4 ≤ length bytes.now }
@@ -19,7 +19,7 @@ fn column_at(bytes: &[u8], i: usize) -> u32
     u32::from_le_bytes([bytes[i], bytes[i + 1], bytes[i + 2], bytes[i + 3]])
 }
 
-/// The columns of a round key, in a key schedule of round keys one after the other.
+/// Returns a round key of a key schedule as columns.
 #[inline(always)]
 pub fn round_key(schedule: &[u8], round: usize) -> Columns
     requires { 16 * round + 16 ≤ length schedule.now }
@@ -34,7 +34,7 @@ pub fn round_key(schedule: &[u8], round: usize) -> Columns
     ]
 }
 
-/// The columns of a block.
+/// Returns the columns of a block.
 #[inline(always)]
 pub fn columns_of(block: &State) -> Columns
     ensures { state_of_columns result ≡ block.now }
@@ -42,7 +42,7 @@ pub fn columns_of(block: &State) -> Columns
     round_key(block, 0)
 }
 
-/// The block of these columns.
+/// Returns the block with these columns.
 #[inline(always)]
 pub fn block_of(columns: Columns) -> State
     ensures { result ≡ state_of_columns columns }
@@ -57,7 +57,7 @@ pub fn block_of(columns: Columns) -> State
     ]
 }
 
-/// The byte in a row of the column that is `row` columns after `column`.
+/// Returns the byte that ShiftRows moves to this row and column: the one `row` columns to the right.
 #[inline(always)]
 pub fn shifted_byte(state: &Columns, row: usize, column: usize) -> usize
     requires row { row < 4 }
@@ -67,7 +67,7 @@ pub fn shifted_byte(state: &Columns, row: usize, column: usize) -> usize
     ((state[(column + row) % 4] >> (8 * row)) & 255) as usize
 }
 
-/// The byte in a row of the column that is `row` columns before `column`.
+/// Returns the byte that InvShiftRows moves to this row and column: the one `row` columns to the left.
 #[inline(always)]
 pub fn unshifted_byte(state: &Columns, row: usize, column: usize) -> usize
     requires row { row < 4 }
@@ -77,7 +77,7 @@ pub fn unshifted_byte(state: &Columns, row: usize, column: usize) -> usize
     ((state[(column + 4 - row) % 4] >> (8 * row)) & 255) as usize
 }
 
-/// AddRoundKey (5.1.4).
+/// Adds a round key: AddRoundKey (5.1.4).
 #[inline(always)]
 pub fn add_round_key(state: Columns, key: Columns) -> Columns
     ensures { state_of_columns result ≡ add_round_key (state_of_columns state) (state_of_columns key) }

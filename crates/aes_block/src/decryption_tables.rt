@@ -1,8 +1,9 @@
-//! What a byte of the state adds to its column in a round of the inverse cipher: InvMixColumns (FIPS 197, 5.3.3) of
-//! the column that has the byte's image under InvSubBytes (5.3.2) in the byte's row, and else 0. Row r is in bits
-//! 8r to 8r + 7.
+//! The contribution of each byte of the state to its column in a round of the inverse cipher.
+//!
+//! Entry b of table r is InvMixColumns (FIPS 197, 5.3.3) of the column that has InvSubBytes (5.3.2) of b in row r and
+//! 0 in the other rows. Row r is in bits 8r to 8r + 7.
 
-/// Of a byte in row 0.
+/// The contributions of a byte in row 0.
 pub static DECRYPTION_0: [u32; 256] = [
     0x50a7f451, 0x5365417e, 0xc3a4171a, 0x965e273a, 0xcb6bab3b, 0xf1459d1f, 0xab58faac, 0x9303e34b,
     0x55fa3020, 0xf66d76ad, 0x9176cc88, 0x254c02f5, 0xfcd7e54f, 0xd7cb2ac5, 0x80443526, 0x8fa362b5,
@@ -38,7 +39,7 @@ pub static DECRYPTION_0: [u32; 256] = [
     0x7101a839, 0xdeb30c08, 0x9ce4b4d8, 0x90c15664, 0x6184cb7b, 0x70b632d5, 0x745c6c48, 0x4257b8d0,
 ];
 
-/// Of a byte in row 1.
+/// The contributions of a byte in row 1.
 pub static DECRYPTION_1: [u32; 256] = [
     0xa7f45150, 0x65417e53, 0xa4171ac3, 0x5e273a96, 0x6bab3bcb, 0x459d1ff1, 0x58faacab, 0x03e34b93,
     0xfa302055, 0x6d76adf6, 0x76cc8891, 0x4c02f525, 0xd7e54ffc, 0xcb2ac5d7, 0x44352680, 0xa362b58f,
@@ -74,7 +75,7 @@ pub static DECRYPTION_1: [u32; 256] = [
     0x01a83971, 0xb30c08de, 0xe4b4d89c, 0xc1566490, 0x84cb7b61, 0xb632d570, 0x5c6c4874, 0x57b8d042,
 ];
 
-/// Of a byte in row 2.
+/// The contributions of a byte in row 2.
 pub static DECRYPTION_2: [u32; 256] = [
     0xf45150a7, 0x417e5365, 0x171ac3a4, 0x273a965e, 0xab3bcb6b, 0x9d1ff145, 0xfaacab58, 0xe34b9303,
     0x302055fa, 0x76adf66d, 0xcc889176, 0x02f5254c, 0xe54ffcd7, 0x2ac5d7cb, 0x35268044, 0x62b58fa3,
@@ -110,7 +111,7 @@ pub static DECRYPTION_2: [u32; 256] = [
     0xa8397101, 0x0c08deb3, 0xb4d89ce4, 0x566490c1, 0xcb7b6184, 0x32d570b6, 0x6c48745c, 0xb8d04257,
 ];
 
-/// Of a byte in row 3.
+/// The contributions of a byte in row 3.
 pub static DECRYPTION_3: [u32; 256] = [
     0x5150a7f4, 0x7e536541, 0x1ac3a417, 0x3a965e27, 0x3bcb6bab, 0x1ff1459d, 0xacab58fa, 0x4b9303e3,
     0x2055fa30, 0xadf66d76, 0x889176cc, 0xf5254c02, 0x4ffcd7e5, 0xc5d7cb2a, 0x26804435, 0xb58fa362,

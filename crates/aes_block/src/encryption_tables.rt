@@ -1,7 +1,9 @@
-//! What a byte of the state adds to its column in a round of the cipher: MixColumns (FIPS 197, 5.1.3) of the column
-//! that has the byte's image under SubBytes (5.1.1) in the byte's row, and else 0. Row r is in bits 8r to 8r + 7.
+//! The contribution of each byte of the state to its column in a round of the cipher.
+//!
+//! Entry b of table r is MixColumns (FIPS 197, 5.1.3) of the column that has SubBytes (5.1.1) of b in row r and 0 in
+//! the other rows. Row r is in bits 8r to 8r + 7.
 
-/// Of a byte in row 0.
+/// The contributions of a byte in row 0.
 pub static ENCRYPTION_0: [u32; 256] = [
     0xa56363c6, 0x847c7cf8, 0x997777ee, 0x8d7b7bf6, 0x0df2f2ff, 0xbd6b6bd6, 0xb16f6fde, 0x54c5c591,
     0x50303060, 0x03010102, 0xa96767ce, 0x7d2b2b56, 0x19fefee7, 0x62d7d7b5, 0xe6abab4d, 0x9a7676ec,
@@ -37,7 +39,7 @@ pub static ENCRYPTION_0: [u32; 256] = [
     0xc3414182, 0xb0999929, 0x772d2d5a, 0x110f0f1e, 0xcbb0b07b, 0xfc5454a8, 0xd6bbbb6d, 0x3a16162c,
 ];
 
-/// Of a byte in row 1.
+/// The contributions of a byte in row 1.
 pub static ENCRYPTION_1: [u32; 256] = [
     0x6363c6a5, 0x7c7cf884, 0x7777ee99, 0x7b7bf68d, 0xf2f2ff0d, 0x6b6bd6bd, 0x6f6fdeb1, 0xc5c59154,
     0x30306050, 0x01010203, 0x6767cea9, 0x2b2b567d, 0xfefee719, 0xd7d7b562, 0xabab4de6, 0x7676ec9a,
@@ -73,7 +75,7 @@ pub static ENCRYPTION_1: [u32; 256] = [
     0x414182c3, 0x999929b0, 0x2d2d5a77, 0x0f0f1e11, 0xb0b07bcb, 0x5454a8fc, 0xbbbb6dd6, 0x16162c3a,
 ];
 
-/// Of a byte in row 2.
+/// The contributions of a byte in row 2.
 pub static ENCRYPTION_2: [u32; 256] = [
     0x63c6a563, 0x7cf8847c, 0x77ee9977, 0x7bf68d7b, 0xf2ff0df2, 0x6bd6bd6b, 0x6fdeb16f, 0xc59154c5,
     0x30605030, 0x01020301, 0x67cea967, 0x2b567d2b, 0xfee719fe, 0xd7b562d7, 0xab4de6ab, 0x76ec9a76,
@@ -109,7 +111,7 @@ pub static ENCRYPTION_2: [u32; 256] = [
     0x4182c341, 0x9929b099, 0x2d5a772d, 0x0f1e110f, 0xb07bcbb0, 0x54a8fc54, 0xbb6dd6bb, 0x162c3a16,
 ];
 
-/// Of a byte in row 3.
+/// The contributions of a byte in row 3.
 pub static ENCRYPTION_3: [u32; 256] = [
     0xc6a56363, 0xf8847c7c, 0xee997777, 0xf68d7b7b, 0xff0df2f2, 0xd6bd6b6b, 0xdeb16f6f, 0x9154c5c5,
     0x60503030, 0x02030101, 0xcea96767, 0x567d2b2b, 0xe719fefe, 0xb562d7d7, 0x4de6abab, 0xec9a7676,

@@ -3,14 +3,14 @@
 ghost use Rattle.std.specs.Prelude.{◌≡◌};
 ghost use Rattle.aes_block.specs.Field.{xtimes, product, power_of_x};
 
-/// The product by x, modulo x^8 + x^4 + x^3 + x + 1 (4.2).
+/// Returns the product of `a` by x, modulo x^8 + x^4 + x^3 + x + 1 (4.2).
 pub fn xtimes(a: u8) -> u8
     ensures { result ≡ xtimes a }
 {
     (a << 1) ^ (a >> 7) * 0x1b
 }
 
-/// The product of two bytes (4.2): the sum of the products by those powers of x that `b` has.
+/// Returns the product of two bytes (4.2): the sum of `a` times each power of x in `b`.
 pub fn multiply(a: u8, b: u8) -> u8
     ensures { result ≡ product a b }
 {
@@ -27,7 +27,7 @@ pub fn multiply(a: u8, b: u8) -> u8
     sum
 }
 
-/// x to the power `exponent`.
+/// Returns x to the power `exponent`.
 pub fn power_of_x(exponent: usize) -> u8
     ensures { result ≡ power_of_x exponent }
 {

@@ -1,4 +1,4 @@
-//! The key expansion (FIPS 197, 5.2). Words lie one after the other, four bytes each.
+//! The key expansion (FIPS 197, 5.2). Words are stored consecutively, four bytes each.
 
 ghost use Rattle.std.specs.Prelude.{◌≡◌, ℕ, ◌+◌, ◌*◌, ◌<◌, ◌≤◌, length, take};
 ghost use Rattle.aes_block.specs.KeyExpansion.{word, rot_word, sub_word, add_words, round_constant, key_term, rounds, key_schedule, round_key};
@@ -9,7 +9,7 @@ use crate::field::power_of_x;
 use crate::s_box::sub_byte;
 use crate::state::{State, inv_mix_columns};
 
-/// The most bytes of a key schedule: 15 round keys of 16.
+/// The size of the longest key schedule in bytes: 15 round keys of 16 bytes.
 pub const MAX_SCHEDULE: usize = 240;
 
 type Word = [u8; 4];
@@ -54,7 +54,7 @@ fn round_constant(j: usize) -> Word
     [power_of_x(j - 1), 0, 0, 0]
 }
 
-/// What is added to word `i - nk` to give word `i`, where `w` is word `i - 1` (5.2).
+/// Returns the term added to word `i - nk` to give word `i`, where `w` is word `i - 1` (5.2).
 fn key_term(nk: usize, w: Word, i: usize) -> Word
     requires positive { 0 < nk }
     requires past_key { nk ≤ i }
@@ -69,7 +69,7 @@ fn key_term(nk: usize, w: Word, i: usize) -> Word
     }
 }
 
-/// The key schedule of a key (5.2), and what fills the array.
+/// Returns an array that begins with the key schedule of `key` (5.2).
 pub fn expand(key: &[u8]) -> [u8; MAX_SCHEDULE]
     requires { IsKeyLength (length key.now) }
     ensures { take (16 * (rounds key.now + 1)) result ≡ key_schedule key.now }
@@ -94,7 +94,7 @@ fn round_key(schedule: &[u8; MAX_SCHEDULE], round: usize) -> State
     key
 }
 
-/// The round keys of a key schedule after InvMixColumns, by which a round of the inverse cipher may add its key last.
+/// Returns InvMixColumns of each round key, so that a round of the inverse cipher can add its key last (5.3.5).
 pub fn unmixed(schedule: &[u8; MAX_SCHEDULE]) -> [u8; MAX_SCHEDULE]
     ensures { (r : ℕ) → r < 15 → round_key result r ≡ inv_mix_columns (round_key schedule.now r) }
 {

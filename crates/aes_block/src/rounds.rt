@@ -1,4 +1,4 @@
-//! The rounds of the cipher (FIPS 197, 5.1) and of its inverse (5.3), each column by four tables.
+//! The rounds of the cipher (FIPS 197, 5.1) and of its inverse (5.3), computed with four tables for each column.
 
 ghost use Rattle.std.specs.Prelude.{◌≡◌, ◌<◌};
 ghost use Rattle.aes_block.specs.Columns.{IsColumn, state_of_columns};
@@ -9,7 +9,7 @@ use crate::decryption_tables::{DECRYPTION_0, DECRYPTION_1, DECRYPTION_2, DECRYPT
 use crate::encryption_tables::{ENCRYPTION_0, ENCRYPTION_1, ENCRYPTION_2, ENCRYPTION_3};
 use crate::s_box::{INV_S_BOX, S_BOX};
 
-/// A column after SubBytes, ShiftRows and MixColumns.
+/// Returns a column of the state after SubBytes, ShiftRows and MixColumns.
 #[inline(always)]
 fn mixed_column(state: &Columns, column: usize) -> u32
     requires { column < 4 }
@@ -21,7 +21,7 @@ fn mixed_column(state: &Columns, column: usize) -> u32
         ^ ENCRYPTION_3[shifted_byte(state, 3, column)]
 }
 
-/// A round.
+/// Runs a round of the cipher.
 #[inline(always)]
 pub fn round(state: &Columns, key: Columns) -> Columns
     ensures { state_of_columns result ≡ round (state_of_columns state.now) (state_of_columns key) }
@@ -35,7 +35,7 @@ pub fn round(state: &Columns, key: Columns) -> Columns
     add_round_key(mixed, key)
 }
 
-/// A column after SubBytes and ShiftRows.
+/// Returns a column of the state after SubBytes and ShiftRows.
 #[inline(always)]
 fn shifted_column(state: &Columns, column: usize) -> u32
     requires { column < 4 }
@@ -49,7 +49,7 @@ fn shifted_column(state: &Columns, column: usize) -> u32
     ])
 }
 
-/// The last round, which has no MixColumns.
+/// Runs the last round of the cipher, which has no MixColumns.
 #[inline(always)]
 pub fn last_round(state: &Columns, key: Columns) -> Columns
     ensures { state_of_columns result ≡ last_round (state_of_columns state.now) (state_of_columns key) }
@@ -63,7 +63,7 @@ pub fn last_round(state: &Columns, key: Columns) -> Columns
     add_round_key(shifted, key)
 }
 
-/// A column after InvShiftRows, InvSubBytes and InvMixColumns.
+/// Returns a column of the state after InvShiftRows, InvSubBytes and InvMixColumns.
 #[inline(always)]
 fn unmixed_column(state: &Columns, column: usize) -> u32
     requires { column < 4 }
@@ -75,7 +75,8 @@ fn unmixed_column(state: &Columns, column: usize) -> u32
         ^ DECRYPTION_3[unshifted_byte(state, 3, column)]
 }
 
-/// A round of the inverse cipher. Its round key is unmixed too, since InvMixColumns is linear.
+/// Runs a round of the inverse cipher. Since InvMixColumns is linear, the round key has it applied too and is added
+/// last.
 #[inline(always)]
 pub fn inverse_round(state: &Columns, unmixed_key: Columns) -> Columns
     ensures { state_of_columns result ≡ unmixed_round (state_of_columns state.now) (state_of_columns unmixed_key) }
@@ -89,7 +90,7 @@ pub fn inverse_round(state: &Columns, unmixed_key: Columns) -> Columns
     add_round_key(unmixed, unmixed_key)
 }
 
-/// A column after InvShiftRows and InvSubBytes.
+/// Returns a column of the state after InvShiftRows and InvSubBytes.
 #[inline(always)]
 fn unshifted_column(state: &Columns, column: usize) -> u32
     requires { column < 4 }
@@ -103,7 +104,7 @@ fn unshifted_column(state: &Columns, column: usize) -> u32
     ])
 }
 
-/// The last round of the inverse cipher, which has no InvMixColumns.
+/// Runs the last round of the inverse cipher, which has no InvMixColumns.
 #[inline(always)]
 pub fn last_inverse_round(state: &Columns, key: Columns) -> Columns
     ensures { state_of_columns result ≡ last_inverse_round (state_of_columns state.now) (state_of_columns key) }

@@ -1,4 +1,4 @@
-//! The state (FIPS 197, 3.4) as an array, and InvMixColumns (5.3.3) of it, by which a key's rounds are prepared.
+//! The state (FIPS 197, 3.4) as an array, and InvMixColumns (5.3.3), which is applied to round keys.
 
 ghost use Rattle.std.specs.Prelude.{◌≡◌, ℕ, ◌<◌};
 ghost use Rattle.aes_block.specs.State.{byte_at};
@@ -17,7 +17,7 @@ fn byte_at(state: &State, row: usize, column: usize) -> u8
     state[4 * column + row]
 }
 
-/// The state whose byte in each row and column is `byte(row, column)`.
+/// Returns the state whose byte in each row and column is `byte(row, column)`.
 fn state_of<F: Fn(usize, usize) -> u8>(byte: F) -> State
     requires { (row column : ℕ) → row < 4 → column < 4 → F.pre byte row column }
     ensures { (row column : ℕ) → row < 4 → column < 4 → F.post byte row column (byte_at result row column) }
@@ -29,14 +29,15 @@ fn state_of<F: Fn(usize, usize) -> u8>(byte: F) -> State
     state
 }
 
-/// A byte of an unmixed column, of the column's bytes from the same row on.
+/// Returns a byte after InvMixColumns: `a` is the column's byte in the same row, `b`, `c`, `d` are those in the next
+/// rows.
 fn unmixed_byte(a: u8, b: u8, c: u8, d: u8) -> u8
     ensures { result ≡ unmixed_byte a b c d }
 {
     multiply(a, 14) ^ multiply(b, 11) ^ (multiply(c, 13) ^ multiply(d, 9))
 }
 
-/// InvMixColumns (5.3.3).
+/// Applies InvMixColumns to a state (5.3.3).
 pub fn inv_mix_columns(state: &State) -> State
     ensures { result ≡ inv_mix_columns state.now }
 {

@@ -1,28 +1,29 @@
--- The circuit of SubBytes on numbers, bit by bit: five parts, each of the wires before it.
+-- The circuit of SubBytes on numbers, bit by bit, in five parts. Each part computes wires from those of the parts
+-- before it.
 use Rattle.std.specs.Prelude.{◌≡◌, ℕ, zero, suc, ◌<◌, List, [], ◌∷◌, length, slice_index, bit_xor, bit_and, bit_or}
 use Rattle.std.specs.Int.{bit_at}
 use Rattle.aes_lanes.specs.Planes.{plane}
 
--- in lane p and bit b a plane has what the number t has in bit v
+-- in lane p, bit b of a plane equals bit v of the number t
 pub record CarriesBit (p b v : ℕ) (x : List ℕ) (t : ℕ) : Type 0 where
   pub len : length x ≡ 32
   pub bit : bit_at (slice_index x p) b ≡ bit_at t v
 
--- and so has each of the first n planes
+-- CarriesBit for each of the first n planes and numbers
 unfoldable pub CarryEach : ℕ → ℕ → ℕ → ℕ → List (List ℕ) → List ℕ → Type 0
 CarryEach zero p b v xs ts = Unit
 CarryEach (suc n) p b v xs ts = CarryEach n p b v xs ts × CarriesBit p b v (plane xs n) (slice_index ts n)
 
--- n planes have, in each lane and bit, what a map makes of the numbers that m planes have there
+-- in each lane and bit, n planes hold the image under a map of the bits that m planes hold there
 abbrev pub Computes : (List ℕ → List ℕ) → ℕ → List (List ℕ) → ℕ → List (List ℕ) → Type 0
 Computes map m xs n ys = (p b v : ℕ) (bits : List ℕ) → p < 32 → b < 8 → v < 256 → CarryEach m p b v xs bits → CarryEach n p b v ys (map bits)
 
--- the same of a map of the numbers of m planes and those of k
+-- in each lane and bit, n planes hold the image under a map of the bits that two groups of m and k planes hold there
 abbrev pub ComputesOfBoth : (List ℕ → List ℕ → List ℕ) → ℕ → List (List ℕ) → ℕ → List (List ℕ) → ℕ → List (List ℕ) → Type 0
 ComputesOfBoth map m xs k zs n ys = (p b v : ℕ) (xs_bits zs_bits : List ℕ) → p < 32 → b < 8 → v < 256
     → CarryEach m p b v xs xs_bits → CarryEach k p b v zs zs_bits → CarryEach n p b v ys (map xs_bits zs_bits)
 
--- the sums of the byte's bits that the rest needs
+-- the linear combinations of the byte's bits that the other parts need
 unfoldable pub sums : List ℕ → List ℕ
 sums t =
     let x7 = slice_index t 0 in
@@ -56,7 +57,7 @@ sums t =
     let y18 = bit_xor y3 y6 in
     x7 ∷ y1 ∷ y2 ∷ y3 ∷ y4 ∷ y5 ∷ y6 ∷ y7 ∷ y8 ∷ y9 ∷ y10 ∷ y11 ∷ y12 ∷ y13 ∷ y14 ∷ y15 ∷ y16 ∷ y17 ∷ y18 ∷ y20 ∷ []
 
--- the element of the subfield whose inverse gives the byte's: two products and sums
+-- the element of the subfield that is inverted, from products of those sums
 unfoldable pub combined : List ℕ → List ℕ
 combined y =
     let x7 = slice_index y 0 in
@@ -180,7 +181,7 @@ products y i =
     let z17 = bit_and t41 y8 in
     z0 ∷ z1 ∷ z2 ∷ z3 ∷ z4 ∷ z5 ∷ z6 ∷ z7 ∷ z8 ∷ z9 ∷ z10 ∷ z11 ∷ z12 ∷ z13 ∷ z14 ∷ z15 ∷ z16 ∷ z17 ∷ []
 
--- the bits of the sums of the products, without those of the constant 0x63
+-- the bits of SubBytes as sums of those products, without the constant 0x63
 unfoldable pub substituted : List ℕ → List ℕ
 substituted z =
     let z0 = slice_index z 0 in

@@ -1,4 +1,4 @@
--- The constant of SubBytes (FIPS 197, 5.1.1), which is added with the round keys.
+-- The constant of SubBytes (FIPS 197, 5.1.1), which is added together with the round keys.
 use Rattle.std.specs.Prelude.{ℕ, List, bit_xor}
 use Rattle.aes_block.specs.State.{byte_at, state_of}
 

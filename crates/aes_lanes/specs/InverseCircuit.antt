@@ -1,7 +1,7 @@
--- The circuit of InvSubBytes on numbers, bit by bit: its first and its last part.
+-- The circuit of InvSubBytes on numbers, bit by bit: its first and last part. The middle parts are those of SubBytes.
 use Rattle.std.specs.Prelude.{ℕ, List, [], ◌∷◌, slice_index, bit_xor}
 
--- the sums that the rest needs, of the bits with those of the constant 0x63
+-- the linear combinations that the other parts need, of the bits of a byte to which 0x63 has been added
 unfoldable pub inverse_sums : List ℕ → List ℕ
 inverse_sums t =
     let b0 = slice_index t 0 in
@@ -35,7 +35,7 @@ inverse_sums t =
     let y15 = bit_xor y6 y0 in
     y0 ∷ y1 ∷ y2 ∷ y3 ∷ y4 ∷ y5 ∷ y6 ∷ y7 ∷ y8 ∷ y9 ∷ y10 ∷ y11 ∷ y12 ∷ y13 ∷ y14 ∷ y15 ∷ y16 ∷ y17 ∷ b6 ∷ y20 ∷ []
 
--- the bits of the sums of the products
+-- the bits of InvSubBytes as sums of the products
 unfoldable pub inverse_substituted : List ℕ → List ℕ
 inverse_substituted z =
     let z0 = slice_index z 0 in

@@ -1,4 +1,4 @@
-//! Whole blocks, sixteen at once.
+//! Encryption and decryption of any number of blocks, sixteen at a time.
 
 ghost use Rattle.std.specs.Prelude.{◌≡◌, ◌%◌, length};
 ghost use Rattle.aes_block.specs.Blocks.{cipher_blocks, inverse_cipher_blocks};
@@ -9,7 +9,7 @@ use crate::cipher::{decrypt_sixteen, encrypt_sixteen};
 use crate::keys::{KeyPlanes, MAX_KEYS};
 use aes_block::AesKey;
 
-/// Enciphers each of whole blocks in place: sixteen at once, and the rest one after the other.
+/// Encrypts each block in place: sixteen at a time, then the remaining blocks one by one.
 pub(crate) fn encrypt_blocks(key: &AesKey, keys: &[KeyPlanes; MAX_KEYS], blocks: &mut [u8])
     requires keys { HoldKeys (rounds key.now) (key_schedule key.now) keys.now }
     requires whole { length blocks.old % 16 ≡ 0 }
@@ -25,7 +25,7 @@ pub(crate) fn encrypt_blocks(key: &AesKey, keys: &[KeyPlanes; MAX_KEYS], blocks:
     key.encrypt_blocks(&mut blocks[256 * count..]);
 }
 
-/// Deciphers each of whole blocks in place: sixteen at once, and the rest one after the other.
+/// Decrypts each block in place: sixteen at a time, then the remaining blocks one by one.
 pub(crate) fn decrypt_blocks(key: &AesKey, keys: &[KeyPlanes; MAX_KEYS], blocks: &mut [u8])
     requires keys { HoldKeys (rounds key.now) (key_schedule key.now) keys.now }
     requires whole { length blocks.old % 16 ≡ 0 }

@@ -1,6 +1,7 @@
-//! The cipher (FIPS 197, 5.1) of sixteen blocks, and its inverse (5.3).
+//! The cipher (FIPS 197, 5.1) and its inverse (5.3) on sixteen blocks.
 //!
-//! After 10 or 14 rounds, two more than a multiple of four, the last two ShiftRows are still to be done.
+//! Rounds don't execute ShiftRows. The number of rounds, 10 or 14, leaves a remainder of two when divided by four, so
+//! two ShiftRows remain for the last round.
 
 ghost use Rattle.std.specs.Prelude.{◌≡◌, ℕ, ◌+◌, ◌%◌, ◌≤◌, List, length};
 ghost use Rattle.aes_lanes.specs.Keys.{HoldKeys};
@@ -11,7 +12,7 @@ use crate::planes::{planes_of, write_blocks};
 use crate::rounds::{first_inverse_key, inverse_round, last_inverse_round, last_round, round};
 use crate::sums::add_round_key;
 
-/// Enciphers sixteen blocks in place, with round keys 0 to `rounds` as planes.
+/// Encrypts sixteen blocks in place. `keys` holds round keys 0 to `rounds` as planes.
 pub(crate) fn encrypt_sixteen(keys: &[KeyPlanes; MAX_KEYS], rounds: usize, blocks: &mut [u8])
     requires blocks { length blocks.old ≡ 256 }
     requires rounds { (rounds % 4 ≡ 2) × (rounds + 1 ≤ MAX_KEYS) }
@@ -25,7 +26,7 @@ pub(crate) fn encrypt_sixteen(keys: &[KeyPlanes; MAX_KEYS], rounds: usize, block
     write_blocks(&last, blocks);
 }
 
-/// Deciphers sixteen blocks in place, with round keys 0 to `rounds` as planes.
+/// Decrypts sixteen blocks in place. `keys` holds round keys 0 to `rounds` as planes.
 pub(crate) fn decrypt_sixteen(keys: &[KeyPlanes; MAX_KEYS], rounds: usize, blocks: &mut [u8])
     requires blocks { length blocks.old ≡ 256 }
     requires rounds { (rounds % 4 ≡ 2) × (rounds + 1 ≤ MAX_KEYS) }

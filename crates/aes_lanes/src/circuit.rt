@@ -1,5 +1,5 @@
-//! The map of SubBytes (FIPS 197, 5.1.1) as a circuit of 109 gates: the inverse is taken in the subfield of 16 elements, and
-//! the affine map but for its constant is part of the last sums. A gate works on one bit each of 256 bytes.
+//! SubBytes (FIPS 197, 5.1.1) as a circuit of 109 gates: the inverse is computed in the subfield of 16 elements, and
+//! the last sums include the affine map except for its constant. A gate works on one bit of each of 256 bytes.
 
 ghost use Rattle.std.specs.Prelude.{◌≡◌, ℕ, ◌<◌};
 ghost use Rattle.aes_lanes.specs.Planes.{ArePlanes, lane_block};
@@ -10,7 +10,7 @@ ghost use Rattle.aes_lanes.specs.Constant.{add_constant};
 use crate::planes::Planes;
 use std::simd::prelude::*;
 
-// The sums of the byte's bits that the rest needs.
+// Returns the linear combinations of the byte's bits that the other parts need.
 #[inline(always)]
 fn sums(x: &Planes) -> [u8x32; 20]
     ensures { Computes sums 8 x.now 20 result }
@@ -42,8 +42,8 @@ fn sums(x: &Planes) -> [u8x32; 20]
     ]
 }
 
-// The element of the subfield whose inverse gives the byte's: two products and sums. Where a product has the sum of its two
-// factors added, both are one gate, an or.
+// Returns the element of the subfield that is inverted. A product to which both its factors are added is a single OR
+// gate.
 #[inline(always)]
 pub(crate) fn combined(sums: &[u8x32; 20]) -> [u8x32; 4]
     ensures { Computes combined 20 sums.now 4 result }
@@ -72,7 +72,7 @@ pub(crate) fn combined(sums: &[u8x32; 20]) -> [u8x32; 4]
     [t21, t18, t19, t24]
 }
 
-// The inverse in the subfield of 16 elements, and the sums of its bits: 19 gates, found by a search.
+// Returns the inverse in the subfield of 16 elements, and the sums of its bits: 19 gates, found by a search.
 #[inline(always)]
 pub(crate) fn inverse(combined: &[u8x32; 4]) -> [u8x32; 9]
     ensures { Computes inverse_bits 4 combined.now 9 result }
@@ -100,7 +100,7 @@ pub(crate) fn inverse(combined: &[u8x32; 4]) -> [u8x32; 9]
     [t29, t33, t37, t40, t41, t42, t43, t44, t45]
 }
 
-// The products of the inverse's bits and the byte's sums.
+// Returns the products of the inverse's bits and the byte's sums.
 #[inline(always)]
 pub(crate) fn products(sums: &[u8x32; 20], inverse: &[u8x32; 9]) -> [u8x32; 18]
     ensures { ComputesOfBoth products 20 sums.now 9 inverse.now 18 result }
@@ -129,7 +129,7 @@ pub(crate) fn products(sums: &[u8x32; 20], inverse: &[u8x32; 9]) -> [u8x32; 18]
     ]
 }
 
-// The bits of the sums of the products, without those of the constant 0x63.
+// Returns the bits of SubBytes as sums of the products, without the constant 0x63.
 #[inline(always)]
 fn substituted(products: &[u8x32; 18]) -> Planes
     ensures { Computes substituted 18 products.now 8 result }
@@ -167,7 +167,7 @@ fn substituted(products: &[u8x32; 18]) -> Planes
     [s7, s6, s5, s4, s3, s2, s1, s0]
 }
 
-// SubBytes (5.1.1) without its constant, which is added with the round key.
+// Applies SubBytes (5.1.1) without its constant, which is added with the round key.
 #[inline(always)]
 pub(crate) fn sub_bytes_without_constant(q: &Planes) -> Planes
     requires { ArePlanes q.now }

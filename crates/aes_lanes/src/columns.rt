@@ -1,7 +1,7 @@
 //! MixColumns and its inverse (FIPS 197, 5.1.3 and 5.3.3) on planes.
 //!
-//! No round but the last moves a row: the state is some ShiftRows ahead of its layout in the planes, `shifts` of them, and
-//! a column is gathered from the lanes in which its bytes then are.
+//! No round but the last moves rows. Until then, the state is stored with `shifts` ShiftRows pending, and a column is
+//! gathered from the lanes that hold its bytes.
 
 ghost use Rattle.std.specs.Prelude.{◌≡◌, ℕ, ◌<◌, length, slice_index};
 ghost use Rattle.aes_block.specs.Field.{xtimes};
@@ -13,9 +13,11 @@ use crate::planes::{Planes, each};
 use crate::sums::add;
 use std::simd::prelude::*;
 
-// To each lane the byte that is one row below, after as many ShiftRows.
+// Moves to each lane the byte one row below in the same column. The suffix of the variants is the number of pending
+// ShiftRows.
 //
-// The places are constants, since of a table that is read by an index only some compilers make one instruction.
+// The lane numbers are constants because only some compilers emit a single instruction for a table that is read by an
+// index.
 #[inline(always)]
 fn next_row(x: u8x32) -> u8x32
     ensures len { length result ≡ 32 }
@@ -60,7 +62,8 @@ fn next_row_after_3(x: u8x32) -> u8x32
     ])
 }
 
-// The same for two rows below: two ShiftRows more move it by four columns, which is none.
+// Moves to each lane the byte two rows below in the same column. ShiftRows twice moves that row by four columns, so
+// there are only two variants.
 #[inline(always)]
 fn opposite_row(x: u8x32) -> u8x32
     ensures len { length result ≡ 32 }
@@ -111,7 +114,7 @@ fn move_below_2(q: &Planes, shifts: usize) -> Planes
     }
 }
 
-// The product of each byte by x (4.2).
+// Multiplies each byte by x (4.2).
 #[inline(always)]
 fn double(q: &Planes) -> Planes
     requires { ArePlanes q.now }
@@ -131,7 +134,7 @@ fn double(q: &Planes) -> Planes
     ]
 }
 
-// MixColumns (5.1.3): twice the sum of a byte and the next, and the three bytes that follow.
+// Applies MixColumns (5.1.3): twice the sum of a byte and the next, plus the next three bytes.
 #[inline(always)]
 pub(crate) fn mix_columns(q: &Planes, shifts: usize) -> Planes
     requires planes { ArePlanes q.now }
@@ -147,7 +150,8 @@ pub(crate) fn mix_columns(q: &Planes, shifts: usize) -> Planes
     add(&three, &others)
 }
 
-// InvMixColumns (5.3.3): MixColumns, after four times the sum of a byte and the one two rows below is added to it.
+// Applies InvMixColumns (5.3.3): adds to each byte four times the sum of the byte and the one two rows below, then
+// applies MixColumns.
 #[inline(always)]
 pub(crate) fn inv_mix_columns(q: &Planes, shifts: usize) -> Planes
     requires planes { ArePlanes q.now }

@@ -1,5 +1,5 @@
-//! The map of InvSubBytes (FIPS 197, 5.3.2) as a circuit: that of SubBytes, whose first sums are those of the bits after the
-//! inverse of the affine map, and whose last give the inverse's bits.
+//! InvSubBytes (FIPS 197, 5.3.2) as a circuit. Its middle parts are those of SubBytes; its first sums include the
+//! inverse of the affine map, and its last sums give the bits of the inverse.
 
 ghost use Rattle.std.specs.Prelude.{◌≡◌, ℕ, ◌<◌};
 ghost use Rattle.aes_lanes.specs.Planes.{ArePlanes, lane_block};
@@ -12,7 +12,7 @@ use crate::circuit::{combined, inverse, products};
 use crate::planes::Planes;
 use std::simd::prelude::*;
 
-// The sums that the rest needs, of the bits with those of the constant 0x63.
+// Returns the linear combinations that the other parts need, of the bits of a byte to which 0x63 has been added.
 #[inline(always)]
 fn inverse_sums(x: &Planes) -> [u8x32; 20]
     ensures { Computes inverse_sums 8 x.now 20 result }
@@ -44,7 +44,7 @@ fn inverse_sums(x: &Planes) -> [u8x32; 20]
     ]
 }
 
-// The bits of the sums of the products.
+// Returns the bits of InvSubBytes as sums of the products.
 #[inline(always)]
 fn inverse_substituted(products: &[u8x32; 18]) -> Planes
     ensures { Computes inverse_substituted 18 products.now 8 result }
@@ -87,7 +87,7 @@ fn inverse_substituted(products: &[u8x32; 18]) -> Planes
     [s0, s1, s2, s3, s4, s5, s6, s7]
 }
 
-// InvSubBytes (5.3.2) of a state whose planes have the constant of SubBytes added.
+// Applies InvSubBytes (5.3.2) to states that are stored with the constant of SubBytes added.
 #[inline(always)]
 pub(crate) fn inv_sub_bytes_with_constant(q: &Planes) -> Planes
     requires { ArePlanes q.now }

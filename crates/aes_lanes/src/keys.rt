@@ -1,4 +1,4 @@
-//! Round keys as planes.
+//! Round keys stored as planes.
 
 ghost use Rattle.std.specs.Prelude.{◌≡◌, ◌+◌, ◌*◌, ◌%◌, ◌≤◌, length};
 ghost use Rattle.aes_block.specs.KeyExpansion.{rounds, key_schedule, round_key};
@@ -10,7 +10,7 @@ use crate::sums::add_constant;
 use aes_block::AesKey;
 use std::simd::prelude::*;
 
-/// The most round keys of a schedule.
+/// The largest number of round keys in a key schedule.
 pub(crate) const MAX_KEYS: usize = 15;
 
 /// The planes of sixteen copies of a round key.
@@ -54,7 +54,7 @@ impl KeyPlanes {
     }
 }
 
-// Sixteen copies of a round key.
+// Returns the planes of sixteen copies of a round key.
 fn copies(schedule: &[u8], round: usize) -> Planes
     requires { 16 * round + 16 ≤ length schedule.now }
     ensures { AreOneBlock 0 (round_key schedule.now round) result }
@@ -70,8 +70,8 @@ fn copies(schedule: &[u8], round: usize) -> Planes
     turn(&[twice; 8])
 }
 
-// Sixteen copies of a round key as it is kept: with the constant of SubBytes, but for the first, and with its rows where a
-// round finds those of its state.
+// Returns the planes of sixteen copies of a round key as it is stored: with the constant of SubBytes added, except
+// for round key 0, and with as many ShiftRows pending as the state to which it is added.
 fn kept_planes(schedule: &[u8], round: usize) -> Planes
     requires { 16 * round + 16 ≤ length schedule.now }
     ensures { AreOneBlock (round % 4) (kept_key schedule.now round) result }
@@ -88,7 +88,7 @@ fn kept_planes(schedule: &[u8], round: usize) -> Planes
     planes
 }
 
-/// The planes of the round keys 0 to `rounds`.
+/// Returns the planes of round keys 0 to `rounds`.
 pub(crate) fn key_planes(schedule: &[u8], rounds: usize) -> [KeyPlanes; MAX_KEYS]
     requires few { rounds + 1 ≤ MAX_KEYS }
     requires long { 16 * rounds + 16 ≤ length schedule.now }
@@ -102,7 +102,7 @@ pub(crate) fn key_planes(schedule: &[u8], rounds: usize) -> [KeyPlanes; MAX_KEYS
     keys
 }
 
-/// The planes of a key's round keys.
+/// Returns the planes of a key's round keys.
 pub(crate) fn planes_of_key(key: &AesKey) -> [KeyPlanes; MAX_KEYS]
     ensures { HoldKeys (rounds key.now) (key_schedule key.now) result }
 {

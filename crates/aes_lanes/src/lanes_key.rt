@@ -1,4 +1,4 @@
-//! An AES key for many blocks at once.
+//! An AES key that processes many blocks at once.
 
 ghost use Rattle.std.specs.Prelude.{◌≡◌, ◌↔◌, ◌%◌, length, IsSome, IfSome};
 ghost use Rattle.aes_block.specs.Blocks.{cipher_blocks, inverse_cipher_blocks};
@@ -9,7 +9,7 @@ use crate::keys::{KeyPlanes, MAX_KEYS, planes_of_key};
 use aes_block::AesKey;
 use std::marker::Model;
 
-/// An AES key with its round keys as planes. Contracts see it as the key's bytes.
+/// An AES key with its round keys stored as planes. Contracts treat it as the list of the key's bytes.
 #[derive(Drop)]
 pub struct LanesKey {
     key: AesKey,
@@ -29,7 +29,7 @@ impl Model for LanesKey {
 }
 
 impl LanesKey {
-    /// The key of these bytes; None unless they are 16 or 32.
+    /// Returns the key with these bytes, or `None` unless there are 16 or 32 of them.
     pub fn new(key: &[u8]) -> Option<LanesKey>
         ensures found { IsSome result ↔ IsKeyLength (length key.now) }
         ensures value { IfSome result (λ k. k ≡ key.now) }
@@ -39,7 +39,7 @@ impl LanesKey {
         Some(LanesKey { key, planes })
     }
 
-    /// Enciphers each of whole blocks in place.
+    /// Encrypts each 16-byte block in place, independently of the others (ECB). The length must be a multiple of 16.
     pub fn encrypt_blocks(&self, blocks: &mut [u8])
         requires { length blocks.old % 16 ≡ 0 }
         ensures value { blocks.new ≡ cipher_blocks self.now blocks.old }
@@ -48,7 +48,7 @@ impl LanesKey {
         encrypt_blocks(&self.key, &self.planes, blocks);
     }
 
-    /// Deciphers each of whole blocks in place.
+    /// Decrypts each 16-byte block in place, independently of the others (ECB). The length must be a multiple of 16.
     pub fn decrypt_blocks(&self, blocks: &mut [u8])
         requires { length blocks.old % 16 ≡ 0 }
         ensures value { blocks.new ≡ inverse_cipher_blocks self.now blocks.old }

@@ -1,4 +1,4 @@
-//! AES of sixteen blocks at once, bit by bit.
+//! AES of sixteen blocks at once, bitsliced.
 #![tactic(auto)]
 
 mod blocks;

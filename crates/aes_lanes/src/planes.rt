@@ -1,4 +1,4 @@
-//! Sixteen blocks as eight planes: plane k has bit k of each byte.
+//! Sixteen blocks as eight planes: plane k holds bit k of each byte.
 
 ghost use Rattle.std.specs.Prelude.{◌≡◌, ℕ, ◌+◌, ◌*◌, ◌<◌, ◌≤◌, length, slice_index};
 ghost use Rattle.aes_block.specs.Blocks.{block, joined};
@@ -8,7 +8,7 @@ use std::simd::prelude::*;
 
 pub(crate) type Planes = [u8x32; 8];
 
-// What a function makes of each plane.
+// Applies a function to each plane.
 #[inline(always)]
 pub(crate) fn each<F: Fn(u8x32) -> u8x32>(q: &Planes, lanes: F) -> Planes
     requires { (k : ℕ) → k < 8 → F.pre lanes (plane q.now k) }
@@ -25,7 +25,7 @@ pub(crate) fn each<F: Fn(u8x32) -> u8x32>(q: &Planes, lanes: F) -> Planes
     [m0, m1, m2, m3, m4, m5, m6, m7]
 }
 
-// Swaps the bits of `b` that `mask` has with those of `a` that are `by` higher.
+// Swaps the bits of `b` selected by `mask` with the bits of `a` that are `by` positions higher.
 #[inline(always)]
 fn swap_bits(a: u8x32, b: u8x32, by: u8, mask: u8) -> [u8x32; 2]
     requires { by < 8 }
@@ -70,7 +70,7 @@ fn exchange_4(q: &Planes) -> Planes
     [ae[0], bf[0], cg[0], dh[0], ae[1], bf[1], cg[1], dh[1]]
 }
 
-// Bit i of vector k becomes bit k of vector i.
+// Transposes the bits of each lane: bit i of vector k becomes bit k of vector i.
 #[inline(always)]
 pub(crate) fn turn(q: &Planes) -> Planes
     ensures { AreTurned q.now result }
@@ -89,7 +89,7 @@ fn vector_at(blocks: &[u8], i: usize) -> u8x32
     u8x32::from_slice(&blocks[32 * i..32 * i + 32])
 }
 
-// The planes of sixteen blocks.
+// Returns the planes of sixteen blocks.
 #[inline(always)]
 pub(crate) fn planes_of(blocks: &[u8]) -> Planes
     requires { length blocks.now ≡ 256 }
@@ -115,7 +115,7 @@ fn write_vector(x: u8x32, bytes: &mut [u8])
     x.copy_to_slice(bytes);
 }
 
-// Writes the blocks of these planes.
+// Writes the sixteen blocks of the planes.
 #[inline(always)]
 pub(crate) fn write_blocks(planes: &Planes, blocks: &mut [u8])
     requires { length blocks.old ≡ 256 }

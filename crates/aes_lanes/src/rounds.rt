@@ -1,7 +1,8 @@
 //! The rounds of the cipher and of its inverse (FIPS 197, 5.1 and 5.3) on planes.
 //!
-//! A state is some ShiftRows ahead of its layout in the planes: each round is one more (or, back, one less), and nothing is
-//! moved for it. Four of them are none. The constant of SubBytes is added with the round keys.
+//! A state is stored with some ShiftRows pending: each round of the cipher leaves one more, each round of the inverse
+//! one less, and no lane is moved. ShiftRows repeats after four times. The constant of SubBytes is added with the
+//! round keys.
 
 ghost use Rattle.std.specs.Prelude.{◌≡◌, ℕ, ◌+◌, ◌%◌, ◌<◌, List};
 ghost use Rattle.aes_lanes.specs.Planes.{ArePlanes};
@@ -15,7 +16,7 @@ use crate::planes::Planes;
 use crate::rows::{inv_shift_rows, shift_rows};
 use crate::sums::add_round_key;
 
-// A round, after which the state is `shifts` ShiftRows ahead of the planes.
+// Runs a round, after which the state has `shifts` ShiftRows pending.
 #[inline(always)]
 pub(crate) fn round(q: &Planes, key: &Planes, shifts: usize) -> Planes
     requires planes { ArePlanes q.now }
@@ -28,7 +29,7 @@ pub(crate) fn round(q: &Planes, key: &Planes, shifts: usize) -> Planes
     add_round_key(&mixed, key)
 }
 
-// The last round, which has no MixColumns, of a state that is one ShiftRows ahead. Its planes are those of the blocks.
+// Runs the last round, which has no MixColumns, on a state with one ShiftRows pending. The result has none pending.
 #[inline(always)]
 pub(crate) fn last_round(q: &Planes, key: &Planes) -> Planes
     requires { ArePlanes q.now }
@@ -41,7 +42,7 @@ pub(crate) fn last_round(q: &Planes, key: &Planes) -> Planes
     shift_rows(&once)
 }
 
-// The first AddRoundKey of the inverse cipher. After it the state is two ShiftRows ahead of the planes, which have the constant
+// Runs the first AddRoundKey of the inverse cipher. Afterwards the state has two ShiftRows pending and the constant
 // of SubBytes added.
 #[inline(always)]
 pub(crate) fn first_inverse_key(q: &Planes, key: &Planes) -> Planes
@@ -53,8 +54,8 @@ pub(crate) fn first_inverse_key(q: &Planes, key: &Planes) -> Planes
     add_round_key(&back, key)
 }
 
-// A round of the inverse cipher, after which the state is `shifts` ShiftRows ahead. The planes have the constant added before
-// it and after it.
+// Runs a round of the inverse cipher, after which the state has `shifts` ShiftRows pending. The stored state has the
+// constant of SubBytes added before and after it.
 #[inline(always)]
 pub(crate) fn inverse_round(q: &Planes, key: &Planes, shifts: usize) -> Planes
     requires planes { ArePlanes q.now }
@@ -67,7 +68,7 @@ pub(crate) fn inverse_round(q: &Planes, key: &Planes, shifts: usize) -> Planes
     inv_mix_columns(&keyed, shifts)
 }
 
-// The last round of the inverse cipher, which has no InvMixColumns and no constant after it.
+// Runs the last round of the inverse cipher, which has no InvMixColumns and leaves no constant added.
 #[inline(always)]
 pub(crate) fn last_inverse_round(q: &Planes, key: &Planes) -> Planes
     requires { ArePlanes q.now }

@@ -1,4 +1,4 @@
-//! ShiftRows and its inverse (FIPS 197, 5.1.2 and 5.3.1) on planes: lanes are moved.
+//! ShiftRows and its inverse (FIPS 197, 5.1.2 and 5.3.1) on planes, as permutations of lanes.
 
 ghost use Rattle.std.specs.Prelude.{◌≡◌, ℕ, ◌<◌, length, slice_index};
 ghost use Rattle.aes_block.specs.Rounds.{shift_rows, inv_shift_rows};
@@ -43,7 +43,7 @@ fn move_unshifted(q: &Planes) -> Planes
     each(q, lanes_unshifted)
 }
 
-// ShiftRows (5.1.2).
+// Applies ShiftRows (5.1.2).
 #[inline(always)]
 pub(crate) fn shift_rows(q: &Planes) -> Planes
     ensures planes { ArePlanes result }
@@ -52,7 +52,7 @@ pub(crate) fn shift_rows(q: &Planes) -> Planes
     move_shifted(q)
 }
 
-// InvShiftRows (5.3.1).
+// Applies InvShiftRows (5.3.1).
 #[inline(always)]
 pub(crate) fn inv_shift_rows(q: &Planes) -> Planes
     ensures planes { ArePlanes result }

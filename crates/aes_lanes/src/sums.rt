@@ -1,4 +1,4 @@
-//! Sums of planes: AddRoundKey (FIPS 197, 5.1.4), and the constant of SubBytes.
+//! Sums of planes: AddRoundKey (FIPS 197, 5.1.4) and the constant of SubBytes.
 
 ghost use Rattle.std.specs.Prelude.{◌≡◌, ℕ, ◌<◌, List, length, slice_index, bit_xor};
 ghost use Rattle.aes_lanes.specs.Planes.{ArePlanes, lane_block, AreSums};
@@ -32,7 +32,7 @@ pub(crate) fn add(a: &Planes, b: &Planes) -> Planes
     [s0, s1, s2, s3, s4, s5, s6, s7]
 }
 
-// AddRoundKey (5.1.4) of a state and a round key that are equally many ShiftRows ahead of their layout in the planes.
+// Applies AddRoundKey (5.1.4). The state and the round key must have the same number of ShiftRows pending.
 #[inline(always)]
 pub(crate) fn add_round_key(q: &Planes, key: &Planes) -> Planes
     ensures planes { ArePlanes result }

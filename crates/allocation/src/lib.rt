@@ -1,4 +1,4 @@
-//! Allocations, and the evidence that one was refused.
+//! Allocations, and the evidence that one failed.
 #![tactic(auto)]
 
 mod maps;

@@ -1,4 +1,4 @@
-//! Maps that grow.
+//! Insertion into maps.
 ghost use Rattle.std.specs.Prelude.{◌≡◌, Some, IfOk, IfErr, OnOk, OnErr};
 ghost use Rattle.std.specs.HashMap.{get, IsUnchanged, Updates};
 ghost use Rattle.allocation.specs.Asked.{WasRefused};
@@ -7,11 +7,11 @@ use crate::out_of_memory::{OutOfMemory, refused};
 use std::collections::HashMap;
 use std::hash::Hash;
 
-/// Puts a value under a key, and returns the value that was there.
+/// Inserts a value under a key, and returns the previous value.
 ///
 /// # Errors
 ///
-/// `OutOfMemory` if the key was new and the allocator refused room for it; the map keeps its entries.
+/// `OutOfMemory` if the key is new and the allocation of room for it fails; the map keeps its entries.
 pub fn insert<K: Eq + Hash + Drop, V: Drop>(
     map: &mut HashMap<K, V>,
     key: K,

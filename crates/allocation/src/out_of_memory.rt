@@ -1,10 +1,10 @@
-//! The error of a refused allocation.
+//! The error of a failed allocation.
 ghost use Rattle.std.specs.Prelude.{◌≡◌, ◌≤◌};
 ghost use Rattle.allocation.specs.Refusal.{IsRefused, IsRefused-prop};
 
 use std::alloc::AllocError;
 
-/// An allocation was refused. The value is evidence: only the functions of this crate make one.
+/// An allocation failed. The value is evidence of that: only the functions of this crate create one.
 #[derive(Clone, Copy, Debug, PartialEq, Eq)]
 pub struct OutOfMemory {
     asked: usize,
@@ -14,7 +14,7 @@ pub struct OutOfMemory {
 impl OutOfMemory {
     ghost use Rattle.allocation.specs.Asked.{asked};
 
-    /// For how many elements the allocation was to make room.
+    /// Returns the number of elements that the allocation asked for.
     pub fn asked(&self) -> usize
         ensures { result ≡ asked self.now }
     {
@@ -31,7 +31,7 @@ impl From<OutOfMemory> for AllocError {
     }
 }
 
-// Called only where the library refused an allocation of that many elements.
+// Called only if the library reported the failure of an allocation of that many elements.
 pub(crate) fn refused(asked: usize) -> OutOfMemory
     ensures { result.asked ≡ asked }
 {

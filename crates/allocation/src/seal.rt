@@ -1,12 +1,12 @@
-//! What the evidence of a refusal is made from.
+//! The source of the evidence that an allocation failed.
 
-/// The library refused an allocation. No code makes a value of this type, and no other crate can name it, so only
-/// the proofs of this crate make evidence.
+/// The library reported that an allocation failed. No code creates a value of this type, and no other crate can name
+/// it, so only the proofs of this crate create evidence.
 pub(crate) enum Seal {
     Library,
 }
 
-// Types that no code uses are left out of the proofs.
+// Types that no code uses aren't available to proofs.
 pub(crate) fn is_library(seal: &Seal) -> bool {
     match seal {
         Seal::Library => true,

@@ -1,18 +1,18 @@
-//! Texts that grow.
+//! Strings.
 ghost use Rattle.std.specs.Prelude.{◌≡◌, ◌≤◌, ◌++◌, ◌+◌, length, IfOk, IfErr, OnOk, OnErr, IsOk, string_bytes, string_capacity, string_len, encode_utf8, decimal};
 ghost use Rattle.allocation.specs.Asked.{WasRefused};
 
 use crate::out_of_memory::{OutOfMemory, refused};
 use std::alloc::Global;
 
-// The digits of the greatest `u64`.
+// The number of digits of the largest `u64`.
 const DIGITS: usize = 20;
 
-/// One text after the other.
+/// Returns two strings concatenated.
 ///
 /// # Errors
 ///
-/// `OutOfMemory` if the allocator refused room for both.
+/// `OutOfMemory` if the allocation of room for both fails.
 pub fn joined(alloc: Global, front: &str, back: &str) -> Result<String, OutOfMemory>
     ensures ok { IfOk result (λ t. string_bytes t ≡ front.now ++ back.now) }
     ensures err { IfErr result (WasRefused (length front.now + length back.now)) }
@@ -26,11 +26,11 @@ pub fn joined(alloc: Global, front: &str, back: &str) -> Result<String, OutOfMem
     Ok(text)
 }
 
-/// Appends a text.
+/// Appends a string.
 ///
 /// # Errors
 ///
-/// `OutOfMemory` if it didn't fit and the allocator refused room for it; `text` stays as it is.
+/// `OutOfMemory` if the string doesn't fit and the allocation of room for it fails; `text` is unchanged.
 pub fn push_text(text: &mut String, more: &str) -> Result<(), OutOfMemory>
     ensures ok { OnOk result (string_bytes text.new ≡ string_bytes text.old ++ more.now) }
     ensures same { OnErr result (string_bytes text.new ≡ string_bytes text.old) }
@@ -43,11 +43,11 @@ pub fn push_text(text: &mut String, more: &str) -> Result<(), OutOfMemory>
     }
 }
 
-/// Appends a character, in up to four bytes.
+/// Appends a character, up to four bytes.
 ///
 /// # Errors
 ///
-/// `OutOfMemory` if it didn't fit and the allocator refused room for it; `text` stays as it is.
+/// `OutOfMemory` if it doesn't fit and the allocation of room for it fails; `text` is unchanged.
 pub fn push_char(text: &mut String, c: char) -> Result<(), OutOfMemory>
     ensures ok { OnOk result (string_bytes text.new ≡ string_bytes text.old ++ encode_utf8 c) }
     ensures same { OnErr result (string_bytes text.new ≡ string_bytes text.old) }
@@ -60,11 +60,11 @@ pub fn push_char(text: &mut String, c: char) -> Result<(), OutOfMemory>
     }
 }
 
-/// A number in decimal.
+/// Returns a number in decimal.
 ///
 /// # Errors
 ///
-/// `OutOfMemory` if the allocator refused room for its digits.
+/// `OutOfMemory` if the allocation of room for its digits fails.
 pub fn number(alloc: Global, number: u64) -> Result<String, OutOfMemory>
     ensures ok { IfOk result (λ t. string_bytes t ≡ decimal number) }
     ensures err { IfErr result (WasRefused 20) }

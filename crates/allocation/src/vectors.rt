@@ -1,15 +1,15 @@
-//! Vectors that grow.
+//! Vectors.
 ghost use Rattle.std.specs.Prelude.{◌≡◌, ◌≤◌, ◌<◌, ◌+◌, ◌-◌, ◌++◌, ◌∷◌, [], length, take, replicate, IfOk, IsOk, OnOk, OnErr, IfErr, vec_capacity, vec_len};
 ghost use Rattle.allocation.specs.Asked.{WasRefused};
 
 use crate::out_of_memory::{OutOfMemory, refused};
 use std::alloc::Global;
 
-/// An empty vector with room for that many elements.
+/// Returns an empty vector with room for `capacity` elements.
 ///
 /// # Errors
 ///
-/// `OutOfMemory` if the allocator refused the room.
+/// `OutOfMemory` if the allocation fails.
 pub fn with_capacity<T>(alloc: Global, capacity: usize) -> Result<Vec<T>, OutOfMemory>
     ensures ok { IfOk result (λ v. (v.items ≡ []) × (capacity ≤ vec_capacity v)) }
     ensures err { IfErr result (WasRefused capacity) }
@@ -25,7 +25,8 @@ pub fn with_capacity<T>(alloc: Global, capacity: usize) -> Result<Vec<T>, OutOfM
 ///
 /// # Errors
 ///
-/// `OutOfMemory` if the vector was full and the allocator refused it room for one more; it keeps its elements.
+/// `OutOfMemory` if the vector is full and the allocation of room for one more element fails; the vector keeps its
+/// elements.
 pub fn push<T: Drop>(v: &mut Vec<T>, x: T) -> Result<(), OutOfMemory>
     ensures ok { OnOk result (v.new.items ≡ v.old.items ++ x ∷ []) }
     ensures same { OnErr result (v.new.items ≡ v.old.items) }
@@ -38,11 +39,11 @@ pub fn push<T: Drop>(v: &mut Vec<T>, x: T) -> Result<(), OutOfMemory>
     }
 }
 
-/// Makes room for that many more elements.
+/// Reserves room for `more` elements.
 ///
 /// # Errors
 ///
-/// `OutOfMemory` if they didn't fit and the allocator refused room for them.
+/// `OutOfMemory` if they don't fit and the allocation of room for them fails.
 pub fn reserve<T>(v: &mut Vec<T>, more: usize) -> Result<(), OutOfMemory>
     ensures same { v.new.items ≡ v.old.items }
     ensures ok { OnOk result (vec_len v.new + more ≤ vec_capacity v.new) }
@@ -55,11 +56,11 @@ pub fn reserve<T>(v: &mut Vec<T>, more: usize) -> Result<(), OutOfMemory>
     }
 }
 
-/// Appends copies of elements.
+/// Appends copies of the elements.
 ///
 /// # Errors
 ///
-/// `OutOfMemory` if they didn't fit and the allocator refused room for them; the vector keeps its elements.
+/// `OutOfMemory` if they don't fit and the allocation of room for them fails; the vector keeps its elements.
 pub fn append<T: Copy>(v: &mut Vec<T>, items: &[T]) -> Result<(), OutOfMemory>
     ensures ok { OnOk result (v.new.items ≡ v.old.items ++ items.now) }
     ensures same { OnErr result (v.new.items ≡ v.old.items) }
@@ -72,11 +73,11 @@ pub fn append<T: Copy>(v: &mut Vec<T>, items: &[T]) -> Result<(), OutOfMemory>
     }
 }
 
-/// Cuts a vector to that many elements, or fills it up to them with `value`.
+/// Truncates a vector to `count` elements, or extends it to `count` elements with copies of `value`.
 ///
 /// # Errors
 ///
-/// `OutOfMemory` if they didn't fit and the allocator refused room for them; the vector keeps its elements.
+/// `OutOfMemory` if they don't fit and the allocation of room for them fails; the vector keeps its elements.
 pub fn resize<T: Copy>(v: &mut Vec<T>, count: usize, value: T) -> Result<(), OutOfMemory>
     ensures ok { OnOk result (v.new.items ≡ take count v.old.items ++ replicate (count - vec_len v.old) value) }
     ensures same { OnErr result (v.new.items ≡ v.old.items) }
@@ -89,11 +90,11 @@ pub fn resize<T: Copy>(v: &mut Vec<T>, count: usize, value: T) -> Result<(), Out
     }
 }
 
-/// A vector of the same elements.
+/// Returns a vector with copies of the elements.
 ///
 /// # Errors
 ///
-/// `OutOfMemory` if the allocator refused room for them.
+/// `OutOfMemory` if the allocation fails.
 pub fn copied<T: Copy>(alloc: Global, items: &[T]) -> Result<Vec<T>, OutOfMemory>
     ensures ok { IfOk result (λ v. v.items ≡ items.now) }
     ensures err { IfErr result (WasRefused (length items.now)) }
@@ -104,11 +105,11 @@ pub fn copied<T: Copy>(alloc: Global, items: &[T]) -> Result<Vec<T>, OutOfMemory
     }
 }
 
-/// A vector of that many times `value`.
+/// Returns a vector of `count` copies of `value`.
 ///
 /// # Errors
 ///
-/// `OutOfMemory` if the allocator refused room for them.
+/// `OutOfMemory` if the allocation fails.
 pub fn filled<T: Copy + Drop>(alloc: Global, count: usize, value: T) -> Result<Vec<T>, OutOfMemory>
     ensures ok { IfOk result (λ v. v.items ≡ replicate count value) }
     ensures err { IfErr result (WasRefused count) }
@@ -118,11 +119,11 @@ pub fn filled<T: Copy + Drop>(alloc: Global, count: usize, value: T) -> Result<V
     Ok(v)
 }
 
-/// That many zero bytes.
+/// Returns `count` zero bytes.
 ///
 /// # Errors
 ///
-/// `OutOfMemory` if the allocator refused room for them.
+/// `OutOfMemory` if the allocation fails.
 pub fn zeros(alloc: Global, count: usize) -> Result<Vec<u8>, OutOfMemory>
     ensures ok { IfOk result (λ v. v.items ≡ replicate count 0) }
     ensures err { IfErr result (WasRefused count) }

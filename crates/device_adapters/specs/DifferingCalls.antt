@@ -1,13 +1,13 @@
--- Writes, by what a proof sees of a device: as it was before, and then after.
+-- Writes, from the device states that a proof sees: first those before, then those after.
 use Rattle.std.specs.Prelude.{◌≡◌, ℕ, ◌/◌, IsTrue, List, length}
 use Rattle.block_device.specs.Device.{Device, sectors_of}
 use Rattle.device_adapters.specs.Differing.{AreSectorsPut, stands}
 
--- so many sectors were put from the first on, and nothing else changed
+-- if the device is steady, the sectors from `first` on were replaced, and nothing else changed
 abbrev pub PutsOn : {D : Type 0} → (D → Device) → D → D → ℕ → List ℕ → Type 0
 PutsOn state d d' first bytes = AreSectorsPut (state d) first (sectors_of (length bytes / 512) bytes) (state d')
 
--- bytes that stand there already, over a steady device, aren't written
+-- if the device is steady and already holds the bytes, nothing is written
 abbrev pub LeavesStanding : {D : Type 0} → (D → Device) → D → D → ℕ → List ℕ → Type 0
 LeavesStanding state d d' first bytes =
     IsTrue (state d).steady → stands (state d).image first (sectors_of (length bytes / 512) bytes) → (state d').writes ≡ (state d).writes

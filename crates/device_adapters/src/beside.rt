@@ -1,11 +1,11 @@
-//! What lies beside a window.
+//! The sectors outside of a window.
 ghost use Rattle.std.specs.Prelude.{None, Option};
 ghost use Rattle.device_adapters.specs.Parts.{Outside};
 
 use std::marker::Brand;
 
-/// Names, for proofs alone, the sectors of a device that lie outside of a window, if a proof follows them. A
-/// caller that needs their content afterwards passes `Brand`, and picks them in its proof.
+/// Names the sectors of a device that are outside of a window, for proofs that need them. A caller that needs their
+/// contents afterwards passes `Brand`, and picks them in its proof.
 pub trait Beside {
     ghost outside: { Option Outside };
 }

@@ -1,4 +1,4 @@
-//! A device of which only what differs is written.
+//! A device that writes only sectors that differ.
 ghost use Rattle.std.specs.Prelude.{◌≡◌, ◌+◌, false, length, is_ok, IsOk, IsTrue, OnErr, OnOk};
 ghost use Rattle.block_device.specs.Call.{DeviceDoes, Sync, Write};
 ghost use Rattle.block_device.specs.CallList.{DeviceCalls, sectors_read, sectors_written};
@@ -11,22 +11,22 @@ ghost use Rattle.device_adapters.specs.Differing.{differing};
 use crate::put::put_blocks;
 use block_device::{BlockDev, DeviceFault, SyncDev};
 
-/// Before a block of 4,096 bytes is written it is read, and sectors that already have the content aren't written. So a
-/// sparse file stays sparse, and the same bytes written twice are written once. It counts requested sectors, while its
-/// device counts those that are read and written.
+/// A device that reads each block of 4,096 bytes before it is written, and doesn't write sectors that already have
+/// the same contents. A sparse file stays sparse. The counters of this device are of the sectors requested; those of
+/// the inner device are of the sectors read and written.
 #[derive(Drop)]
 pub struct Differing<D> {
-    /// The device that is compared with.
+    /// The inner device.
     pub inner: D,
-    /// The requested sectors.
+    /// The sectors requested.
     pub reads: u64,
     pub writes: u64,
-    /// A write was requested since the last successful sync.
+    /// Whether a write was requested since the last successful sync.
     pub dirty: bool,
 }
 
 impl<D> Differing<D> {
-    /// Makes a device to which no request was made yet.
+    /// Returns a device without requests.
     pub fn new(inner: D) -> Differing<D>
         ensures { result ≡ record { inner = inner; reads = 0; writes = 0; dirty = false } }
     {
@@ -72,7 +72,7 @@ impl<D: BlockDev> BlockDev for Differing<D> {
         ensures sure { IsTrue (⟦<Differing<D> as BlockDev>⟧.state self.old).never_fails → IsOk result }
         ensures fault { OnErr result (DeviceFails ⟦<Differing<D> as BlockDev>⟧.state self.old self.new) }
 
-        // Equal sectors aren't written.
+        // Sectors with the same contents aren't written.
         ensures same { OnOk result (LeavesStanding D.state self.old.inner self.new.inner first bytes.now) }
     {
         self.writes = self.writes.saturating_add(bytes.len() as u64 / 512);
@@ -104,7 +104,7 @@ impl<D: SyncDev> SyncDev for Differing<D> {
         ensures call { DeviceDoes ⟦<Differing<D> as BlockDev>⟧.state ⟦<Differing<D> as BlockDev>⟧.does self.old (Sync (is_ok result)) self.new }
         ensures sure { IsTrue (⟦<Differing<D> as BlockDev>⟧.state self.old).never_fails → IsOk result }
 
-        // It is one of the device that is compared with.
+        // It is one sync of the inner device.
         ensures inner { SyncsInner D.state self.old.inner self.new.inner (is_ok result) }
     {
         self.inner.sync()?;

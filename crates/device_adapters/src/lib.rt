@@ -1,4 +1,5 @@
-//! Devices over another device: a part of it, one that writes only sectors that differ, and one that reports its reads as progress.
+//! Devices over another device: a part of it, one that writes only sectors that differ, and one that reports its
+//! reads as progress.
 #![tactic(auto)]
 
 mod beside;

@@ -5,20 +5,20 @@ ghost use Rattle.device_adapters.specs.Parts.{LiesInside, overlaps, part_before,
 use block_device::BlockDev;
 use thiserror::Error;
 
-/// So many sectors of 512 bytes, from the first one on.
+/// `count` sectors of 512 bytes from sector `first` on.
 #[derive(Clone, Copy, Debug, PartialEq, Eq)]
 pub struct Part {
     pub first: u64,
     pub count: u64,
 }
 
-/// The part isn't inside the device.
+/// The part is not within the device.
 #[derive(Clone, Copy, Debug, PartialEq, Eq, Error)]
 #[error("OutsideDevice")]
 pub struct OutsideDevice;
 
 impl Part {
-    /// What lies on the device from that sector on; no sector where the device ends before it.
+    /// Returns the part of the device from sector `first` on; it is empty if the device ends before that sector.
     pub fn behind<D: BlockDev>(device: &D, first: u64) -> Part
         ensures value { result ≡ part_behind (D.state device.now) first }
         ensures inside { LiesInside (D.state device.now) result }
@@ -31,7 +31,7 @@ impl Part {
         }
     }
 
-    /// Returns the part of the device before that sector, which may be past its end.
+    /// Returns the part of the device before sector `end`, which may be after the end of the device.
     pub fn before<D: BlockDev>(device: &D, end: u64) -> Part
         ensures value { result ≡ part_before (D.state device.now) end }
         ensures inside { LiesInside (D.state device.now) result }
@@ -41,7 +41,7 @@ impl Part {
         Part { first: 0, count }
     }
 
-    /// Whether it lies inside the device.
+    /// Returns whether the part is within the device.
     pub fn is_inside<D: BlockDev>(self, device: &D) -> bool
         ensures inside { IsTrue result ↔ LiesInside (D.state device.now) self }
         ensures small { IsTrue result → self.first + self.count ≤ 2 ^ 54 }
@@ -50,7 +50,7 @@ impl Part {
         self.first <= sectors && self.count <= sectors - self.first
     }
 
-    /// Whether both have a sector in common.
+    /// Returns whether the parts have a sector in common.
     pub fn overlaps(self, other: Part) -> bool
         ensures { result ≡ overlaps self other }
     {

@@ -1,11 +1,11 @@
-//! Who is told how far a transfer has come.
+//! The receivers of progress reports.
 
-/// Is told between the pieces of a transfer how far it has come. What a transfer promises holds whatever is told.
+/// Receives the progress of a transfer between its pieces. The results of a transfer don't depend on it.
 pub trait Progress {
-    /// A transfer begins of which it is to be told.
+    /// Begins a transfer whose progress is shown.
     fn begin(&mut self);
 
-    /// So many bytes are done, of so many where it is known how many there are. Nothing is shown of a transfer that wasn't
+    /// Reports that `done` bytes are done, of `all` if that is known. Nothing is shown for a transfer that wasn't
     /// begun.
     fn tell(&mut self, done: u64, all: Option<u64>);
 }

@@ -1,4 +1,4 @@
-//! Progress on one line of a terminal.
+//! Progress on a single line of a terminal.
 use crate::progress::Progress;
 use std::io;
 use std::rt::Clock;
@@ -6,17 +6,17 @@ use std::time::Instant;
 
 const MIB: u64 = 1 << 20;
 
-/// The least time between two lines, in milliseconds.
+/// The shortest time between two lines, in milliseconds.
 const BETWEEN: u128 = 500;
 
-/// What a terminal (ECMA-48, CUU and EL) is told to write over the line above, and to clear what is left of it.
+/// Control sequences (ECMA-48, CUU and EL): move to the start of the line above, and clear the rest of a line.
 const OVER: &str = "\x1b[A\r";
 
 const CLEAR: &str = "\x1b[K";
 
-/// Prints to standard error, at most twice a second, one line that is written over: the bytes that are done, of how many,
-/// the speed, and the seconds that are left. What is printed meanwhile, as a fault, stands on a line of its own. Of a
-/// transfer that takes no half of a second, or where standard error or the clock fails, nothing is shown.
+/// Prints progress to standard error at most twice a second, on a line that overwrites the previous one: the bytes
+/// done, the total, the speed, and the seconds left. Other output, such as a fault, is on a line of its own. Nothing
+/// is shown for a transfer that takes less than half a second, or if standard error or the clock fails.
 #[derive(Drop)]
 pub struct ProgressLine<'a, R> {
     rt: &'a R,
@@ -25,7 +25,7 @@ pub struct ProgressLine<'a, R> {
 }
 
 impl<'a, R: Clock + Eprint> ProgressLine<'a, R> {
-    /// A line of which nothing is shown until a transfer begins.
+    /// Returns a line that shows nothing until a transfer begins.
     pub fn new(rt: &'a R) -> ProgressLine<'a, R> {
         ProgressLine {
             rt,
@@ -34,7 +34,7 @@ impl<'a, R: Clock + Eprint> ProgressLine<'a, R> {
         }
     }
 
-    // Whether it is time for the next line.
+    // Returns whether it is time for the next line.
     fn is_due(&self, begun: Instant, now: Instant) -> bool {
         let last = self.shown.unwrap_or(begun);
         now.duration_since(last).as_millis() >= BETWEEN
@@ -65,14 +65,14 @@ impl<'a, R: Clock + Eprint> ProgressLine<'a, R> {
     }
 }
 
-// How many bytes in a second, where so many were done in that time.
+// Returns the number of bytes per second, given the bytes done in `millis` milliseconds.
 fn per_second(done: u64, millis: u128) -> u64 {
     let speed = (u128::from(done) * 1000).checked_div(millis).unwrap_or(0);
     u64::try_from(speed).unwrap_or(u64::MAX)
 }
 
 impl<R: Clock + Eprint> Progress for ProgressLine<'_, R> {
-    // The time is counted from here on.
+    // Time is measured from here on.
     fn begin(&mut self) {
         self.begun = Instant::now(self.rt).ok();
     }

@@ -1,4 +1,4 @@
-//! Bytes that are written where they differ.
+//! Writing bytes only if they differ.
 ghost use Rattle.std.specs.Prelude.{◌≡◌, ◌+◌, ◌*◌, ◌/◌, ◌≤◌, length, is_ok, IsOk, IsTrue, OnErr, OnOk};
 ghost use Rattle.block_device.specs.CallList.{DeviceCalls};
 ghost use Rattle.block_device.specs.Device.{HasFailed, IsInside, IsWhole, failures_after};
@@ -9,7 +9,7 @@ use block_device::{BlockDev, DeviceFault};
 
 const BLOCK: usize = 4096;
 
-// Writes these sectors, where they aren't what a read gives.
+// Writes these sectors unless a read returns the same bytes.
 fn put_block<D: BlockDev>(
     device: &mut D,
     first: u64,
@@ -33,7 +33,7 @@ fn put_block<D: BlockDev>(
     device.write(first, bytes)
 }
 
-/// Writes those blocks of 4,096 bytes, from the first sector on, that aren't what a read gives.
+/// Writes bytes in blocks of 4,096, from sector `first` on, except blocks for which a read returns the same bytes.
 pub(crate) fn put_blocks<D: BlockDev>(
     device: &mut D,
     first: u64,
@@ -48,7 +48,7 @@ pub(crate) fn put_blocks<D: BlockDev>(
     ensures same { OnOk result (LeavesStanding D.state device.old device.new first bytes.now) }
     ensures calls { DeviceCalls D.state D.does (length bytes.now / 512) (length bytes.now / 512) device.old device.new }
 {
-    // How many sectors a device can have is learned from a call.
+    // This call gives the proof the largest size of a device.
     let _fits = device.sectors();
     let mut room = [0u8; BLOCK];
     let sectors = bytes.len() / 512;

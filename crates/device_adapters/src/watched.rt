@@ -8,21 +8,21 @@ ghost use Rattle.device_adapters.specs.Watching.{done_after};
 use crate::progress::Progress;
 use block_device::{BlockDev, DeviceFault};
 
-/// Its record is that of the device within. After each successful read it reports to its watcher how many bytes were
-/// read so far.
+/// A device with the state of the inner device. After each successful read it reports to its watcher how many bytes
+/// have been read.
 #[derive(Drop)]
 pub struct Watched<D, P> {
-    /// The device within.
+    /// The inner device.
     pub inner: D,
     /// The receiver of the reports.
     pub watcher: P,
-    /// The bytes of the successful reads, at most the greatest `u64`.
+    /// The bytes of the successful reads, at most the largest `u64`.
     pub done: u64,
-    /// The bytes that are to be read, as reported to the watcher.
+    /// The total number of bytes to be read, as reported to the watcher.
     pub all: u64,
 }
 
-/// Returns the number of bytes of a device before that sector, which may be past its end.
+/// Returns the number of bytes of a device before sector `end`, which may be after the end of the device.
 pub fn bytes_before<D: BlockDev>(device: &D, end: u64) -> u64
     ensures { result ≡ min (D.state device.now).size end * 512 }
 {
@@ -30,7 +30,7 @@ pub fn bytes_before<D: BlockDev>(device: &D, end: u64) -> u64
 }
 
 impl<D: BlockDev, P: Progress> Watched<D, P> {
-    /// Nothing was read so far, of so many bytes.
+    /// Returns a watched device with nothing read yet, of `all` bytes in total.
     pub fn new(inner: D, watcher: P, all: u64) -> Watched<D, P>
         ensures inner { result.inner ≡ inner }
         ensures state { ⟦<Watched<D, P> as BlockDev>⟧.state result ≡ D.state inner }
@@ -73,7 +73,7 @@ impl<D: BlockDev, P: Progress> BlockDev for Watched<D, P> {
         ensures sure { IsTrue (⟦<Watched<D, P> as BlockDev>⟧.state self.old).never_fails → IsOk result }
         ensures fault { OnErr result (DeviceFails ⟦<Watched<D, P> as BlockDev>⟧.state self.old self.new) }
 
-        // It is one of the device within, whose bytes are counted where it went well.
+        // It is one read of the inner device; the bytes are counted if it succeeds.
         ensures inner { ReadsInner D.state self.old.inner self.new.inner first out.old out.new (is_ok result) }
         ensures done { self.new.done ≡ done_after self.old.done (length out.old) (is_ok result) }
     {

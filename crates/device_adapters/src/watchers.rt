@@ -1,7 +1,7 @@
 //! Watchers that receive the progress of a transfer.
 use crate::progress::Progress;
 
-/// Makes watchers that receive the progress of a transfer, and isn't changed by that.
+/// Creates watchers that receive the progress of a transfer, and isn't changed by that.
 pub trait Watchers {
     /// The type of its watchers.
     type Watcher: Progress + Drop;

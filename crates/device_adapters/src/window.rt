@@ -1,4 +1,4 @@
-//! A part of a device as a device.
+//! A part of a device as a device of its own.
 ghost use Rattle.std.specs.Prelude.{◌≡◌, ◌+◌, ◌^◌, ◌≤◌, length, is_ok, ◌↔◌, IsOk, IsTrue, IfOk, OnErr, OnOk};
 ghost use Rattle.std.specs.Option.{ForSome};
 ghost use Rattle.block_device.specs.Call.{DeviceDoes, Read, Sync, Write, moved_by};
@@ -11,8 +11,8 @@ use crate::{Beside, OutsideDevice, Part};
 use block_device::{BlockDev, DeviceFault, SyncDev};
 use std::marker::{Brand, PhantomData};
 
-/// A part of a device: its sectors alone are read and written. Counters, flags and faults are those of the whole
-/// device, whose other sectors stay as they are.
+/// A part of a device: only its sectors are read and written. Counters, flags and faults are those of the whole
+/// device, whose other sectors are unchanged.
 #[derive(Drop)]
 pub struct Window<D: BlockDev, K: Beside = Brand> {
     /// The whole device.
@@ -25,7 +25,11 @@ pub struct Window<D: BlockDev, K: Beside = Brand> {
 }
 
 impl<D: BlockDev, K: Beside> Window<D, K> {
-    /// That part of the device, where it lies inside of it.
+    /// Returns a window of this part of the device.
+    ///
+    /// # Errors
+    ///
+    /// `OutsideDevice` if the part is not within the device, which is dropped.
     pub fn new(inner: D, part: Part) -> Result<Window<D, K>, OutsideDevice>
     where
         D: Drop,
@@ -43,7 +47,8 @@ impl<D: BlockDev, K: Beside> Window<D, K> {
         })
     }
 
-    /// What lies on the device from that sector on; no sector where the device ends before it.
+    /// Returns a window of the part of the device from sector `first` on; it is empty if the device ends before that
+    /// sector.
     pub fn behind(inner: D, first: u64) -> Window<D, K>
         requires { ForSome K.outside (StandOutside (D.state inner) (part_behind (D.state inner) first)) }
         ensures inner { result.inner ≡ inner }
@@ -57,7 +62,7 @@ impl<D: BlockDev, K: Beside> Window<D, K> {
         }
     }
 
-    /// Returns the window of the device before that sector, which may be past its end.
+    /// Returns a window of the part of the device before sector `end`, which may be after the end of the device.
     pub fn before(inner: D, end: u64) -> Window<D, K>
         requires { ForSome K.outside (StandOutside (D.state inner) (part_before (D.state inner) end)) }
         ensures inner { result.inner ≡ inner }
@@ -86,7 +91,7 @@ impl<D: BlockDev, K: Beside> Window<D, K> {
 }
 
 impl<D: BlockDev> Window<D> {
-    /// All of the device: what a proof sees of the window is what it sees of the device.
+    /// Returns a window of the whole device, with the same state as the device.
     pub fn whole(inner: D) -> Window<D>
         ensures inner { result.inner ≡ inner }
         ensures state { ⟦<Window<D, Brand> as BlockDev>⟧.state result ≡ D.state inner }
@@ -123,7 +128,7 @@ impl<D: BlockDev, K: Beside> BlockDev for Window<D, K> {
         ensures sure { IsTrue (⟦<Window<D, K> as BlockDev>⟧.state self.old).never_fails → IsOk result }
         ensures fault { OnErr result (DeviceFails ⟦<Window<D, K> as BlockDev>⟧.state self.old self.new) }
 
-        // It is one call of the whole device, that far after the part's first sector.
+        // It is one read of the whole device, shifted by the part's first sector.
         ensures inner { ReadsInner D.state self.old.inner self.new.inner (self.old.part.first + first) out.old out.new (is_ok result) }
         ensures part { self.new.part ≡ self.old.part }
     {
@@ -139,7 +144,7 @@ impl<D: BlockDev, K: Beside> BlockDev for Window<D, K> {
         ensures sure { IsTrue (⟦<Window<D, K> as BlockDev>⟧.state self.old).never_fails → IsOk result }
         ensures fault { OnErr result (DeviceFails ⟦<Window<D, K> as BlockDev>⟧.state self.old self.new) }
 
-        // It is one call of the whole device, that far after the part's first sector.
+        // It is one write of the whole device, shifted by the part's first sector.
         ensures inner { WritesInner D.state self.old.inner self.new.inner (self.old.part.first + first) bytes.now (is_ok result) }
         ensures part { self.new.part ≡ self.old.part }
     {
@@ -170,7 +175,7 @@ impl<D: SyncDev, K: Beside> SyncDev for Window<D, K> {
         ensures call { DeviceDoes ⟦<Window<D, K> as BlockDev>⟧.state ⟦<Window<D, K> as BlockDev>⟧.does self.old (Sync (is_ok result)) self.new }
         ensures sure { IsTrue (⟦<Window<D, K> as BlockDev>⟧.state self.old).never_fails → IsOk result }
 
-        // It is one of the whole device.
+        // It is one sync of the whole device.
         ensures inner { SyncsInner D.state self.old.inner self.new.inner (is_ok result) }
         ensures part { self.new.part ≡ self.old.part }
     {

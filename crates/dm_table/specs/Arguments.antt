@@ -1,4 +1,4 @@
--- Arguments that several targets have: a device, a number, a device and a sector, bytes in hexadecimal digits.
+-- Arguments that several targets share: a device, a number, a device with an offset, and bytes in hexadecimal.
 use Rattle.std.specs.Prelude.{ℕ, ◌^◌, ◌<◌, IsTrue, if◌then◌else◌, List, Ok, Err, ok_or}
 use Rattle.std.specs.Result.{result_ok}
 use Rattle.hex.specs.Hex.{decode_sized}
@@ -23,11 +23,11 @@ base_at name offset = do
   sector ← number_at offset
   Ok (record { device = device; offset = sector })
 
--- a device argument and a sector
+-- a device argument and an offset in sectors
 pub record IsBaseOfGrammar (base : Base) : Type 0 where
   pub device : IsTrue (is_device base.device)
   pub offset : base.offset < 2 ^ 64
 
--- that many bytes in twice as many hexadecimal digits, of either case
+-- `count` bytes as twice as many hexadecimal digits, in upper or lower case
 unfoldable pub bytes_at : ℕ → TextKind → Word → Read (List ℕ)
 bytes_at count kind word = ok_or (result_ok (decode_sized word count)) kind

@@ -1,4 +1,4 @@
--- The arguments of a `crypt` line, as the kernel's dm-crypt page lists them.
+-- The arguments of a `crypt` line, as documented on the kernel's dm-crypt page.
 use Rattle.std.specs.Prelude.{◌≡◌, ℕ, ◌^◌, ◌<◌, ◌⊎◌, Bool, ◌==◌, if◌then◌else◌, List, [], ◌∷◌, length, codes, Ok, Err}
 use Rattle.std.specs.Str.{bytes_eq}
 use Rattle.hex.specs.Hex.{IsBytes}
@@ -9,13 +9,13 @@ use Rattle.dm_table.specs.Reading.{Read, ◌>>=◌}
 use Rattle.dm_table.specs.Arguments.{number_at, base_at, bytes_at, IsBaseOfGrammar}
 use Rattle.dm_table.specs.Options.{is_one_of, options_at, AreOptionsOfGrammar}
 
--- options on queues and discards, the size of a unit, and how units are numbered
+-- options for queues and discards, the size of an encryption unit, and the numbering of units
 abbrev pub crypt_options : List Word
 crypt_options =
     codes "allow_discards" ∷ codes "same_cpu_crypt" ∷ codes "submit_from_crypt_cpus" ∷ codes "no_read_workqueue" ∷ codes "no_write_workqueue"
     ∷ codes "sector_size:512" ∷ codes "sector_size:1024" ∷ codes "sector_size:2048" ∷ codes "sector_size:4096" ∷ codes "iv_large_sectors" ∷ []
 
--- the bytes that are encrypted as one unit: 512 where no option says more
+-- the size of an encryption unit in bytes: the largest that an option names, or 512
 unfoldable pub sector_size : Crypt → ℕ
 sector_size crypt =
     if is_one_of (codes "sector_size:4096") crypt.options then 4096
@@ -23,11 +23,11 @@ sector_size crypt =
     else if is_one_of (codes "sector_size:1024") crypt.options then 1024
     else 512
 
--- units are numbered by their own size, and not by sectors of 512 bytes
+-- whether units are numbered in units instead of sectors of 512 bytes
 unfoldable pub iv_large_sectors : Crypt → Bool
 iv_large_sectors crypt = is_one_of (codes "iv_large_sectors") crypt.options
 
--- AES in XTS mode, with a unit's number in 64 bits as its initialization vector
+-- AES in XTS mode; the initialization vector is the 64-bit number of the unit
 abbrev pub cipher_name : Word
 cipher_name = codes "aes-xts-plain64"
 

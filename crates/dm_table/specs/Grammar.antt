@@ -1,4 +1,4 @@
--- What holds of every table and stack text that was read.
+-- What holds for every table and stack text that is accepted.
 use Rattle.std.specs.Prelude.{ℕ, ◌^◌, ◌<◌, ◌≤◌, List, length, All}
 use Rattle.dm_table.specs.declared.table.Base.{Base}
 use Rattle.dm_table.specs.declared.table.Line.{Line}
@@ -9,12 +9,12 @@ pub use Rattle.dm_table.specs.Crypt.{IsCryptOfGrammar}
 pub use Rattle.dm_table.specs.Verity.{AreVerityDevices, AreVerityBlocks, IsVerityOfGrammar}
 pub use Rattle.dm_table.specs.Unstriped.{IsUnstripedOfGrammar}
 
--- at most 16 devices, each at a sector
+-- at most 16 devices, each with an offset
 pub record AreBasesOfGrammar (bases : List Base) : Type 0 where
   pub most : length bases ≤ 16
   pub each : All IsBaseOfGrammar bases
 
--- 1 to 16 devices, and a chunk of at least one sector
+-- 1 to 16 devices, and a chunk size of at least one sector
 pub record IsStripedOfGrammar (chunk : ℕ) (bases : List Base) : Type 0 where
   pub some : 1 ≤ length bases
   pub most : length bases ≤ 16

@@ -1,4 +1,4 @@
--- A table line: its start, its length, its target and the target's arguments, checked from left to right.
+-- A table line: its start, its length, its target type and the target's arguments, checked from left to right.
 use Rattle.std.specs.Prelude.{ℕ, ◌*◌, ◌&&◌, ◌==◌, nat_le, if◌then◌else◌, List, [], ◌∷◌, length, ok_or, Ok, Err}
 use Rattle.dm_table.specs.declared.table.Base.{Base}
 use Rattle.dm_table.specs.declared.table.Line.{Line}
@@ -32,19 +32,19 @@ bases_at (name ∷ offset ∷ more) = do
   bases ← bases_at more
   Ok (base ∷ bases)
 
--- 1 to 16 devices
+-- the number of stripes: 1 to 16
 abbrev pub stripes_at : Word → Read ℕ
 stripes_at word = ok_or (number_if (λ n. nat_le 1 n && nat_le n 16) (number word)) kinds.StripeCount
 
--- a chunk of at least one sector
+-- a chunk size of at least one sector
 abbrev pub chunk_at : Word → Read ℕ
 chunk_at word = ok_or (number_if (λ n. nat_le 1 n) (number word)) kinds.ZeroChunk
 
--- exactly n pairs, which are counted before any is looked at
+-- exactly n pairs; their number is checked before their contents
 abbrev pub pairs_at : ℕ → List Word → Read (List Base)
 pairs_at n pairs = if length pairs == 2 * n then bases_at pairs else Err kinds.ArgCount
 
--- `<num devs> <chunk>`, and that many pairs `<dev> <offset>`
+-- `<num devs> <chunk>`, followed by as many pairs `<dev> <offset>`
 unfoldable pub striped_at : List Word → Read Target
 striped_at (count ∷ size ∷ pairs) = do
   n ← stripes_at count
@@ -58,7 +58,7 @@ unfoldable pub bare_at : Target → List Word → Read Target
 bare_at target [] = Ok target
 bare_at target (word ∷ more) = Err kinds.ArgCount
 
--- the arguments of a target of that type
+-- the arguments of a target of this type
 abbrev pub arguments_at : TargetType → List Word → Read Target
 arguments_at types.Linear words = linear_at words
 arguments_at types.Striped words = striped_at words

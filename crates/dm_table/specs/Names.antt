@@ -3,31 +3,31 @@ use Rattle.std.specs.Prelude.{ℕ, Bool, not, ◌&&◌, ◌==◌, nat_le, if◌t
 use Rattle.std.specs.List.{list_all, starts_with}
 use Rattle.dm_table.specs.Words.{Word, is_graphic}
 
--- a printing character that ends no field and no entry
+-- a printing character other than the comma, which separates fields, and the semicolon, which separates entries
 abbrev pub is_leaf_byte : ℕ → Bool
 is_leaf_byte b = is_graphic b && not (b == 44) && not (b == 59)
 
--- the same without the slash
+-- a character of the name of a mapped device: a leaf byte other than the slash
 abbrev pub is_mapped_byte : ℕ → Bool
 is_mapped_byte b = is_leaf_byte b && not (b == 47)
 
--- between one and `most` bytes that pass the test
+-- 1 to `most` bytes that all pass the test
 abbrev pub is_name_of : ℕ → (ℕ → Bool) → Word → Bool
 is_name_of most test word = nat_le 1 (length word) && nat_le (length word) most && list_all test word
 
--- the kernel's name of a mapped device: at most 127 bytes
+-- the name of a mapped device in the kernel: at most 127 bytes
 unfoldable pub is_mapped_name : Word → Bool
 is_mapped_name = is_name_of 127 is_mapped_byte
 
--- no name has more bytes
+-- the length of the longest name in bytes
 abbrev pub most_name : ℕ
 most_name = 255
 
--- where the nodes of mapped devices stand
+-- the directory of mapped devices
 abbrev pub mapper : List ℕ
 mapper = codes "/dev/mapper/"
 
--- the path of a mapped device, or a leaf name of at most 255 bytes, which does not begin as such a path does
+-- the path of a mapped device, or the name of a backing device: at most 255 bytes that don't begin like such a path
 unfoldable pub is_device : Word → Bool
 is_device word =
     if starts_with ◌==◌ word mapper then is_mapped_name (drop 12 word)

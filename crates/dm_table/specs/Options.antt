@@ -7,28 +7,28 @@ use Rattle.dm_table.specs.Words.{Word}
 use Rattle.dm_table.specs.Reading.{Read, ◌>>=◌}
 use Rattle.dm_table.specs.Arguments.{number_at}
 
--- the word is one of those words
+-- the word equals one of the words
 abbrev pub is_one_of : Word → List Word → Bool
 is_one_of word words = list_any (λ one. bytes_eq one word) words
 
--- the name of an option: what stands before its value, which follows a colon
+-- the name of an option: what comes before the colon, if there is one
 unfoldable pub option_name : Word → Word
 option_name word = take (position_or_len (λ b. b == 58) word) word
 
--- one of those options has the name of that one
+-- the option has the same name as one of the options
 abbrev pub has_name_of : Word → List Word → Bool
 has_name_of word words = list_any (λ one. bytes_eq (option_name one) (option_name word)) words
 
--- each word is a known option, and each name stands once
+-- every word is a known option, and no two options have the same name
 abbrev pub are_options : List Word → List Word → Bool
 are_options known [] = true
 are_options known (word ∷ more) = (is_one_of word known && not (has_name_of word more)) && are_options known more
 
--- options in the order read
+-- the options in the order written
 unfoldable pub known_at : List Word → List Word → Read (List Word)
 known_at known words = if are_options known words then Ok words else Err kinds.Option
 
--- exactly n options, which are counted before any is looked at
+-- exactly n options; their number is checked before their contents
 abbrev pub counted_at : List Word → ℕ → List Word → Read (List Word)
 counted_at known n words = if length words == n then known_at known words else Err kinds.ArgCount
 
@@ -39,7 +39,7 @@ options_at known (count ∷ words) = do
   n ← number_at count
   counted_at known n words
 
--- what holds of options that were read
+-- what holds for options that are accepted
 pub record AreOptionsOfGrammar (known options : List Word) : Type 0 where
   pub each : IsTrue (are_options known options)
   pub count : length options < 2 ^ 64

@@ -1,4 +1,5 @@
--- Stack texts, the form of the kernel's parameter `dm-mod.create=`: what they say, or their first fault in reading order.
+-- Stack texts, in the form of the kernel's parameter `dm-mod.create=`: their value, or their first fault in reading
+-- order.
 use Rattle.std.specs.Prelude.{ℕ, ◌+◌, ◌<◌, ◌≤◌, Bool, true, false, not, ◌||◌, ◌==◌, if◌then◌else◌, IsTrue, List, [], ◌∷◌, length, All, AllPairs, codes, is_some, Result, Ok, Err}
 use Rattle.std.specs.List.{list_all}
 use Rattle.std.specs.Str.{bytes_eq}
@@ -13,18 +14,18 @@ use Rattle.dm_table.specs.Numbers.{number}
 use Rattle.dm_table.specs.Lines.{line_of}
 use Rattle.dm_table.specs.Grammar.{IsTableOfGrammar}
 
--- a mapped name
+-- the name of a mapped device
 abbrev pub name_at : Word → Read Word
 name_at name = if is_mapped_name name then Ok name else Err kinds.Name
 
--- nothing, or a number
+-- an optional minor number: empty or a number
 abbrev pub is_minor : Word → Bool
 is_minor word = (length word == 0) || is_some (number word)
 
 abbrev pub minor_at : Word → Read Word
 minor_at minor = if is_minor minor then Ok minor else Err kinds.Number
 
--- whether the device is writable
+-- `rw` for a writable device, `ro` for a read-only one
 abbrev pub flags_at : Word → Read Bool
 flags_at word = if bytes_eq word (codes "ro") then Ok false else if bytes_eq word (codes "rw") then Ok true else Err kinds.Flags
 
@@ -36,7 +37,7 @@ entry_lines e n (field ∷ more) = do
   lines ← entry_lines e (n + 1) more
   Ok (line ∷ lines)
 
--- what an entry's fields say before its lines
+-- the fields of an entry before its lines, and the text of its lines
 pub record Head : Type 0 where
   pub name : Word
   pub writable : Bool
@@ -51,14 +52,14 @@ head_of (name ∷ uuid ∷ minor ∷ flags ∷ line ∷ lines) = do
   Ok (record { name = word; writable = writable; lines = line ∷ lines })
 head_of fields = Err kinds.Fields
 
--- entry e: a fault before its lines stands at line 0
+-- entry e; a fault before its lines has line number 0
 unfoldable pub entry_of : ℕ → List (List ℕ) → Result Entry TextFault
 entry_of e fields = do
   head ← at_place e 0 (head_of fields)
   table ← entry_lines e 1 head.lines
   Ok (record { number = e; name = head.name; writable = head.writable; table = table })
 
--- the entries that are not white space alone, all of them numbered from e on
+-- the entries that aren't blank; all are numbered, from e on
 abbrev pub entries_from : ℕ → List (List ℕ) → Result (List Entry) TextFault
 entries_from e [] = Ok []
 entries_from e (text ∷ more) =
@@ -68,23 +69,23 @@ entries_from e (text ∷ more) =
       entries ← entries_from (e + 1) more
       Ok (entry ∷ entries)
 
--- what a stack text says
+-- the value of a stack text
 unfoldable pub stack_of : List ℕ → Result (List Entry) TextFault
 stack_of text = if not (is_text text) then at_place 0 0 (Err kinds.NotText) else entries_from 1 (entries_of text)
 
--- the one entry of that name
+-- a stack of a single entry with this name
 abbrev pub single_of : Word → Bool → List Line → Result (List Entry) TextFault
 single_of name writable table = do
   word ← at_place 1 0 (name_at name)
   Ok (record { number = 1; name = word; writable = writable; table = table } ∷ [])
 
--- an entry's number counts from 1, and its name is a mapped name
+-- an entry has a number from 1 on, and the name of a mapped device
 pub record IsEntryOfGrammar (entry : Entry) : Type 0 where
   pub number : 1 ≤ entry.number
   pub name : IsTrue (is_mapped_name entry.name)
   pub table : IsTableOfGrammar entry.table
 
--- the numbers rise
+-- the entries' numbers increase
 pub record IsStackOfGrammar (entries : List Entry) : Type 0 where
   pub each : All IsEntryOfGrammar entries
   pub rise : AllPairs (λ before after. before.number < after.number) entries

@@ -1,4 +1,4 @@
--- Table texts: what they say, or their first fault in reading order.
+-- Table texts: their value, or their first fault in reading order.
 use Rattle.std.specs.Prelude.{ℕ, ◌+◌, Bool, true, not, ◌==◌, if◌then◌else◌, List, [], ◌∷◌, codes, Result, Ok, Err}
 use Rattle.std.specs.List.{starts_with}
 use Rattle.dm_table.specs.declared.table.Line.{Line}
@@ -8,12 +8,12 @@ use Rattle.dm_table.specs.Words.{Word, is_text, words, text_lines}
 use Rattle.dm_table.specs.Reading.{◌>>=◌, at_place}
 use Rattle.dm_table.specs.Lines.{line_of}
 
--- a line without a word, or a comment
+-- a blank line, or a comment
 abbrev pub is_skipped : List Word → Bool
 is_skipped [] = true
 is_skipped (word ∷ more) = starts_with ◌==◌ word (codes "#")
 
--- the lines that are not skipped, all of them numbered from n on
+-- the lines that are neither blank nor comments; all are numbered, from n on
 abbrev pub table_lines : ℕ → List (List ℕ) → Result (List Line) TextFault
 table_lines n [] = Ok []
 table_lines n (text ∷ more) =
@@ -28,7 +28,7 @@ abbrev pub some_lines : List Line → Result (List Line) TextFault
 some_lines [] = at_place 0 0 (Err kinds.Fields)
 some_lines (line ∷ more) = Ok (line ∷ more)
 
--- what a table text says
+-- the value of a table text
 unfoldable pub table_of : List ℕ → Result (List Line) TextFault
 table_of text =
     if not (is_text text) then at_place 0 0 (Err kinds.NotText)

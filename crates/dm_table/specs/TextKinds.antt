@@ -1,4 +1,4 @@
--- The kinds of a text's faults: their numbers and names, as they are printed.
+-- The kinds of faults of a text, with the numbers and names that are printed.
 use Rattle.std.specs.Prelude.{ℕ, List, codes}
 use Rattle.dm_table.specs.declared.fault.TextKind.{TextKind}
 use Rattle.dm_table.specs.declared.fault.TextKind.TheVariants as kinds

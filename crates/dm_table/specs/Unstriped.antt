@@ -1,4 +1,5 @@
--- The arguments of an `unstriped` line, as the kernel's dm-unstripe page lists them. Its three numbers have 32 bits.
+-- The arguments of an `unstriped` line, as documented on the kernel's dm-unstripe page. Its three numbers have 32
+-- bits.
 use Rattle.std.specs.Prelude.{ℕ, ◌^◌, ◌<◌, ◌≤◌, ◌&&◌, nat_le, nat_lt, List, [], ◌∷◌, Ok, Err, ok_or}
 use Rattle.dm_table.specs.declared.unstriped.Unstriped.{Unstriped}
 use Rattle.dm_table.specs.declared.fault.TextKind.{TextKind}
@@ -8,11 +9,11 @@ use Rattle.dm_table.specs.Numbers.{number, number_if}
 use Rattle.dm_table.specs.Reading.{Read, ◌>>=◌}
 use Rattle.dm_table.specs.Arguments.{base_at, IsBaseOfGrammar}
 
--- a number of at least 1
+-- a number of at least 1, in 32 bits
 abbrev pub count_at : TextKind → Word → Read ℕ
 count_at kind word = ok_or (number_if (λ n. nat_le 1 n && nat_lt n (2 ^ 32)) (number word)) kind
 
--- a stripe, from 0, of so many
+-- the index of a stripe, from 0, below the number of stripes
 abbrev pub stripe_at : ℕ → Word → Read ℕ
 stripe_at stripes word = ok_or (number_if (λ n. nat_lt n stripes) (number word)) kinds.StripeNumber
 
@@ -26,7 +27,7 @@ unstriped_at (count ∷ size ∷ place ∷ name ∷ offset ∷ []) = do
   Ok (record { stripes = stripes; chunk = chunk; stripe = stripe; base = base })
 unstriped_at words = Err kinds.ArgCount
 
--- one of at least one stripe, and a chunk of at least one sector, in numbers of 32 bits
+-- a stripe among at least one, and a chunk size of at least one sector, in numbers of 32 bits
 pub record IsUnstripedOfGrammar (line : Unstriped) : Type 0 where
   pub stripes : line.stripes < 2 ^ 32
   pub chunk_some : 1 ≤ line.chunk

@@ -1,4 +1,4 @@
--- The arguments of a `verity` line, as the kernel's dm-verity page lists them.
+-- The arguments of a `verity` line, as documented on the kernel's dm-verity page.
 use Rattle.std.specs.Prelude.{◌≡◌, ℕ, ◌/◌, ◌^◌, ◌<◌, ◌≤◌, Bool, true, false, ◌&&◌, ◌==◌, nat_le, IsTrue, if◌then◌else◌, List, [], ◌∷◌, length, codes, Ok, Err, ok_or}
 use Rattle.std.specs.Str.{bytes_eq}
 use Rattle.hex.specs.Hex.{IsBytes}
@@ -14,7 +14,7 @@ use Rattle.dm_table.specs.Reading.{Read, ◌>>=◌}
 use Rattle.dm_table.specs.Arguments.{device_at, number_at, bytes_at}
 use Rattle.dm_table.specs.Options.{is_one_of, options_at}
 
--- hash format 1
+-- version 1 of the hash format
 abbrev pub version_at : Word → Read ℕ
 version_at word = ok_or (number_if (λ n. n == 1) (number word)) kinds.Version
 
@@ -25,22 +25,22 @@ block_size_at word = ok_or (number_if is_block_size (number word)) kinds.BlockSi
 abbrev pub algorithm_at : Word → Read Algorithm
 algorithm_at word = ok_or (algorithm_named word) kinds.Algorithm
 
--- a root digest of 32 bytes
+-- a root hash of 32 bytes
 abbrev pub digest_at : Word → Read (List ℕ)
 digest_at word = bytes_at 32 kinds.Digest word
 
--- `-` for none, or 1 to 256 bytes
+-- `-` for no salt, or 1 to 256 bytes
 unfoldable pub salt_at : Word → Read (List ℕ)
 salt_at word =
     if bytes_eq word (codes "-") then Ok []
     else if nat_le 2 (length word) && nat_le (length word) 512 then bytes_at (length word / 2) kinds.Salt word
     else Err kinds.Salt
 
--- zeros in place of each data block that has the digest of a block of zeros
+-- a data block whose digest is that of a block of zeros is returned as zeros without being read
 abbrev pub ignore_zero_blocks : Word
 ignore_zero_blocks = codes "ignore_zero_blocks"
 
--- the options of a line that has this one, or none
+-- the options known with and without `ignore_zero_blocks`
 abbrev pub verity_options : Bool → List Word
 verity_options true = ignore_zero_blocks ∷ []
 verity_options false = []
@@ -67,14 +67,14 @@ pub record AreVerityDevices (verity : Verity) : Type 0 where
   pub below : IsTrue (is_device verity.data)
   pub hash : IsTrue (is_device verity.hash)
 
--- block sizes, and places in blocks
+-- valid block sizes, and the number of data blocks and the offset of the tree, in blocks
 pub record AreVerityBlocks (verity : Verity) : Type 0 where
   pub data_block : IsTrue (is_block_size verity.data_block)
   pub hash_block : IsTrue (is_block_size verity.hash_block)
   pub blocks : verity.blocks < 2 ^ 64
   pub start : verity.start < 2 ^ 64
 
--- a root digest of 32 bytes, and a salt of at most 256
+-- a root hash of 32 bytes, and a salt of at most 256
 pub record IsVerityOfGrammar (verity : Verity) : Type 0 where
   pub devices : AreVerityDevices verity
   pub places : AreVerityBlocks verity

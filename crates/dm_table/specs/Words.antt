@@ -1,9 +1,9 @@
--- The bytes of a text, and the words, lines, entries and fields into which it is cut.
+-- The bytes of a text, and how it is split into words, lines, entries and fields.
 use Rattle.std.specs.Prelude.{ℕ, ◌-◌, Bool, not, ◌&&◌, ◌||◌, ◌==◌, nat_lt, nat_le, List, [], ◌∷◌, ◌≡◌, length, filter, take, drop, Option, Some, None}
 use Rattle.std.specs.Borrow.{Bor}
 use Rattle.std.specs.List.{slice_split, list_all, prefix_len, suffix_len}
 
--- bytes without white space among them
+-- bytes without white space
 abbrev pub Word : Type 0
 Word = List ℕ
 
@@ -19,31 +19,31 @@ is_graphic b = nat_le 0x21 b && nat_le b 0x7e && not (b == 0x5c)
 abbrev pub is_text : List ℕ → Bool
 is_text text = list_all (λ b. is_white b || is_graphic b) text
 
--- the longest runs of bytes that are no white space
+-- the maximal runs of bytes that aren't white space
 unfoldable pub words : List ℕ → List Word
 words text = filter (λ word. nat_lt 0 (length word)) (slice_split is_white text)
 
--- without the white space at both ends
+-- the text without white space at either end
 unfoldable pub trimmed_text : List ℕ → List ℕ
 trimmed_text text = let rest = drop (prefix_len is_white text) text in take (length rest - suffix_len is_white rest) rest
 
--- the lines of a text, cut at newlines
+-- the lines of a text, which newlines separate
 unfoldable pub text_lines : List ℕ → List (List ℕ)
 text_lines text = slice_split (λ b. b == 10) text
 
--- the entries of a stack text, cut at semicolons
+-- the entries of a stack text, which semicolons separate
 unfoldable pub entries_of : List ℕ → List (List ℕ)
 entries_of text = slice_split (λ b. b == 59) text
 
--- the fields of an entry, cut at commas
+-- the fields of an entry, which commas separate
 unfoldable pub fields_of : List ℕ → List (List ℕ)
 fields_of entry = slice_split (λ b. b == 44) entry
 
--- the pieces that are left of a text cut at a separator, none where nothing is left
+-- the pieces that remain of a text being split at a separator; none if nothing remains
 unfoldable pub pieces_left : ℕ → Option (Bor (List ℕ)) → List (List ℕ)
 pieces_left separator None = []
 pieces_left separator (Some rest) = slice_split (λ b. b == separator) rest.now
 
--- there is a first word
+-- the list of words isn't empty
 abbrev pub IsCons : List Word → Type 0
 IsCons ws = (first : Word) × (rest : List Word) × (ws ≡ first ∷ rest)

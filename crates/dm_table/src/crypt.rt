@@ -10,7 +10,8 @@ use allocation::OutOfMemory;
 use std::alloc::Global;
 use std::marker::Model;
 
-/// A key of AES in XTS mode: 32 or 64 bytes, of which each half is a key of AES. It has no text.
+/// An XTS-AES key: 32 or 64 bytes in a line that was read, each half an AES key. The type implements neither `Debug`
+/// nor `Display`.
 #[derive(Drop)]
 pub struct Key {
     bytes: [u8; 64],
@@ -28,7 +29,7 @@ impl Model for Key {
 }
 
 impl Key {
-    /// The first `len` bytes of the array, of which there are at most 64.
+    /// Returns the key of the first `len` bytes of the array, at most 64.
     pub fn new(bytes: [u8; 64], len: usize) -> Key
         requires { len ≤ 64 }
         ensures { result ≡ take len bytes }
@@ -36,7 +37,7 @@ impl Key {
         Key { bytes, len }
     }
 
-    /// The bytes.
+    /// Returns the bytes of the key.
     pub fn bytes(&self) -> &[u8]
         ensures value { result.now ≡ self.now }
         ensures size { length result.now ≤ 64 }
@@ -54,20 +55,19 @@ impl Key {
     }
 }
 
-/// Sectors of one device, encrypted by AES in XTS mode under the IV `plain64`.
+/// Sectors of one device, encrypted with AES in XTS mode and the IV `plain64`.
 #[derive(Drop)]
 pub struct Crypt {
     pub key: Key,
-    /// Added to a sector's number within the line.
+    /// Added to the number of a unit within the line to give its IV.
     pub iv_offset: u64,
     pub base: Base,
-    /// As they are printed. Of these `sector_size` and `iv_large_sectors` say how the sectors are encrypted;
-    /// the others have no effect.
+    /// The options as written. `sector_size` and `iv_large_sectors` change the encryption; the others have no effect.
     pub options: Options,
 }
 
 impl Crypt {
-    /// The bytes that are encrypted as one unit: 512, 1024, 2048 or 4096.
+    /// Returns the size of an encryption unit in bytes: 512, 1024, 2048 or 4096.
     pub fn sector_size(&self) -> u32
         ensures { result ≡ sector_size self.now }
     {
@@ -82,7 +82,7 @@ impl Crypt {
         }
     }
 
-    /// Whether units are numbered by their own size, and not by sectors of 512 bytes.
+    /// Returns whether units are numbered in units instead of sectors of 512 bytes.
     pub fn iv_large_sectors(&self) -> bool
         ensures { result ≡ iv_large_sectors self.now }
     {

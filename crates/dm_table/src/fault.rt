@@ -1,4 +1,4 @@
-//! What is wrong with a text, and where.
+//! The faults of a text and their positions.
 ghost use Rattle.std.specs.Prelude.{◌≡◌};
 ghost use Rattle.dm_table.specs.declared.fault.ParseFault.TheVariants as parse_fault;
 ghost use Rattle.dm_table.specs.TextKinds.{text_name, text_number};
@@ -10,53 +10,53 @@ use thiserror::Error;
 #[derive(Clone, Copy, Debug, PartialEq, Eq, Error)]
 #[error("{}", self.name())]
 pub enum TextKind {
-    /// A byte that is neither white space nor 0x21 to 0x7e, or is a backslash.
+    /// A byte that is neither white space nor in 0x21 to 0x7e, or is a backslash.
     NotText = 1,
-    /// An entry of fewer than five fields, or a table without a line.
+    /// An entry with fewer than five fields, or a table without lines.
     Fields = 2,
-    /// A word that is no mapped name, or no device argument.
+    /// A word that isn't the name of a mapped device, or isn't a device argument.
     Name = 3,
     /// Flags other than `ro` and `rw`.
     Flags = 4,
-    /// A word that is no number below 2^64.
+    /// A word that isn't a number below 2^64.
     Number = 5,
     /// An unknown target type.
     Target = 6,
-    /// Too few or too many words.
+    /// Too few or too many arguments.
     ArgCount = 7,
     /// A cipher that is not supported.
     Cipher = 8,
-    /// A key that is not 64 or 128 hexadecimal digits.
+    /// A key that isn't 64 or 128 hexadecimal digits.
     Key = 9,
-    /// A hash format's version other than 1.
+    /// A version of the hash format other than 1.
     Version = 10,
     /// A block size other than 512, 1024, 2048 and 4096.
     BlockSize = 11,
     /// A hash algorithm that is not supported.
     Algorithm = 12,
-    /// A root digest that is not 64 hexadecimal digits.
+    /// A root hash that isn't 64 hexadecimal digits.
     Digest = 13,
-    /// A salt that is neither `-` nor 2 to 512 hexadecimal digits in pairs.
+    /// A salt that is neither `-` nor an even number of hexadecimal digits from 2 to 512.
     Salt = 14,
     /// An unknown or repeated option.
     Option = 15,
-    /// A number of stripes that the target does not take, as 0.
+    /// A number of stripes that the target doesn't support, such as 0.
     StripeCount = 16,
-    /// A chunk that the target does not take, as 0.
+    /// A chunk size that the target doesn't support, such as 0.
     ZeroChunk = 17,
-    /// A stripe that is no number below the number of stripes.
+    /// A stripe that isn't a number below the number of stripes.
     StripeNumber = 18,
 }
 
 impl TextKind {
-    /// The number that is printed, from 1.
+    /// Returns the number that is printed, from 1 on.
     pub fn number(self) -> u8
         ensures { result ≡ text_number self }
     {
         self as u8
     }
 
-    /// The name that is printed: the variant's.
+    /// Returns the name that is printed: that of the variant.
     pub fn name(self) -> &'static str
         ensures { result.now ≡ text_name self }
     {
@@ -83,8 +83,8 @@ impl TextKind {
     }
 }
 
-/// A text's first fault. Entries and lines count from 1; a table text's fault has entry 0, and a
-/// fault of no line has line 0.
+/// The first fault of a text. Entries and lines are numbered from 1. A fault in a table text has entry 0; a fault
+/// outside any line has line 0.
 #[derive(Clone, Copy, Debug, PartialEq, Eq, Error)]
 #[error("entry {entry}, line {line}: {kind}")]
 pub struct TextFault {
@@ -93,13 +93,13 @@ pub struct TextFault {
     pub kind: TextKind,
 }
 
-/// Why a text was not read.
+/// Why a text was rejected.
 #[derive(Clone, Copy, Debug, PartialEq, Eq, Error)]
 pub enum ParseFault {
-    /// The text's first fault.
+    /// The first fault of the text.
     #[error(transparent)]
     Text(TextFault),
-    /// An allocation was refused.
+    /// An allocation failed.
     #[error("out of memory")]
     NoMemory,
 }

@@ -5,14 +5,17 @@ ghost use Rattle.dm_table.specs.Names.{is_device, is_leaf_byte, is_mapped_byte, 
 
 const MAPPER: &[u8; 12] = b"/dev/mapper/";
 
-/// 1 to 127 bytes, none of them a slash, a comma, a semicolon or a backslash.
+/// Returns whether the word is the name of a mapped device: 1 to 127 bytes other than slash, comma, semicolon and
+/// backslash.
+///
+/// All bytes must be printing ASCII characters.
 pub fn is_mapped_name(word: &[u8]) -> bool
     ensures { result ≡ is_mapped_name word.now }
 {
     has_name_len(word, 127) && are_mapped_bytes(word)
 }
 
-/// Whether the word is a device argument: the path of a mapped device, or a leaf name.
+/// Returns whether the word is a device argument: the path of a mapped device, or the name of a backing device.
 pub fn is_device(word: &[u8]) -> bool
     ensures { result ≡ is_device word.now }
 {

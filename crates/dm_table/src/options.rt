@@ -9,7 +9,7 @@ use allocation::{OutOfMemory, push};
 use std::alloc::Global;
 use std::marker::Model;
 
-/// Options as they were written, each name once.
+/// Options in the order written. In a line that was read, no two have the same name.
 #[derive(Drop)]
 pub struct Options {
     words: Vec<Name>,
@@ -24,7 +24,7 @@ impl Model for Options {
 }
 
 impl Options {
-    /// No option.
+    /// Returns an empty list of options.
     pub fn new(alloc: Global) -> Options
         ensures { result ≡ [] }
     {
@@ -33,11 +33,11 @@ impl Options {
         }
     }
 
-    /// One option more.
+    /// Appends an option.
     ///
     /// # Errors
     ///
-    /// `OutOfMemory` if an allocation of room for one was refused; the options are what they were.
+    /// `OutOfMemory` if the allocation of room for one option fails; the options are unchanged.
     pub fn push(&mut self, word: Name) -> Result<(), OutOfMemory>
         ensures ok { OnOk result (self.new ≡ self.old ++ word ∷ []) }
         ensures same { OnErr result (self.new ≡ self.old) }
@@ -46,7 +46,7 @@ impl Options {
         push(&mut self.words, word)
     }
 
-    /// The options, in the order read.
+    /// Returns the options in the order written.
     pub fn as_slice(&self) -> &[Name]
         ensures { result.now ≡ self.now }
     {
@@ -66,7 +66,7 @@ impl Options {
     }
 }
 
-/// Whether the word is one of the options.
+/// Returns whether `word` is one of the options.
 pub fn is_kept(options: &Options, word: &[u8]) -> bool
     ensures { result ≡ is_one_of word.now options.now }
 {

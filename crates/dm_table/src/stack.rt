@@ -1,4 +1,4 @@
-//! The devices that a stack text names.
+//! The devices of a stack text.
 ghost use Rattle.std.specs.Prelude.{◌≡◌, length};
 ghost use Rattle.dm_table.specs.Reading.{IsAnswer};
 ghost use Rattle.dm_table.specs.StackText.{IsStackOfGrammar, single_of};
@@ -10,18 +10,18 @@ use allocation::{push, with_capacity};
 use std::alloc::Global;
 use std::marker::Model;
 
-/// One device. The number counts the text's entries from 1, skipped ones too.
+/// A device of a stack.
 #[derive(Drop)]
 pub struct Entry {
     pub number: u32,
-    /// A mapped name. Another entry may have the same.
+    /// The name of the mapped device. Another entry may have the same name.
     pub name: Name,
-    /// Whether the flags are `rw`; else they are `ro`.
+    /// Whether the flags are `rw`; otherwise they are `ro`.
     pub writable: bool,
     pub table: Table,
 }
 
-/// The devices of a stack text, in the order written.
+/// The devices of a stack text in the order written. Their numbers increase.
 #[derive(Drop)]
 pub struct StackText {
     entries: Vec<Entry>,
@@ -40,7 +40,7 @@ impl Model for StackText {
 }
 
 impl StackText {
-    /// These devices.
+    /// Returns a stack of these devices.
     pub fn new(entries: Vec<Entry>) -> StackText
         requires { IsStackOfGrammar entries.items }
         ensures { result ≡ entries.items }
@@ -48,12 +48,14 @@ impl StackText {
         StackText { entries }
     }
 
-    /// The one device of that name, as entry 1.
+    /// Returns a stack of a single device with this name and table, as entry 1.
     ///
     /// # Errors
     ///
-    /// `Text`: the fault `Name` of entry 1, line 0, for a name that is no mapped name. `NoMemory`: an
-    /// allocation was refused, for at most as many elements as the longest name has bytes. The table is dropped in both cases.
+    /// - `Text` with the fault `Name` of entry 1, line 0, if `name` isn't the name of a mapped device.
+    /// - `NoMemory` if an allocation of at most `most_name` (255) elements fails.
+    ///
+    /// Either error drops the table.
     pub fn single(
         alloc: Global,
         name: &[u8],
@@ -83,14 +85,14 @@ impl StackText {
         Ok(StackText { entries })
     }
 
-    /// How many devices there are.
+    /// Returns the number of devices.
     pub fn entries(&self) -> usize
         ensures { result ≡ length self.now }
     {
         self.entries.len()
     }
 
-    /// The devices, in the order written.
+    /// Returns the devices in the order written.
     pub fn as_slice(&self) -> &[Entry]
         ensures value { result.now ≡ self.now }
         ensures grammar { IsStackOfGrammar self.now }

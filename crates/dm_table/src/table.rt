@@ -1,4 +1,4 @@
-//! A device's table, as it was read.
+//! The table of a device.
 ghost use Rattle.std.specs.Prelude.{◌≡◌, ◌≤◌, ◌+◌, List, ℕ, ◌∷◌, [], ◌++◌, length, IfOk, IfErr, OnOk, OnErr};
 ghost use Rattle.allocation.specs.Asked.{WasRefused, asked};
 ghost use Rattle.dm_table.specs.Grammar.{IsBaseOfGrammar, AreBasesOfGrammar, IsTargetOfGrammar, IsLineOfGrammar, IsTableOfGrammar};
@@ -11,8 +11,8 @@ use allocation::{OutOfMemory, copied, push, with_capacity};
 use std::alloc::Global;
 use std::marker::Model;
 
-/// The bytes of a name, as they were written: a mapped name has 1 to 127 of them. A device argument
-/// is `/dev/mapper/` and a mapped name, or a leaf name of 1 to 255 bytes.
+/// A name as written. A mapped name has 1 to 127 bytes. A device argument is `/dev/mapper/` followed by a mapped
+/// name, or a leaf name of 1 to 255 bytes.
 #[derive(Drop)]
 pub struct Name {
     bytes: Vec<u8>,
@@ -27,11 +27,11 @@ impl Model for Name {
 }
 
 impl Name {
-    /// A name of these bytes.
+    /// Returns a name with these bytes. They aren't checked.
     ///
     /// # Errors
     ///
-    /// `OutOfMemory` if an allocation of room for the bytes was refused.
+    /// `OutOfMemory` if the allocation of room for the bytes fails.
     pub fn new(alloc: Global, bytes: &[u8]) -> Result<Name, OutOfMemory>
         ensures ok { IfOk result (λ name. name ≡ bytes.now) }
         ensures err { IfErr result (WasRefused (length bytes.now)) }
@@ -40,7 +40,7 @@ impl Name {
         Ok(Name { bytes })
     }
 
-    /// The bytes, as they were written.
+    /// Returns the bytes of the name as written.
     pub fn as_slice(&self) -> &[u8]
         ensures { result.now ≡ self.now }
     {
@@ -48,13 +48,13 @@ impl Name {
     }
 }
 
-/// The device beneath a range, by the name that was written, and the sector there at which the
-/// range begins.
+/// The device that a range is mapped to, by its name as written, and the sector of that device at which the range
+/// begins.
 #[derive(Drop)]
 pub struct Base {
     /// A device argument.
     pub device: Name,
-    /// In sectors of 512 bytes.
+    /// The first sector, in sectors of 512 bytes.
     pub offset: u64,
 }
 
@@ -72,7 +72,7 @@ impl Base {
     }
 }
 
-/// The devices of a striped line, 1 to 16 of them.
+/// The devices of a striped line, 1 to 16.
 #[derive(Drop)]
 pub struct Bases {
     list: Vec<Base>,
@@ -88,11 +88,11 @@ impl Model for Bases {
 }
 
 impl Bases {
-    /// No device, with room for that many.
+    /// Returns an empty list with room for `count` devices.
     ///
     /// # Errors
     ///
-    /// `OutOfMemory` if an allocation of room for that many was refused.
+    /// `OutOfMemory` if the allocation of room for `count` devices fails.
     pub fn with_capacity(alloc: Global, count: usize) -> Result<Bases, OutOfMemory>
         ensures ok { IfOk result (λ bases. bases ≡ []) }
         ensures err { IfErr result (WasRefused count) }
@@ -101,11 +101,11 @@ impl Bases {
         Ok(Bases { list })
     }
 
-    /// One device more.
+    /// Appends a device.
     ///
     /// # Errors
     ///
-    /// `OutOfMemory` if an allocation of room for one was refused; the devices are what they were.
+    /// `OutOfMemory` if the allocation of room for one device fails; the devices are unchanged.
     pub fn push(&mut self, base: Base) -> Result<(), OutOfMemory>
         ensures ok { OnOk result (self.new ≡ self.old ++ base ∷ []) }
         ensures same { OnErr result (self.new ≡ self.old) }
@@ -114,7 +114,7 @@ impl Bases {
         push(&mut self.list, base)
     }
 
-    /// The devices, in the order written.
+    /// Returns the devices in the order written.
     pub fn as_slice(&self) -> &[Base]
         ensures { result.now ≡ self.now }
     {
@@ -134,20 +134,20 @@ impl Bases {
     }
 }
 
-/// What a line does.
+/// The target of a line.
 #[derive(Drop)]
 pub enum Target {
-    /// `linear`: sectors of one device, from its offset on.
+    /// `linear`: sectors of one device, from an offset on.
     Linear(Base),
-    /// `striped`: chunks of so many sectors, at least 1, on the devices in turn.
+    /// `striped`: chunks of `chunk` sectors, at least 1, on the devices in turn.
     Striped { chunk: u64, bases: Bases },
-    /// `zero`: reads as zeros; what is written is dropped.
+    /// `zero`: reads return zeros, writes are discarded.
     Zero,
-    /// `error`: every read and every write fails.
+    /// `error`: all reads and writes fail.
     Error,
-    /// `crypt`: sectors of one device, from its offset on, encrypted there.
+    /// `crypt`: encrypted sectors of one device, from an offset on.
     Crypt(Crypt),
-    /// `verity`: blocks of one device, checked against a hash tree on another.
+    /// `verity`: blocks of one device, verified with a hash tree on another.
     Verity(Verity),
     /// `unstriped`: one stripe of a striped device.
     Unstriped(Unstriped),
@@ -174,8 +174,8 @@ impl Target {
     }
 }
 
-/// One line of a table: the sectors of 512 bytes from `start` on, `length` of them. Neither is checked
-/// against other lines or a device; a length of 0 is read as it stands.
+/// A line of a table: `length` sectors of 512 bytes from `start` on. They aren't checked against other lines or a
+/// device, and a length of 0 is accepted.
 #[derive(Drop)]
 pub struct Line {
     pub start: u64,
@@ -198,7 +198,7 @@ impl Line {
     }
 }
 
-/// A device's lines: at least one.
+/// The lines of a device, at least one.
 #[derive(Drop)]
 pub struct Table {
     lines: Vec<Line>,
@@ -217,7 +217,7 @@ impl Model for Table {
 }
 
 impl Table {
-    /// A table of these lines.
+    /// Returns a table of these lines.
     pub fn new(lines: Vec<Line>) -> Table
         requires { IsTableOfGrammar lines.items }
         ensures { result ≡ lines.items }
@@ -225,7 +225,7 @@ impl Table {
         Table { lines }
     }
 
-    /// The lines, in the order read.
+    /// Returns the lines in the order written.
     pub fn lines(&self) -> &[Line]
         ensures value { result.now ≡ self.now }
         ensures grammar { IsTableOfGrammar self.now }
@@ -233,11 +233,11 @@ impl Table {
         self.lines.as_slice()
     }
 
-    /// An equal table.
+    /// Returns a copy of the table.
     ///
     /// # Errors
     ///
-    /// `OutOfMemory` if an allocation was refused, of room for the lines or for one name.
+    /// `OutOfMemory` if an allocation fails, of room for the lines or for one name.
     pub fn try_clone(&self, alloc: Global) -> Result<Table, OutOfMemory>
         ensures ok { IfOk result (λ table. table ≡ self.now) }
         ensures err { IfErr result (λ e. asked e ≤ length self.now + most_name) }

@@ -1,8 +1,8 @@
-//! The types of targets, by the words that name them.
+//! The target types and their names.
 ghost use Rattle.std.specs.Prelude.{◌≡◌, Some};
 ghost use Rattle.dm_table.specs.TargetTypes.{type_named, type_word};
 
-/// The type of a line's target.
+/// The target type of a line.
 #[derive(Clone, Copy, Debug, PartialEq, Eq)]
 pub enum TargetType {
     Linear,
@@ -14,7 +14,7 @@ pub enum TargetType {
     Unstriped,
 }
 
-/// Every type, once.
+/// All target types, each once.
 const TARGET_TYPES: &[TargetType] = &[
     TargetType::Linear,
     TargetType::Striped,
@@ -26,7 +26,7 @@ const TARGET_TYPES: &[TargetType] = &[
 ];
 
 impl TargetType {
-    /// The word that names it in a line.
+    /// Returns the name of the type in a line.
     pub fn word(self) -> &'static [u8]
         ensures value { result.now ≡ type_word self }
         ensures named { type_named result.now ≡ Some self }
@@ -42,7 +42,7 @@ impl TargetType {
         }
     }
 
-    /// The type that the word names.
+    /// Returns the type with this name, or `None` if there is no such type.
     pub fn named(word: &[u8]) -> Option<TargetType>
         ensures { result ≡ type_named word.now }
     {

@@ -7,16 +7,16 @@ use crate::table::Base;
 use allocation::OutOfMemory;
 use std::alloc::Global;
 
-/// One stripe of a striped device: its chunks, side by side.
+/// One stripe of a striped device: its chunks one after another.
 #[derive(Drop)]
 pub struct Unstriped {
-    /// How many stripes there are, at least 1.
+    /// The number of stripes, at least 1.
     pub stripes: u32,
-    /// In sectors, at least 1.
+    /// The chunk size in sectors, at least 1.
     pub chunk: u32,
-    /// The stripe, from 0.
+    /// The index of the stripe, from 0 on.
     pub stripe: u32,
-    /// The striped device, from its offset on.
+    /// The striped device and its first sector.
     pub base: Base,
 }
 

@@ -8,25 +8,26 @@ use allocation::OutOfMemory;
 use std::alloc::Global;
 use tree_shape::{Digest, Salt};
 
-/// Blocks of one device, checked against a hash tree on another.
+/// Blocks of one device, verified with a hash tree on another.
 #[derive(Drop)]
 pub struct Verity {
-    /// A device argument: the device of the data blocks, from its block 0 on.
+    /// The device of the data blocks, which begin at its first byte.
     pub data: Name,
-    /// A device argument: the device of the hash blocks.
+    /// The device of the hash blocks.
     pub hash: Name,
-    /// In bytes: 512, 1,024, 2,048 or 4,096.
+    /// The size of a data block in bytes: 512, 1,024, 2,048 or 4,096.
     pub data_block: u32,
-    /// In bytes: 512, 1,024, 2,048 or 4,096.
+    /// The size of a hash block in bytes: 512, 1,024, 2,048 or 4,096.
     pub hash_block: u32,
     /// The number of data blocks.
     pub blocks: u64,
-    /// The first hash block of the tree, in hash blocks.
+    /// The offset of the tree on the hash device, in hash blocks.
     pub start: u64,
-    /// The digest of the root block.
+    /// The root hash of the tree.
     pub root: Digest,
     pub salt: Salt,
-    /// `ignore_zero_blocks`: a data block that has the digest of a block of zeros is zeros, and isn't read.
+    /// `ignore_zero_blocks`: a data block whose digest is that of a block of zeros is returned as zeros without being
+    /// read.
     pub ignore_zero_blocks: bool,
 }
 

@@ -1,4 +1,4 @@
-//! Parity compared with what stands on a device.
+//! Comparing parity with the parity stored on a device.
 ghost use Rattle.std.specs.Prelude.{◌≡◌, ◌≤◌, IfErr, IfOk, OnErr, length};
 ghost use Rattle.std.specs.Str.{bytes_eq};
 ghost use Rattle.verity_format.specs.Blocks.{IsOnlyRead};
@@ -16,9 +16,16 @@ use block_device::{BlockDev, DeviceFault};
 use reed_solomon::parity_products;
 use std::alloc::Global;
 
-/// The first round whose parity isn't the one on its device, from the beginning of that on; `None` where each is.
+/// Returns the first round whose parity differs from the parity stored from the beginning of `parity_dev` on, or
+/// `None` if no round differs.
 ///
-/// Each covered block is read once, and the parity up to that round.
+/// Each covered block is read once, and so is the parity up to that round.
+///
+/// # Errors
+///
+/// - `TooSmall` if the parity device has fewer sectors than needed.
+/// - `Device` if one of the three devices fails.
+/// - `NoMemory` if an allocation fails; the parity device was not accessed.
 pub fn check_parity<D: BlockDev, H: BlockDev, P: BlockDev>(
     alloc: Global,
     layout: &Layout,
@@ -57,7 +64,7 @@ pub fn check_parity<D: BlockDev, H: BlockDev, P: BlockDev>(
     Ok(found)
 }
 
-// Sums up each round and compares its parity.
+// Computes the parity of each round and compares it.
 fn check_rounds<D: BlockDev, H: BlockDev, P: BlockDev>(
     code: &Code<'_>,
     data_dev: &mut D,

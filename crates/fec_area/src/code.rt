@@ -1,9 +1,9 @@
-//! The codewords of an image, and the products that make their lost bytes.
+//! The codewords of an image, and the factors that recover their lost bytes.
 use crate::layout::Layout;
 use reed_solomon::Products;
 
-/// How codewords lie across an image, and by which products of its bytes `count` sums of each are made: those of a byte
-/// lie behind those of the one before it.
+/// The layout of codewords across an image, and the multiplication tables of its bytes: `count` sums are computed for
+/// each codeword, and the `count` tables of a byte follow those of the byte before it.
 #[derive(Clone, Copy)]
 pub(crate) struct Code<'a> {
     pub layout: &'a Layout,
@@ -11,7 +11,7 @@ pub(crate) struct Code<'a> {
     pub products: &'a [Products],
 }
 
-/// Lost blocks of a round, by their places in its codewords.
+/// The lost blocks of a round, by their positions in its codewords.
 #[derive(Clone, Copy)]
 pub(crate) struct Gap<'a> {
     pub code: Code<'a>,

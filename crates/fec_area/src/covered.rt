@@ -1,4 +1,4 @@
-//! The blocks that parity covers, read from two devices.
+//! Reading the blocks that parity covers from two devices.
 ghost use Rattle.std.specs.Prelude.{◌≡◌, ◌<◌, ℕ, IsOk, OnOk, OnErr, length, slice_index};
 ghost use Rattle.fec_area.specs.Asking.{AsksBlock};
 ghost use Rattle.fec_area.specs.Layouts.{IsCovered, IsLaidOn, covered_blocks};
@@ -7,7 +7,7 @@ ghost use Rattle.fec_area.specs.Rounds.{BothNeverFail, CountsFailures, NeitherFa
 use crate::layout::Layout;
 use block_device::{BlockDev, DeviceFault};
 
-/// Reads covered block `index`.
+/// Reads covered block `index` into `block`.
 #[tactic(auto, unfolding(verity_format::specs::Blocks::block_at))]
 pub(crate) fn read_covered<D: BlockDev, H: BlockDev>(
     layout: &Layout,

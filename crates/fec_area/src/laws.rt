@@ -1,8 +1,8 @@
-//! The law of restored blocks: a function that does nothing, whose contract is the law.
+//! The law of reconstructed blocks, as the clause of a function that does nothing.
 ghost use Rattle.fec_area.specs.Restoring.{LostBlocksComeBack};
 
-/// A block restored by the parity of an undamaged image, while all blocks that aren't known as lost are as they were,
-/// is that image's block.
+/// A block that is reconstructed by the parity of an undamaged image is the block of that image, if all blocks that
+/// aren't known to be lost are unchanged.
 pub fn lost_blocks_come_back()
     ensures { LostBlocksComeBack }
 {}

@@ -1,28 +1,29 @@
-//! Which blocks parity covers, and how the codewords lie across them.
+//! The blocks that parity covers, and the layout of codewords across them.
 ghost use Rattle.std.specs.Prelude.{◌≡◌, ◌≢◌, ◌<◌, ◌≤◌, ◌^◌, IfNone, IfSome, IsTrue};
 ghost use Rattle.fec_area.specs.Layouts.{IsLaidOn, IsLayout, IsLayoutOf, IsOfData, IsOfHash, IsOffHash, covered_blocks, parity_sectors, round_bytes, code_rounds};
 
 use block_device::BlockDev;
 use tree_shape::Shape;
 
-/// What parity covers: the data blocks, and then those of the hash device from one on.
+/// The layout of parity. It covers the data blocks, followed by consecutive blocks of the hash device.
 #[derive(Clone, Copy, Debug, PartialEq, Eq)]
 pub struct Layout {
     /// The size of a block in bytes: 512, 1024, 2048 or 4096.
     pub block: u32,
-    /// How many data blocks there are.
+    /// The number of data blocks.
     pub data_blocks: u64,
     /// The first block of the hash device that is covered.
     pub hash_first: u64,
-    /// How many blocks of the hash device are covered.
+    /// The number of covered blocks of the hash device.
     pub hash_blocks: u64,
-    /// How many bytes of parity a codeword has, 2 to 24.
+    /// The number of parity bytes in a codeword, 2 to 24.
     pub roots: usize,
 }
 
 impl Layout {
-    /// That of an image with a tree of that shape, on a hash device of so many sectors of 512 bytes, of which all from
-    /// the tree's first block on are covered. `None` where data and hash blocks have different sizes.
+    /// Returns the layout of an image with a tree of that shape, on a hash device of `hash_sectors` sectors of 512
+    /// bytes, or `None` if data and hash blocks have different sizes. All blocks of the hash device from the first
+    /// block of the tree on are covered.
     pub fn of(shape: &Shape, hash_sectors: u64, roots: usize) -> Option<Layout>
         requires some { 2 ≤ roots }
         requires few { roots ≤ 24 }
@@ -46,7 +47,7 @@ impl Layout {
         })
     }
 
-    /// Whether the covered blocks lie on the two devices.
+    /// Returns whether the covered blocks are within the two devices.
     pub fn is_laid_on<D: BlockDev, H: BlockDev>(&self, data_dev: &D, hash_dev: &H) -> bool
         requires { IsLayout self.now }
         ensures laid { IsTrue result → IsLaidOn self.now (D.state data_dev.now) (H.state hash_dev.now) }
@@ -62,7 +63,7 @@ impl Layout {
         hash <= hash_dev.sectors()
     }
 
-    /// How many blocks are covered.
+    /// Returns the number of covered blocks.
     pub fn covered_blocks(&self) -> u64
         requires { IsLayout self.now }
         ensures value { result ≡ covered_blocks self.now }
@@ -71,7 +72,7 @@ impl Layout {
         self.data_blocks + self.hash_blocks
     }
 
-    /// The number of a data block among the covered ones.
+    /// Returns the index of a data block among the covered blocks, or `None` if there is no such data block.
     pub fn covered_data(&self, number: u64) -> Option<u64>
         ensures some { IfSome result (IsOfData self.now number) }
         ensures none { IfNone result (self.now.data_blocks ≤ number) }
@@ -82,7 +83,8 @@ impl Layout {
         None
     }
 
-    /// That of a block of the hash device, counted from the device's beginning.
+    /// Returns the index, among the covered blocks, of a block of the hash device, which is numbered from the
+    /// beginning of the device, or `None` if it isn't covered.
     pub fn covered_hash(&self, number: u64) -> Option<u64>
         requires { IsLayout self.now }
         ensures some { IfSome result (IsOfHash self.now number) }
@@ -98,7 +100,7 @@ impl Layout {
         None
     }
 
-    /// How many rounds of codewords there are, each of as many as a block has bytes.
+    /// Returns the number of rounds. A round has as many codewords as a block has bytes.
     pub fn rounds(&self) -> u64
         requires { IsLayout self.now }
         ensures value { result ≡ code_rounds self.now }
@@ -107,7 +109,7 @@ impl Layout {
         self.covered_blocks().div_ceil(255 - self.roots as u64)
     }
 
-    /// How many bytes of parity a round has.
+    /// Returns the size of the parity of a round in bytes.
     pub fn round_bytes(&self) -> usize
         requires { IsLayout self.now }
         ensures value { result ≡ round_bytes self.now }
@@ -116,7 +118,7 @@ impl Layout {
         self.roots * self.block as usize
     }
 
-    /// How many sectors of 512 bytes the parity takes.
+    /// Returns the size of the parity in sectors of 512 bytes.
     pub fn parity_sectors(&self) -> u64
         requires { IsLayout self.now }
         ensures { result ≡ parity_sectors self.now }

@@ -1,5 +1,5 @@
-//! The parity of verity images: codewords that lie across the blocks of the data and of the hash area, as Linux's
-//! dm-verity-fec reads them.
+//! The parity of verity images: codewords across the blocks of the data and of the hash area, in the layout of
+//! Linux's dm-verity-fec.
 #![tactic(auto)]
 
 mod checking;

@@ -1,4 +1,4 @@
-//! A lost block, restored from the other blocks of its round and the parity.
+//! Reconstruction of a lost block from the other blocks of its round and the parity.
 ghost use Rattle.std.specs.Prelude.{◌≡◌, ◌<◌, ◌≤◌, ◌/◌, IfErr, IfOk, IsOk, OnErr, OnOk, is_ok, length};
 ghost use Rattle.allocation.specs.Asked.{WasRefused};
 ghost use Rattle.verity_format.specs.Blocks.{IsOnlyRead};
@@ -17,30 +17,30 @@ use reed_solomon::restoring_products;
 use std::alloc::Global;
 use thiserror::Error;
 
-/// A lost block, and which others are lost with it.
+/// A lost block, and the blocks that are lost with it.
 #[derive(Clone, Copy)]
 pub struct LostBlock<'a> {
-    /// How the blocks lie.
+    /// The layout of the parity.
     pub layout: &'a Layout,
-    /// The numbers of covered blocks that are known as lost, each listed once. The block itself may be among them.
+    /// The indices of the covered blocks known to be lost, each listed once. The block itself may be among them.
     pub lost: &'a [u64],
-    /// The block's own number among the covered ones.
+    /// The index of the block among the covered blocks.
     pub index: u64,
 }
 
-/// Why a lost block isn't made again.
+/// Why a lost block wasn't reconstructed.
 #[derive(Clone, Copy, Debug, PartialEq, Eq, Error)]
 pub enum RestoreFault {
-    /// So many blocks of its round are lost, more than a codeword has bytes of parity.
+    /// `count` blocks of the round are lost, more than a codeword has parity bytes.
     #[error("TooManyLost count {count}")]
     TooManyLost { count: usize },
-    /// The parity's device has fewer sectors of 512 bytes than are needed.
+    /// The parity device has fewer sectors of 512 bytes than `needed`.
     #[error("TooSmall needed {needed}")]
     TooSmall { needed: u64 },
     /// One of the three devices failed in the call.
     #[error("Device")]
     Device,
-    /// An allocation was refused.
+    /// An allocation failed.
     #[error("NoMemory")]
     NoMemory,
 }
@@ -65,11 +65,18 @@ impl From<OutOfMemory> for RestoreFault {
     }
 }
 
-/// Makes the bytes of a lost block again.
+/// Reconstructs a lost block into `block`.
 ///
-/// The blocks of its round that aren't lost and the round's parity are read once, and no others: lost blocks may stand on
-/// sectors that can't be read. It takes room for the round's parity, as much for sums, and 64 KiB for each lost block of
-/// the round, twice as much while that grows: less than 4 MiB.
+/// It reads no more sectors than the remaining blocks of the round and the round's parity have; lost blocks may be
+/// unreadable. Memory use: the round's parity, sums of the same size, and 64 KiB for each lost block of the round
+/// (twice that while the list grows), less than 4 MiB in all.
+///
+/// # Errors
+///
+/// - `TooManyLost` if more blocks of the round are lost than a codeword has parity bytes; no device was accessed.
+/// - `TooSmall` if the parity device has fewer sectors than needed; no device was accessed.
+/// - `Device` if one of the three devices fails.
+/// - `NoMemory` if an allocation fails; no device was accessed.
 pub fn restore_block<D: BlockDev, H: BlockDev, P: BlockDev>(
     alloc: Global,
     sought: &LostBlock<'_>,
@@ -126,7 +133,7 @@ pub fn restore_block<D: BlockDev, H: BlockDev, P: BlockDev>(
     Ok(())
 }
 
-// The places of the lost blocks of a round, that of the block first.
+// Returns the positions of the lost blocks of a round, that of the block itself first.
 fn lost_places(alloc: Global, sought: &LostBlock<'_>) -> Result<Vec<usize>, OutOfMemory>
     requires layout { IsLayout sought.now.layout.now }
     requires index { sought.now.index < covered_blocks sought.now.layout.now }
@@ -144,7 +151,7 @@ fn lost_places(alloc: Global, sought: &LostBlock<'_>) -> Result<Vec<usize>, OutO
     Ok(places)
 }
 
-// Whether a number is that of another covered block of the same round.
+// Returns whether `other` is another covered block of the same round.
 fn is_beside(layout: &Layout, index: u64, other: u64) -> bool
     requires layout { IsLayout layout.now }
     requires index { index < covered_blocks layout.now }
@@ -154,7 +161,7 @@ fn is_beside(layout: &Layout, index: u64, other: u64) -> bool
     other < layout.covered_blocks() && other % rounds == index % rounds && other != index
 }
 
-// Sums up the lost blocks of a round, and takes out the first one.
+// Reconstructs the lost blocks of a round, and copies the first to `block`.
 fn restore_first<D: BlockDev, H: BlockDev, P: BlockDev>(
     gap: &Gap<'_>,
     data_dev: &mut D,

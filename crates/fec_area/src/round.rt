@@ -1,4 +1,4 @@
-//! A round of codewords, summed up place by place: its parity, or its lost blocks.
+//! A round of codewords, summed position by position: its parity, or its lost blocks.
 ghost use Rattle.std.specs.Prelude.{◌≡◌, ◌+◌, ◌*◌, ◌<◌, ◌-◌, IsOk, OnOk, OnErr, EachIndex, is_ok, length, slice_index};
 ghost use Rattle.fec_area.specs.Asking.{AsksAt, AsksPlace, AsksRound, is_among};
 ghost use Rattle.fec_area.specs.Layouts.{code_rounds};
@@ -9,7 +9,7 @@ use crate::covered::read_covered;
 use block_device::{BlockDev, DeviceFault};
 use reed_solomon::add_products;
 
-/// Sums up the parity of a round, with `block` to read in.
+/// Computes the parity of a round. `block` is a buffer for reads.
 pub(crate) fn sum_parity<D: BlockDev, H: BlockDev>(
     code: &Code<'_>,
     round: u64,
@@ -33,8 +33,8 @@ pub(crate) fn sum_parity<D: BlockDev, H: BlockDev>(
     Ok(())
 }
 
-/// Sums up the lost blocks of a round from its other blocks, which alone are read, and its parity, with `block` to read
-/// in: byte c of the k-th lost block is at c * n + k, where n are lost.
+/// Reconstructs the lost blocks of a round from its parity and its other blocks; only the other blocks are read. With
+/// n lost blocks, byte c of lost block k is at index c * n + k of `sums`. `block` is a buffer for reads.
 pub(crate) fn restore_blocks<D: BlockDev, H: BlockDev>(
     gap: &Gap<'_>,
     data_dev: &mut D,
@@ -66,7 +66,7 @@ pub(crate) fn restore_blocks<D: BlockDev, H: BlockDev>(
     Ok(())
 }
 
-// Adds the products of the bytes that stand at a place of a round's codewords. A lost block isn't read: its products are 0.
+// Adds the products of the bytes at one position of a round's codewords. A lost block isn't read: its products are 0.
 fn add_kept<D: BlockDev, H: BlockDev>(
     gap: &Gap<'_>,
     place: usize,
@@ -91,14 +91,14 @@ fn add_kept<D: BlockDev, H: BlockDev>(
     add_place(&gap.code, gap.round, place, data_dev, hash_dev, block, sums)
 }
 
-// Whether this is one of the lost places.
+// Returns whether the position is lost.
 fn is_lost(places: &[usize], place: usize) -> bool
     ensures { result ≡ is_among places.now place }
 {
     places.contains(&place)
 }
 
-// Adds the products of the bytes that stand at a place of a round's codewords.
+// Adds the products of the bytes at one position of a round's codewords.
 fn add_place<D: BlockDev, H: BlockDev>(
     code: &Code<'_>,
     round: u64,
@@ -129,7 +129,7 @@ fn add_place<D: BlockDev, H: BlockDev>(
     Ok(())
 }
 
-/// Takes out one byte of each codeword's parity.
+/// Copies one byte of the parity of each codeword to `column`.
 pub(crate) fn take_column(parity: &[u8], roots: usize, k: usize, column: &mut [u8])
     requires place { k < roots }
     requires len { length parity.now ≡ length column.old * roots }

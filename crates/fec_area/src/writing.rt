@@ -1,4 +1,4 @@
-//! Parity written to a device.
+//! Writing parity to a device.
 ghost use Rattle.std.specs.Prelude.{◌≡◌, ◌<◌, ◌≤◌, IsTrue, IfErr, OnErr, OnOk, is_ok, length};
 ghost use Rattle.block_device.specs.Device.{HasFailed};
 ghost use Rattle.reed_solomon.specs.Factors.{AreProducts, parity_places};
@@ -17,19 +17,19 @@ use reed_solomon::parity_products;
 use std::alloc::Global;
 use thiserror::Error;
 
-/// Why parity wasn't written, or not all of it.
+/// Why parity wasn't written, or not completely.
 #[derive(Clone, Copy, Debug, PartialEq, Eq, Error)]
 pub enum ParityFault {
-    /// The parity's device has fewer sectors of 512 bytes than are needed.
+    /// The parity device has fewer sectors of 512 bytes than `needed`.
     #[error("TooSmall needed {needed}")]
     TooSmall { needed: u64 },
-    /// The parity's device may not be written.
+    /// The parity device is read-only.
     #[error("ReadOnly")]
     ReadOnly,
     /// One of the three devices failed in the call.
     #[error("Device")]
     Device,
-    /// An allocation was refused.
+    /// An allocation failed.
     #[error("NoMemory")]
     NoMemory,
 }
@@ -54,9 +54,16 @@ impl From<OutOfMemory> for ParityFault {
     }
 }
 
-/// Writes the parity of all rounds, one behind the other, from the beginning of a device on.
+/// Writes the parity of all rounds consecutively, from the beginning of `parity_dev` on.
 ///
 /// Each covered block is read once. Nothing is synced.
+///
+/// # Errors
+///
+/// - `TooSmall` if the parity device has fewer sectors than needed, `ReadOnly` if it is read-only; it was not
+///   accessed.
+/// - `Device` if one of the three devices fails.
+/// - `NoMemory` if an allocation fails; the parity device was not accessed.
 pub fn write_parity<D: BlockDev, H: BlockDev, P: BlockDev>(
     alloc: Global,
     layout: &Layout,
@@ -97,7 +104,7 @@ pub fn write_parity<D: BlockDev, H: BlockDev, P: BlockDev>(
     Ok(())
 }
 
-// Sums up each round and writes its parity.
+// Computes the parity of each round and writes it.
 fn write_rounds<D: BlockDev, H: BlockDev, P: BlockDev>(
     code: &Code<'_>,
     data_dev: &mut D,

@@ -1,4 +1,4 @@
--- The numbers and names of a pin's faults in printed text.
+-- The numbers and names of a pin's faults in printed output.
 use Rattle.std.specs.Prelude.{ℕ, List, codes}
 use Rattle.image_pin.specs.declared.fault.PinFault.{PinFault}
 use Rattle.image_pin.specs.declared.fault.PinFault.TheVariants as fault

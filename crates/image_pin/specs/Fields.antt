@@ -1,4 +1,4 @@
--- What the lines of a pin say, name by name.
+-- The values of a pin's lines, by name.
 use Rattle.std.specs.Prelude.{ℕ, ◌/◌, nat_lt, Bool, true, false, List, [], codes, length, is_some, Option, Some, None, Result, Ok, Err, if◌then◌else◌}
 use Rattle.std.specs.Result.{result_ok}
 use Rattle.std.specs.Str.{bytes_eq}
@@ -28,17 +28,17 @@ salt_of word =
 unfoldable pub block_size_of : Word → Option ℕ
 block_size_of word = number_if (λ n. nat_lt n 4294967296) (number word)
 
--- nothing was read
+-- no values
 abbrev pub no_fields : PinFields
 no_fields = record { root = None; salt = None; data_block = None; hash_block = None; blocks = None }
 
--- the value of a name, where no line before has one
+-- the value of a name, unless an earlier line has the same name
 abbrev pub once : {A : Type 0} → PinName → Bool → Option A → Result A PinFault
 once name true value = Err (fault.Repeated name)
 once name false None = Err (fault.Value name)
 once name false (Some value) = Ok value
 
--- the fields with the value of that name
+-- the fields with the value of this name added
 abbrev pub set_field : PinFields → PinName → Word → Result PinFields PinFault
 set_field fields Root word = once Root (is_some fields.root) (root_of word) >>= (λ root. Ok (record fields { root = Some root }))
 set_field fields Salt word = once Salt (is_some fields.salt) (salt_of word) >>= (λ salt. Ok (record fields { salt = Some salt }))
@@ -46,12 +46,12 @@ set_field fields DataBlockSize word = once DataBlockSize (is_some fields.data_bl
 set_field fields HashBlockSize word = once HashBlockSize (is_some fields.hash_block) (block_size_of word) >>= (λ size. Ok (record fields { hash_block = Some size }))
 set_field fields DataBlocks word = once DataBlocks (is_some fields.blocks) (number word) >>= (λ blocks. Ok (record fields { blocks = Some blocks }))
 
--- the value of a name, which some line has
+-- the value of a name, which must be present
 abbrev pub needed : {A : Type 0} → PinName → Option A → Result A PinFault
 needed name None = Err (fault.Missing name)
 needed name (Some value) = Ok value
 
--- the pin of these fields, of which none is missing
+-- the pin with these fields; none may be missing
 abbrev pub finish : PinFields → Result Pin PinFault
 finish fields = do
   root ← needed Root fields.root

@@ -1,4 +1,4 @@
--- Superblocks that say another tree than a pin.
+-- Superblocks that describe a different tree than a pin.
 use Rattle.std.specs.Prelude.{ℕ, ◌==◌, not, List, codes, Option, Some, None, if◌then◌else◌}
 use Rattle.std.specs.Str.{bytes_eq}
 use Rattle.verity_format.specs.Superblock.{SuperRecord}
@@ -18,7 +18,7 @@ mismatch_name HashBlockSize = codes "OtherHashBlockSize"
 mismatch_name DataBlocks = codes "OtherDataBlocks"
 mismatch_name Salt = codes "OtherSalt"
 
--- the first thing that the superblock says otherwise
+-- the first field of the superblock that differs from the pin
 abbrev pub pin_mismatch : Pin → SuperRecord → Option Mismatch
 pin_mismatch pin s =
     if not (s.data_block == pin.data_block) then Some DataBlockSize

@@ -12,7 +12,7 @@ name_text DataBlockSize = codes "data_block_size"
 name_text HashBlockSize = codes "hash_block_size"
 name_text DataBlocks = codes "data_blocks"
 
--- what the line of that name says
+-- the field with this name
 abbrev pub name_of : Word → Option PinName
 name_of word =
     if bytes_eq word (codes "root") then Some Root

@@ -1,11 +1,11 @@
-//! Why a text is no pin.
+//! Why a text isn't a pin.
 ghost use Rattle.std.specs.Prelude.{◌≡◌};
 ghost use Rattle.image_pin.specs.Faults.{fault_name, fault_number};
 
 use crate::name::PinName;
 use thiserror::Error;
 
-/// Why a text is no pin: the first fault in reading order.
+/// Why a text isn't a pin: the first fault in reading order.
 #[derive(Clone, Copy, Debug, PartialEq, Eq, Error)]
 pub enum PinFault {
     /// The first line isn't `dmstack-pin 1`.
@@ -14,25 +14,25 @@ pub enum PinFault {
     /// A line after it isn't a name and a value.
     #[error("PinLine")]
     Line,
-    /// No line of a pin has that name.
+    /// A line has an unknown name.
     #[error("PinUnknown")]
     Unknown,
-    /// Two lines have one name.
+    /// Two lines have this name.
     #[error("PinRepeated")]
     Repeated(PinName),
-    /// No line has that name.
+    /// No line has this name.
     #[error("PinMissing")]
     Missing(PinName),
-    /// The value of that name is no root hash, salt or number.
+    /// The value of this name is not a root hash, salt or number.
     #[error("PinValue")]
     Value(PinName),
-    /// The text has more than `MOST_BYTES`.
+    /// The text is longer than `MOST_BYTES`.
     #[error("PinTooLong")]
     TooLong,
 }
 
 impl PinFault {
-    /// Its number in printed text.
+    /// Returns the number in printed output.
     pub fn number(self) -> u8
         ensures { result ≡ fault_number self }
     {
@@ -47,7 +47,7 @@ impl PinFault {
         }
     }
 
-    /// Its name in printed text.
+    /// Returns the name in printed output.
     pub fn name(self) -> &'static str
         ensures { result.now ≡ fault_name self }
     {

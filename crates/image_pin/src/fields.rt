@@ -1,4 +1,4 @@
-//! What the lines of a pin have said so far.
+//! The fields of a pin that have been read.
 ghost use Rattle.std.specs.Prelude.{◌≡◌, ◌<◌, nat_lt};
 ghost use Rattle.dm_table.specs.Numbers.{number};
 ghost use Rattle.image_pin.specs.Fields.{block_size_of, finish, needed, no_fields, once, root_of, salt_of, set_field};
@@ -11,7 +11,7 @@ use tree_shape::{Algorithm, Digest, Salt};
 
 const DIGITS: usize = 512;
 
-/// The values that were read.
+/// The values that have been read.
 #[derive(Clone, Copy)]
 pub(crate) struct PinFields {
     pub root: Option<Digest>,
@@ -22,7 +22,7 @@ pub(crate) struct PinFields {
 }
 
 impl PinFields {
-    /// Nothing was read.
+    /// Returns fields without values.
     pub fn new() -> PinFields
         ensures { result ≡ no_fields }
     {
@@ -36,7 +36,12 @@ impl PinFields {
     }
 }
 
-/// The fields with the value of that name, which no line before has.
+/// Returns the fields with the value of this name added.
+///
+/// # Errors
+///
+/// - `Repeated` if an earlier line has the same name.
+/// - `Value` if the value is invalid.
 pub(crate) fn set_field(
     fields: PinFields,
     name: PinName,
@@ -83,7 +88,7 @@ pub(crate) fn set_field(
     }
 }
 
-// The value of a name, where no line before has one.
+// Returns the value of a name, unless an earlier line has the same name or the value is invalid.
 fn once<T: Drop>(name: PinName, is_set: bool, value: Option<T>) -> Result<T, PinFault>
     ensures { result ≡ once name is_set value }
 {
@@ -96,7 +101,11 @@ fn once<T: Drop>(name: PinName, is_set: bool, value: Option<T>) -> Result<T, Pin
     }
 }
 
-/// The pin of these fields, of which none may be missing.
+/// Returns the pin with these fields.
+///
+/// # Errors
+///
+/// `Missing` with the first name without a value.
 pub(crate) fn finish(fields: PinFields) -> Result<Pin, PinFault>
     ensures { result ≡ finish fields }
 {
@@ -123,7 +132,7 @@ fn needed<T: Drop>(name: PinName, value: Option<T>) -> Result<T, PinFault>
     }
 }
 
-// 64 hexadecimal digits.
+// Returns the root hash of 64 hexadecimal digits.
 #[tactic(auto, unfolding(crate::specs::Fields::root_of))]
 fn root_of(word: &[u8]) -> Option<Digest>
     ensures { result ≡ root_of word.now }
@@ -135,7 +144,7 @@ fn root_of(word: &[u8]) -> Option<Digest>
     }
 }
 
-// `-` for no bytes, or at most 512 hexadecimal digits.
+// Returns the salt of at most 512 hexadecimal digits, or no bytes for `-`.
 #[tactic(auto, unfolding(crate::specs::Fields::salt_of))]
 fn salt_of(word: &[u8]) -> Option<Salt>
     ensures { result ≡ salt_of word.now }
@@ -154,7 +163,7 @@ fn salt_of(word: &[u8]) -> Option<Salt>
     }
 }
 
-// A number below 2^32.
+// Returns a number below 2^32.
 #[tactic(auto, unfolding(crate::specs::Fields::block_size_of))]
 fn block_size_of(word: &[u8]) -> Option<u32>
     ensures { result ≡ block_size_of word.now }

@@ -1,4 +1,4 @@
-//! Pins of verity images: texts that bind a root hash to the shape of its tree.
+//! Pins of verity images: texts that store a root hash together with the shape of its tree.
 #![tactic(auto)]
 
 mod fault;

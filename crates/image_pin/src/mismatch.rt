@@ -1,4 +1,4 @@
-//! Superblocks compared with a pin.
+//! Comparing superblocks with a pin.
 ghost use Rattle.std.specs.Prelude.{◌≡◌};
 ghost use Rattle.std.specs.Result.{result_err};
 ghost use Rattle.image_pin.specs.Mismatches.{mismatch_name, mismatch_number, pin_mismatch};
@@ -7,7 +7,7 @@ use crate::pin::Pin;
 use thiserror::Error;
 use verity_format::Superblock;
 
-/// What a superblock says that the pin says otherwise.
+/// The field of a superblock that differs from the pin.
 #[derive(Clone, Copy, Debug, PartialEq, Eq, Error)]
 pub enum Mismatch {
     #[error("OtherDataBlockSize")]
@@ -21,7 +21,7 @@ pub enum Mismatch {
 }
 
 impl Mismatch {
-    /// Its number in printed text.
+    /// Returns the number in printed output.
     pub fn number(self) -> u8
         ensures { result ≡ mismatch_number self }
     {
@@ -33,7 +33,7 @@ impl Mismatch {
         }
     }
 
-    /// Its name in printed text.
+    /// Returns the name in printed output.
     pub fn name(self) -> &'static str
         ensures { result.now ≡ mismatch_name self }
     {
@@ -46,11 +46,11 @@ impl Mismatch {
     }
 }
 
-/// Checks that a superblock says of the tree what the pin says.
+/// Checks that a superblock describes the same tree as the pin.
 ///
 /// # Errors
 ///
-/// The first of data block size, hash block size, number of data blocks and salt that is another one.
+/// The first of data block size, hash block size, number of data blocks and salt that differs.
 pub fn check_superblock(pin: &Pin, superblock: &Superblock) -> Result<(), Mismatch>
     ensures { result_err result ≡ pin_mismatch pin.now superblock.now }
 {

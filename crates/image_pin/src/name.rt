@@ -2,7 +2,7 @@
 ghost use Rattle.std.specs.Prelude.{◌≡◌, ◌≤◌, length};
 ghost use Rattle.image_pin.specs.Names.{name_of, name_text};
 
-/// What a line of a pin says.
+/// A field of a pin.
 #[derive(Clone, Copy, Debug, PartialEq, Eq)]
 pub enum PinName {
     Root,
@@ -13,7 +13,7 @@ pub enum PinName {
 }
 
 impl PinName {
-    /// The name as it stands in a pin.
+    /// Returns the name of the field in a pin.
     pub fn text(self) -> &'static str
         ensures value { result.now ≡ name_text self }
         ensures short { length result.now ≤ 15 }
@@ -28,7 +28,7 @@ impl PinName {
     }
 }
 
-/// What the line of that name says.
+/// Returns the field with this name, or `None` if the name is unknown.
 pub(crate) fn name_of(word: &[u8]) -> Option<PinName>
     ensures { result ≡ name_of word.now }
 {

@@ -1,8 +1,8 @@
-//! What a pin holds.
+//! The contents of a pin.
 use tree_shape::{Digest, Salt};
 
-/// A root hash, and what a superblock says of the tree beneath it: the salt, the block sizes in bytes, and the number of data
-/// blocks. No hash covers a superblock, so a root hash alone doesn't fix them.
+/// A root hash, and the fields of a superblock that determine the tree below it: the salt, the block sizes in bytes,
+/// and the number of data blocks. No hash covers a superblock, so a root hash alone doesn't determine them.
 #[derive(Clone, Copy)]
 pub struct Pin {
     pub root: Digest,

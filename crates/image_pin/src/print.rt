@@ -1,4 +1,4 @@
-//! Pins printed.
+//! Printing pins.
 ghost use Rattle.std.specs.Prelude.{◌≡◌, ◌≤◌, ◌++◌, Ok, IfErr, IfOk, OnErr, OnOk, decimal, length};
 ghost use Rattle.allocation.specs.Asked.{asked};
 ghost use Rattle.allocation.specs.Refusal.{IsOutOfMemory};
@@ -12,11 +12,12 @@ use allocation::{OutOfMemory, append, copied, push};
 use itoa::Buffer;
 use std::alloc::{AllocError, Global};
 
-/// The text of a pin: its header, and a line each for root, salt, block sizes and number of data blocks.
+/// Returns the text of a pin: its header, and one line each for the root hash, the salt, the block sizes and the
+/// number of data blocks.
 ///
 /// # Errors
 ///
-/// An allocation of room for at most 512 bytes was refused.
+/// `AllocError` if an allocation of at most 512 bytes fails.
 pub fn print_pin(alloc: Global, pin: &Pin) -> Result<Vec<u8>, AllocError>
     ensures text { IfOk result (λ text. text.items ≡ pin_text pin.now) }
     ensures reads_back { IfOk result (λ text. pin_of text.items ≡ Ok pin.now) }
@@ -31,7 +32,7 @@ pub fn print_pin(alloc: Global, pin: &Pin) -> Result<Vec<u8>, AllocError>
     Ok(text)
 }
 
-// A name, a space, a value and a newline.
+// Appends a name, a space, a value and a newline.
 fn push_line(text: &mut Vec<u8>, name: PinName, value: &[u8]) -> Result<(), OutOfMemory>
     requires { length value.now ≤ 512 }
     ensures ok { OnOk result (text.new.items ≡ text.old.items ++ pin_line name value.now) }
@@ -44,7 +45,7 @@ fn push_line(text: &mut Vec<u8>, name: PinName, value: &[u8]) -> Result<(), OutO
     Ok(())
 }
 
-// A name with the hexadecimal digits of at most 256 bytes.
+// Appends a name and at most 256 bytes in hexadecimal.
 fn push_hex(text: &mut Vec<u8>, name: PinName, bytes: &[u8]) -> Result<(), OutOfMemory>
     requires { length bytes.now ≤ 256 }
     ensures printed { OnOk result (text.new.items ≡ text.old.items ++ pin_line name (encode_lower bytes.now)) }
@@ -57,7 +58,7 @@ fn push_hex(text: &mut Vec<u8>, name: PinName, bytes: &[u8]) -> Result<(), OutOf
     push_line(text, name, digits)
 }
 
-// The salt in hexadecimal digits, or `-` if it has no bytes.
+// Appends the salt in hexadecimal, or `-` if it is empty.
 fn push_salt(text: &mut Vec<u8>, salt: &[u8]) -> Result<(), OutOfMemory>
     requires { length salt.now ≤ 256 }
     ensures printed { OnOk result (text.new.items ≡ text.old.items ++ pin_line PinName.Salt (salt_word salt.now)) }

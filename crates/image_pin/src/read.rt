@@ -1,4 +1,4 @@
-//! Pins read.
+//! Reading pins.
 ghost use Rattle.std.specs.Prelude.{◌≡◌, ◌==◌, ◌∷◌, ◌≤◌, length};
 ghost use Rattle.std.specs.List.{position_or_len};
 ghost use Rattle.dm_table.specs.Words.{text_lines, words};
@@ -11,14 +11,14 @@ use crate::name::name_of;
 use crate::pin::Pin;
 use table_text::Words;
 
-/// The most bytes that a pin may have.
+/// The largest size of a pin in bytes.
 pub const MOST_BYTES: usize = 4096;
 
-/// Reads a pin: `dmstack-pin 1`, and then a line `NAME VALUE` for each of its five names, in any order.
+/// Reads a pin: the header `dmstack-pin 1`, followed by a line `NAME VALUE` for each of its five names, in any order.
 ///
 /// # Errors
 ///
-/// `TooLong`, or the first fault in reading order.
+/// `TooLong` if the text is longer than `MOST_BYTES`, and otherwise the first fault in reading order.
 pub fn parse_pin(text: &[u8]) -> Result<Pin, PinFault>
     ensures { result ≡ limited_pin text.now }
 {
@@ -38,7 +38,7 @@ fn pin_of(text: &[u8]) -> Result<Pin, PinFault>
     }
 }
 
-// The fields of the lines behind the first one, which has to be a pin's.
+// Returns the fields of the lines after the first, which must be the header.
 fn fields_behind(text: &[u8]) -> Result<PinFields, PinFault>
     ensures { result ≡ fields_behind (text_lines text.now) }
 {
@@ -49,7 +49,7 @@ fn fields_behind(text: &[u8]) -> Result<PinFields, PinFault>
     Err(PinFault::Header)
 }
 
-// How many bytes stand before the first newline.
+// Returns the number of bytes before the first newline.
 fn line_len(text: &[u8]) -> usize
     ensures value { result ≡ position_or_len (λ b. b == 10) text.now }
     ensures bound { result ≤ length text.now }
@@ -62,7 +62,7 @@ fn line_len(text: &[u8]) -> usize
     text.len()
 }
 
-// The first line, and what stands behind its newline.
+// Returns the first line, and the text after its newline.
 fn cut_line(text: &[u8]) -> (&[u8], Option<&[u8]>)
     ensures { text_lines text.now ≡ result.0.now ∷ rest_lines result.1 }
 {
@@ -74,7 +74,7 @@ fn cut_line(text: &[u8]) -> (&[u8], Option<&[u8]>)
     }
 }
 
-// The fields of all lines; nothing stands behind the last newline.
+// Returns the fields of all lines; nothing may follow the last newline.
 fn take_lines(lines: Option<&[u8]>) -> Result<PinFields, PinFault>
     ensures { result ≡ take_lines no_fields (rest_lines lines.entry) }
 {
@@ -91,7 +91,7 @@ fn take_lines(lines: Option<&[u8]>) -> Result<PinFields, PinFault>
     Ok(fields)
 }
 
-// The fields, where no line is left.
+// Returns the fields if no lines remain.
 fn at_end(fields: PinFields, rest: Option<&[u8]>) -> Result<PinFields, PinFault>
     ensures { result ≡ at_end fields (rest_lines rest.entry) }
 {
@@ -101,7 +101,7 @@ fn at_end(fields: PinFields, rest: Option<&[u8]>) -> Result<PinFields, PinFault>
     }
 }
 
-// The fields with those of a line: a name and a value.
+// Returns the fields with those of a line added: a name and a value.
 fn take_line(fields: PinFields, line: &[u8]) -> Result<PinFields, PinFault>
     ensures { result ≡ take_line fields (words line.now) }
 {

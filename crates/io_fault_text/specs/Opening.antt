@@ -1,4 +1,4 @@
--- The text of a file that isn't opened.
+-- The text for a file that can't be opened.
 use Rattle.std.specs.Prelude.{ℕ, List, ◌++◌, codes}
 use Rattle.block_device.specs.declared.open_fault.OpenFault.{OpenFault}
 use Rattle.block_device.specs.declared.open_fault.OpenFault.TheVariants as opening
@@ -11,6 +11,6 @@ abbrev pub unopened_text : OpenFault → List ℕ → List ℕ
 unopened_text opening.NoMemory path = no_memory
 unopened_text fault path = codes "refused " ++ kind_then (open_number fault) (open_name fault) (codes " " ++ (shown_path path ++ codes "\n"))
 
--- with its path
+-- the text for a file with its path
 abbrev pub open_text : UnopenedFile → List ℕ
 open_text file = unopened_text file.fault file.path.now

@@ -1,4 +1,4 @@
-//! What is printed of the fault in which an access to a stack ends, of what is refused, and of files that aren't opened.
+//! Printing the fault that ends an access to a stack, refusals, and files that can't be opened.
 #![tactic(auto)]
 
 mod open;

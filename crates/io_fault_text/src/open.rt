@@ -1,4 +1,4 @@
-//! Writes which file isn't opened, and why.
+//! Printing which file can't be opened, and why.
 ghost use Rattle.program_io.specs.Counted.{Writes};
 ghost use Rattle.io_fault_text.specs.Opening.{open_text};
 
@@ -9,7 +9,7 @@ use image_files::UnopenedFile;
 use program_io::{Counted, WriteFault};
 use std::io::Write;
 
-/// `refused K NAME PATH`, or `no memory`.
+/// Writes `refused K NAME PATH`, or `no memory`.
 pub fn say_unopened<W: Write>(
     writer: &mut Counted<W>,
     file: UnopenedFile<'_>,

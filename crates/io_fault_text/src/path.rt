@@ -1,4 +1,4 @@
-//! Writes paths.
+//! Printing paths.
 ghost use Rattle.std.specs.Prelude.{◌≡◌, IsTrue, length};
 ghost use Rattle.program_io.specs.Counted.{Writes};
 ghost use Rattle.io_fault_text.specs.Paths.{is_control, shown_byte, shown_path};
@@ -6,7 +6,7 @@ ghost use Rattle.io_fault_text.specs.Paths.{is_control, shown_byte, shown_path};
 use program_io::{Counted, WriteFault};
 use std::io::Write;
 
-/// The path, in which each control character is `\xHH`: so it stays on its line, whatever it holds.
+/// Writes the path with each control character as `\xHH`, so that it stays on one line.
 pub fn say_path<W: Write>(writer: &mut Counted<W>, path: &str) -> Result<(), WriteFault>
     ensures { Writes W.contents writer.old writer.new (shown_path path.now) result }
 {
@@ -22,14 +22,14 @@ pub fn say_path<W: Write>(writer: &mut Counted<W>, path: &str) -> Result<(), Wri
     writer.put(&bytes[from..])
 }
 
-// Below the space, or DEL.
+// Returns whether the byte is a control character: below the space, or DEL.
 fn is_control(byte: u8) -> bool
     ensures { result ≡ is_control byte }
 {
     byte < 0x20 || byte == 0x7f
 }
 
-// `\xHH`
+// Writes a control character as `\xHH`.
 fn say_control<W: Write>(writer: &mut Counted<W>, byte: u8) -> Result<(), WriteFault>
     requires { IsTrue (is_control byte) }
     ensures { Writes W.contents writer.old writer.new (shown_byte byte) result }

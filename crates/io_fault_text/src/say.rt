@@ -1,4 +1,4 @@
-//! Writes faults.
+//! Printing faults and refusals.
 ghost use Rattle.program_io.specs.Counted.{Writes};
 ghost use Rattle.io_fault_text.specs.Texts.{io_text, io_words, no_memory, refused_text, usage_text};
 
@@ -6,21 +6,21 @@ use program_io::{Counted, WriteFault};
 use stack_meaning::IoFault;
 use std::io::Write;
 
-/// `no memory`
+/// Writes `no memory`.
 pub fn say_no_memory<W: Write>(writer: &mut Counted<W>) -> Result<(), WriteFault>
     ensures { Writes W.contents writer.old writer.new no_memory result }
 {
     writer.put(b"no memory\n")
 }
 
-/// `usage`
+/// Writes `usage`.
 pub fn say_usage<W: Write>(writer: &mut Counted<W>) -> Result<(), WriteFault>
     ensures { Writes W.contents writer.old writer.new usage_text result }
 {
     writer.put(b"usage\n")
 }
 
-/// `refused K NAME`
+/// Writes `refused K NAME`.
 pub fn say_refused<W: Write>(
     writer: &mut Counted<W>,
     number: u8,
@@ -31,7 +31,7 @@ pub fn say_refused<W: Write>(
     writer.print(format_args!("refused {number} {name}\n"))
 }
 
-/// `fault K NAME`, and for a device its number; or `no memory`.
+/// Writes `fault K NAME` and, for a device, the number of the leaf; or `no memory`.
 pub fn say_io_fault<W: Write>(writer: &mut Counted<W>, fault: IoFault) -> Result<(), WriteFault>
     ensures { Writes W.contents writer.old writer.new (io_text fault) result }
 {
@@ -44,7 +44,7 @@ pub fn say_io_fault<W: Write>(writer: &mut Counted<W>, fault: IoFault) -> Result
     }
 }
 
-/// `K NAME`, and for a device its number.
+/// Writes `K NAME` and, for a device, the number of the leaf.
 pub fn say_io_words<W: Write>(writer: &mut Counted<W>, fault: IoFault) -> Result<(), WriteFault>
     ensures { Writes W.contents writer.old writer.new (io_words fault) result }
 {

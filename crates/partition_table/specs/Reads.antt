@@ -8,19 +8,19 @@ use Rattle.partition_table.specs.declared.read_fault.ReadFault.TheVariants.{Devi
 use Rattle.partition_table.specs.declared.sector_size.Disk.{Disk}
 use Rattle.partition_table.specs.Disks.{unit_of}
 
--- calls of read alone, of at most n sectors of the device in all: nothing was written
+-- the device was only read, at most n of its sectors in all
 pub record IsReadAtMost (old : Device) (n : ℕ) (new : Device) : Type 0 where
   pub same : IsSameDevice old new
   pub reads : new.reads ≤ old.reads + n
   pub writes : new.writes ≡ old.writes
   pub image : IsTrue old.steady → new.image ≡ old.image
 
--- that many sectors of the disk as they were read, over a steady device as they stand there
+-- `count` sectors of the disk as they were read; from a steady device, the sectors stored there
 pub record AreSectorsRead (device : Device) (disk : Disk) (first count : ℕ) (bytes : List ℕ) : Type 0 where
   pub size : length bytes ≡ 512 * (count * unit_of disk.size)
   pub stands : IsTrue device.steady → bytes ≡ concat (run_of device.image (first * unit_of disk.size) (count * unit_of disk.size))
 
--- why n sectors of 512 bytes were not read: the device failed in the call, or the allocation of their bytes was refused
+-- why n sectors of 512 bytes weren't read: the device call failed, or the allocation of at most their bytes failed
 abbrev pub IsUnread : Device → Device → ℕ → ReadFault → Type 0
 IsUnread old new n DeviceFailed = HasFailed old new
 IsUnread old new n NoMemory = (new.failures ≡ old.failures) × IsOutOfMemory (512 * n)

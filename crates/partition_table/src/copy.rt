@@ -1,4 +1,4 @@
-//! A copy of a table, read from a device.
+//! A copy of a partition table, read from a device.
 ghost use Rattle.std.specs.Prelude.{◌≡◌, ◌&&◌, ◌⊎◌, ◌+◌, ◌*◌, ◌≤◌, ◌<◌, length, take, Option, Some, None, IfErr, IfOk, OnOk};
 ghost use Rattle.block_device.specs.Device.{Device};
 ghost use Rattle.partition_table.specs.Copies.{IsArrayCause, IsCopyCause, IsGoodCopy, IsHeaderRead, are_equal, are_like};
@@ -16,7 +16,7 @@ use allocation::zeros;
 use block_device::BlockDev;
 use std::alloc::Global;
 
-/// A good copy of a table.
+/// A valid copy of a partition table.
 #[derive(Drop)]
 pub(crate) struct TableCopy {
     pub(crate) header: Header,
@@ -26,7 +26,7 @@ pub(crate) struct TableCopy {
 }
 
 impl TableCopy {
-    /// Its partitions.
+    /// Returns the partitions of the copy.
     pub(crate) fn into_partitions(self) -> Vec<Partition>
         ensures { result ≡ self.partitions }
     {
@@ -34,7 +34,7 @@ impl TableCopy {
         partitions
     }
 
-    /// Whether both copies say the same.
+    /// Returns whether both copies agree in their headers and entries.
     pub(crate) fn equals(&self, other: &TableCopy) -> bool
         ensures { result ≡ are_equal self.now other.now }
     {
@@ -42,7 +42,7 @@ impl TableCopy {
     }
 }
 
-// Whether the fields that both copies have in common are the same.
+// Returns whether two headers agree in the fields that both copies share.
 fn are_like(one: &Header, other: &Header) -> bool
     ensures { result ≡ are_like one.now other.now }
 {
@@ -53,7 +53,12 @@ fn are_like(one: &Header, other: &Header) -> bool
         && one.disk_id.as_slice() == other.disk_id.as_slice()
 }
 
-/// So many sectors of the disk, from the first on.
+/// Reads `count` sectors of the disk from sector `first` on.
+///
+/// # Errors
+///
+/// - `Device` if the device call fails.
+/// - `NoMemory` if the allocation of at most the sectors' bytes fails.
 pub(crate) fn read_sectors<D: BlockDev>(
     alloc: Global,
     device: &mut D,
@@ -73,7 +78,7 @@ pub(crate) fn read_sectors<D: BlockDev>(
     Ok(bytes)
 }
 
-// The header in that sector, where it is good.
+// Reads the header in a sector and checks it.
 fn read_header<D: BlockDev>(
     alloc: Global,
     device: &mut D,
@@ -94,7 +99,7 @@ fn read_header<D: BlockDev>(
     }
 }
 
-// The partitions in the entries, where these are good.
+// Returns the partitions in the entries after checking them.
 fn good_partitions(
     alloc: Global,
     header: &Header,
@@ -115,7 +120,13 @@ fn good_partitions(
     }
 }
 
-/// The copy whose header is in that sector.
+/// Reads the copy with its header in sector `sector` and checks it.
+///
+/// # Errors
+///
+/// - `Device` if a device call fails.
+/// - `NoMemory` if an allocation of at most 1 MiB fails.
+/// - `Table` with the copy's first fault if it isn't valid.
 pub(crate) fn read_copy<D: BlockDev>(
     alloc: Global,
     device: &mut D,

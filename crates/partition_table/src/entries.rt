@@ -1,4 +1,4 @@
-//! The entries of a table.
+//! The entries of a partition table.
 ghost use Rattle.std.specs.Prelude.{◌≡◌, ◌+◌, ◌*◌, ◌≤◌, ◌<◌, [], length, IfErr, IfOk};
 ghost use Rattle.std.specs.List.{list_any};
 ghost use Rattle.allocation.specs.Asked.{WasRefused};
@@ -10,7 +10,11 @@ use crate::{Partition, TableFault};
 use allocation::{OutOfMemory, push};
 use std::alloc::Global;
 
-/// The partitions in the entries, in their order.
+/// Returns the partitions in the entries, in order.
+///
+/// # Errors
+///
+/// `OutOfMemory` if the allocation of room for one more partition fails.
 pub(crate) fn partitions_in(
     alloc: Global,
     header: &Header,
@@ -33,7 +37,7 @@ pub(crate) fn partitions_in(
     Ok(partitions)
 }
 
-// The bytes of an entry, of so many.
+// Returns the bytes of entry `index` of `count`.
 fn entry_at(size: usize, array: &[u8], index: usize, count: usize) -> &[u8]
     requires index { index < count }
     requires whole { length array.now ≡ count * size }
@@ -43,7 +47,7 @@ fn entry_at(size: usize, array: &[u8], index: usize, count: usize) -> &[u8]
     &array[index * size..index * size + size]
 }
 
-/// The first fault of the partitions.
+/// Returns the first fault of the partitions.
 pub(crate) fn first_fault(header: &Header, partitions: &[Partition]) -> Option<TableFault>
     ensures { result ≡ fault_behind header.now [] partitions.now }
 {
@@ -56,7 +60,7 @@ pub(crate) fn first_fault(header: &Header, partitions: &[Partition]) -> Option<T
     None
 }
 
-// What is wrong of a partition, beside those before it.
+// Returns the first fault of a partition, given the partitions before it.
 fn partition_fault(
     header: &Header,
     before: &[Partition],

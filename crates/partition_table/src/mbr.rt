@@ -16,20 +16,20 @@ const SIGNATURE: u32 = 0xaa55;
 
 const PROTECTIVE: u32 = 0xee;
 
-/// The master boot record in sector 0 of a disk with a GUID partition table.
+/// The kind of master boot record in sector 0 of a disk with a GUID partition table.
 #[derive(Clone, Copy, Debug, PartialEq, Eq)]
 pub enum Mbr {
     /// One record has the type 0xEE and begins at sector 1; the other three are zeros.
     Protective,
-    /// There is none, or no record of it is used.
+    /// There is no master boot record, or all its records are unused.
     Missing,
-    /// Other records are used, as in a hybrid one.
+    /// Other records are used, as in a hybrid master boot record.
     Foreign,
-    /// The device failed, or an allocation was refused.
+    /// The device failed, or an allocation failed.
     Unread,
 }
 
-/// Reads the master boot record of a disk.
+/// Reads the master boot record of a disk and classifies it.
 pub(crate) fn read_mbr<D: BlockDev>(alloc: Global, device: &mut D, disk: Disk) -> Mbr
     requires on { IsDiskOn (D.state device.old) disk }
     requires some { 0 < disk.sectors }
@@ -42,7 +42,7 @@ pub(crate) fn read_mbr<D: BlockDev>(alloc: Global, device: &mut D, disk: Disk) -
     }
 }
 
-// What the bytes of sector 0 say.
+// Classifies the bytes of sector 0.
 #[tactic(auto, unfolding(crate::specs::Mbrs::mbr_of))]
 fn mbr_of(bytes: &[u8]) -> Mbr
     requires { 512 ≤ length bytes.now }
@@ -90,7 +90,7 @@ fn is_record_used(bytes: &[u8], at: usize) -> bool
     record_type(bytes, at) != 0
 }
 
-// Whether any of the four records is used.
+// Returns whether one of the four records is used.
 #[tactic(auto, unfolding(crate::specs::Mbrs::has_records))]
 fn has_records(bytes: &[u8]) -> bool
     requires { 512 ≤ length bytes.now }
@@ -102,7 +102,7 @@ fn has_records(bytes: &[u8]) -> bool
         || is_record_used(bytes, 494)
 }
 
-// Whether one record is protective, and the other three are zeros.
+// Returns whether the record at `at` is protective and the other three are zeros.
 fn is_alone(bytes: &[u8], at: usize, a: usize, b: usize, c: usize) -> bool
     requires at { at + 16 ≤ length bytes.now }
     requires others { (a + 16 ≤ length bytes.now) × (b + 16 ≤ length bytes.now) × (c + 16 ≤ length bytes.now) }
@@ -111,7 +111,7 @@ fn is_alone(bytes: &[u8], at: usize, a: usize, b: usize, c: usize) -> bool
     is_protective(bytes, at) && is_zero(bytes, a) && is_zero(bytes, b) && is_zero(bytes, c)
 }
 
-// Whether that holds of one of the four records.
+// Returns whether one of the four records is protective and the other three are zeros.
 #[tactic(auto, unfolding(crate::specs::Mbrs::has_protective))]
 fn has_protective(bytes: &[u8]) -> bool
     requires { 512 ≤ length bytes.now }

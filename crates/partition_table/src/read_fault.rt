@@ -1,4 +1,4 @@
-//! Why a copy of a table isn't taken.
+//! Why a copy of a partition table isn't used.
 ghost use Rattle.std.specs.Prelude.{◌≡◌};
 ghost use Rattle.partition_table.specs.FaultNames.{read_name, read_partition};
 
@@ -7,22 +7,22 @@ use allocation::OutOfMemory;
 use block_device::DeviceFault;
 use thiserror::Error;
 
-/// Why a copy of a table isn't taken.
+/// Why a copy of a partition table isn't used.
 #[derive(Clone, Copy, Debug, PartialEq, Eq, Error)]
 pub enum ReadFault {
     /// The device failed.
     #[error("Device")]
     Device,
-    /// An allocation was refused.
+    /// An allocation failed.
     #[error("NoMemory")]
     NoMemory,
-    /// What was read is no good copy.
+    /// The copy that was read isn't valid.
     #[error(transparent)]
     Table(TableFault),
 }
 
 impl ReadFault {
-    /// Its name in printed text; of a copy's fault that one's.
+    /// Returns the name in printed output. For `Table` it is that of the fault.
     pub fn name(self) -> &'static str
         ensures { result.now ≡ read_name self }
     {
@@ -33,7 +33,7 @@ impl ReadFault {
         }
     }
 
-    /// The number of the partition that is wrong, where it is one.
+    /// Returns the number of the faulty partition if the fault is about one.
     pub fn partition(self) -> Option<u32>
         ensures { result ≡ read_partition self }
     {

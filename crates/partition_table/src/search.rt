@@ -1,4 +1,4 @@
-//! The table of a device whose sectors may have either size.
+//! Search for the partition table of a device of unknown sector size.
 ghost use Rattle.std.specs.Prelude.{◌+◌, IfErr, IfOk};
 ghost use Rattle.partition_table.specs.Reads.{IsReadAtMost};
 ghost use Rattle.partition_table.specs.Tables.{IsEitherTable, IsNeitherTable, IsNoSizedTable, IsSizedTable, found_reads};
@@ -7,12 +7,13 @@ use crate::{NoTable, PartitionTable, SectorSize, read_table};
 use block_device::BlockDev;
 use std::alloc::Global;
 
-/// Returns the partitions of a device with sectors of that size; if it is 512 bytes and there is no table, those of a table
-/// with sectors of 4,096 bytes. If both exist, the table with sectors of 512 bytes is returned.
+/// Returns the partition table of a device with sectors of size `size`. If that is 512 bytes and there is no such
+/// table, returns the one with sectors of 4,096 bytes. If both exist, the table with sectors of 512 bytes is
+/// returned.
 ///
 /// # Errors
 ///
-/// That of `read_table` with sectors of that size.
+/// The error of `read_table` with sectors of size `size`.
 pub fn find_table<D: BlockDev>(
     alloc: Global,
     device: &mut D,
@@ -28,7 +29,7 @@ pub fn find_table<D: BlockDev>(
     }
 }
 
-// The table with sectors of 512 bytes, or else of 4,096.
+// Returns the table with sectors of 512 bytes or, if there is none, of 4,096.
 fn find_either<D: BlockDev>(alloc: Global, device: &mut D) -> Result<PartitionTable, NoTable>
     ensures read { IsReadAtMost (D.state device.old) found_reads (D.state device.new) }
     ensures ok { IfOk result (IsEitherTable (D.state device.old) (D.state device.new)) }

@@ -1,23 +1,23 @@
-//! What is unusual of a table that is read.
+//! Warnings about a partition table that is used.
 ghost use Rattle.std.specs.Prelude.{◌≡◌};
 ghost use Rattle.partition_table.specs.Tables.{copy_warnings, no_warnings};
 
 use crate::header::Header;
 use crate::{Disk, Mbr};
 
-/// What is unusual of a good copy. Of a copy that isn't taken nothing is.
+/// Warnings about a valid copy. A copy that isn't used has none.
 #[derive(Clone, Copy, Debug, PartialEq, Eq)]
 pub struct CopyWarnings {
-    /// The header names a sector past the end of the disk as that of the other copy's header.
+    /// The header names a sector after the end of the disk as that of the other copy's header.
     pub cut_short: bool,
-    /// The header names another sector than the one in which the other copy's header is looked for.
+    /// The header names a sector other than the one in which the other copy's header is expected.
     pub alternate: bool,
     /// A reserved byte isn't zero.
     pub reserved: bool,
 }
 
 impl CopyWarnings {
-    /// What is unusual of a header on a disk, if the other copy's header is in that sector.
+    /// Returns the warnings about a header; `other` is the sector in which the other copy's header is expected.
     pub(crate) fn of(disk: Disk, other: u64, header: &Header) -> CopyWarnings
         ensures { result ≡ copy_warnings disk other header.now }
     {
@@ -28,7 +28,7 @@ impl CopyWarnings {
         }
     }
 
-    /// Nothing is unusual.
+    /// Returns no warnings.
     pub(crate) fn none() -> CopyWarnings
         ensures { result ≡ no_warnings }
     {
@@ -40,13 +40,13 @@ impl CopyWarnings {
     }
 }
 
-/// What is unusual of a table.
+/// Warnings about a partition table.
 #[derive(Clone, Copy, Debug, PartialEq, Eq)]
 pub struct TableWarnings {
     /// The master boot record in sector 0.
     pub mbr: Mbr,
-    /// What is unusual of the primary copy.
+    /// Warnings about the primary copy.
     pub primary: CopyWarnings,
-    /// What is unusual of the backup.
+    /// Warnings about the backup.
     pub backup: CopyWarnings,
 }

@@ -1,7 +1,7 @@
--- What a reader and a writer hold.
+-- The contents of a reader and a writer.
 use Rattle.std.specs.Prelude.{ℕ, List, Option}
 
--- what a reader has left and a writer holds, where that is known
+-- the remaining input of a reader and the output of a writer, if they are known
 pub record Streams : Type 0 where
   pub input : Option (List ℕ)
   pub output : Option (List ℕ)

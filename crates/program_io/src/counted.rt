@@ -1,4 +1,4 @@
-//! A reader or a writer that counts its reads, remembers a failure, and knows what it has yet to flush.
+//! A reader or a writer that counts its reads, remembers a failure, and knows whether output remains to be flushed.
 ghost use Rattle.std.specs.Prelude.{◌≡◌, ◌+◌, min, true, false, IsOk, IfSome};
 ghost use Rattle.std.specs.Io.{ReadsAtMost};
 ghost use Rattle.std.specs.Io.KnownBytes.{ReadConsumes, Appends, Keeps};
@@ -10,7 +10,7 @@ use std::io;
 use std::io::{Read, Write};
 use std::marker::Model;
 
-/// A reader or a writer, of which a session's faults tell whether a call failed.
+/// A reader or a writer that counts its reads and records whether a call failed, so that a session can report it.
 #[derive(Drop)]
 pub struct Counted<T> {
     inner: T,
@@ -28,6 +28,7 @@ impl<T> Model for Counted<T> {
 }
 
 impl<T> Counted<T> {
+    /// Returns a reader or writer without calls or failures.
     pub fn new(inner: T) -> Counted<T>
         ensures { result ≡ record { inner = inner; calls = 0; failed = false; pending = false } }
     {
@@ -39,6 +40,7 @@ impl<T> Counted<T> {
         }
     }
 
+    /// Returns the inner reader or writer.
     pub fn into_inner(self) -> T
         ensures { result ≡ self.inner }
     {
@@ -51,21 +53,21 @@ impl<T> Counted<T> {
         inner
     }
 
-    /// How often it was called to read, at most 2^64 - 1.
+    /// Returns the number of read calls, at most 2^64 - 1.
     pub fn calls(&self) -> u64
         ensures { result ≡ self.now.calls }
     {
         self.calls
     }
 
-    /// Whether a call has failed. A read that was interrupted is no failure.
+    /// Returns whether a call has failed. An interrupted read isn't a failure.
     pub fn failed(&self) -> bool
         ensures { result ≡ self.now.failed }
     {
         self.failed
     }
 
-    /// Whether something was written since the last flush that succeeded.
+    /// Returns whether anything was written since the last successful flush.
     pub fn pending(&self) -> bool
         ensures { result ≡ self.now.pending }
     {
@@ -74,7 +76,11 @@ impl<T> Counted<T> {
 }
 
 impl<R: Read> Counted<R> {
-    /// Reads once. An interrupted call is no failure: it may be repeated.
+    /// Reads once into `buffer` and returns the number of bytes read.
+    ///
+    /// # Errors
+    ///
+    /// The error of the reader. It is recorded as a failure unless the call was interrupted and may be repeated.
     pub fn read(&mut self, buffer: &mut [u8]) -> io::Result<usize>
         ensures bound { ReadsAtMost result buffer.new }
         ensures bytes { ReadConsumes (R.remaining self.old.inner) (R.remaining self.new.inner) result buffer.new }
@@ -95,7 +101,11 @@ impl<R: Read> Counted<R> {
 }
 
 impl<W: Write> Counted<W> {
-    /// Writes all of the bytes.
+    /// Writes all bytes.
+    ///
+    /// # Errors
+    ///
+    /// `WriteFault` if the writer fails, which is recorded.
     pub fn put(&mut self, bytes: &[u8]) -> Result<(), WriteFault>
         ensures writes { Writes W.contents self.old self.new bytes.now result }
         ensures pending { self.new.pending ≡ true }
@@ -105,7 +115,11 @@ impl<W: Write> Counted<W> {
         self.ended(outcome)
     }
 
-    /// Writes what is printed of a value.
+    /// Writes the printed form of a value.
+    ///
+    /// # Errors
+    ///
+    /// `WriteFault` if the writer fails, which is recorded.
     pub fn print<D: Display + Drop>(&mut self, text: D) -> Result<(), WriteFault>
         ensures writes { Writing self.old self.new result
             (IfSome (D.output text) (Appends (W.contents self.old.inner) (W.contents self.new.inner))) }
@@ -117,6 +131,10 @@ impl<W: Write> Counted<W> {
     }
 
     /// Flushes the writer.
+    ///
+    /// # Errors
+    ///
+    /// `WriteFault` if the writer fails, which is recorded.
     pub fn flush(&mut self) -> Result<(), WriteFault>
         ensures { Writing self.old self.new result (Keeps (W.contents self.old.inner) (W.contents self.new.inner) × (self.new.pending ≡ false)) }
     {
@@ -126,7 +144,7 @@ impl<W: Write> Counted<W> {
         Ok(())
     }
 
-    // Remembers a writing that failed.
+    // Records the failure of a write.
     fn ended(&mut self, outcome: io::Result<()>) -> Result<(), WriteFault>
         ensures inner { self.new.inner ≡ self.old.inner }
         ensures pending { self.new.pending ≡ self.old.pending }

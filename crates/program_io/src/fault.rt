@@ -1,4 +1,4 @@
-//! What a writing may end in.
+//! The fault of a write.
 use thiserror::Error;
 
 /// The writer failed.

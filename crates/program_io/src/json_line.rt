@@ -7,7 +7,11 @@ ghost use Rattle.serde_json.specs.Written.{has_float};
 use serde_json::Value;
 use std::alloc::{AllocError, Global};
 
-/// The value's text with no space, and a newline. An object's keys are in rising order.
+/// Returns the text of the value without white space, and a newline. The keys of an object are in ascending order.
+///
+/// # Errors
+///
+/// `AllocError` if an allocation fails.
 #[tactic(auto, unfolding(crate::specs::JsonLines::json_line))]
 pub fn line_of(alloc: Global, value: &Value) -> Result<String, AllocError>
     requires { has_float (view value.now) ≡ false }

@@ -1,4 +1,4 @@
-//! Counting readers and writers, and the line of a JSON value.
+//! Readers and writers that count calls and remember failures, and the line of a JSON value.
 #![tactic(auto)]
 
 mod counted;

@@ -1,14 +1,14 @@
--- Laws of every code.
+-- Laws that hold for every code.
 use Rattle.std.specs.Prelude.{◌≡◌, ℕ, ◌+◌, ◌<◌, ◌≤◌, List, ◌++◌, length, slice_index, EachIndex}
 use Rattle.reed_solomon.specs.Code.{IsCodeword}
 use Rattle.reed_solomon.specs.Restoring.{AgreesOutside}
 
--- every message of bytes has parity that makes it a codeword
+-- every message of bytes has parity bytes that complete it to a codeword
 abbrev pub EveryMessageHasParity : Type 0
 EveryMessageHasParity = (parity : ℕ) → (message : List ℕ) → 0 < parity → parity ≤ 24 → length message + parity ≡ 255
     → ((k : ℕ) → slice_index message k < 256) → (tail : List ℕ) × IsCodeword parity (message ++ tail)
 
--- two codewords that agree at all places but as many as there are bytes of parity are the same
+-- two codewords that agree everywhere except at no more positions than there are parity bytes are equal
 abbrev pub CodewordsAreApart : Type 0
 CodewordsAreApart = (parity : ℕ) → (lost v w : List ℕ) → length lost ≤ parity → EachIndex lost (λ k. slice_index lost k < 255)
     → IsCodeword parity v → IsCodeword parity w → AgreesOutside lost v w → v ≡ w

@@ -1,4 +1,4 @@
-//! Bytes lost at the same places of many codewords, summed up one place after the other.
+//! Recovery of bytes erased at the same positions of many codewords, one position at a time.
 
 ghost use Rattle.std.specs.Prelude.{◌≡◌, ◌<◌, ◌≤◌, ◌*◌, length, slice_index, EachIndex, IfOk, OnErr};
 ghost use Rattle.allocation.specs.Refusal.{IsOutOfMemory};
@@ -10,8 +10,12 @@ use crate::restoring::factors;
 use allocation::{OutOfMemory, append, push};
 use std::alloc::Global;
 
-/// The products by which the bytes of codewords sum up to those at the lost places: of place i by the factor for the
-/// k-th of n lost places at i * n + k.
+/// Returns the multiplication tables that recover the erased bytes of codewords. With n erasures, the table of
+/// position i for erasure k is at index i * n + k. The positions in `lost` are below 255.
+///
+/// # Errors
+///
+/// `OutOfMemory` if an allocation fails.
 pub fn restoring_products(alloc: Global, lost: &[usize]) -> Result<Vec<Products>, OutOfMemory>
     requires in_word { EachIndex lost.now (λ k. slice_index lost.now k < 255) }
     requires few { length lost.now ≤ 255 }
@@ -28,7 +32,7 @@ pub fn restoring_products(alloc: Global, lost: &[usize]) -> Result<Vec<Products>
     Ok(products)
 }
 
-// The factors of all places for each lost place, one row of 255 after the other.
+// Returns the factors of all positions for each erasure: consecutive rows of 255 bytes.
 fn factor_rows(alloc: Global, lost: &[usize]) -> Result<Vec<u8>, OutOfMemory>
     requires { EachIndex lost.now (λ k. slice_index lost.now k < 255) }
     ensures ok { IfOk result (λ v. AreRows lost.now v.items (length lost.now)) }
@@ -41,7 +45,12 @@ fn factor_rows(alloc: Global, lost: &[usize]) -> Result<Vec<u8>, OutOfMemory>
     Ok(rows)
 }
 
-/// As `restoring_products`, where the parity of codewords is lost.
+/// Returns the tables of `restoring_products` for erasures at the last `parity` positions: the parity bytes of a
+/// codeword.
+///
+/// # Errors
+///
+/// `OutOfMemory` if an allocation fails.
 pub fn parity_products(alloc: Global, parity: usize) -> Result<Vec<Products>, OutOfMemory>
     requires { parity ≤ 24 }
     ensures ok { IfOk result (λ v. AreProducts (parity_places parity) v.items) }
@@ -54,8 +63,8 @@ pub fn parity_products(alloc: Global, parity: usize) -> Result<Vec<Products>, Ou
     restoring_products(alloc, &places)
 }
 
-/// Adds to the sums of each codeword the products of its byte: with n products, those of the byte at c to the n sums
-/// from c * n on.
+/// Adds the products of one byte of each codeword to its sums: with n products, those of `bytes[c]` are added to the
+/// n sums from index c * n on.
 pub fn add_products(products: &[Products], bytes: &[u8], sums: &mut [u8])
     requires { length sums.old ≡ length bytes.now * length products.now }
     ensures { AreAdded (product_at products.now bytes.now) sums.old sums.new }

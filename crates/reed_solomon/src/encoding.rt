@@ -1,5 +1,6 @@
-//! The parity of a codeword: what is left of its message's polynomial, divided by the one whose roots a codeword has.
-//! A polynomial of degree 24 at most is an array of its 25 coefficients, the highest first.
+//! The parity of a codeword: the remainder of the message's polynomial after division by the generator.
+//!
+//! A polynomial of degree at most 24 is an array of its 25 coefficients, the highest first.
 
 ghost use Rattle.std.specs.Prelude.{◌≡◌, ℕ, ◌+◌, ◌<◌, ◌≤◌, ◌↔◌, ◌++◌, IsTrue, length, slice_index};
 ghost use Rattle.reed_solomon.specs.Code.{syndrome, IsCodeword};
@@ -7,7 +8,7 @@ ghost use Rattle.reed_solomon.specs.Encoding.{IsGenerator, shifted_sum_at};
 
 use crate::field::{multiply, power};
 
-/// The product of one polynomial by x, and of the other by `scale`, added up.
+/// Returns the sum of `shifted` times x and `scaled` times `scale`.
 fn shifted_sum(shifted: &[u8; 25], scaled: &[u8; 25], scale: u8) -> [u8; 25]
     ensures len { length result ≡ 25 }
     ensures value { (k : ℕ) → k < 25 → slice_index result k ≡ shifted_sum_at shifted.now scaled.now scale k }
@@ -20,7 +21,7 @@ fn shifted_sum(shifted: &[u8; 25], scaled: &[u8; 25], scale: u8) -> [u8; 25]
     sum
 }
 
-/// The polynomial whose roots are the first `degree` powers of x.
+/// Returns the monic polynomial whose roots are the first `degree` powers of x.
 fn generator(degree: usize) -> [u8; 25]
     requires { degree ≤ 24 }
     ensures { IsGenerator degree result }
@@ -33,7 +34,8 @@ fn generator(degree: usize) -> [u8; 25]
     generator
 }
 
-/// Writes the parity that makes a codeword of the message.
+/// Writes to `parity` the bytes that complete the message to a codeword. Both together have 255 bytes, of which 1 to
+/// 24 are parity.
 pub fn encode(message: &[u8], parity: &mut [u8])
     requires len { length message.now + length parity.old ≡ 255 }
     requires some { 0 < length parity.old }
@@ -53,7 +55,7 @@ pub fn encode(message: &[u8], parity: &mut [u8])
     }
 }
 
-/// The value of a word's polynomial at a power of x.
+/// Returns the value of a word's polynomial at the power `root` of x.
 pub fn syndrome(word: &[u8], root: usize) -> u8
     requires len { length word.now ≡ 255 }
     requires root { root < 510 }
@@ -67,7 +69,7 @@ pub fn syndrome(word: &[u8], root: usize) -> u8
     value
 }
 
-/// Whether a word is a codeword.
+/// Returns whether a word of 255 bytes is a codeword with that many parity bytes.
 pub fn is_codeword(word: &[u8], parity: usize) -> bool
     requires len { length word.now ≡ 255 }
     requires parity { parity ≤ 254 }

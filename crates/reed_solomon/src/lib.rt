@@ -1,4 +1,5 @@
-//! Reed-Solomon codes over the field of 256 elements, whose codewords are 255 bytes, for bytes lost at known places.
+//! Reed-Solomon codes over the field of 256 elements, with codewords of 255 bytes: encoding, and recovery of erased
+//! bytes.
 #![tactic(auto)]
 
 mod columns;

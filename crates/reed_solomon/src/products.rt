@@ -1,4 +1,4 @@
-//! The products of all bytes by one factor.
+//! Multiplication of every byte by one factor, as a table.
 
 ghost use Rattle.std.specs.Prelude.{◌≡◌, length, slice_index};
 ghost use Rattle.reed_solomon.specs.Field.{field_product};
@@ -7,7 +7,7 @@ ghost use Rattle.reed_solomon.specs.Products.{AreAdded};
 use crate::field::multiply;
 use std::marker::Model;
 
-/// The product of each byte by a factor. Contracts see it as the factor.
+/// The multiplication table of a factor. Contracts treat it as the factor.
 #[derive(Drop)]
 pub struct Products {
     of: [u8; 256],
@@ -26,7 +26,7 @@ impl Model for Products {
 }
 
 impl Products {
-    /// The products by this factor.
+    /// Returns the multiplication table of `factor`.
     pub fn by(factor: u8) -> Products
         ensures { result ≡ factor }
     {
@@ -37,14 +37,14 @@ impl Products {
         Products { of }
     }
 
-    /// The product of a byte.
+    /// Returns the product of the factor and a byte.
     pub fn times(&self, byte: u8) -> u8
         ensures { result ≡ field_product self.now byte }
     {
         self.of[byte as usize]
     }
 
-    /// Adds to each byte of a sum the product of the byte at the same index.
+    /// Adds to each byte of `sum` the product of the factor and the byte of `bytes` at the same index.
     pub fn add_to(&self, sum: &mut [u8], bytes: &[u8])
         requires { length bytes.now ≡ length sum.old }
         ensures { AreAdded (λ k. field_product self.now (slice_index bytes.now k)) sum.old sum.new }

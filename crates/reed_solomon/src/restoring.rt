@@ -1,11 +1,12 @@
-//! Bytes lost at known places, from the others.
+//! Recovery of bytes erased at known positions from the other bytes.
 
 ghost use Rattle.std.specs.Prelude.{◌≡◌, ◌<◌, length, slice_index, EachIndex};
 ghost use Rattle.reed_solomon.specs.Restoring.{weight, combination, AgreesOutside, SumUpToByte, IsRestored};
 
 use crate::field::{inverse, multiply, power};
 
-/// The value at place `i` of the polynomial whose roots are those of the lost places other than `place`.
+/// Returns the value at the locator of position `i` of the polynomial whose roots are the locators of the erasures
+/// other than `place`.
 fn weight(lost: &[usize], place: usize, i: usize) -> u8
     requires i_in_word { i < 255 }
     requires lost_in_word { EachIndex lost.now (λ k. slice_index lost.now k < 255) }
@@ -20,7 +21,8 @@ fn weight(lost: &[usize], place: usize, i: usize) -> u8
     product
 }
 
-/// The factors by which the bytes of a codeword sum up to its byte at `place`; those of the lost places are 0.
+/// Returns the factors that recover the byte of a codeword at `place`: the sum of the bytes times their factors. The
+/// factors of `place` and of the erasures are 0.
 pub fn factors(lost: &[usize], place: usize) -> [u8; 255]
     requires place_in_word { place < 255 }
     requires lost_in_word { EachIndex lost.now (λ k. slice_index lost.now k < 255) }
@@ -39,7 +41,7 @@ pub fn factors(lost: &[usize], place: usize) -> [u8; 255]
     factors
 }
 
-/// The sum of a word's bytes, each by its factor.
+/// Returns the sum of a word's bytes, each times its factor.
 pub fn combination(factors: &[u8; 255], word: &[u8]) -> u8
     requires { length word.now ≡ 255 }
     ensures { result ≡ combination factors.now word.now }
@@ -51,7 +53,10 @@ pub fn combination(factors: &[u8; 255], word: &[u8]) -> u8
     sum
 }
 
-/// Puts back the bytes at the lost places: of a codeword that has at least as many bytes of parity as are lost, all.
+/// Recovers the bytes at the positions in `lost`; the other bytes stay unchanged.
+///
+/// If the other bytes are those of a codeword with at least as many parity bytes as there are erasures, the result is
+/// that codeword.
 pub fn restore(word: &mut [u8], lost: &[usize])
     requires len { length word.old ≡ 255 }
     requires lost_in_word { EachIndex lost.now (λ k. slice_index lost.now k < 255) }

@@ -1,8 +1,8 @@
--- The sectors that are still to be gone over.
+-- The sectors of a map that remain to be processed.
 use Rattle.std.specs.Prelude.{Bool, List, ◌++◌, replicate}
 use Rattle.rescue_map.specs.declared.ahead.Ahead.{Ahead}
 use Rattle.rescue_map.specs.Maps.{marks}
 
--- of each of them, whether it was had
+-- for each remaining sector, whether it was recovered
 abbrev pub marks_ahead : Ahead → List Bool
 marks_ahead a = replicate a.first.count a.first.had ++ marks a.rest.now

@@ -13,30 +13,30 @@ use Rattle.rescue_map.specs.Numbers.{map_number}
 abbrev pub is_unfinished : ℕ → Bool
 is_unfinished b = (b == 45) || (b == 63) || (b == 42) || (b == 47)
 
--- of a block: had (`+`), or still to be read
+-- the status of a block: recovered (`+`), or one of the unfinished ones
 abbrev pub status_named : ℕ → Option Bool
 status_named b = if b == 43 then Some true else if is_unfinished b then Some false else None
 
 abbrev pub status_of : Word → Option Bool
 status_of word = if length word == 1 then status_named (slice_index word 0) else None
 
--- of the whole: one of those, or `F` or `G`
+-- the status of the whole: a status of a block, or `F` or `G`
 abbrev pub is_whole_status : Word → Bool
 is_whole_status word =
     (length word == 1) && ((slice_index word 0 == 43) || is_unfinished (slice_index word 0) || (slice_index word 0 == 70) || (slice_index word 0 == 71))
 
--- a status line: a position, a status, and perhaps the number of a pass
+-- a status line: a position, a status and, optionally, the number of a pass
 abbrev pub is_status : List Word → Bool
 is_status (pos ∷ state ∷ []) = is_some (map_number pos) && is_whole_status state
 is_status (pos ∷ state ∷ pass ∷ []) = is_some (map_number pos) && is_whole_status state
 is_status other = false
 
--- the bytes of a block are so many from the first one on
+-- a block from its first byte, its number of bytes and its status
 abbrev pub block_from : Option ℕ → Option ℕ → Option Bool → Result Block MapFault
 block_from (Some first) (Some count) (Some had) = Ok (record { first = first; count = count; had = had })
 block_from first count had = Err fault.Block
 
--- a block's line: its position, size and status
+-- the line of a block: its position, size and status
 abbrev pub map_block : List Word → Result Block MapFault
 map_block (pos ∷ size ∷ status ∷ []) = block_from (map_number pos) (map_number size) (status_of status)
 map_block other = Err fault.Block
@@ -45,7 +45,7 @@ map_block other = Err fault.Block
 abbrev pub is_whole_block : Block → Bool
 is_whole_block block = (block.first % 512 == 0) && (block.count % 512 == 0) && nat_lt 0 block.count
 
--- the sectors of a block that has to begin at that one, on a device of so many
+-- the sectors of a block that must begin at sector `at` of a device of `sectors` sectors
 abbrev pub run_at : ℕ → ℕ → Block → Result Run MapFault
 run_at at sectors block =
     if not (is_whole_block block) then Err fault.PartSector

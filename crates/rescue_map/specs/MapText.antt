@@ -1,4 +1,4 @@
--- Map files: what they say of a device, or their first fault; and the text that is written.
+-- Map files: their value for a device, or their first fault, and the text that is written.
 use Rattle.std.specs.Prelude.{◌≡◌, ℕ, ◌+◌, ◌*◌, Bool, true, not, nat_le, ◌==◌, Option, Some, None, List, [], ◌∷◌, ◌++◌, codes, decimal, filter, map, Result, Ok, Err, if◌then◌else◌}
 use Rattle.std.specs.List.{join_with_byte}
 use Rattle.allocation.specs.Refusal.{IsOutOfMemory}
@@ -12,11 +12,11 @@ use Rattle.rescue_map.specs.declared.map.Run.{Run}
 use Rattle.rescue_map.specs.Blocks.{map_block, is_status, run_at}
 use Rattle.rescue_map.specs.Kinds.{mark_text}
 
--- the words of the lines that say something: not of comments, nor of lines without a word
+-- the words of the lines that are neither blank nor comments
 abbrev pub said : List (List ℕ) → List (List Word)
 said lines = filter (λ ws. not (is_skipped ws)) (map words lines)
 
--- the blocks of a device of so many sectors, from its sector `at` to its end
+-- the blocks of a device of `sectors` sectors, from sector `at` to its end
 abbrev pub map_runs_from : ℕ → ℕ → List (List Word) → Result (List Run) MapFault
 map_runs_from sectors at [] = if at == sectors then Ok [] else Err fault.Size
 map_runs_from sectors at (line ∷ more) = do
@@ -25,27 +25,28 @@ map_runs_from sectors at (line ∷ more) = do
   runs ← map_runs_from sectors (at + run.count) more
   Ok (run ∷ runs)
 
--- a status line, and behind it the blocks
+-- a status line followed by the blocks
 abbrev pub runs_behind : ℕ → List (List Word) → Result (List Run) MapFault
 runs_behind sectors [] = Err fault.Status
 runs_behind sectors (line ∷ more) = if is_status line then map_runs_from sectors 0 more else Err fault.Status
 
--- what a text says of a device of so many sectors
+-- the value of a text for a device of `sectors` sectors
 unfoldable pub map_of : ℕ → List ℕ → Result (List Run) MapFault
 map_of sectors text = runs_behind sectors (said (text_lines text))
 
--- ---- what is written
+-- ---- the text that is written
 
--- All sectors were tried, or those before one: of a run that isn't had, which of the two is told by where it ends.
+-- whether a run that ends at sector `end` was tried: with `None` all sectors were tried, with `Some` those before a
+-- sector
 abbrev pub is_tried : Option ℕ → ℕ → Bool
 is_tried None end = true
 is_tried (Some tried) end = nat_le end tried
 
--- had, bad, or not tried
+-- recovered, bad, or not tried
 abbrev pub status_word : Bool → Bool → Word
 status_word had tried = if had then codes "+" else if tried then codes "-" else codes "?"
 
--- positions and sizes in bytes, in decimal
+-- positions and sizes are in bytes and decimal
 unfoldable pub run_words : Option ℕ → ℕ → Run → List Word
 run_words tried at run = decimal (at * 512) ∷ decimal (run.count * 512) ∷ status_word run.had (is_tried tried (at + run.count)) ∷ []
 
@@ -56,20 +57,20 @@ abbrev pub map_runs_text : Option ℕ → ℕ → List Run → List ℕ
 map_runs_text tried at [] = []
 map_runs_text tried at (run ∷ more) = map_run_text tried at run ++ map_runs_text tried (at + run.count) more
 
--- finished, or copying
+-- the status of the whole: finished, or copying
 abbrev pub status_text : Option ℕ → List ℕ
 status_text None = codes "0 +"
 status_text (Some tried) = codes "0 ?"
 
--- after a status line
+-- the status line and the blocks
 abbrev pub blocks_text : Option ℕ → List Run → List ℕ
 blocks_text tried runs = (status_text tried ++ 10 ∷ []) ++ map_runs_text tried 0 runs
 
--- a map of a kind, whose mark is a comment
+-- a map of this kind; the mark is a comment
 unfoldable pub map_text : MapKind → Option ℕ → List Run → List ℕ
 map_text kind tried runs = mark_text kind ++ blocks_text tried runs
 
--- the result is what the text says, unless an allocation of room for one run was refused
+-- the result is the value of the text, unless the allocation of room for one run failed
 abbrev pub IsMapAnswer : Result (List Run) MapFault → Result (List Run) MapFault → Type 0
 IsMapAnswer (Ok runs) answer = answer ≡ Ok runs
 IsMapAnswer (Err fault.NoMemory) answer = IsOutOfMemory 1

@@ -1,25 +1,25 @@
--- Which sectors of a device were had.
+-- Which sectors of a device were recovered.
 use Rattle.std.specs.Prelude.{◌+◌, ◌^◌, ◌≤◌, Bool, List, [], ◌∷◌, ◌++◌, length, replicate, take, drop, All, if◌then◌else◌}
 use Rattle.std.specs.List.{flat_map}
 use Rattle.rescue_map.specs.declared.map.Run.{Run}
 use Rattle.rescue_map.specs.declared.splicing.Span.{Span}
 use Rattle.rescue_map.specs.declared.totals.Totals.{Totals}
 
--- of each sector, from the first on, whether it was had
+-- for each sector, whether it was recovered
 abbrev pub marks : List Run → List Bool
 marks runs = flat_map (λ r. replicate r.count r.had) runs
 
--- none is empty, and a device has so many sectors at most
+-- no run is empty, and all together have at most 2^54 sectors
 pub record AreRuns (runs : List Run) : Type 0 where
   pub some : All (λ r. 1 ≤ r.count) runs
   pub few : length (marks runs) ≤ 2 ^ 54
 
--- the marks of a span of sectors among those of all others
+-- the marks of a span from one map, and those around it from another
 abbrev pub spliced_marks : Span → List Bool → List Bool → List Bool
 spliced_marks span around within =
     take span.first around ++ (take span.count (drop span.first within) ++ drop (span.first + span.count) around)
 
--- how many sectors of some runs were had, and how many weren't
+-- the number of sectors that were recovered, and of those that weren't
 abbrev pub with_run : Totals → Run → Totals
 with_run t r = if r.had then record { had = t.had + r.count; lost = t.lost } else record { had = t.had; lost = t.lost + r.count }
 

@@ -1,11 +1,11 @@
-//! The sectors that are still to be scanned.
+//! The sectors of a map that remain to be processed.
 ghost use Rattle.std.specs.Prelude.{◌≡◌, ◌≤◌, ◌++◌, [], replicate, false, length};
 ghost use Rattle.rescue_map.specs.Aheads.{marks_ahead};
 ghost use Rattle.rescue_map.specs.Maps.{marks};
 
 use crate::map::{Map, Run};
 
-/// The sectors ahead: what is left of a run, and the runs after it.
+/// The remaining sectors: the rest of a run, and the runs after it.
 #[derive(Drop)]
 pub struct Ahead<'a> {
     pub first: Run,
@@ -13,7 +13,7 @@ pub struct Ahead<'a> {
 }
 
 impl<'a> Ahead<'a> {
-    /// All sectors of a map.
+    /// Returns all sectors of a map.
     pub fn of_map(map: &'a Map) -> Ahead<'a>
         ensures { marks_ahead result ≡ marks map.now }
     {
@@ -26,7 +26,7 @@ impl<'a> Ahead<'a> {
         }
     }
 
-    /// Returns so many sectors of which none was recovered.
+    /// Returns `count` sectors that weren't recovered.
     pub fn unread(count: u64) -> Ahead<'a>
         ensures { marks_ahead result ≡ replicate count false }
     {
@@ -36,7 +36,7 @@ impl<'a> Ahead<'a> {
         }
     }
 
-    /// The run of the next sectors, where there are some.
+    /// Returns the run of the next sectors. At least one sector must remain.
     pub fn next_run(&mut self) -> Run
         requires { 1 ≤ length (marks_ahead self.old) }
         ensures same { marks_ahead self.new ≡ marks_ahead self.old }
@@ -50,7 +50,7 @@ impl<'a> Ahead<'a> {
         self.first
     }
 
-    /// So many sectors of that run are done.
+    /// Removes the first `count` sectors of the current run.
     pub fn pass(&mut self, count: u64)
         requires { count ≤ self.old.first.count }
         ensures { marks_ahead self.old ≡ replicate count self.old.first.had ++ marks_ahead self.new }

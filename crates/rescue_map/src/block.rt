@@ -9,7 +9,7 @@ use crate::map::Run;
 use crate::numbers::map_number;
 use table_text::Words;
 
-/// So many bytes from `first` on, and whether they were recovered.
+/// A block of `count` bytes from `first` on, and whether it was recovered.
 #[derive(Clone, Copy)]
 pub(crate) struct Block {
     pub(crate) first: u64,
@@ -17,14 +17,14 @@ pub(crate) struct Block {
     pub(crate) had: bool,
 }
 
-// Bad, not tried, not trimmed or not scraped.
+// Returns whether the status is bad, not tried, not trimmed or not scraped.
 fn is_unfinished(status: u8) -> bool
     ensures { result ≡ is_unfinished status }
 {
     status == b'-' || status == b'?' || status == b'*' || status == b'/'
 }
 
-// Whether a block was recovered.
+// Returns whether a block was recovered, or `None` for an unknown status.
 fn status_of(word: &[u8]) -> Option<bool>
     ensures { result ≡ status_of word.now }
 {
@@ -49,7 +49,7 @@ fn is_state(word: &[u8]) -> bool
     word[0] == b'+' || is_unfinished(word[0]) || word[0] == b'F' || word[0] == b'G'
 }
 
-/// Whether a line is a status line. The number of the pass isn't looked at.
+/// Returns whether a line is a status line. The number of the pass isn't checked.
 pub(crate) fn is_status(line: &[u8]) -> bool
     ensures { result ≡ is_status (words line.now) }
 {
@@ -64,7 +64,11 @@ pub(crate) fn is_status(line: &[u8]) -> bool
     words.next_word().is_none() && map_number(pos).is_some() && is_state(state)
 }
 
-/// The block of a line.
+/// Returns the block of a line.
+///
+/// # Errors
+///
+/// `Block` if the line isn't one of a block.
 pub(crate) fn read_block(line: &[u8]) -> Result<Block, MapFault>
     ensures value { result ≡ map_block (words line.now) }
     ensures err { IfErr result (λ fault. fault ≡ map_fault.Block) }
@@ -82,14 +86,22 @@ pub(crate) fn read_block(line: &[u8]) -> Result<Block, MapFault>
     Ok(Block { first, count, had })
 }
 
-// Whole sectors, at least one.
+// Returns whether the block consists of whole sectors, at least one.
 fn is_whole(block: Block) -> bool
     ensures { result ≡ is_whole_block block }
 {
     block.first % 512 == 0 && block.count % 512 == 0 && block.count > 0
 }
 
-/// The sectors of a block that has to begin at that one, on a device of so many.
+/// Returns the sectors of a block that must begin at sector `at` of a device of `sectors` sectors.
+///
+/// # Errors
+///
+/// The first that applies, in this order:
+///
+/// - `PartSector` if the block doesn't consist of whole sectors.
+/// - `Gap` or `Overlap` if it begins after or before sector `at`.
+/// - `Size` if it ends after the device.
 pub(crate) fn run_at(at: u64, sectors: u64, block: Block) -> Result<Run, MapFault>
     requires { at ≤ sectors }
     ensures value { result ≡ run_at at sectors block }

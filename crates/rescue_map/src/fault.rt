@@ -5,28 +5,28 @@ ghost use Rattle.rescue_map.specs.declared.fault.MapFault.TheVariants as map_fau
 use allocation::OutOfMemory;
 use thiserror::Error;
 
-/// Why a text isn't the map of a device of so many sectors: the first fault in reading order.
+/// Why a text isn't the map of a device: the first fault in reading order.
 #[derive(Clone, Copy, Debug, PartialEq, Eq, Error)]
 pub enum MapFault {
-    /// An allocation was refused.
+    /// An allocation failed.
     #[error("NoMemory")]
     NoMemory,
-    /// The first line that says something isn't a status line, or there is none.
+    /// The first line that is neither blank nor a comment isn't a status line, or there is none.
     #[error("Status")]
     Status,
-    /// A line behind it isn't a block's.
+    /// A line after the status line isn't one of a block.
     #[error("Block")]
     Block,
-    /// A block has no whole sectors, or doesn't begin with one.
+    /// A block doesn't consist of whole sectors, or is empty.
     #[error("PartSector")]
     PartSector,
-    /// A block begins behind the end of the one before.
+    /// A block begins after the end of the previous one.
     #[error("Gap")]
     Gap,
-    /// A block begins before the end of the one before.
+    /// A block begins before the end of the previous one.
     #[error("Overlap")]
     Overlap,
-    /// The blocks don't end where the device does.
+    /// The blocks don't end at the end of the device.
     #[error("Size")]
     Size,
 }

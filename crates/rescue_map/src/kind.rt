@@ -1,4 +1,4 @@
-//! What the `+` of a map says.
+//! The meaning of `+` in a map.
 ghost use Rattle.std.specs.Prelude.{◌≡◌};
 ghost use Rattle.dm_table.specs.Words.{words};
 ghost use Rattle.rescue_map.specs.Kinds.{is_mark, kind_in, kind_of};
@@ -6,16 +6,16 @@ ghost use Rattle.rescue_map.specs.Kinds.{is_mark, kind_in, kind_of};
 use crate::lines::Lines;
 use table_text::Words;
 
-/// What a map is of, and so what its `+` says of a sector.
+/// The kind of a map, which determines the meaning of `+`.
 #[derive(Clone, Copy, Debug, PartialEq, Eq)]
 pub enum MapKind {
-    /// Of a copy: the sector is in the copy. GNU ddrescue's maps are of this kind.
+    /// The map of a copy: the sector is in the copy. GNU ddrescue's maps are of this kind.
     Copy,
-    /// Of a scan: the sector could be read, and was copied nowhere.
+    /// The map of a scan: the sector was readable, and was not copied.
     Scan,
 }
 
-// Whether a line is `# dmstack scan`, with white space around the words or without.
+// Returns whether a line is `# dmstack scan`, with any white space around the words.
 fn is_mark(line: &[u8]) -> bool
     ensures { result ≡ is_mark (words line.now) }
 {
@@ -35,7 +35,8 @@ fn is_mark(line: &[u8]) -> bool
     sign == b"#".as_slice() && program == b"dmstack".as_slice() && command == b"scan".as_slice()
 }
 
-/// Returns the kind of the map in a text: a scan's if one of the lines is `# dmstack scan`, a comment for GNU ddrescue.
+/// Returns the kind of the map in a text: `Scan` if one of its lines is `# dmstack scan`, which GNU ddrescue reads as
+/// a comment, and otherwise `Copy`.
 #[tactic(auto, unfolding(crate::specs::Kinds::kind_of))]
 pub fn kind_of(text: &[u8]) -> MapKind
     ensures { result ≡ kind_of text.now }

@@ -1,4 +1,4 @@
-//! Map files of GNU ddrescue: which sectors of a device were recovered, and which are still to be read.
+//! Map files of GNU ddrescue: which sectors of a device were recovered, and which remain to be read.
 #![tactic(auto)]
 
 mod ahead;

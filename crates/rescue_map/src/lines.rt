@@ -1,4 +1,4 @@
-//! The lines of a text, and those that say something.
+//! The lines of a text, and those that are neither blank nor comments.
 ghost use Rattle.std.specs.Prelude.{◌≡◌, ◌==◌, [], ◌∷◌, ◌≤◌, length, MatchOption};
 ghost use Rattle.std.specs.List.{position_or_len};
 ghost use Rattle.dm_table.specs.TableText.{is_skipped};
@@ -8,7 +8,7 @@ ghost use Rattle.rescue_map.specs.MapText.{said};
 use std::marker::Model;
 use table_text::Words;
 
-// The number of bytes before the first newline.
+// Returns the number of bytes before the first newline.
 fn line_len(text: &[u8]) -> usize
     ensures value { result ≡ position_or_len (λ b. b == 10) text.now }
     ensures bound { result ≤ length text.now }
@@ -21,7 +21,7 @@ fn line_len(text: &[u8]) -> usize
     text.len()
 }
 
-/// The lines that are left of a text.
+/// The remaining lines of a text.
 #[derive(Drop)]
 pub(crate) struct Lines<'a> {
     rest: Option<&'a [u8]>,
@@ -43,7 +43,7 @@ impl<'a> Lines<'a> {
         Lines { rest: Some(text) }
     }
 
-    /// Takes the first line. Without one it is at its end, and stays there.
+    /// Removes and returns the first line, or returns `None` if no lines remain.
     pub(crate) fn next_line(&mut self) -> Option<&'a [u8]>
         ensures { MatchOption result
             ((self.old ≡ []) × (self.new ≡ []))
@@ -60,7 +60,7 @@ impl<'a> Lines<'a> {
     }
 }
 
-// A line without a word, or a comment.
+// Returns whether the line is blank or a comment.
 fn is_skipped(line: &[u8]) -> bool
     ensures { result ≡ is_skipped (words line.now) }
 {
@@ -70,7 +70,7 @@ fn is_skipped(line: &[u8]) -> bool
     }
 }
 
-/// Takes the first line that says something.
+/// Removes and returns the first line that is neither blank nor a comment, with the lines before it.
 pub(crate) fn next_said<'a>(lines: &mut Lines<'a>) -> Option<&'a [u8]>
     ensures { MatchOption result
         ((said lines.old ≡ []) × (said lines.new ≡ []))

@@ -7,14 +7,14 @@ use allocation::{OutOfMemory, push};
 use std::alloc::Global;
 use std::marker::Model;
 
-/// So many sectors, and whether they were recovered.
+/// A run of sectors, and whether they were recovered.
 #[derive(Clone, Copy, Debug, PartialEq, Eq)]
 pub struct Run {
     pub count: u64,
     pub had: bool,
 }
 
-/// Which sectors were recovered, as runs from the first sector on, of which none is empty.
+/// Which sectors were recovered, as non-empty runs from the first sector on.
 #[derive(Drop)]
 pub struct Map {
     runs: Vec<Run>,
@@ -32,7 +32,7 @@ impl Model for Map {
 }
 
 impl Map {
-    /// Of no sector.
+    /// Returns the map of no sectors.
     pub fn new(alloc: Global) -> Map
         ensures { result ≡ [] }
     {
@@ -41,11 +41,11 @@ impl Map {
         }
     }
 
-    /// Of so many sectors, which are alike.
+    /// Returns a map of `count` sectors that all were recovered, or all weren't.
     ///
     /// # Errors
     ///
-    /// `OutOfMemory` if an allocation of room for one run was refused.
+    /// `OutOfMemory` if the allocation of room for one run fails.
     pub fn filled(alloc: Global, count: u64, had: bool) -> Result<Map, OutOfMemory>
         requires { count ≤ 2 ^ 54 }
         ensures { MatchResult result
@@ -59,7 +59,7 @@ impl Map {
         Ok(map)
     }
 
-    /// The runs, from the first sector on.
+    /// Returns the runs, from the first sector on.
     pub fn runs(&self) -> &[Run]
         ensures value { result.now ≡ self.now }
         ensures whole { AreRuns self.now }
@@ -67,7 +67,7 @@ impl Map {
         self.runs.as_slice()
     }
 
-    // Appends a run, whatever the last one is.
+    // Appends a run without joining it to the last one.
     pub(crate) fn add(&mut self, run: Run) -> Result<(), OutOfMemory>
         requires some { 1 ≤ run.count }
         requires room { length (marks self.old) + run.count ≤ 2 ^ 54 }
@@ -83,7 +83,7 @@ impl Map {
     ///
     /// # Errors
     ///
-    /// `OutOfMemory` if an allocation of room for one run was refused; the map is unchanged.
+    /// `OutOfMemory` if the allocation of room for one run fails; the map is unchanged.
     pub fn push(&mut self, run: Run) -> Result<(), OutOfMemory>
         requires some { 1 ≤ run.count }
         requires room { length (marks self.old) + run.count ≤ 2 ^ 54 }

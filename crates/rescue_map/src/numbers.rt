@@ -1,10 +1,10 @@
-//! Numbers of a map file.
+//! The numbers in a map file.
 ghost use Rattle.std.specs.Prelude.{◌≡◌};
 ghost use Rattle.rescue_map.specs.Numbers.{hexadecimal, map_number};
 
 use table_text::number;
 
-// The value of one or more hexadecimal digits, if it is below 2^64.
+// Returns the value of one or more hexadecimal digits if it is below 2^64.
 fn hexadecimal(word: &[u8]) -> Option<u64>
     ensures { result ≡ hexadecimal word.now }
 {
@@ -19,7 +19,7 @@ fn hexadecimal(word: &[u8]) -> Option<u64>
     Some(value)
 }
 
-/// Hexadecimal after `0x`, else decimal, if it is below 2^64; no octal number.
+/// Returns a number below 2^64, hexadecimal after `0x` and otherwise decimal. Octal numbers are rejected.
 pub(crate) fn map_number(word: &[u8]) -> Option<u64>
     ensures { result ≡ map_number word.now }
 {

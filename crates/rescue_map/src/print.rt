@@ -1,4 +1,4 @@
-//! Map files printed.
+//! Printing map files.
 ghost use Rattle.std.specs.Prelude.{◌≡◌, ◌+◌, ◌++◌, ◌≤◌, ◌^◌, [], ◌∷◌, IfErr, IfOk, Ok, OnErr, OnOk, decimal, length};
 ghost use Rattle.allocation.specs.Asked.{asked};
 ghost use Rattle.allocation.specs.Refusal.{IsOutOfMemory};
@@ -12,12 +12,14 @@ use allocation::{OutOfMemory, append, copied, push};
 use itoa::Buffer;
 use std::alloc::Global;
 
-/// A map of a kind: a scan's mark, a status line, and a line for each run, in bytes. If all sectors were tried, it is finished.
-/// If those before one were tried, it is copying, and a run of sectors that weren't recovered is `-` only if it ends there or before.
+/// Returns the text of a map: the mark of a scan, a status line, and a line for each run, in bytes. If `tried` is
+/// `None`, all sectors were tried, and the status is finished. Otherwise only the sectors before `tried` were tried,
+/// the status is copying, and a run of sectors that weren't recovered is `-` if it ends there or before, and `?` if
+/// it doesn't.
 ///
 /// # Errors
 ///
-/// An allocation of room for at most 40 bytes was refused.
+/// `OutOfMemory` if an allocation of at most 40 bytes fails.
 pub fn print_map(
     alloc: Global,
     kind: MapKind,

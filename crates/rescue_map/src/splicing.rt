@@ -1,4 +1,4 @@
-//! A map with a part of another one.
+//! A map that is combined from two others.
 ghost use Rattle.std.specs.Prelude.{◌≡◌, ◌+◌, ◌^◌, ◌≤◌, ◌++◌, length, take, drop, IfOk, MatchResult, OnErr, OnOk};
 ghost use Rattle.allocation.specs.Asked.{asked};
 ghost use Rattle.allocation.specs.Refusal.{IsOutOfMemory};
@@ -10,18 +10,19 @@ use crate::map::{Map, Run};
 use allocation::OutOfMemory;
 use std::alloc::Global;
 
-/// So many sectors from one on.
+/// `count` sectors from sector `first` on.
 #[derive(Clone, Copy, Debug, PartialEq, Eq)]
 pub struct Span {
     pub first: u64,
     pub count: u64,
 }
 
-/// The sectors of a span as one map says, and around them as another one does, both of so many sectors.
+/// Returns a map with the sectors of `span` from `within`, and all other sectors from `around`. Both maps have
+/// `sectors` sectors.
 ///
 /// # Errors
 ///
-/// An allocation of room for one run was refused.
+/// `OutOfMemory` if the allocation of room for one run fails.
 pub fn splice(
     alloc: Global,
     around: &Map,
@@ -36,7 +37,7 @@ pub fn splice(
     ensures sectors { IfOk result (λ map. length (marks map) ≡ sectors) }
     ensures err { OnErr result (IsOutOfMemory 1) }
 {
-    // How many sectors a map can have is learned from a call.
+    // This call gives the proof the largest size of a map.
     let _runs = around.runs();
     let mut map = Map::new(alloc);
     let mut outer = Ahead::of_map(around);
@@ -49,7 +50,7 @@ pub fn splice(
     Ok(map)
 }
 
-// The next sectors, so many of them.
+// Moves the next `count` sectors to the map.
 fn move_marks(map: &mut Map, ahead: &mut Ahead<'_>, count: u64) -> Result<(), OutOfMemory>
     requires enough { count ≤ length (marks_ahead ahead.old) }
     requires room { length (marks map.old) + count ≤ 2 ^ 54 }
@@ -72,7 +73,7 @@ fn move_marks(map: &mut Map, ahead: &mut Ahead<'_>, count: u64) -> Result<(), Ou
     Ok(())
 }
 
-// They are left out.
+// Skips the next `count` sectors.
 fn skip_marks(ahead: &mut Ahead<'_>, count: u64)
     requires { count ≤ length (marks_ahead ahead.old) }
     ensures { marks_ahead ahead.new ≡ drop count (marks_ahead ahead.old) }

@@ -1,4 +1,4 @@
-//! Map files read.
+//! Reading map files.
 ghost use Rattle.std.specs.Prelude.{◌≡◌, ◌≤◌, ◌^◌, ℕ, Err, length, IfErr, IfOk, MatchResult};
 ghost use Rattle.rescue_map.specs.declared.fault.MapFault.TheVariants as map_fault;
 ghost use Rattle.rescue_map.specs.Maps.{marks};
@@ -10,11 +10,11 @@ use crate::lines::{Lines, next_said};
 use crate::map::Map;
 use std::alloc::Global;
 
-/// Reads a map of a device of so many sectors.
+/// Reads the map of a device of `sectors` sectors.
 ///
 /// # Errors
 ///
-/// The first fault in reading order, or `NoMemory` if an allocation of room for one run was refused.
+/// The first fault in reading order, or `NoMemory` if the allocation of room for one run fails.
 pub fn parse_map(alloc: Global, text: &[u8], sectors: u64) -> Result<Map, MapFault>
     requires { sectors ≤ 2 ^ 54 }
     ensures answer { IsMapAnswer result (map_of sectors text.now) }
@@ -35,7 +35,11 @@ pub fn parse_map(alloc: Global, text: &[u8], sectors: u64) -> Result<Map, MapFau
     Ok(map)
 }
 
-// Takes the status line.
+// Removes the status line.
+//
+// # Errors
+//
+// `Status` if the first line isn't a status line, or there is none.
 fn take_status(lines: &mut Lines<'_>) -> Result<(), MapFault>
     ensures runs { MatchResult result
         (λ _. (n : ℕ) → runs_behind n (said lines.old) ≡ map_runs_from n 0 (said lines.new))

@@ -1,11 +1,11 @@
-//! How many sectors of a map were recovered.
+//! The numbers of recovered and other sectors of a map.
 ghost use Rattle.std.specs.Prelude.{◌≡◌, ◌+◌, ◌<◌, ◌^◌};
 ghost use Rattle.std.specs.List.{list_all};
 ghost use Rattle.rescue_map.specs.Maps.{map_totals, with_run};
 
 use crate::map::{Map, Run};
 
-/// The numbers of recovered and of other sectors.
+/// The number of sectors that were recovered, and of those that weren't.
 #[derive(Clone, Copy, Debug, PartialEq, Eq)]
 pub struct Totals {
     pub had: u64,
@@ -36,7 +36,7 @@ fn with_run(totals: Totals, run: Run) -> Totals
     }
 }
 
-/// Returns how many sectors of a map were recovered, and how many weren't.
+/// Returns the number of sectors of a map that were recovered, and of those that weren't.
 pub fn totals_of(map: &Map) -> Totals
     ensures { result ≡ map_totals map.now }
 {

@@ -1,9 +1,9 @@
--- The kinds of data blocks, and how many blocks are of a kind.
+-- The kinds of data blocks, and the number of blocks of a kind.
 use Rattle.std.specs.Prelude.{ℕ, ◌+◌, ◌==◌, Bool, true, false, List, [], ◌∷◌, Option, Some, None}
 use Rattle.runs.specs.declared.kind.Kind.{Kind}
 use Rattle.runs.specs.declared.kind.Kind.TheVariants.{Changed, Unknown, Removed, Added}
 
--- the kind of a block, or nothing if it is good or the same
+-- the kind of a block, or `None` if it is valid or unchanged
 abbrev pub State : Type 0
 State = Option Kind
 
@@ -24,7 +24,7 @@ abbrev pub one_if : Bool → ℕ
 one_if true = 1
 one_if false = 0
 
--- how many of the blocks are of a kind
+-- the number of blocks of a kind
 abbrev pub count_of : Kind → List State → ℕ
 count_of kind [] = 0
 count_of kind (state ∷ more) = one_if (is_state kind state) + count_of kind more

@@ -1,4 +1,4 @@
--- Lines that are printed one after another, while some are left.
+-- Lines that are printed up to a limit.
 use Rattle.std.specs.Prelude.{ℕ, zero, suc, ◌-◌, Bool, true, false, List, [], ◌∷◌, ◌++◌, Option, Some, None}
 use Rattle.runs.specs.declared.limit.Limit.{Limit}
 use Rattle.runs.specs.declared.run.Run.{Run}
@@ -8,7 +8,7 @@ use Rattle.runs.specs.Texts.{run_text, more_text}
 abbrev pub begun : Option ℕ → Limit
 begun most = record { left = most; told = false }
 
--- what is printed of a run
+-- the line that is printed for a run
 abbrev pub line_within : Option ℕ → Bool → Run Kind → List ℕ
 line_within None told run = run_text run
 line_within (Some zero) false run = more_text
@@ -23,7 +23,7 @@ next_within None told = record { left = None; told = told }
 next_within (Some zero) told = record { left = Some 0; told = true }
 next_within (Some (suc n)) told = record { left = Some n; told = told }
 
--- the limit after a run's line
+-- the limit after the line of a run
 abbrev pub limit_next : Limit → Limit
 limit_next limit = next_within limit.left limit.told
 
@@ -31,7 +31,7 @@ abbrev pub limit_after : Limit → List (Run Kind) → Limit
 limit_after limit [] = limit
 limit_after limit (run ∷ more) = limit_after (limit_next limit) more
 
--- what is printed of runs, one after another
+-- the lines that are printed for runs
 abbrev pub limited_lines : Limit → List (Run Kind) → List ℕ
 limited_lines limit [] = []
 limited_lines limit (run ∷ more) = limited_line limit run ++ limited_lines (limit_next limit) more

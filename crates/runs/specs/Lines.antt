@@ -1,4 +1,4 @@
--- Lines that are told while trees are gone over.
+-- Lines that are reported while trees are scanned.
 use Rattle.std.specs.Prelude.{ℕ, Bool, true, false, List}
 use Rattle.std.specs.List.{flat_map, list_any}
 use Rattle.runs.specs.declared.line.Line.{Line}
@@ -10,7 +10,7 @@ listing_line (Run run) = run_text run
 listing_line More = more_text
 listing_line (Hash level number) = hash_text level number
 
--- one line behind another
+-- the lines, concatenated
 abbrev pub lines_text : List Line → List ℕ
 lines_text lines = flat_map listing_line lines
 
@@ -19,6 +19,6 @@ is_more More = true
 is_more (Run run) = false
 is_more (Hash level number) = false
 
--- some line says that there are more runs
+-- one of the lines states that there are more runs
 abbrev pub says_more : List Line → Bool
 says_more lines = list_any is_more lines

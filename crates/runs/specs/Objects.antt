@@ -8,7 +8,7 @@ use Rattle.runs.specs.declared.run.Run.{Run}
 use Rattle.runs.specs.declared.kind.Kind.{Kind}
 use Rattle.runs.specs.Texts.{kind_name}
 
--- a run by its kind, its first data block and how many it has
+-- a run by its kind, its first data block and its number of blocks
 abbrev pub run_json : Run Kind → Data
 run_json run =
     object
@@ -17,7 +17,7 @@ run_json run =
     (member (codes "state") (string (kind_name run.kind))
     no_members)))
 
--- a hash block by its level and its number within that
+-- a hash block by its level and its index within the level
 abbrev pub hash_json : ℕ → ℕ → Data
 hash_json level n = object (member (codes "index") (number (unsigned n)) (member (codes "level") (number (unsigned level)) no_members))
 
@@ -31,7 +31,7 @@ hash_items (line.Hash level n) = hash_json level n ∷ []
 hash_items (line.Run run) = []
 hash_items line.More = []
 
--- the runs of which lines tell, and the hash blocks
+-- the runs and the hash blocks in the lines
 abbrev pub runs_json : List Line → List Data
 runs_json lines = flat_map run_items lines
 

@@ -1,4 +1,4 @@
--- What is printed of runs.
+-- The printed form of runs.
 use Rattle.std.specs.Prelude.{ℕ, List, [], ◌++◌, codes, decimal, Option, Some, None, take, length, nat_lt, if◌then◌else◌}
 use Rattle.std.specs.List.{flat_map}
 use Rattle.runs.specs.declared.kind.Kind.{Kind}
@@ -26,7 +26,7 @@ hash_text level number = codes "hash " ++ (decimal level ++ (codes " " ++ (decim
 unfoldable pub more_text : List ℕ
 more_text = codes "more\n"
 
--- a line for each run, of so many first ones alone where a number is given, and `more` where there are more
+-- a line for each run; with a limit of n, only the first n lines, followed by `more` if there are more runs
 abbrev pub listing_text : Option ℕ → List (Run Kind) → List ℕ
 listing_text None runs = runs_text runs
 listing_text (Some n) runs = runs_text (take n runs) ++ (if nat_lt n (length runs) then more_text else [])

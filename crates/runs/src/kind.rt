@@ -8,16 +8,16 @@ use crate::run::Run;
 use program_io::{Counted, WriteFault};
 use std::io::Write;
 
-/// What is said of data blocks.
+/// The kind of a data block that isn't valid, or that differs between two images.
 #[derive(Clone, Copy, Debug, PartialEq, Eq)]
 pub enum Kind {
-    /// The path down to the block is good and its digest isn't, or its digests in two trees differ.
+    /// Its path is valid but its digest is wrong, or its digests in two trees differ.
     Changed = 1,
-    /// A hash block above it isn't good.
+    /// A hash block on its path fails verification.
     Unknown = 2,
-    /// The first of two images alone has it.
+    /// Only the first of two images has the block.
     Removed = 3,
-    /// The second of two images alone has it.
+    /// Only the second of two images has the block.
     Added = 4,
 }
 
@@ -28,7 +28,7 @@ impl Kind {
         self as u8
     }
 
-    /// The word that begins its line.
+    /// Returns the word that its line begins with.
     pub fn name(self) -> &'static str
         ensures { result.now ≡ kind_name self }
     {
@@ -40,7 +40,7 @@ impl Kind {
         }
     }
 
-    /// Whether both are the same.
+    /// Returns whether both kinds are the same.
     pub fn is_same(self, other: Kind) -> bool
         ensures { result ≡ is_same self other }
     {
@@ -48,7 +48,7 @@ impl Kind {
     }
 }
 
-/// `KIND FIRST COUNT`
+/// Writes `KIND FIRST COUNT`.
 #[tactic(auto, unfolding(crate::specs::Texts::run_text))]
 pub(crate) fn say_run<W: Write>(writer: &mut Counted<W>, run: Run<Kind>) -> Result<(), WriteFault>
     ensures { Writes W.contents writer.old writer.new (run_text run) result }

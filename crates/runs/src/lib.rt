@@ -1,5 +1,5 @@
-//! The longest runs of blocks or sectors of one kind, and the listings that receive the runs of data blocks during a scan of a
-//! tree: a writer, or a list that becomes JSON.
+//! Maximal runs of blocks or sectors of the same kind, and the listings that receive the runs of data blocks during a
+//! scan of a tree: a writer, or a list that is converted to JSON.
 #![tactic(auto)]
 
 mod kind;

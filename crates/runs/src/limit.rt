@@ -1,4 +1,4 @@
-//! How many lines are printed.
+//! The limit on the number of lines printed.
 ghost use Rattle.std.specs.Prelude.{◌≡◌, OnOk};
 ghost use Rattle.runs.specs.Limits.{limited_line, begun, limit_next};
 ghost use Rattle.runs.specs.Listings.{Tells};
@@ -9,7 +9,7 @@ use crate::listing::Listing;
 use crate::run::Run;
 use program_io::WriteFault;
 
-/// How many lines may still be printed, without a number all, and whether `more` was printed.
+/// The number of lines that may still be printed, or `None` for no limit, and whether `more` was printed.
 #[derive(Clone, Copy, Debug, PartialEq, Eq)]
 pub struct Limit {
     pub left: Option<u64>,
@@ -17,7 +17,7 @@ pub struct Limit {
 }
 
 impl Limit {
-    /// At most so many lines.
+    /// Returns a limit of at most `most` lines, or no limit for `None`.
     pub fn new(most: Option<u64>) -> Limit
         ensures { result ≡ begun most }
     {
@@ -27,7 +27,7 @@ impl Limit {
         }
     }
 
-    /// Tells a run's line, or `more` once where no line is left.
+    /// Reports the line of a run, or `more`, once, if no lines are left.
     #[tactic(auto, using(crate::proofs::WritingLemmas::writes_nothing))]
     pub(crate) fn say<L: Listing>(
         &mut self,

@@ -14,15 +14,15 @@ use std::io::Write;
 pub enum Line {
     /// A run of data blocks.
     Run(Run<Kind>),
-    /// There are more runs than may be told.
+    /// There are more runs than the limit.
     More,
-    /// A hash block whose digest doesn't stand above it, by its level, counted from the data up, and its number within
-    /// that.
+    /// A hash block that fails verification: its level, numbered from 0 above the data blocks, and its index within
+    /// the level.
     Hash { level: u32, number: u64 },
 }
 
 impl Line {
-    /// Whether it says that there are more runs.
+    /// Returns whether the line states that there are more runs.
     pub fn is_more(self) -> bool
         ensures { result ≡ is_more self }
     {
@@ -52,7 +52,7 @@ fn say_more<W: Write>(writer: &mut Counted<W>) -> Result<(), WriteFault>
     writer.put(b"more\n")
 }
 
-// `hash LEVEL INDEX`
+// Writes `hash LEVEL INDEX`.
 #[tactic(auto, unfolding(crate::specs::Texts::hash_text))]
 fn say_hash<W: Write>(writer: &mut Counted<W>, level: u32, number: u64) -> Result<(), WriteFault>
     ensures { Writes W.contents writer.old writer.new (hash_text level number) result }

@@ -1,4 +1,4 @@
-//! Who is told of lines: a writer, or a list in memory.
+//! The receivers of lines: a writer, or a list in memory.
 ghost use Rattle.std.specs.Prelude.{◌≡◌, [], ℕ, Bool, List, Option};
 ghost use Rattle.runs.specs.Lines.{listing_line};
 ghost use Rattle.runs.specs.Listings.{Tells};
@@ -9,15 +9,19 @@ use program_io::{Counted, WriteFault};
 use std::alloc::Global;
 use std::io::Write;
 
-/// Who is told of lines, one after another.
+/// A receiver of lines.
 pub trait Listing {
-    /// The text of the lines that were told, where it is known.
+    /// The text of the lines received, if it is known.
     ghost told: { Self → Option (List ℕ) };
 
-    /// Whether a line couldn't be told.
+    /// Whether a line wasn't received.
     ghost failed: { Self → Bool };
 
-    /// Tells a line.
+    /// Reports a line.
+    ///
+    /// # Errors
+    ///
+    /// `WriteFault` if the line can't be received, which is recorded.
     fn tell(&mut self, line: Line) -> Result<(), WriteFault>
         ensures { Tells told failed self.old self.new (listing_line line) result };
 }
@@ -32,7 +36,7 @@ impl<W: Write> Listing for Counted<W> {
     }
 }
 
-/// Lines that are kept in memory, and whether one couldn't be, since an allocation was refused.
+/// Lines in memory, and whether one was lost because an allocation failed.
 #[derive(Drop)]
 pub struct KeptLines {
     pub lines: Vec<Line>,
@@ -40,7 +44,7 @@ pub struct KeptLines {
 }
 
 impl KeptLines {
-    /// No line yet.
+    /// Returns an empty list of lines.
     pub fn new(alloc: Global) -> KeptLines
         ensures lines { result.lines.items ≡ [] }
     {

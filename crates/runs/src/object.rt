@@ -13,7 +13,11 @@ use allocation::push;
 use serde_json::{Value, json};
 use std::alloc::{AllocError, Global};
 
-/// An array of the runs: `{"count":N,"first":N,"state":KIND}` each.
+/// Returns a JSON array of the runs, each as `{"count":N,"first":N,"state":KIND}`.
+///
+/// # Errors
+///
+/// `AllocError` if an allocation fails.
 pub fn runs_value(alloc: Global, lines: &[Line]) -> Result<Value, AllocError>
     ensures { IfOk result (λ value. view value ≡ array (items_of (runs_json lines.now))) }
 {
@@ -24,7 +28,11 @@ pub fn runs_value(alloc: Global, lines: &[Line]) -> Result<Value, AllocError>
     Ok(Value::Array(values))
 }
 
-/// An array of the hash blocks: `{"index":N,"level":N}` each.
+/// Returns a JSON array of the hash blocks, each as `{"index":N,"level":N}`.
+///
+/// # Errors
+///
+/// `AllocError` if an allocation fails.
 pub fn hashes_value(alloc: Global, lines: &[Line]) -> Result<Value, AllocError>
     ensures { IfOk result (λ value. view value ≡ array (items_of (hashes_json lines.now))) }
 {
@@ -35,7 +43,7 @@ pub fn hashes_value(alloc: Global, lines: &[Line]) -> Result<Value, AllocError>
     Ok(Value::Array(values))
 }
 
-/// Whether there are more runs than the lines say.
+/// Returns whether one of the lines states that there are more runs.
 pub fn says_more(lines: &[Line]) -> bool
     ensures { result ≡ says_more lines.now }
 {

@@ -2,7 +2,7 @@
 ghost use Rattle.std.specs.Prelude.{◌≡◌, ◌+◌, ◌<◌, ◌^◌};
 ghost use Rattle.runs.specs.Runs.{longer};
 
-/// `count` blocks or sectors from number `first` on, counted from 0, all of one kind.
+/// A run of `count` blocks or sectors from number `first` on, counted from 0, all of the same kind.
 #[derive(Clone, Copy, Debug, PartialEq, Eq)]
 pub struct Run<K> {
     pub first: u64,
@@ -11,7 +11,7 @@ pub struct Run<K> {
 }
 
 impl<K: Copy> Run<K> {
-    /// The run with `count` more blocks or sectors at its end.
+    /// Returns the run with `count` more blocks or sectors at its end.
     pub fn longer(self, count: u64) -> Run<K>
         requires { self.count + count < 2 ^ 64 }
         ensures { result ≡ longer self count }

@@ -11,14 +11,14 @@ use crate::listing::Listing;
 use crate::run::Run;
 use program_io::WriteFault;
 
-/// The run that may still grow, and how many lines may still be printed.
+/// The run that may still grow, and the limit on the lines printed.
 #[derive(Clone, Copy, Debug, PartialEq, Eq)]
 pub struct Tally {
     pub last: Option<Run<Kind>>,
     pub limit: Limit,
 }
 
-/// Both runs as one, if they are of one kind.
+/// Returns both runs joined, if they have the same kind.
 fn joined(last: Option<Run<Kind>>, run: Run<Kind>) -> Option<Run<Kind>>
     requires ends { EndsAt last run.first }
     requires room { run.first + run.count < 2 ^ 64 }
@@ -33,7 +33,7 @@ fn joined(last: Option<Run<Kind>>, run: Run<Kind>) -> Option<Run<Kind>>
 }
 
 impl Tally {
-    /// Makes a tally of no blocks. At most `most` lines are printed, or all without a number.
+    /// Returns a tally of no blocks. At most `most` lines are printed, or all for `None`.
     pub fn new(most: Option<u64>) -> Tally
         ensures { result ≡ record { last = None; limit = begun most } }
     {
@@ -43,7 +43,7 @@ impl Tally {
         }
     }
 
-    /// Tells the run that may still grow, since it doesn't.
+    /// Reports the run that may still grow: it is complete.
     #[tactic(auto, using(crate::proofs::WritingLemmas::writes_nothing))]
     pub fn close<L: Listing>(&mut self, listing: &mut L) -> Result<(), WriteFault>
         ensures text { Tells L.told L.failed listing.old listing.new (limited_lines self.old.limit (listed self.old.last)) result }
@@ -60,7 +60,7 @@ impl Tally {
         }
     }
 
-    /// Adds a run that begins where the blocks so far end.
+    /// Adds a run that begins at the end of the blocks so far. The previous run is reported if it can no longer grow.
     #[tactic(auto, using(crate::proofs::WritingLemmas::writes_nothing))]
     pub fn add<L: Listing>(&mut self, listing: &mut L, run: Run<Kind>) -> Result<(), WriteFault>
         requires ends { EndsAt self.old.last run.first }

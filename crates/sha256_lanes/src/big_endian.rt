@@ -1,4 +1,4 @@
-//! Words of bytes, the first byte the highest.
+//! Big-endian words loaded from bytes into lanes.
 ghost use Rattle.std.specs.Prelude.{◌≡◌, ℕ, ◌+◌, ◌*◌, ◌<◌, ◌≤◌, ◌∷◌, [], length, slice_index};
 ghost use Rattle.sha2.specs.Sha256.{word_at};
 ghost use Rattle.sha256_lanes.specs.Lanes.{word_of_lane};
@@ -15,7 +15,7 @@ fn piece(bytes: &[u8], at: usize) -> u8x16
     u8x16::from_slice(&bytes[at..at + 16])
 }
 
-// The four words from byte `low` on, and the four from byte `high` on.
+// Returns the four words from byte `low` on, followed by the four from byte `high` on.
 #[inline(always)]
 fn two_fours(bytes: &[u8], low: usize, high: usize) -> u32x8
     requires low { low + 16 ≤ length bytes.now }
@@ -36,7 +36,7 @@ fn two_fours(bytes: &[u8], low: usize, high: usize) -> u32x8
     u32x8::from_le_bytes(reversed)
 }
 
-// Four rows turned to columns, in each half.
+// Transposes four rows of four words in each half of the vectors.
 #[inline(always)]
 fn turned(a: u32x8, b: u32x8, c: u32x8, d: u32x8) -> [u32x8; 4]
     requires first { (length a ≡ 8) × (length b ≡ 8) }
@@ -56,7 +56,7 @@ fn turned(a: u32x8, b: u32x8, c: u32x8, d: u32x8) -> [u32x8; 4]
     ]
 }
 
-// The four words from byte `at` on of each lane's bytes, which begin `stride` apart.
+// Returns the four words from byte `at` on of each lane's bytes; the lanes' bytes begin `stride` bytes apart.
 #[inline(always)]
 fn four_words(bytes: &[u8], at: usize, stride: usize) -> [u32x8; 4]
     requires { at + 7 * stride + 16 ≤ length bytes.now }
@@ -70,7 +70,7 @@ fn four_words(bytes: &[u8], at: usize, stride: usize) -> [u32x8; 4]
     )
 }
 
-// The sixteen words from byte `at` on of each lane's bytes, which begin `stride` apart.
+// Returns the sixteen words from byte `at` on of each lane's bytes; the lanes' bytes begin `stride` bytes apart.
 #[inline(always)]
 pub(crate) fn words(bytes: &[u8], at: usize, stride: usize) -> [u32x8; 16]
     requires { at + 7 * stride + 64 ≤ length bytes.now }

@@ -5,7 +5,7 @@ ghost use Rattle.sha256_lanes.specs.Lanes.{state_of_lane};
 
 use std::simd::prelude::*;
 
-// The digest in one lane of the states.
+// Returns the digest in lane `at` of the states.
 fn digest_of(words: &[[u32; 8]; 8], at: usize) -> [u8; 32]
     requires { at < 8 }
     ensures { result ≡ digest_bytes (state_of_lane at words.now) 8 }

@@ -5,7 +5,7 @@ ghost use Rattle.sha2.specs.Sha256.{ch, maj, big_sigma0, big_sigma1, small_sigma
 use crate::vectors::{and, rotate_right, shift_right, xor};
 use std::simd::prelude::*;
 
-// One operation fewer than the standard's form.
+// One operation fewer than the standard's formula.
 #[inline(always)]
 pub(crate) fn ch(x: u32x8, y: u32x8, z: u32x8) -> u32x8
     ensures { (j : ℕ) → j < 8 → slice_index result j ≡ ch (slice_index x j) (slice_index y j) (slice_index z j) }

@@ -1,4 +1,4 @@
-//! The hash of eight messages, FIPS 180-4, section 6.2.
+//! SHA-256 of eight messages (FIPS 180-4, section 6.2).
 ghost use Rattle.std.specs.Prelude.{◌≡◌, ℕ, ◌*◌, ◌/◌, ◌+◌, ◌^◌, ◌<◌, [], length, slice_index_or};
 ghost use Rattle.sha2.specs.Sha256.{sha256};
 ghost use Rattle.sha256_lanes.specs.Lanes.{EachTakesIn, message, message_block};
@@ -8,7 +8,7 @@ use crate::message::message_blocks;
 use crate::rounds;
 use std::simd::prelude::*;
 
-// Takes message block `index` of each message into its lane, with room for its schedule's words.
+// Compresses message block `index` of each message into its lane. `words` is scratch space for the message schedules.
 #[inline(always)]
 fn take_in(
     state: &mut [u32x8; 8],
@@ -33,7 +33,10 @@ fn take_in(
     }
 }
 
-/// SHA-256 of the prefix followed by each of eight blocks of `size` bytes, stored one after another.
+/// Returns eight SHA-256 digests: digest j is that of `prefix` followed by block j, the `size` bytes from byte `j *
+/// size` of `blocks` on.
+///
+/// `blocks` must have `8 * size` bytes.
 pub fn digest_eight(prefix: &[u8], blocks: &[u8], size: usize) -> [[u8; 32]; 8]
     requires { length blocks.now ≡ 8 * size }
     ensures { (j : ℕ) → j < 8 → slice_index_or result j [] ≡ sha256 (message prefix.now blocks.now size j) }

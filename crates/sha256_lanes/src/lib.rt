@@ -1,4 +1,4 @@
-//! SHA-256 (FIPS 180-4) of eight messages of one length side by side.
+//! SHA-256 (FIPS 180-4) of eight messages of equal length, computed side by side.
 #![tactic(auto)]
 
 mod big_endian;

@@ -1,8 +1,9 @@
-//! The message blocks of a padded message that is given in two parts.
+//! The message blocks of a padded message whose contents are a prefix and a block.
 ghost use Rattle.std.specs.Prelude.{◌≡◌, ℕ, ◌+◌, ◌*◌, ◌/◌, ◌^◌, ◌<◌, ◌≤◌, ◌++◌, List, length, take, drop, slice_index};
 ghost use Rattle.sha256_lanes.specs.Lanes.{AreMessageBlocks, HasBytes, HasBytesBefore, HasBytesFrom, HasPiece, message};
 
-// Writes what of `piece`, which begins at byte `start` of a message, lies in the 64 bytes from `at` on.
+// Copies to `out`, which holds the 64 message bytes from `at` on, the part of `piece` within them. `piece` begins at
+// byte `start`.
 #[inline(always)]
 fn overlay(out: &mut [u8; 64], at: usize, piece: &[u8], start: usize)
     requires room { (at + 64 < 2 ^ 64) × (start + length piece.now < 2 ^ 64) }
@@ -17,7 +18,7 @@ fn overlay(out: &mut [u8; 64], at: usize, piece: &[u8], start: usize)
     }
 }
 
-// What message block `index` has in common with those of all blocks of that size: the prefix, and the bytes after a block.
+// Returns message block `index` without the block's bytes: the prefix before them and the padding after them.
 fn frame(prefix: &[u8], size: usize, index: usize) -> [u8; 64]
     requires room { length prefix.now + size + 136 < 2 ^ 64 }
     requires inside { index < (length prefix.now + size + 72) / 64 }
@@ -36,7 +37,7 @@ fn frame(prefix: &[u8], size: usize, index: usize) -> [u8; 64]
     out
 }
 
-// Message block `index` of a message in two parts: what it has of the block, in its frame.
+// Returns message block `index`: its frame with the part of the block that lies in it.
 fn message_block(frame: &[u8; 64], prefix: &[u8], block: &[u8], index: usize) -> [u8; 64]
     requires room { length prefix.now + length block.now + 136 < 2 ^ 64 }
     requires inside { index < (length prefix.now + length block.now + 72) / 64 }
@@ -49,7 +50,7 @@ fn message_block(frame: &[u8; 64], prefix: &[u8], block: &[u8], index: usize) ->
     out
 }
 
-// Block j.
+// Returns block j of the consecutive blocks.
 #[inline(always)]
 fn block(blocks: &[u8], size: usize, j: usize) -> &[u8]
     requires blocks { length blocks.now ≡ 8 * size }
@@ -60,7 +61,7 @@ fn block(blocks: &[u8], size: usize, j: usize) -> &[u8]
     &blocks[j * size..j * size + size]
 }
 
-// Message block `index` of each message, one after another.
+// Returns message block `index` of each message, consecutively.
 pub(crate) fn message_blocks(prefix: &[u8], blocks: &[u8], size: usize, index: usize) -> [u8; 512]
     requires blocks { length blocks.now ≡ 8 * size }
     requires room { length prefix.now + size + 136 < 2 ^ 64 }

@@ -1,4 +1,4 @@
--- What is computed once of a configuration, and what is left of it after a removal.
+-- Values that are computed once for a configuration, and those that remain after a removal.
 use Rattle.std.specs.Prelude.{◌≡◌, ◌<◌, ◌≤◌, ◌==◌, ℕ, [], length, map, get_or, slice_get, find, Some, option_and_then, vec_len}
 use Rattle.std.specs.List.{remove}
 use Rattle.std.specs.Option.{option_map}
@@ -22,12 +22,12 @@ pub record AreFacts (c : Configuration) (facts : Facts) : Type 0 where
   pub keys : AreKeys c.devices (map (λ (f : DeviceFacts). f.keys) facts.devices.items)
   pub zero_digests : AreZeroDigests c.devices (map (λ (f : DeviceFacts). f.zero_digests) facts.devices.items)
 
--- a loaded configuration, with what is computed of it
+-- a loaded configuration with the values computed for it
 pub record IsLoadedWith (c : Configuration) (made : Facts) : Type 0 where
   pub loaded : IsLoaded c
   pub facts : AreFacts c made
 
--- the facts of device d, whose lines count from 0
+-- the values of device d; lines are numbered from 0
 pub record IsOfDevice (c : Configuration) (d : ℕ) (facts : DeviceFacts) : Type 0 where
   pub depth : (facts.depth ≡ depth c (mapped d)) × (facts.depth ≤ most_depth)
   pub read : facts.read_cost ≡ read_cost c (mapped d)
@@ -37,14 +37,14 @@ pub record IsOfDevice (c : Configuration) (d : ℕ) (facts : DeviceFacts) : Type
   pub key : (l : ℕ) → option_map (λ k. k.key) (find (λ k. k.line == l) facts.keys) ≡ key_of_line c d l
   pub zero_digest : (l : ℕ) → option_and_then (λ digest. digest) (slice_get facts.zero_digests l) ≡ zero_digest_at c d l
 
--- there are facts of device d
+-- there are values of device d
 abbrev pub HaveDevice : Facts → ℕ → Type 0
 HaveDevice facts d = d < vec_len facts.devices
 
--- what they are of a device that stays, once device d is removed: later ones move up
+-- the values of another device after device d is removed: the indices of later devices decrease by one
 abbrev pub fact_after : ℕ → DeviceFacts → DeviceFacts
 fact_after d f = record f { lowers = map (map (lower_after d)) f.lowers }
 
--- the facts of the other devices once device d is removed
+-- the values of the other devices after device d is removed
 abbrev pub AreWithout : ℕ → Facts → Facts → Type 0
 AreWithout d old new = new.devices.items ≡ map (fact_after d) (remove old.devices.items d)

@@ -3,7 +3,7 @@ use Rattle.std.specs.Prelude.{ℕ, ◌+◌, ◌<◌, List, length}
 use Rattle.dm_table.specs.declared.table.Line.{Line}
 use Rattle.stack_rules.specs.Lines.{StartsBy, StartsAfter}
 
--- line l is the last of those lines that starts at or before sector s
+-- line l is the last line that starts at or before sector s
 pub record IsLastStart (lines : List Line) (s l : ℕ) : Type 0 where
   pub within : l < length lines
   pub starts : StartsBy lines l s

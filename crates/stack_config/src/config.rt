@@ -15,7 +15,7 @@ use std::mem;
 use tree_shape::Digest;
 use xts_sector::XtsKey;
 
-/// Leaves, and the mapped devices that loads have put on them.
+/// Leaves, and the mapped devices that were loaded onto them.
 #[derive(Drop)]
 pub struct Config {
     alloc: Global,
@@ -38,7 +38,7 @@ impl Model for Config {
 impl Config {
     ghost use Rattle.stack_config.specs.Facts.{IsLoadedWith, IsOfDevice};
 
-    /// A configuration of these leaves and no mapped device.
+    /// Returns a configuration of these leaves without mapped devices.
     pub fn new(alloc: Global, leaves: Vec<Leaf>) -> Config
         requires { AreLeaves leaves.items }
         ensures { result ≡ record { leaves = leaves.items; devices = [] } }
@@ -51,19 +51,19 @@ impl Config {
         }
     }
 
-    /// The allocator of all that it holds.
+    /// Returns the allocator of the configuration.
     pub fn alloc(&self) -> Global {
         self.alloc
     }
 
-    /// Its leaves, in order.
+    /// Returns the leaves, in order.
     pub fn leaves(&self) -> &[Leaf]
         ensures { result.now ≡ self.now.leaves }
     {
         self.leaves.as_slice()
     }
 
-    /// Its mapped devices, in the order in which they were created.
+    /// Returns the mapped devices in order of creation.
     pub fn devices(&self) -> &[Mapped]
         ensures value { result.now ≡ self.now.devices }
         ensures loaded { IsLoaded self.now }
@@ -71,14 +71,14 @@ impl Config {
         self.devices.as_slice()
     }
 
-    /// What is computed of them.
+    /// Returns the values computed for the mapped devices.
     pub fn facts(&self) -> &Facts
         ensures { IsLoadedWith self.now result.now }
     {
         &self.facts
     }
 
-    /// Takes the mapped devices out, with what is computed of them. None is left.
+    /// Removes and returns all mapped devices with the values computed for them.
     pub fn take(&mut self) -> (Vec<Mapped>, Facts)
         ensures devices { result.0.items ≡ self.old.devices }
         ensures facts { IsLoadedWith self.old result.1 }
@@ -89,8 +89,8 @@ impl Config {
         (devices, facts)
     }
 
-    /// Puts mapped devices in the place of those that there are, with what is computed of them. All that changes a
-    /// configuration ends here.
+    /// Replaces the mapped devices and the values computed for them. All changes of a configuration use this
+    /// function.
     pub fn put(&mut self, devices: Vec<Mapped>, facts: Facts)
         requires { IsLoadedWith (record self.old { devices = devices.items }) facts }
         ensures { self.new ≡ record self.old { devices = devices.items } }
@@ -99,7 +99,7 @@ impl Config {
         self.facts = facts;
     }
 
-    /// How many mapped devices there are.
+    /// Returns the number of mapped devices.
     pub fn count(&self) -> usize
         ensures value { result ≡ length self.now.devices }
         ensures loaded { IsLoaded self.now }
@@ -107,7 +107,8 @@ impl Config {
         self.devices.len()
     }
 
-    /// The mapped device of that name, without `/dev/mapper/`. Devices count from 0, in the order in which they were created.
+    /// Returns the mapped device with this name, without `/dev/mapper/`. Devices are numbered from 0 in order of
+    /// creation.
     pub fn device(&self, name: &[u8]) -> Option<DevId>
         ensures { result ≡ option_map (λ d. record { 0 = d }) (device_named self.now name.now) }
     {
@@ -115,7 +116,7 @@ impl Config {
         Some(DevId(place as u32))
     }
 
-    /// The bytes of its name, without `/dev/mapper/`.
+    /// Returns the name of a mapped device, without `/dev/mapper/`.
     pub fn name(&self, d: DevId) -> &[u8]
         requires { d.0 < length self.now.devices }
         ensures { result.now ≡ name_of self.now d.0 }
@@ -123,7 +124,7 @@ impl Config {
         self.devices[d.0 as usize].name()
     }
 
-    /// Its size in sectors.
+    /// Returns the size of a mapped device in sectors of 512 bytes.
     pub fn sectors(&self, d: DevId) -> u64
         requires { d.0 < length self.now.devices }
         ensures { result ≡ size self.now (mapped d.0) }
@@ -131,7 +132,7 @@ impl Config {
         self.devices[d.0 as usize].size() as u64
     }
 
-    /// Whether it may be written: the flag of the entry that made it last.
+    /// Returns whether a mapped device is writable: the flag of the entry that it was last loaded from.
     pub fn writable(&self, d: DevId) -> bool
         requires { d.0 < length self.now.devices }
         ensures { result ≡ may_write self.now (mapped d.0) }
@@ -146,7 +147,8 @@ impl Config {
         &self.facts.devices[d.0 as usize]
     }
 
-    /// One more than the depth of the deepest device that it names; a leaf has depth 0.
+    /// Returns the depth of a mapped device: one more than that of the deepest device that it names. A leaf has depth
+    /// 0.
     pub fn depth(&self, d: DevId) -> u32
         requires { d.0 < length self.now.devices }
         ensures { result ≡ depth self.now (mapped d.0) }
@@ -154,7 +156,7 @@ impl Config {
         self.device_facts(d).depth as u32
     }
 
-    /// The most leaf sectors that reading one sector moves.
+    /// Returns the most leaf sectors that are read to read one sector.
     pub fn read_cost(&self, d: DevId) -> u64
         requires { d.0 < length self.now.devices }
         ensures { result ≡ read_cost self.now (mapped d.0) }
@@ -162,7 +164,7 @@ impl Config {
         self.device_facts(d).read_cost
     }
 
-    /// The most leaf sectors that writing one sector moves.
+    /// Returns the most leaf sectors that are read and written to write one sector.
     pub fn write_cost(&self, d: DevId) -> u64
         requires { d.0 < length self.now.devices }
         ensures { result ≡ write_cost self.now (mapped d.0) }
@@ -170,7 +172,7 @@ impl Config {
         self.device_facts(d).write_cost
     }
 
-    /// Its lines, in the order of their sectors.
+    /// Returns the lines of a mapped device, in order of their sectors.
     pub fn table(&self, d: DevId) -> &Table
         requires { d.0 < length self.now.devices }
         ensures { result.now ≡ lines_of self.now d.0 }
@@ -178,8 +180,8 @@ impl Config {
         self.devices[d.0 as usize].table()
     }
 
-    /// The number of the line in which a sector lies, and the sectors left in it from there on. Sectors and lines
-    /// of a device count from 0.
+    /// Returns the index of the line that a sector is in, and the number of sectors from it to the end of the line.
+    /// Sectors and lines of a device are numbered from 0.
     pub fn line_at(&self, d: DevId, sector: u64) -> (u32, u64)
         requires device { d.0 < length self.now.devices }
         requires sector { sector < size self.now (mapped d.0) }
@@ -188,7 +190,8 @@ impl Config {
         line_of(self.devices[d.0 as usize].table(), sector)
     }
 
-    /// What the i-th name of a line means. Lines of a device and names of a line count from 0.
+    /// Returns the leaf or device that name `i` of a line refers to. Lines of a device and names of a line are
+    /// numbered from 0.
     pub fn lower(&self, d: DevId, line: u32, i: u32) -> Lower
         requires device { d.0 < length self.now.devices }
         requires name { i < length (names_at self.now d.0 line) }
@@ -197,7 +200,8 @@ impl Config {
         self.device_facts(d).lowers.at(line as usize, i as usize)
     }
 
-    /// The key of a `crypt` line, made ready at loading. Lines of a device count from 0.
+    /// Returns the key of a `crypt` line, which was expanded when the table was loaded. Lines of a device are
+    /// numbered from 0.
     pub fn key(&self, d: DevId, line: u32) -> &XtsKey
         requires device { d.0 < length self.now.devices }
         requires crypt { IsTrue (is_some (key_of_line self.now d.0 line)) }
@@ -206,8 +210,9 @@ impl Config {
         self.device_facts(d).keys.at(line)
     }
 
-    /// The digest of a data block of zeros under a line's salt, made at loading, where it is a `verity` line that
-    /// ignores such blocks. Lines of a device count from 0.
+    /// Returns the digest of a data block of zeros with the salt of a line, which was computed when the table was
+    /// loaded, or `None` unless it is a `verity` line with `ignore_zero_blocks`. Lines of a device are numbered from
+    /// 0.
     pub fn zero_digest(&self, d: DevId, line: u32) -> Option<Digest>
         requires { d.0 < length self.now.devices }
         ensures { result ≡ zero_digest_at self.now d.0 line }

@@ -1,11 +1,11 @@
-//! What is computed once of a configuration.
+//! Values that are computed once for a configuration.
 use crate::keys::DeviceKeys;
 use crate::zero_digests::ZeroDigests;
 use stack_rules::DeviceLowers;
 use std::alloc::Global;
 
-/// Of a device: its depth, its costs in leaf sectors, what its lines name, the keys of its crypt lines and the digests of
-/// zeros of its verity lines.
+/// The values of a device: its depth, its costs in leaf sectors, the leaves and devices that its lines name, the keys
+/// of its `crypt` lines, and the digests of blocks of zeros for its `verity` lines.
 #[derive(Drop)]
 pub struct DeviceFacts {
     pub depth: u64,
@@ -16,7 +16,7 @@ pub struct DeviceFacts {
     pub zero_digests: ZeroDigests,
 }
 
-/// Of each device, by its place.
+/// The values of each device, by index.
 #[derive(Drop)]
 pub struct Facts {
     pub devices: Vec<DeviceFacts>,
@@ -27,7 +27,7 @@ impl Facts {
     ghost use Rattle.stack_rules.specs.Records.{LeafRecord};
     ghost use Rattle.stack_config.specs.Facts.{AreFacts, HaveDevice, AreWithout};
 
-    /// The facts of a configuration without mapped devices.
+    /// Returns the values of a configuration without mapped devices.
     pub(crate) fn none(alloc: Global) -> Facts
         ensures { (leaves : List LeafRecord) → AreFacts (record { leaves = leaves; devices = [] }) result }
     {
@@ -36,7 +36,7 @@ impl Facts {
         }
     }
 
-    /// The facts of the other devices.
+    /// Removes the device with index `place`, and adjusts the values of the others.
     pub fn remove(&mut self, place: usize)
         requires { HaveDevice self.old place }
         ensures { AreWithout place self.old self.new }

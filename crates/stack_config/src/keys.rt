@@ -1,18 +1,18 @@
-//! The keys of crypt lines.
+//! The keys of `crypt` lines.
 ghost use Rattle.std.specs.Prelude.{◌≡◌, ◌==◌, IsTrue, is_some, find, Some, option_copied};
 ghost use Rattle.std.specs.Option.{option_map};
 
 use std::marker::Model;
 use xts_sector::XtsKey;
 
-/// The key of a line, after the line's number in its device.
+/// The key of a line, with the index of the line in its device.
 #[derive(Drop)]
 pub struct LineKey {
     pub line: u32,
     pub key: XtsKey,
 }
 
-/// The keys of a device's crypt lines, in the order of the lines.
+/// The keys of the `crypt` lines of a device, in order of the lines.
 #[derive(Drop)]
 pub struct DeviceKeys {
     list: Vec<LineKey>,
@@ -28,7 +28,7 @@ impl Model for DeviceKeys {
 }
 
 impl DeviceKeys {
-    /// These keys, in the order of their lines.
+    /// Returns these keys, in order of their lines.
     pub fn new(list: Vec<LineKey>) -> DeviceKeys
         ensures { result ≡ list.items }
     {
@@ -41,7 +41,7 @@ impl DeviceKeys {
         self.list.iter().find(|key| key.line == line)
     }
 
-    /// The key of that line.
+    /// Returns the key of a line.
     pub(crate) fn at(&self, line: u32) -> &XtsKey
         requires { IsTrue (is_some (find (λ k. k.line == line) self.now)) }
         ensures { option_map (λ k. k.key) (find (λ k. k.line == line) self.now) ≡ Some result.now }

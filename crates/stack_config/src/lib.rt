@@ -1,4 +1,4 @@
-//! A loaded configuration of stacked devices: what it says of each, and what is computed of it once.
+//! A loaded configuration of stacked devices, and the values computed once for it.
 #![tactic(auto)]
 
 mod config;

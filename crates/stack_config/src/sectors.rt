@@ -1,4 +1,4 @@
-//! The line of a sector.
+//! The line that a sector is in.
 ghost use Rattle.std.specs.Prelude.{◌<◌, ◌^◌, length};
 ghost use Rattle.stack_rules.specs.Names.{table_sectors};
 ghost use Rattle.stack_rules.specs.Lines.{IsIn, Follow, StartsBy};
@@ -6,7 +6,7 @@ ghost use Rattle.stack_config.specs.LastStart.{IsLastStart};
 
 use dm_table::{Line, Table};
 
-/// The place of the last line that starts at or before the sector.
+/// Returns the index of the last line that starts at or before the sector.
 fn last_start(lines: &[Line], sector: u64) -> usize
     requires some { 0 < length lines.now }
     requires first { StartsBy lines.now 0 sector }
@@ -25,7 +25,7 @@ fn last_start(lines: &[Line], sector: u64) -> usize
     low
 }
 
-/// The number of the line in which a sector lies, and the sectors left in it from there on.
+/// Returns the index of the line that a sector is in, and the number of sectors from it to the end of the line.
 pub(crate) fn line_of(table: &Table, sector: u64) -> (u32, u64)
     requires follow { Follow 0 table.now }
     requires sector { sector < table_sectors table.now }

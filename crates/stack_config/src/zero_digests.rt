@@ -1,10 +1,10 @@
-//! The digests of data blocks of zeros, of the verity lines that ignore such blocks.
+//! The digests of data blocks of zeros for `verity` lines with `ignore_zero_blocks`.
 ghost use Rattle.std.specs.Prelude.{◌≡◌, slice_get, option_and_then};
 
 use std::marker::Model;
 use tree_shape::Digest;
 
-/// For each line of a device, in order: the digest, if it is such a line.
+/// The digest for each line of a device, in order, if it is such a line.
 #[derive(Drop)]
 pub struct ZeroDigests {
     lines: Vec<Option<Digest>>,
@@ -19,14 +19,14 @@ impl Model for ZeroDigests {
 }
 
 impl ZeroDigests {
-    /// These digests, one for each line.
+    /// Returns these digests, one for each line.
     pub fn new(lines: Vec<Option<Digest>>) -> ZeroDigests
         ensures { result ≡ lines.items }
     {
         ZeroDigests { lines }
     }
 
-    /// That of a line, if there is such a line.
+    /// Returns the digest for a line, if there is one.
     pub(crate) fn at(&self, line: u32) -> Option<Digest>
         ensures { result ≡ option_and_then (λ digest. digest) (slice_get self.now line) }
     {

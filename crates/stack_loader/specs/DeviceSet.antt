@@ -8,15 +8,15 @@ use Rattle.stack_rules.specs.Cycles.{names_device}
 abbrev pub contains : DeviceSet → ℕ → Bool
 contains set d = bit_at set.bits d == 1
 
--- set d, where there is none the empty one
+-- set d, or the empty set if there is none
 abbrev pub set_at : List DeviceSet → ℕ → DeviceSet
 set_at sets d = slice_index_or sets d (record { bits = 0 })
 
--- a set for each of so many devices, which has those of them for which the test is true
+-- set d contains e if and only if the test of d and e is true
 pub record AreSets (test : ℕ → ℕ → Bool) (sets : List DeviceSet) : Type 0 where
   pub each : (d e : ℕ) → d < length sets → e < length sets → contains (set_at sets d) e ≡ test d e
 
--- a set for each device, which has the devices that its lines name
+-- a set for each device: the devices that its lines name
 pub record AreLowerSets (c : Configuration) (sets : List DeviceSet) : Type 0 where
   pub count : length sets ≡ length c.devices
   pub named : AreSets (names_device c) sets

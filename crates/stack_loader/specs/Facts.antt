@@ -1,11 +1,11 @@
--- What is computed of each device, brought together.
+-- Collection of the values computed for each device.
 use Rattle.std.specs.Prelude.{ℕ, List, [], map, get_or}
 use Rattle.stack_config.specs.declared.facts.DeviceFacts.{DeviceFacts}
 use Rattle.stack_config.specs.Keys.{keys_from, zero_digests_of}
 use Rattle.stack_rules.specs.Records.{DeviceRecord}
 use Rattle.stack_rules.specs.declared.lower.Lower.{Lower}
 
--- the facts of the i-th device, by what was computed of all devices
+-- the values of device i, given the values computed for all devices
 abbrev pub facts_at : List DeviceRecord → (depths reads writes : List ℕ) → List (List (List Lower)) → ℕ → DeviceFacts
 facts_at devices depths reads writes lowers i = record {
   depth = get_or depths i 0;

@@ -1,4 +1,4 @@
-//! A configuration to come, checked by all rules.
+//! Checking a planned configuration by all rules.
 ghost use Rattle.std.specs.Prelude.{◌≡◌, ◌≤◌, ◌++◌, length, nat_lt, All, IsTrue};
 ghost use Rattle.dm_table.specs.Names.{is_mapped_name};
 ghost use Rattle.dm_table.specs.StackText.{IsStackOfGrammar};
@@ -47,7 +47,7 @@ fn is_too_many(devices: &[Planned<'_>]) -> bool
     devices.len() > MOST_DEVICES as usize || has_long_table(devices)
 }
 
-/// The first device with more than that.
+/// Returns the refusal of the first device with a value above the limit, or `None` if there is no such device.
 pub(crate) fn first_above(values: &[u64], most: u64, kind: LoadKind) -> Option<Refusal>
     requires { length values.now ≤ most_devices }
     ensures { result ≡ first (above kind most values.now) }
@@ -64,7 +64,12 @@ pub(crate) fn first_above(values: &[u64], most: u64, kind: LoadKind) -> Option<R
     None
 }
 
-/// The depths of the devices, or the first rule that refuses the configuration: those on cycles, lines and depths.
+/// Returns the depths of the devices.
+///
+/// # Errors
+///
+/// - `Refused` by the first rule on cycles, lines and depths that refuses the configuration.
+/// - `NoMemory` if an allocation fails.
 fn checked_depths(
     alloc: Global,
     leaves: &[Leaf],
@@ -94,7 +99,12 @@ fn checked_depths(
     }
 }
 
-/// The facts of a configuration, or the first rule that refuses it.
+/// Returns the values computed for a configuration.
+///
+/// # Errors
+///
+/// - `Refused` by the first rule that refuses the configuration.
+/// - `NoMemory` if an allocation fails.
 pub(crate) fn check(
     alloc: Global,
     leaves: &[Leaf],
@@ -122,14 +132,19 @@ pub(crate) fn check(
     Ok(Facts { devices })
 }
 
-/// The devices after a load, and what is computed of them.
+/// The devices after a load, and the values computed for them.
 #[derive(Drop)]
 pub(crate) struct Next {
     pub(crate) devices: Vec<Mapped>,
     pub(crate) facts: Facts,
 }
 
-/// The configuration after a load, or the first rule that refuses it.
+/// Returns the devices after a load.
+///
+/// # Errors
+///
+/// - `Refused` by the first rule that refuses the load.
+/// - `NoMemory` if an allocation fails.
 pub(crate) fn next_load(
     alloc: Global,
     leaves: &[Leaf],
@@ -147,7 +162,7 @@ pub(crate) fn next_load(
         Some(refusal) => return Err(LoadFault::Refused(refusal)),
         None => {}
     }
-    // Nothing is copied before all rules were looked at.
+    // Nothing is copied before all rules have been checked.
     let planned = planned_devices(alloc, devices, entries)?;
     let facts = check(alloc, leaves, planned.as_slice())?;
     let devices = copied_devices(alloc, planned.as_slice())?;

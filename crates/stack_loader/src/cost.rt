@@ -19,19 +19,20 @@ use stack_rules::{
 };
 use std::alloc::Global;
 
-/// Whether a cost is of a sector that is read or of one that is written, where reading one of each device
-/// costs so much.
+/// The direction of an access: a read, or a write with the costs of reading a sector of each device.
 #[derive(Clone, Copy)]
 pub enum Direction<'a> {
     Read,
     Write(&'a [u64]),
 }
 
+/// The largest depth of a device.
 pub const MOST_DEPTH: u64 = 8;
 
+/// The largest number of leaf sectors read for one sector.
 pub const MOST_COST: u64 = 1 << 32;
 
-/// More than a write of one sector can move.
+/// More than the cost of writing one sector can be.
 const MOST_WRITE_COST: u64 = 1 << 60;
 
 fn cost_in(costs: &[u64], lower: Lower) -> u64
@@ -57,7 +58,7 @@ fn greatest_cost(costs: &[u64], lowers: &[Lower]) -> u64
     greatest
 }
 
-/// The cost of the i-th lower device; of none where there is none.
+/// Returns the cost of lower device `i`, or 0 if there is none.
 fn cost_at(costs: &[u64], lowers: &[Lower], i: usize) -> u128
     ensures value { result ≡ option_map_or (cost_in costs.now) (slice_get lowers.now i) 0 }
     ensures fits { result < 2 ^ 64 }
@@ -68,7 +69,7 @@ fn cost_at(costs: &[u64], lowers: &[Lower], i: usize) -> u128
     }
 }
 
-/// What a sector of a verity line costs: its data block, and a hash block of each level.
+/// Returns the cost of reading a sector of a `verity` line: its data block, and a hash block of each level.
 fn verity_cost(costs: &[u64], verity: &Verity, lowers: &[Lower]) -> u128
     requires { IsVerityOfGrammar verity.now }
     ensures { (c : Configuration) → Mean c lowers.now (names (target.Verity verity.now)) → result ≡ line_read_cost (by_name c 0 (cost_in costs.now)) (target.Verity verity.now) }
@@ -91,7 +92,8 @@ fn line_read_cost(costs: &[u64], target: &Target, lowers: &[Lower]) -> u128
     }
 }
 
-/// What writing a sector of a crypt line costs: that of the lower one, or reading its unit and putting it whole.
+/// Returns the cost of writing a sector of a `crypt` line: that of the lower sector, or of reading its unit and
+/// writing it as a whole.
 fn unit_write_cost(reads: &[u64], costs: &[u64], crypt: &Crypt, lowers: &[Lower]) -> u128
     ensures { (c : Configuration) → Mean c lowers.now (names (target.Crypt crypt.now)) → result ≡ line_write_cost (by_name c 0 (cost_in reads.now)) (by_name c 0 (cost_in costs.now)) (target.Crypt crypt.now) }
 {
@@ -126,7 +128,7 @@ fn line_cost(direction: Direction<'_>, costs: &[u64], target: &Target, lowers: &
     }
 }
 
-/// The cost of a device's dearest line, where the devices that it names have the costs.
+/// Returns the cost of the most expensive line of a device, given the costs of the devices that it names.
 fn dearest(direction: Direction<'_>, costs: &[u64], lines: &[Line], rows: &[LineLowers]) -> u128
     requires rows { length lines.now ≤ length rows.now }
     requires grammar { All IsLineOfGrammar lines.now }
@@ -139,8 +141,8 @@ fn dearest(direction: Direction<'_>, costs: &[u64], lines: &[Line], rows: &[Line
     greatest
 }
 
-// A read cost above the limit is kept as the least that is: so no number wraps, and the rule sees it. No write
-// cost is above its ceiling where the rules on depths and read costs hold.
+// A read cost above the limit is stored as the smallest such cost, so that no sum overflows and the rule refuses it.
+// If the rules on depths and read costs hold, no write cost is above its ceiling.
 fn ceiling(direction: Direction<'_>) -> u64
     ensures { result ≡ ceiling direction.entry }
 {
@@ -156,7 +158,7 @@ fn capped(direction: Direction<'_>, cost: u128) -> u64
     cost.min(u128::from(ceiling(direction))) as u64
 }
 
-/// Sets the costs of the devices of a depth, where those of less depth have theirs.
+/// Sets the costs of the devices with this depth, given those of the devices with a smaller depth.
 fn settle(
     direction: Direction<'_>,
     devices: &[Planned<'_>],
@@ -179,11 +181,11 @@ fn settle(
     }
 }
 
-/// The costs of all devices, whose depths are at most 8; one above the ceiling as that.
+/// Returns the costs of all devices, limited to the ceiling. All depths must be at most 8.
 ///
 /// # Errors
 ///
-/// An allocation of room for as many numbers as there are devices was refused.
+/// `OutOfMemory` if an allocation of at most as many numbers as there are devices fails.
 pub fn costs(
     alloc: Global,
     direction: Direction<'_>,

@@ -1,4 +1,4 @@
-//! Devices that stand on themselves.
+//! Devices on a cycle.
 ghost use Rattle.std.specs.Prelude.{◌≡◌, ◌<◌, ◌≤◌, ◌+◌, ◌&&◌, ◌||◌, ℕ, Bool, zero, length, IfOk, OnErr};
 ghost use Rattle.allocation.specs.Refusal.{IsOutOfMemory};
 ghost use Rattle.stack_rules.specs.Records.{Configuration};
@@ -12,7 +12,7 @@ use allocation::{OutOfMemory, copied};
 use stack_rules::{LoadKind, Refusal};
 use std::alloc::Global;
 
-/// Adds to each set that has device k what the set of k has.
+/// Adds the set of device `k` to each set that contains `k`.
 fn join(sets: &mut [DeviceSet], k: usize)
     requires place { k < length sets.old }
     requires few { length sets.old ≤ most_devices }
@@ -26,7 +26,7 @@ fn join(sets: &mut [DeviceSet], k: usize)
     }
 }
 
-/// From the devices that each device names, those to which a chain of lines leads from it.
+/// Replaces the set of devices that each device names by the set of devices to which a chain of lines leads from it.
 fn close(sets: &mut [DeviceSet])
     requires { length sets.old ≤ most_devices }
     ensures { (test : ℕ → ℕ → Bool) → AreSets test sets.old → AreSets (leads_below test (length sets.old)) sets.new }
@@ -36,11 +36,11 @@ fn close(sets: &mut [DeviceSet])
     }
 }
 
-/// The first device on a cycle.
+/// Returns the refusal of the first device on a cycle, or `None` if there is no cycle.
 ///
 /// # Errors
 ///
-/// An allocation of room for as many sets as there are was refused.
+/// `OutOfMemory` if an allocation of at most as many sets as there are devices fails.
 pub fn cycle_refusal(alloc: Global, sets: &[DeviceSet]) -> Result<Option<Refusal>, OutOfMemory>
     requires { length sets.now ≤ most_devices }
     ensures ok { (c : Configuration) → AreLowerSets c sets.now → IfOk result (λ refusal. refusal ≡ first (cycles c)) }

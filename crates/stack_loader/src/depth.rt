@@ -9,7 +9,7 @@ use crate::lower_set::MOST_DEVICES;
 use allocation::{OutOfMemory, filled, push, with_capacity};
 use std::alloc::Global;
 
-/// The greatest of the values of the set's devices.
+/// Returns the largest of the values of the devices in the set.
 fn greatest_in(set: DeviceSet, values: &[u64]) -> u64
     requires { length values.now ≤ most_devices }
     ensures { result ≡ greatest_in set values.now }
@@ -23,7 +23,7 @@ fn greatest_in(set: DeviceSet, values: &[u64]) -> u64
     greatest
 }
 
-/// One round: the depth of each device where those that it names have the values.
+/// Returns the values after one round: one more than the largest value of the devices that each device names.
 fn round(alloc: Global, sets: &[DeviceSet], values: &[u64]) -> Result<Vec<u64>, OutOfMemory>
     requires few { length values.now ≤ most_devices }
     requires low { (k : ℕ) → slice_index values.now k ≤ most_devices }
@@ -37,11 +37,11 @@ fn round(alloc: Global, sets: &[DeviceSet], values: &[u64]) -> Result<Vec<u64>, 
     Ok(next)
 }
 
-/// The depths after 64 rounds, or fewer if a round changes nothing.
+/// Returns the depths after 64 rounds. It stops earlier if a round changes nothing.
 ///
 /// # Errors
 ///
-/// An allocation of room for at most as many numbers as there are sets was refused.
+/// `OutOfMemory` if an allocation of at most as many numbers as there are sets fails.
 pub fn depths(alloc: Global, sets: &[DeviceSet]) -> Result<Vec<u64>, OutOfMemory>
     requires { length sets.now ≤ most_devices }
     ensures ok { IfOk result (λ v. v.items ≡ depth_rounds sets.now most_devices) }

@@ -1,6 +1,6 @@
 //! A set of mapped devices.
 
-/// Some of the mapped devices of a configuration, by their places: a bit for each of 64.
+/// A set of mapped devices of a configuration, by index: one bit for each of 64.
 #[derive(Clone, Copy)]
 pub struct DeviceSet {
     pub bits: u64,
@@ -24,7 +24,7 @@ impl DeviceSet {
         self.bits >> d & 1 == 1
     }
 
-    /// This set and the device.
+    /// Returns the set with the device added.
     pub(crate) fn with(self, d: usize) -> DeviceSet
         requires { d < most_devices }
         ensures { (e : ℕ) → contains result e ≡ (contains self e || e == d) }
@@ -34,7 +34,7 @@ impl DeviceSet {
         }
     }
 
-    /// What is in this set or in the other.
+    /// Returns the union of two sets.
     pub(crate) fn union(self, other: DeviceSet) -> DeviceSet
         ensures { (d : ℕ) → contains result d ≡ (contains self d || contains other d) }
     {

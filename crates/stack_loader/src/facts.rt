@@ -1,4 +1,4 @@
-//! What is computed of each device, brought together.
+//! Collection of the values computed for each device.
 ghost use Rattle.std.specs.Prelude.{◌≡◌, ◌≤◌, ◌+◌, length, map, All, IfOk, OnErr};
 ghost use Rattle.std.specs.List.{range_with_len};
 ghost use Rattle.allocation.specs.Refusal.{IsOutOfMemory};
@@ -12,7 +12,8 @@ use stack_config::DeviceFacts;
 use stack_rules::{DeviceLowers, Planned};
 use std::alloc::Global;
 
-/// The facts of each device: its depth, its costs and what its lines name, with its keys and digests of zeros.
+/// Returns the values of each device: its depth, its costs and the devices that its lines name, together with its
+/// keys and digests of blocks of zeros.
 pub(crate) fn device_facts(
     alloc: Global,
     devices: &[Planned<'_>],

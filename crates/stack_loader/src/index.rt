@@ -1,4 +1,4 @@
-//! Leaves and devices by their names.
+//! Leaves and devices by name.
 ghost use Rattle.std.specs.Prelude.{◌≡◌, ◌<◌, ◌^◌, ℕ, List, length, position, IfOk, IfErr};
 ghost use Rattle.std.specs.Str.{bytes_eq};
 ghost use Rattle.std.specs.HashMap.{get_by};
@@ -12,7 +12,7 @@ use stack_rules::{DevId, Leaf, Lower, Planned};
 use std::alloc::Global;
 use std::collections::HashMap;
 
-/// The place of the first leaf of each name.
+/// Returns the index of the first leaf with each name.
 fn leaf_places<'a>(alloc: Global, leaves: &'a [Leaf]) -> Result<HashMap<&'a [u8], u32>, OutOfMemory>
     requires { length leaves.now < 2 ^ 32 }
     ensures ok { IfOk result (λ m. (q : List ℕ) → get_by (λ k. bytes_eq q k.now) m ≡ position (λ l. bytes_eq l.name q) leaves.now) }
@@ -25,7 +25,7 @@ fn leaf_places<'a>(alloc: Global, leaves: &'a [Leaf]) -> Result<HashMap<&'a [u8]
     Ok(places)
 }
 
-/// The place of the first device of each name.
+/// Returns the index of the first device with each name.
 fn device_places<'a>(
     alloc: Global,
     devices: &[Planned<'a>],
@@ -47,7 +47,7 @@ fn place_in(places: &HashMap<&[u8], u32>, name: &[u8]) -> Option<u32>
     places.get(&name).copied()
 }
 
-/// The place of the device of that path.
+/// Returns the index of the device with this path.
 fn path_place(places: &HashMap<&[u8], u32>, path: &[u8]) -> Option<u32>
     ensures { (devices : List DeviceRecord) → IsPlaces devices places.now → result ≡ position (λ d. bytes_eq (path_of d.name) path.now) devices }
 {
@@ -55,7 +55,7 @@ fn path_place(places: &HashMap<&[u8], u32>, path: &[u8]) -> Option<u32>
     place_in(places, name)
 }
 
-/// The leaves and devices of a configuration by their names.
+/// The leaves and devices of a configuration by name.
 #[derive(Drop)]
 pub(crate) struct Index<'a> {
     leaves: HashMap<&'a [u8], u32>,
@@ -85,7 +85,7 @@ impl<'a> Index<'a> {
         })
     }
 
-    /// What a table means by that name.
+    /// Returns the leaf or device that a name in a table refers to.
     pub(crate) fn named(&self, name: &[u8]) -> Option<Lower>
         ensures { (c : Configuration) → IsIndex c self.now → result ≡ named c name.now }
     {

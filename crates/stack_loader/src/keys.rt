@@ -1,4 +1,4 @@
-//! The keys of crypt lines, made ready once at loading.
+//! The keys of `crypt` lines, expanded once when a table is loaded.
 ghost use Rattle.std.specs.Prelude.{◌≡◌, ◌≤◌, ◌<◌, ◌^◌, length, All, IfOk, OnErr};
 ghost use Rattle.allocation.specs.Refusal.{IsOutOfMemory};
 ghost use Rattle.dm_table.specs.Grammar.{IsTargetOfGrammar, IsLineOfGrammar};
@@ -12,7 +12,7 @@ use stack_rules::crypt_of;
 use std::alloc::Global;
 use xts_sector::XtsKey;
 
-/// The key that a target has.
+/// Returns the key of a target, if it has one.
 fn key_of(target: &Target) -> Option<XtsKey>
     requires { IsTargetOfGrammar target.now }
     ensures { result ≡ key_of target.now }
@@ -23,7 +23,7 @@ fn key_of(target: &Target) -> Option<XtsKey>
     }
 }
 
-/// The keys of the crypt lines of a device.
+/// Returns the keys of the `crypt` lines of a device.
 pub(crate) fn line_keys(alloc: Global, lines: &[Line]) -> Result<DeviceKeys, OutOfMemory>
     requires few { length lines.now < 2 ^ 32 }
     requires grammar { All IsLineOfGrammar lines.now }

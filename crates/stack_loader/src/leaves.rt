@@ -19,7 +19,7 @@ fn begins_as_path(name: &[u8]) -> bool
     name.starts_with(b"/dev/mapper/")
 }
 
-// Whether the name is a device argument, and not the path of a mapped device.
+// Returns whether the name is a device argument other than the path of a mapped device.
 fn is_leaf_name(name: &[u8]) -> bool
     ensures { result ≡ is_leaf_name name.now }
 {
@@ -58,7 +58,7 @@ fn has_too_large(leaves: &[Leaf]) -> bool
     leaves.iter().any(|leaf| leaf.sectors() > MOST_SECTORS)
 }
 
-/// The first rule that refuses the leaves.
+/// Returns the first rule that refuses the leaves.
 #[tactic(auto, unfolding(stack_rules::specs::Leaves::first_leaf_fault))]
 pub fn leaves_fault(leaves: &[Leaf]) -> Option<ConfigFault>
     ensures { result ≡ first_leaf_fault leaves.now }

@@ -1,4 +1,5 @@
-//! Configurations of stacked devices: checked as a whole by the rules, with their depths and costs, and loaded all or none.
+//! Loading configurations of stacked devices: a load is checked as a whole by the rules, depths and costs are
+//! computed, and all of it is loaded or nothing.
 #![tactic(auto)]
 
 mod check;

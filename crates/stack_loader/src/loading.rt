@@ -1,4 +1,4 @@
-//! New configurations, and loads into them.
+//! New configurations, and loads.
 ghost use Rattle.std.specs.Prelude.{◌≡◌, None, Some, [], IfOk, IfErr, OnOk, OnErr, Err};
 ghost use Rattle.stack_rules.specs.Leaves.{first_leaf_fault};
 ghost use Rattle.allocation.specs.Refusal.{IsOutOfMemory};
@@ -13,7 +13,11 @@ use stack_config::Config;
 use stack_rules::{ConfigFault, Leaf, LoadFault};
 use std::alloc::Global;
 
-/// A configuration of these leaves and no mapped device.
+/// Returns a configuration of these leaves without mapped devices.
+///
+/// # Errors
+///
+/// The first rule that refuses the leaves.
 pub fn config_over(alloc: Global, leaves: Vec<Leaf>) -> Result<Config, ConfigFault>
     ensures ok { IfOk result (λ c. c ≡ record { leaves = leaves.items; devices = [] }) }
     ensures leaves { OnOk result (first_leaf_fault leaves.items ≡ None) }
@@ -25,11 +29,14 @@ pub fn config_over(alloc: Global, leaves: Vec<Leaf>) -> Result<Config, ConfigFau
     }
 }
 
-/// Creates each device that the text names, or replaces its table and flag: all or none.
+/// Creates each device that the text names, or replaces its table and flag. Either all devices are loaded or none.
 ///
 /// # Errors
 ///
-/// `Refused` if a rule refuses the configuration to come. `NoMemory` if an allocation was refused; its size is bounded.
+/// - `Refused` by the first rule that refuses the resulting configuration.
+/// - `NoMemory` if an allocation of at most `largest_load_allocation` elements fails.
+///
+/// The configuration is unchanged in both cases.
 pub fn load(config: &mut Config, text: &StackText) -> Result<(), LoadFault>
     ensures ok { OnOk result (first_refusal config.old text.now ≡ None) }
     ensures after { OnOk result (config.new ≡ after_load config.old text.now) }

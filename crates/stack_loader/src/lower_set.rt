@@ -1,4 +1,4 @@
-//! Which devices each device names.
+//! The devices that each device names.
 ghost use Rattle.std.specs.Prelude.{◌≡◌, ◌<◌, ◌≤◌, ◌||◌, ℕ, length, IfOk, OnErr};
 ghost use Rattle.allocation.specs.Refusal.{IsOutOfMemory};
 ghost use Rattle.std.specs.List.{list_any};
@@ -13,9 +13,10 @@ use allocation::{OutOfMemory, push, with_capacity};
 use stack_rules::{DeviceLowers, LineLowers, Lower};
 use std::alloc::Global;
 
+/// The largest number of mapped devices in a configuration.
 pub const MOST_DEVICES: u32 = 64;
 
-/// The set and the device, if it is one.
+/// Returns the set with the lower device added, if it is a mapped device.
 fn with_lower(set: DeviceSet, lower: Lower) -> DeviceSet
     ensures { (e : ℕ) → e < most_devices → contains result e ≡ (contains set e || is_mapped e lower) }
 {
@@ -31,7 +32,7 @@ fn with_lower(set: DeviceSet, lower: Lower) -> DeviceSet
     }
 }
 
-/// The set and the devices that a line names.
+/// Returns the set with the devices that a line names added.
 fn with_line(set: DeviceSet, lowers: &[Lower]) -> DeviceSet
     ensures { (e : ℕ) → e < most_devices → contains result e ≡ (contains set e || list_any (is_mapped e) lowers.now) }
 {
@@ -42,7 +43,7 @@ fn with_line(set: DeviceSet, lowers: &[Lower]) -> DeviceSet
     named
 }
 
-/// The devices that some lines name.
+/// Returns the devices that the lines name.
 fn named_by(lines: &[LineLowers]) -> DeviceSet
     ensures { (e : ℕ) → e < most_devices → contains result e ≡ list_any (list_any (is_mapped e)) lines.now }
 {
@@ -53,11 +54,11 @@ fn named_by(lines: &[LineLowers]) -> DeviceSet
     named
 }
 
-/// The devices that each device names.
+/// Returns the devices that each device names.
 ///
 /// # Errors
 ///
-/// An allocation of room for at most as many sets as there are devices was refused.
+/// `OutOfMemory` if an allocation of at most as many sets as there are devices fails.
 pub fn lower_sets(alloc: Global, lowers: &[DeviceLowers]) -> Result<Vec<DeviceSet>, OutOfMemory>
     requires { length lowers.now ≤ most_devices }
     ensures ok { (c : Configuration) → AreLowers c lowers.now → IfOk result (λ sets. AreLowerSets c sets.items) }

@@ -13,7 +13,7 @@ use stack_rules::{LoadKind, Mapped, Planned, Refusal, place_of};
 use std::alloc::Global;
 use std::collections::HashMap;
 
-/// The first entry whose name an earlier one has.
+/// Returns the refusal of the first entry with the name of an earlier one, or `None` if all names are distinct.
 pub(crate) fn duplicate(alloc: Global, entries: &[Entry]) -> Result<Option<Refusal>, OutOfMemory>
     ensures ok { IfOk result (λ refusal. refusal ≡ first (duplicate_names [] entries.now)) }
     ensures err { IfErr result (WasRefused 1) }
@@ -32,14 +32,14 @@ pub(crate) fn duplicate(alloc: Global, entries: &[Entry]) -> Result<Option<Refus
     Ok(None)
 }
 
-/// The first entry of that name.
+/// Returns the first entry with this name.
 fn entry_of<'a>(entries: &'a [Entry], name: &[u8]) -> Option<&'a Entry>
     ensures { option_copied result ≡ find (λ e. bytes_eq e.name name.now) entries.now }
 {
     entries.iter().find(|entry| entry.name.as_slice() == name)
 }
 
-/// The device, with the table and flag of the entry that has its name.
+/// Returns the device with the table and flag of the entry that has its name, if there is one.
 fn replacement<'a>(entries: &'a [Entry], device: &'a Mapped) -> Planned<'a>
     ensures { result ≡ replacement entries.now device.now }
 {
@@ -49,7 +49,8 @@ fn replacement<'a>(entries: &'a [Entry], device: &'a Mapped) -> Planned<'a>
     }
 }
 
-/// The present devices in order, replaced where an entry has their name, and then the new ones in the text's order.
+/// Returns the existing devices in order, replaced if an entry has their name, followed by the new ones in the order
+/// of the text.
 pub(crate) fn planned_devices<'a>(
     alloc: Global,
     devices: &'a [Mapped],
@@ -73,7 +74,7 @@ pub(crate) fn planned_devices<'a>(
     Ok(next)
 }
 
-/// The devices, with names and tables of their own.
+/// Returns copies of the devices that own their names and tables.
 pub(crate) fn copied_devices(
     alloc: Global,
     planned: &[Planned<'_>],

@@ -1,4 +1,4 @@
-//! The rules on the sectors that a line reaches.
+//! The rules on the sectors that a line maps.
 ghost use Rattle.std.specs.Prelude.{◌≡◌, map};
 ghost use Rattle.std.specs.List.{list_any};
 ghost use Rattle.dm_table.specs.Grammar.{IsTargetOfGrammar};
@@ -11,7 +11,7 @@ use dm_table::{Base, Line, Target};
 use stack_rules::{Leaf, Lower, Planned, data_sectors, striped_end, tree_sectors, verity_of};
 use std::slice;
 
-// How many sectors a lower device has.
+// Returns the size of a lower device in sectors.
 fn size_of(leaves: &[Leaf], devices: &[Planned<'_>], lower: Lower) -> u128
     ensures { result ≡ size (configuration leaves.now devices.now) lower }
 {
@@ -27,7 +27,7 @@ fn size_of(leaves: &[Leaf], devices: &[Planned<'_>], lower: Lower) -> u128
     }
 }
 
-// Whether so many sectors from one of the bases end past its device.
+// Returns whether `sectors` sectors from one of the bases on end after its device.
 fn are_beyond(
     leaves: &[Leaf],
     devices: &[Planned<'_>],
@@ -47,7 +47,8 @@ fn are_beyond(
     false
 }
 
-/// Whether a range, a stripe's share or all data blocks of a verity line end past the device that is named.
+/// Returns whether a mapped range ends after the named device: the range of a line, the share of a stripe, or all
+/// data blocks of a `verity` line.
 pub fn is_beyond(leaves: &[Leaf], devices: &[Planned<'_>], lowers: &[Lower], line: &Line) -> bool
     requires grammar { IsTargetOfGrammar line.now.target }
     requires lowers { Mean (configuration leaves.now devices.now) lowers.now (names line.now.target) }
@@ -73,7 +74,7 @@ pub fn is_beyond(leaves: &[Leaf], devices: &[Planned<'_>], lowers: &[Lower], lin
     }
 }
 
-/// Whether the line has more sectors than its data blocks.
+/// Returns whether the line is longer than its data blocks.
 pub fn is_uncovered(line: &Line) -> bool
     ensures { result ≡ is_uncovered line.now.length line.now.target }
 {
@@ -83,7 +84,7 @@ pub fn is_uncovered(line: &Line) -> bool
     }
 }
 
-/// Whether the tree ends past the hash device.
+/// Returns whether the tree ends after the hash device.
 pub fn is_tree_beyond(
     leaves: &[Leaf],
     devices: &[Planned<'_>],

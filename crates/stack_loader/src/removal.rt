@@ -1,4 +1,4 @@
-//! The removal of a mapped device.
+//! Removal of a mapped device.
 ghost use Rattle.std.specs.Prelude.{◌≡◌, None, Some, IfErr, OnOk, OnErr};
 ghost use Rattle.std.specs.List.{list_any};
 ghost use Rattle.stack_rules.specs.Cycles.{is_mapped};
@@ -7,14 +7,21 @@ ghost use Rattle.stack_rules.specs.Removal.{after_removal, removal_fault};
 use stack_config::{Config, DeviceFacts};
 use stack_rules::{RemoveFault, place_of};
 
-/// Whether a device names the one of that place.
+/// Returns whether a device names the one with index `place`.
 fn is_in_use(devices: &[DeviceFacts], place: usize) -> bool
     ensures { result ≡ list_any (λ device. list_any (list_any (is_mapped place)) device.lowers) devices.now }
 {
     devices.iter().any(|device| device.lowers.names(place))
 }
 
-/// Removes the mapped device of that name; later ones move up by one place.
+/// Removes the mapped device with this name. The indices of later devices decrease by one.
+///
+/// # Errors
+///
+/// - `NoSuchDevice` if there is no mapped device with this name.
+/// - `InUse` if another device names it.
+///
+/// The configuration is unchanged in both cases.
 pub fn remove(config: &mut Config, name: &[u8]) -> Result<(), RemoveFault>
     ensures ok { OnOk result (removal_fault config.old name.now ≡ None) }
     ensures after { OnOk result (config.new ≡ after_removal config.old name.now) }

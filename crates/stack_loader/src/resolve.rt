@@ -1,4 +1,4 @@
-//! What the names of each line mean.
+//! The leaves and devices that the names in each line refer to.
 ghost use Rattle.std.specs.Prelude.{◌≡◌, ◌<◌, ◌≤◌, length, slice_index_or, All, IfOk, IfErr};
 ghost use Rattle.allocation.specs.Asked.{asked};
 ghost use Rattle.dm_table.specs.Grammar.{IsTargetOfGrammar, IsLineOfGrammar};
@@ -18,7 +18,7 @@ use stack_rules::{
 };
 use std::alloc::Global;
 
-/// The i-th name of a target, from 0.
+/// Returns name `i` of a target, from 0 on.
 fn name_at(target: &Target, i: usize) -> &[u8]
     requires { i < length (names target.now) }
     ensures { result.now ≡ slice_index_or (names target.now) i result.now }
@@ -39,7 +39,7 @@ fn name_at(target: &Target, i: usize) -> &[u8]
     }
 }
 
-/// What the names mean, or nothing where one has no meaning.
+/// Returns what the names refer to, or `None` if one is unknown.
 fn line_lowers(
     alloc: Global,
     index: &Index,
@@ -59,7 +59,7 @@ fn line_lowers(
     Ok(Some(LineLowers::new(list)))
 }
 
-/// What the names of a device's lines mean. The device is the d-th from 1.
+/// Returns what the names in a device's lines refer to. `d` is the number of the device, from 1 on.
 fn device_lowers(
     alloc: Global,
     index: &Index,
@@ -86,7 +86,12 @@ fn device_lowers(
     Ok(DeviceLowers::new(rows))
 }
 
-/// What all names mean.
+/// Returns what all names refer to.
+///
+/// # Errors
+///
+/// - `Refused` at the first line with an unknown name.
+/// - `NoMemory` if an allocation fails.
 pub fn lowers_of(
     alloc: Global,
     leaves: &[Leaf],

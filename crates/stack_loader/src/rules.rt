@@ -37,7 +37,7 @@ fn needs_read_only(line: &Line) -> bool
     verity_of(&line.target).is_some()
 }
 
-/// Whether one of the lower devices may not be written.
+/// Returns whether one of the lower devices is read-only.
 fn has_read_only(leaves: &[Leaf], devices: &[Planned<'_>], lowers: &[Lower]) -> bool
     ensures { result ≡ list_any (λ lower. not (may_write (configuration leaves.now devices.now) lower)) lowers.now }
 {
@@ -46,7 +46,7 @@ fn has_read_only(leaves: &[Leaf], devices: &[Planned<'_>], lowers: &[Lower]) -> 
         .any(|lower| !may_write(leaves, devices, *lower))
 }
 
-/// The first rule by which a line may not stand in a writable device.
+/// Returns the first rule that forbids a line in a writable device.
 fn write_fault(
     leaves: &[Leaf],
     devices: &[Planned<'_>],
@@ -64,7 +64,7 @@ fn write_fault(
     None
 }
 
-/// The first rule that refuses a line, where the lines before it have so many sectors.
+/// Returns the first rule that refuses a line. `before` is the number of sectors in the lines before it.
 fn line_fault(
     leaves: &[Leaf],
     devices: &[Planned<'_>],
@@ -105,7 +105,7 @@ fn line_fault(
     write_fault(leaves, devices, lowers, line)
 }
 
-/// The first rule that refuses a line of the d-th device, from 1.
+/// Returns the first refusal of a line of device `d`, which is numbered from 1.
 fn table_refusal(
     leaves: &[Leaf],
     devices: &[Planned<'_>],
@@ -138,7 +138,7 @@ fn table_refusal(
     None
 }
 
-/// The first rule that refuses a line.
+/// Returns the first refusal of a line.
 pub fn lines_refusal(
     leaves: &[Leaf],
     devices: &[Planned<'_>],

@@ -1,4 +1,4 @@
-//! The rules on a line's stripes and units.
+//! The rules on a line's stripes and encryption units.
 ghost use Rattle.std.specs.Prelude.{◌≡◌, ◌∷◌, [], ℕ, option_map};
 ghost use Rattle.dm_table.specs.Grammar.{IsTargetOfGrammar};
 ghost use Rattle.stack_rules.specs.Passing.{refusal_at};
@@ -8,7 +8,7 @@ ghost use Rattle.stack_rules.specs.Rules.{first, refuse, cuts_unit, is_off_unit,
 use dm_table::{Line, Target};
 use stack_rules::{LoadKind, crypt_of, unit_sectors};
 
-// Whether a line's length is no whole number of its stripes' chunks.
+// Returns whether a line's length isn't a multiple of its stripes and chunk size.
 fn is_undivided(line: &Line) -> bool
     requires { IsTargetOfGrammar line.now.target }
     ensures { result ≡ is_undivided line.now.length line.now.target }
@@ -23,7 +23,7 @@ fn is_undivided(line: &Line) -> bool
     }
 }
 
-// Whether a crypt line's length is no multiple of its unit.
+// Returns whether the length of a `crypt` line isn't a multiple of its encryption unit.
 fn cuts_unit(line: &Line) -> bool
     ensures { result ≡ cuts_unit line.now.length line.now.target }
 {
@@ -33,7 +33,7 @@ fn cuts_unit(line: &Line) -> bool
     }
 }
 
-// Whether the `iv_offset` of a crypt line is no multiple of its unit's sectors.
+// Returns whether the `iv_offset` of a `crypt` line isn't a multiple of the sectors of its encryption unit.
 fn is_off_unit(line: &Line) -> bool
     ensures { result ≡ is_off_unit line.now.length line.now.target }
 {
@@ -43,7 +43,7 @@ fn is_off_unit(line: &Line) -> bool
     }
 }
 
-/// The first rule by which a line isn't whole stripes or units.
+/// Returns the first rule on stripes and encryption units that refuses a line.
 pub fn part_fault(line: &Line) -> Option<LoadKind>
     requires { IsTargetOfGrammar line.now.target }
     ensures { (d l : ℕ) → option_map (refusal_at d l) result ≡ first (refuse kinds.StripesDontDivide d l (is_undivided line.now.length line.now.target) ∷ refuse kinds.UnitDoesntDivide d l (cuts_unit line.now.length line.now.target) ∷ refuse kinds.IvOffset d l (is_off_unit line.now.length line.now.target) ∷ []) }

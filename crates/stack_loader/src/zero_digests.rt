@@ -1,4 +1,5 @@
-//! The digests of data blocks of zeros, made once at loading for the verity lines that ignore such blocks.
+//! The digests of data blocks of zeros, computed once when a table is loaded, for `verity` lines with
+//! `ignore_zero_blocks`.
 ghost use Rattle.std.specs.Prelude.{◌≡◌, ◌≤◌, length, All, IfOk, OnErr};
 ghost use Rattle.allocation.specs.Refusal.{IsOutOfMemory};
 ghost use Rattle.dm_table.specs.Grammar.{IsTargetOfGrammar, IsLineOfGrammar};
@@ -38,7 +39,7 @@ fn zero_digest_of(target: &Target) -> Option<Digest>
     }
 }
 
-/// Those of a device's lines.
+/// Returns the digests of blocks of zeros for the lines of a device.
 pub(crate) fn line_digests(alloc: Global, lines: &[Line]) -> Result<ZeroDigests, OutOfMemory>
     requires { All IsLineOfGrammar lines.now }
     ensures ok { IfOk result (λ digests. digests ≡ zero_digests_of lines.now) }

@@ -1,4 +1,4 @@
--- Data blocks of a verity line, each checked from the root down.
+-- Data blocks of a `verity` line, verified from the root hash down.
 use Rattle.std.specs.Prelude.{◌≡◌, ◌⊎◌, ℕ, zero, suc, ◌+◌, ◌*◌, ◌/◌, ◌<◌, Bool, ◌&&◌, List, Ok, Err, if◌then◌else◌}
 use Rattle.std.specs.Str.{bytes_eq}
 use Rattle.tree_shape.specs.Digests.{digest, digest_in}
@@ -9,7 +9,7 @@ use Rattle.stack_meaning.specs.Sectors.{SomeOf}
 use Rattle.stack_meaning.specs.declared.fault.Fault.{Fault}
 use Rattle.stack_meaning.specs.Outcomes.{Outcome, mismatch, span, then_outcome}
 
--- the sectors of a hash block
+-- the number of sectors of a hash block
 abbrev pub hash_sectors : Verity → ℕ
 hash_sectors v = v.hash_block / 512
 
@@ -17,46 +17,46 @@ hash_sectors v = v.hash_block / 512
 abbrev pub hash_place : Verity → ℕ → ℕ → ℕ
 hash_place v l b = hash_sectors v * position (tree_of v) l b
 
--- of the hash block of level l on the way to data block i
+-- the first sector of the hash block of level l on the path to data block i
 abbrev pub hash_start : Verity → ℕ → ℕ → ℕ
 hash_start v l i = hash_place v l (ancestor (tree_of v) (l + 1) i)
 
--- the digest that it holds for the next block on the way
+-- the digest that this hash block stores for the next block on the path
 abbrev pub next_digest : Verity → ℕ → ℕ → List ℕ → List ℕ
 next_digest v l i block = digest_in block (slot (tree_of v) (ancestor (tree_of v) l i))
 
--- the block, if it has the digest that is expected of it
+-- the block if it has the expected digest, and otherwise the fault Mismatch
 abbrev pub checked : List ℕ → List ℕ → List ℕ → Outcome
 checked salt expected block = if bytes_eq (digest salt block) expected then Ok block else Err mismatch
 
--- n sectors from the first on as a block that is checked, or the fault of the least of them
+-- n sectors from `first` on as a verified block, or the fault of the first of them that has one
 abbrev pub checked_span : (ℕ → Outcome) → ℕ → ℕ → List ℕ → List ℕ → Outcome
 checked_span at first n salt expected = then_outcome (span at first n) (checked salt expected)
 
--- the line ignores blocks of zeros, and one has that digest
+-- the line has `ignore_zero_blocks`, and the digest is that of a block of zeros
 abbrev pub is_ignored : Verity → List ℕ → Bool
 is_ignored v expected = v.ignore_zero_blocks && bytes_eq (digest v.salt (zero_block v)) expected
 
--- data block i, where that digest is expected of it: zeros where the line ignores it, else it must have the digest
+-- data block i, given its expected digest: zeros if the line ignores it, otherwise it must have that digest
 abbrev pub data_block_at : Verity → (ℕ → Outcome) → ℕ → List ℕ → Outcome
 data_block_at v on_data i expected =
     if is_ignored v expected then Ok (zero_block v)
     else checked_span on_data (block_sectors v * i) (block_sectors v) v.salt expected
 
--- Data block i, where l levels are left and that digest is expected of the next block: each hash block from
--- the top level down, and then the data block, must have the digest that is expected of it.
+-- data block i, given the number of levels left and the digest expected of the next block: each hash block from the
+-- top level down, and then the data block, must have its expected digest
 abbrev pub block_below : Verity → (ℕ → Outcome) → (ℕ → Outcome) → ℕ → ℕ → List ℕ → Outcome
 block_below v on_data on_hash i zero expected = data_block_at v on_data i expected
 block_below v on_data on_hash i (suc l) expected =
     then_outcome (checked_span on_hash (hash_start v l i) (hash_sectors v) v.salt expected)
     (λ block. block_below v on_data on_hash i l (next_digest v l i block))
 
--- data block i: the root is expected of the topmost block
+-- data block i; the root hash is the digest expected of the topmost block
 abbrev pub verified_block : Verity → (ℕ → Outcome) → (ℕ → Outcome) → ℕ → Outcome
 verified_block v on_data on_hash i = block_below v on_data on_hash i (levels (tree_of v)) v.root
 
--- The faults that the way to data block i meets: that a block has another digest, and those that the sectors of
--- the data block, ignored or not, or of a hash block meet.
+-- the faults possible on the path to data block i: a wrong digest, and the faults of the sectors of the data block,
+-- whether it is ignored or not, and of the hash blocks
 abbrev pub BlockMeets : Verity → (ℕ → Fault → Type 0) → (ℕ → Fault → Type 0) → ℕ → Fault → Type 0
 BlockMeets v on_data on_hash i fault =
     (fault ≡ mismatch)

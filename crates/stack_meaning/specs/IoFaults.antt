@@ -1,10 +1,10 @@
--- Numbers and names of the faults of a read or a write, as they are printed.
+-- The numbers and names of the faults of a read or a write that are printed.
 use Rattle.std.specs.Prelude.{ℕ, List, codes}
 use Rattle.stack_meaning.specs.declared.fault.Fault.TheVariants.{ErrorTarget, Mismatch}
 use Rattle.stack_meaning.specs.declared.fault.IoFault.{IoFault}
 use Rattle.stack_meaning.specs.declared.fault.IoFault.TheVariants.{Stack, Device, NoMemory}
 
--- want of memory has no number of its own
+-- an allocation failure has no number of its own
 abbrev pub io_number : IoFault → ℕ
 io_number (Stack ErrorTarget) = 1
 io_number (Stack Mismatch) = 2

@@ -1,4 +1,4 @@
--- What holds of the chains that were found, while the leaves stand.
+-- What holds for the chains that were found, as long as the leaves are unchanged.
 use Rattle.std.specs.Prelude.{ℕ, Bool, List, All}
 use Rattle.std.specs.List.{list_any}
 use Rattle.hash_tree.specs.Chain.{ChainRecord}
@@ -19,19 +19,19 @@ use Rattle.stack_meaning.specs.TargetMeaning.{keeps_as}
 use Rattle.stack_meaning.specs.MeaningOf.{meaning_of}
 pub use Rattle.stack_meaning.specs.targets.Verity.{IsOfVerity}
 
--- data block i of a verity line
+-- data block i of a `verity` line over these images
 abbrev pub verity_block : Configuration → Images → Verity → ℕ → Outcome
 verity_block c images v i = verified_block v (λ t. (said_by_name c v.data t).means images) (λ t. (said_by_name c v.hash t).means images) i
 
--- the leaves on which what a line of that target names stands
+-- whether leaf i is below a device that a line with this target names
 abbrev pub target_leaves : Configuration → Target → ℕ → Bool
 target_leaves c target i = list_any (name_stands_on c i) (names target)
 
--- what holds of a chain that such a line gave
+-- what holds for a chain that belongs to a line with this target
 abbrev pub LineKeeps : Configuration → List Device → Target → ChainRecord → Type 0
 LineKeeps c leaves target chain = keeps_as (meaning_of target).meant (below none_said (said_by_name c) target) (target_leaves c target) leaves chain
 
--- what holds of a chain that was found: it has its line, and what this line keeps
+-- what holds for a chain that was found: its line exists, and the chain has the property that this line guarantees
 pub record IsKept (c : Configuration) (leaves : List Device) (x : FoundRecord) : Type 0 where
   pub line : Line
   pub is : IsLine c x.device x.line line

@@ -1,4 +1,4 @@
--- What reads do to the leaves.
+-- The effects of reads on the leaves.
 use Rattle.std.specs.Prelude.{◌≡◌, ℕ, ◌+◌, ◌<◌, ◌≤◌, Bool, IsTrue, List, [], length, map, sum_by, All, if◌then◌else◌}
 use Rattle.std.specs.List.{slice_index_or}
 use Rattle.block_device.specs.Device.{Device, HasFailed}
@@ -8,7 +8,7 @@ use Rattle.stack_meaning.specs.Outcomes.{Images}
 abbrev pub images_of : List Device → Images
 images_of leaves = map (λ l. l.image) leaves
 
--- those of the steady leaves; of another leaf none is known
+-- the images of the steady leaves; those of other leaves are unknown
 abbrev pub steady_image : Device → List (List ℕ)
 steady_image l = if l.steady then l.image else []
 
@@ -26,7 +26,7 @@ pub record ServeLeaves (wanted : List LeafRecord) (leaves : List Device) : Type 
   pub sizes : sizes_of leaves ≡ map (λ l. l.sectors) wanted
   pub flags : flags_of leaves ≡ map (λ l. l.writable) wanted
 
--- what their counters have counted
+-- the sums of the leaves' counters
 abbrev pub reads_of : List Device → ℕ
 reads_of leaves = sum_by (λ l. l.reads) leaves
 
@@ -36,11 +36,11 @@ writes_of leaves = sum_by (λ l. l.writes) leaves
 abbrev pub AllSteady : List Device → Type 0
 AllSteady leaves = All (λ l. IsTrue l.steady) leaves
 
--- each of these leaves is steady
+-- each leaf in the set is steady
 abbrev pub AreSteady : (ℕ → Bool) → List Device → Type 0
 AreSteady these leaves = (i : ℕ) (d : Device) → i < length leaves → IsTrue (these i) → IsTrue (slice_index_or leaves i d).steady
 
--- what no call changes of a leaf
+-- the properties of a leaf that no call changes
 pub record Fixed : Type 0 where
   pub size : ℕ
   pub may_write : Bool
@@ -49,13 +49,13 @@ pub record Fixed : Type 0 where
 abbrev pub fixed_part : Device → Fixed
 fixed_part l = record { size = l.size; may_write = l.may_write; steady = l.steady }
 
--- A counter grew by at most so much in all leaves together, and in none if that is 0. The counters are those
--- of the devices, which stop at the greatest u64.
+-- a counter grew by at most `most` in all leaves together, and in none if that is 0; the counters are those of the
+-- devices, which stop at the largest u64
 pub record Counts (counter : Device → ℕ) (most : ℕ) (old new : List Device) : Type 0 where
   pub sum : sum_by counter new ≤ sum_by counter old + most
   pub none : most ≡ 0 → map counter new ≡ map counter old
 
--- at most so many sectors were read, and at most so many written
+-- at most this many sectors were read, and at most this many written
 pub record Moves (most_read most_written : ℕ) (old new : List Device) : Type 0 where
   pub fixed : map fixed_part new ≡ map fixed_part old
   pub reads : Counts (λ l. l.reads) most_read old new
@@ -63,16 +63,16 @@ pub record Moves (most_read most_written : ℕ) (old new : List Device) : Type 0
   pub failures : (i : ℕ) (d : Device) → (slice_index_or old i d).failures ≤ (slice_index_or new i d).failures
   pub never_fails : (i : ℕ) (d : Device) → IsTrue (slice_index_or old i d).never_fails → IsTrue (slice_index_or new i d).never_fails
 
--- each steady leaf keeps its image, whatever the others are
+-- each steady leaf keeps its image, whatever the other leaves are
 pub record KeepsImages (old new : List Device) : Type 0 where
   pub image : (i : ℕ) (d : Device) → IsTrue (slice_index_or old i d).steady → (slice_index_or new i d).image ≡ (slice_index_or old i d).image
 
--- some reads, of at most so many sectors
+-- reads of at most `most` sectors
 pub record AreRead (old : List Device) (most : ℕ) (new : List Device) : Type 0 where
   pub moved : Moves most 0 old new
   pub images : KeepsImages old new
 
--- leaf i failed, and it is none that never fails
+-- leaf i failed, and it isn't one that never fails
 pub record LeafFailed (i : ℕ) (old new : List Device) : Type 0 where
   pub inside : i < length old
   pub failed : (d : Device) → HasFailed (slice_index_or old i d) (slice_index_or new i d)

@@ -1,4 +1,4 @@
--- The leaves beneath a device.
+-- The leaves below a device.
 use Rattle.std.specs.Prelude.{ℕ, ◌==◌, Bool, false, List, [], ◌∷◌, flat_map}
 use Rattle.std.specs.List.{list_any}
 use Rattle.stack_rules.specs.declared.lower.Lower.{Lower}
@@ -11,14 +11,14 @@ abbrev pub leaves_rule : Configuration → (Lower → List ℕ) → Lower → Li
 leaves_rule c below (leaf i) = i ∷ []
 leaves_rule c below (device d) = flat_map below (lowers c d.0)
 
--- the numbers of the leaves on which it stands
+-- the indices of the leaves below; for a leaf, its own index
 abbrev pub leaves_beneath : Configuration → Lower → List ℕ
 leaves_beneath c = descend [] (leaves_rule c)
 
--- a leaf or device is leaf i, or stands on it
+-- whether leaf i is this leaf, or is below this device
 abbrev pub stands_on : Configuration → ℕ → Lower → Bool
 stands_on c i lower = list_any (λ j. i == j) (leaves_beneath c lower)
 
--- what the name means is leaf i, or stands on it
+-- whether leaf i is the leaf with this name, or is below the device with this name
 abbrev pub name_stands_on : Configuration → ℕ → List ℕ → Bool
 name_stands_on c i = by_name c false (stands_on c i)

@@ -1,4 +1,4 @@
--- What a stack means: what is said of each sector, by what is said of the sectors beneath it.
+-- The semantics of a stack: those of each sector, derived from those of the sectors below it.
 use Rattle.std.specs.Prelude.{ℕ, List}
 use Rattle.stack_rules.specs.declared.lower.Lower.{Lower}
 use Rattle.stack_rules.specs.Records.{Configuration}
@@ -14,18 +14,18 @@ pub use Rattle.stack_meaning.specs.targets.Error.{error_said}
 pub use Rattle.stack_meaning.specs.targets.Crypt.{crypt_said}
 pub use Rattle.stack_meaning.specs.targets.Verity.{IsShown, content_part, verity_said}
 
--- sector s of a line, where at says it of the sectors of the devices that the line names
+-- the semantics of sector s of a line, given those of the sectors of the devices that the line names
 abbrev pub line_said : OnLine Said
 line_said at d l target s = said_as (meaning_of target).meant (said_or none_said at (beneath target s)) (below none_said at target) d l s
 
--- sector s of a leaf or device
+-- the semantics of sector s of a leaf or device
 abbrev pub said_at : Configuration → Lower → ℕ → Said
 said_at c = by_sector c none_said leaf_said line_said
 
--- what is said by the names of a configuration
+-- the semantics of sectors by device name
 abbrev pub said_by_name : Configuration → List ℕ → ℕ → Said
 said_by_name c = by_name c (λ t. none_said) (said_at c)
 
--- what it means
+-- the meaning of sector s over the leaves' images
 abbrev pub sector : Configuration → Images → Lower → ℕ → Outcome
 sector c images lower s = (said_at c lower s).means images

@@ -1,4 +1,4 @@
--- The record of a target: the one match on its kinds.
+-- The meaning of each target: the only case distinction by target.
 use Rattle.dm_table.specs.declared.table.Target.{Target}
 use Rattle.dm_table.specs.declared.table.Target.TheVariants.{Linear, Striped, Zero, Error, Crypt, Verity, Unstriped}
 use Rattle.stack_meaning.specs.TargetMeaning.{TargetMeaning}

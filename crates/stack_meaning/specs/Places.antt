@@ -1,4 +1,4 @@
--- Places from which sectors are read, and what is expected of a read.
+-- Places that sectors are read from, and the expected result of a read.
 use Rattle.std.specs.Prelude.{ℕ, ◌*◌, Bool, List}
 use Rattle.block_device.specs.Device.{Device}
 use Rattle.stack_rules.specs.declared.lower.Lower.{Lower}
@@ -11,18 +11,18 @@ use Rattle.stack_meaning.specs.Found.{FoundRecord}
 use Rattle.stack_meaning.specs.LeavesBeneath.{stands_on}
 use Rattle.stack_meaning.specs.Meaning.{Said, said_at}
 
--- what is said of each sector of a place, the leaf sectors that are read for one at most, and the leaves on which it stands
+-- the semantics of each sector of a place, the most leaf sectors that are read for one, and the leaves below
 pub record Place : Type 1 where
   pub said : ℕ → Said
   pub cost : ℕ
   pub leaves : ℕ → Bool
 
--- a leaf or device
+-- a leaf or device as a place
 abbrev pub place_of : Configuration → Lower → Place
 place_of c lower = record { said = said_at c lower; cost = read_cost c lower; leaves = λ i. stands_on c i lower }
 
--- What is expected of an answer: what it may be, the faults in its place, its bytes, what these mean over the
--- leaves' images, the leaf sectors that are read for it at most, and the leaves on which it stands.
+-- what is expected of a result: the values that it may have, the faults possible instead, its bytes, their meaning
+-- over the leaves' images, the most leaf sectors that are read for it, and the leaves below
 pub record Expected (A : Type 0) : Type 1 where
   pub is : A → Type 0
   pub faults : Fault → Type 0
@@ -31,7 +31,7 @@ pub record Expected (A : Type 0) : Type 1 where
   pub cost : ℕ
   pub leaves : ℕ → Bool
 
--- of the bytes of n sectors of a place, from the first on, with those chains
+-- the bytes of n sectors of a place from `first` on, with these chains
 abbrev pub run_expected : Place → List FoundRecord → ℕ → ℕ → Expected (List ℕ)
 run_expected place chains first n = record {
   is = IsRun (λ s. (place.said s).may chains) first n;
@@ -42,7 +42,7 @@ run_expected place chains first n = record {
   leaves = place.leaves;
 }
 
--- what a read went from and to: the leaves, and the chains that were found
+-- the states before and after a read: the leaves, and the chains that were found
 pub record LeafRead : Type 0 where
   pub old : List Device
   pub new : List Device

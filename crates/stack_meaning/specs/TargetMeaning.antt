@@ -1,31 +1,31 @@
--- What a line of a target means, in one record.
+-- The meaning of a line with a target, as a record.
 use Rattle.std.specs.Prelude.{ℕ, Bool, List}
 use Rattle.hash_tree.specs.Chain.{ChainRecord}
 use Rattle.block_device.specs.Device.{Device}
 use Rattle.stack_meaning.specs.Said.{Said}
 use Rattle.stack_meaning.specs.Putting.{Putting}
 
--- What isn't on one sector beneath alone. What is said of sector t of the line's i-th base is given, and what a put
--- from there on does.
+-- the meaning of a target that doesn't just pass sectors through; its functions get the semantics of sector t of base
+-- i, and the effect of a write there
 pub record OwnMeaning : Type 1 where
-  -- what is said of sector s of line l of device d, in the order d, l, s
+  -- the semantics of sector s of line l of device d, in the order d, l, s
   pub said : (ℕ → ℕ → Said) → ℕ → ℕ → ℕ → Said
-  -- what a put from sector s on does, of sectors that go down together
+  -- the effect of writing sectors from s on that are written together
   pub put : (ℕ → ℕ → Said) → (ℕ → ℕ → Putting) → ℕ → Putting
-  -- what holds of a chain that the line gave, where the line stands on some leaves
+  -- what holds for a chain that belongs to the line, given the leaves below the line
   pub keeps : (ℕ → ℕ → Said) → (ℕ → Bool) → List Device → ChainRecord → Type 0
 
--- each sector is handed on as the one beneath, or means something of its own
+-- each sector is passed through to the lower one, or has its own meaning
 pub data Meant : Type 1 where
   handed : Meant
   own : OwnMeaning → Meant
 
 pub record TargetMeaning : Type 1 where
   pub meant : Meant
-  -- whether sector s and the next one go down together
+  -- whether sector s and the next one are written together
   pub together : ℕ → Bool
 
--- where that is said of the sector beneath
+-- the semantics of a sector, given those of the lower sector
 abbrev pub said_as : Meant → Said → (ℕ → ℕ → Said) → ℕ → ℕ → ℕ → Said
 said_as handed beneath below d l s = beneath
 said_as (own m) beneath below d l s = m.said below d l s

@@ -1,4 +1,4 @@
--- A file for each target whose sectors aren't handed on as they are, and one for the others.
+-- A file for each target that doesn't pass sectors through unchanged, and one for the others.
 pub mod Mapped
 pub mod Zero
 pub mod Error

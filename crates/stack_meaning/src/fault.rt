@@ -1,13 +1,13 @@
-//! How an access to a stack ends where it doesn't succeed.
+//! How an access to a stack fails.
 use thiserror::Error;
 
 /// Why a sector has no bytes, over leaves that don't fail.
 #[derive(Clone, Copy, Debug, PartialEq, Eq, Error)]
 pub enum Fault {
-    /// Its way leads to an `error` line.
+    /// The path of the sector leads to an `error` line.
     #[error("ErrorTarget")]
     ErrorTarget,
-    /// A block on its way has another digest than the one that stands for it.
+    /// A block on the path of the sector doesn't have the digest stored in its parent, or the root hash.
     #[error("Mismatch")]
     Mismatch,
 }
@@ -18,10 +18,10 @@ pub enum IoFault {
     /// A sector has no bytes.
     #[error("{0}")]
     Stack(Fault),
-    /// The leaf of this number, counted from 1, failed.
+    /// The leaf with this number, from 1 on, failed.
     #[error("Device {0}")]
     Device(u32),
-    /// Memory ran out.
+    /// An allocation failed.
     #[error("NoMemory")]
     NoMemory,
 }
@@ -30,7 +30,7 @@ impl IoFault {
     ghost use Rattle.std.specs.Prelude.{◌≡◌};
     ghost use Rattle.stack_meaning.specs.IoFaults.{io_number, io_name};
 
-    /// Returns the number with which it is printed; 0 for `NoMemory`, which is printed without one.
+    /// Returns the number that is printed, or 0 for `NoMemory`, which is printed without a number.
     pub fn number(self) -> u8
         ensures { result ≡ io_number self }
     {
@@ -42,7 +42,7 @@ impl IoFault {
         }
     }
 
-    /// The name under which it is printed.
+    /// Returns the name that is printed.
     pub fn name(self) -> &'static str
         ensures { result.now ≡ io_name self }
     {

@@ -1,9 +1,9 @@
-//! What a read finds on its way through a stack.
+//! The chains that a read finds on its path through a stack.
 use hash_tree::Chain;
 use std::marker::Model;
 
-/// The chain of a data block, and the verity line that gave it: its device and its line in the device's table,
-/// both counted from 0.
+/// The chain of a data block, and the `verity` line that it belongs to: its device, and its line in the device's
+/// table, numbered from 0.
 #[derive(Drop)]
 pub struct Found {
     pub device: u32,

@@ -1,4 +1,4 @@
-//! What a stack of mapped devices means: of each sector what it holds, of each put what it leaves.
+//! The semantics of a stack of mapped devices: the contents of each sector, and the effect of each write.
 #![tactic(auto)]
 
 mod fault;

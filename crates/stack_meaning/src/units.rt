@@ -1,7 +1,7 @@
-//! What the units of a `crypt` line need of its arguments, beside the key.
+//! The arguments of a `crypt` line that its encryption units depend on, without the key.
 use dm_table::Crypt;
 
-/// How many sectors are encrypted as one.
+/// The size of an encryption unit in sectors.
 #[derive(Clone, Copy)]
 pub enum UnitSize {
     One,
@@ -10,15 +10,15 @@ pub enum UnitSize {
     Eight,
 }
 
-/// Where the units of a `crypt` line lie on the device beneath, and how they are numbered.
+/// The position of a `crypt` line's encryption units on the lower device, and their numbering.
 #[derive(Clone, Copy)]
 pub struct CryptUnits {
     pub size: UnitSize,
-    /// The sector of the device beneath at which the line begins.
+    /// The sector of the lower device at which the line begins.
     pub offset: u64,
-    /// Added to a sector's number within the line.
+    /// Added to a sector's number within the line to give its IV.
     pub iv_offset: u64,
-    /// Whether units are numbered by their own size, and not by sectors of 512 bytes.
+    /// Whether units are numbered in units instead of sectors of 512 bytes.
     pub iv_large_sectors: bool,
 }
 
@@ -26,7 +26,7 @@ impl UnitSize {
     ghost use Rattle.std.specs.Prelude.{◌≡◌, ◌≤◌};
     ghost use Rattle.stack_meaning.specs.Units.{size_of, size_sectors};
 
-    /// The size of units of that many bytes: 512, 1024, 2048 or 4096.
+    /// Returns the size of units of `bytes` bytes: 512, 1024, 2048 or 4096.
     #[tactic(auto, unfolding(crate::specs::Units::size_of))]
     fn of(bytes: u32) -> UnitSize
         ensures { result ≡ size_of bytes }
@@ -42,7 +42,7 @@ impl UnitSize {
         }
     }
 
-    /// The sectors of a unit: 1, 2, 4 or 8.
+    /// Returns the number of sectors of a unit: 1, 2, 4 or 8.
     #[tactic(auto, unfolding(crate::specs::Units::size_sectors))]
     pub fn sectors(self) -> u32
         ensures value { result ≡ size_sectors self }
@@ -62,7 +62,7 @@ impl CryptUnits {
     ghost use Rattle.std.specs.Prelude.{◌≡◌};
     ghost use Rattle.stack_meaning.specs.Units.{units_of};
 
-    /// The units of a line with these arguments.
+    /// Returns the units of a line with these arguments.
     pub fn of(crypt: &Crypt) -> CryptUnits
         ensures { result ≡ units_of crypt.now }
     {

@@ -1,4 +1,4 @@
--- Devices that stand on themselves.
+-- Devices on a cycle of lines.
 use Rattle.std.specs.Prelude.{◌≡◌, ℕ, zero, suc, ◌+◌, ◌<◌, Bool, false, ◌&&◌, ◌||◌, ◌==◌, IsTrue, length}
 use Rattle.std.specs.List.{list_any}
 use Rattle.stack_rules.specs.declared.lower.Lower.{Lower}
@@ -14,7 +14,7 @@ is_mapped e (device d) = e == d.0
 abbrev pub names_device : Configuration → ℕ → ℕ → Bool
 names_device c d e = list_any (is_mapped e) (lowers c d)
 
--- a chain of lines leads from a device to a device
+-- a chain of lines leads from one device to another
 pub data Leads (c : Configuration) : ℕ → ℕ → Type 0 where
   by_line : (d e : ℕ) → IsTrue (names_device c d e) → Leads c d e
   by_chain : (d e f : ℕ) → IsTrue (names_device c d e) → Leads c e f → Leads c d f
@@ -23,18 +23,18 @@ pub data Leads (c : Configuration) : ℕ → ℕ → Type 0 where
 abbrev pub IsOnCycle : Configuration → ℕ → Type 0
 IsOnCycle c d = Leads c d d
 
--- the device of that number, from 1, is the first that is on a cycle
+-- the device with this number, from 1 on, is the first that is on a cycle
 pub record IsFirstOnCycle (c : Configuration) (number : ℕ) : Type 0 where
   pub place : ℕ
   pub counted : number ≡ place + 1
   pub on_cycle : IsOnCycle c place
   pub earlier : (d : ℕ) → d < place → IsOnCycle c d → ⊥
 
--- whether steps lead from d to e by way of places below k alone
+-- whether steps lead from d to e through indices below k only
 unfoldable pub leads_below : (ℕ → ℕ → Bool) → ℕ → ℕ → ℕ → Bool
 leads_below step zero d e = step d e
 leads_below step (suc k) d e = leads_below step k d e || (leads_below step k d k && leads_below step k k e)
 
--- the test of IsOnCycle, as `is_on_cycle-decides` proves
+-- whether a device is on a cycle, as a computable test; `is_on_cycle-decides` proves it equivalent to IsOnCycle
 unfoldable pub is_on_cycle : Configuration → ℕ → Bool
 is_on_cycle c d = leads_below (names_device c) (length c.devices) d d

@@ -1,4 +1,4 @@
--- The kinds of refusals: their numbers and names, as they are printed.
+-- The kinds of refusals, with the numbers and names that are printed.
 use Rattle.std.specs.Prelude.{ℕ, List, codes}
 use Rattle.stack_rules.specs.declared.refusal.ConfigFault.{ConfigFault}
 use Rattle.stack_rules.specs.declared.refusal.ConfigFault.TheVariants as leaves

@@ -1,4 +1,4 @@
--- Which leaves are refused, and by which rule first.
+-- Which leaves are refused, and by which rule.
 use Rattle.std.specs.Prelude.{Bool, false, not, ◌||◌, nat_lt, List, [], ◌∷◌, length, Option, Some, None, if◌then◌else◌}
 use Rattle.std.specs.List.{list_any}
 use Rattle.std.specs.Str.{bytes_eq}
@@ -7,7 +7,7 @@ use Rattle.stack_rules.specs.declared.refusal.ConfigFault.TheVariants.{Duplicate
 use Rattle.stack_rules.specs.Records.{LeafRecord}
 use Rattle.stack_rules.specs.Rules.{is_leaf_name, most_sectors, most_leaves}
 
--- some leaf has the name of a later one
+-- two leaves have the same name
 abbrev pub has_duplicate : List LeafRecord → Bool
 has_duplicate [] = false
 has_duplicate (l ∷ more) = list_any (λ other. bytes_eq l.name other.name) more || has_duplicate more

@@ -1,4 +1,4 @@
--- Leaves and mapped devices, as contracts see them: lists of bytes and lines in place of vectors.
+-- Leaves and mapped devices as contracts see them: with lists instead of vectors.
 use Rattle.std.specs.Prelude.{ℕ, Bool, List}
 use Rattle.dm_table.specs.declared.table.Line.{Line}
 
@@ -12,11 +12,11 @@ pub record DeviceRecord : Type 0 where
   pub writable : Bool
   pub table : List Line
 
--- the leaves, and the mapped devices in the order in which they were created
+-- the leaves, and the mapped devices in order of creation
 pub record Configuration : Type 0 where
   pub leaves : List LeafRecord
   pub devices : List DeviceRecord
 
--- the configuration of these
+-- the configuration with these leaves and devices
 abbrev pub configuration : List LeafRecord → List DeviceRecord → Configuration
 configuration leaves devices = record { leaves = leaves; devices = devices }

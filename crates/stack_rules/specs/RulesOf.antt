@@ -1,4 +1,4 @@
--- The record of a target: the one match on its kinds.
+-- The rules of each target: the only case distinction by target.
 use Rattle.dm_table.specs.declared.table.Target.{Target}
 use Rattle.dm_table.specs.declared.table.Target.TheVariants as targets
 use Rattle.stack_rules.specs.TargetRules.{TargetRules}

@@ -1,22 +1,22 @@
--- The data blocks of a verity line, and the hash tree over them.
+-- The data blocks of a `verity` line, and the hash tree over them.
 use Rattle.std.specs.Prelude.{ℕ, ◌*◌, ◌/◌, List, replicate, Option, Some, None}
 use Rattle.tree_shape.specs.Shape.{ShapeRecord, shape_with, blocks_sectors, levels, area_end}
 use Rattle.dm_table.specs.declared.table.Target.{Target}
 use Rattle.dm_table.specs.declared.table.Target.TheVariants.{Verity as verity_target}
 use Rattle.dm_table.specs.declared.verity.Verity.{Verity}
 
--- the shape that its arguments say
+-- the shape of the tree that the arguments describe
 abbrev pub tree_of : Verity → ShapeRecord
 tree_of verity = shape_with verity.data_block verity.hash_block verity.blocks verity.start
 
--- the sectors of all data blocks, and those up to the end of the tree
+-- the sectors of all data blocks, and the sectors up to the end of the tree
 abbrev pub line_data_sectors : Verity → ℕ
 line_data_sectors verity = blocks_sectors verity.blocks verity.data_block
 
 abbrev pub line_tree_sectors : Verity → ℕ
 line_tree_sectors verity = blocks_sectors (area_end (tree_of verity)) verity.hash_block
 
--- the sectors of a data block, and of a hash block of each level
+-- the sectors of a data block, and of one hash block of each level
 abbrev pub block_sectors : Verity → ℕ
 block_sectors verity = verity.data_block / 512
 
@@ -27,7 +27,7 @@ path_sectors verity = levels (tree_of verity) * (verity.hash_block / 512)
 abbrev pub zero_block : Verity → List ℕ
 zero_block verity = replicate verity.data_block 0
 
--- the arguments of a verity line
+-- the arguments of a `verity` line
 abbrev pub verity_of : Target → Option Verity
 verity_of (verity_target verity) = Some verity
 verity_of target = None

@@ -1,4 +1,4 @@
-//! What a configuration of stacked devices is, and by which rules it is refused.
+//! Configurations of stacked devices, and the rules that refuse them.
 #![tactic(auto)]
 
 mod leaf;

@@ -1,10 +1,10 @@
-//! What a line stands on.
+//! The leaves and mapped devices that a line names.
 
-/// The place of a mapped device in its configuration, from 0.
+/// The index of a mapped device in its configuration, from 0 on.
 #[derive(Clone, Copy, Debug, PartialEq, Eq)]
 pub struct DevId(pub u32);
 
-/// What a line names: a leaf by its place, from 0, or a mapped device.
+/// A leaf, by its index from 0 on, or a mapped device.
 #[derive(Clone, Copy, Debug, PartialEq, Eq)]
 pub enum Lower {
     Leaf(u32),
@@ -16,7 +16,7 @@ impl Lower {
     ghost use Rattle.stack_rules.specs.Cycles.{is_mapped};
     ghost use Rattle.stack_rules.specs.Removal.{lower_after};
 
-    /// Whether it is the mapped device of that place.
+    /// Returns whether it is the mapped device with index `place`.
     pub(crate) fn is_mapped(self, place: usize) -> bool
         ensures { result ≡ is_mapped place self }
     {
@@ -26,7 +26,7 @@ impl Lower {
         }
     }
 
-    /// What it is once the device of that place is removed: later ones move up.
+    /// Returns the leaf or device after the device with index `place` is removed: later devices move up by one.
     pub(crate) fn after_removal(self, place: usize) -> Lower
         ensures { result ≡ lower_after place self }
     {

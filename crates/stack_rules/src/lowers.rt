@@ -1,4 +1,4 @@
-//! What the names in a table mean, found once at loading.
+//! The leaves and devices that the names in a table refer to, looked up once when it is loaded.
 ghost use Rattle.std.specs.Prelude.{◌≡◌, ◌<◌, length, map, slice_get, get_or, []};
 ghost use Rattle.std.specs.List.{list_any};
 ghost use Rattle.stack_rules.specs.Cycles.{is_mapped};
@@ -7,7 +7,7 @@ ghost use Rattle.stack_rules.specs.Removal.{lower_after};
 use crate::lower::Lower;
 use std::marker::Model;
 
-/// What the names of one line mean, from left to right.
+/// The leaves and devices that the names in one line refer to, from left to right.
 #[derive(Drop)]
 pub struct LineLowers {
     list: Vec<Lower>,
@@ -23,12 +23,14 @@ impl Model for LineLowers {
 }
 
 impl LineLowers {
+    /// Returns the leaves and devices of a line, in the order of its names.
     pub fn new(list: Vec<Lower>) -> LineLowers
         ensures { result ≡ list.items }
     {
         LineLowers { list }
     }
 
+    /// Returns the leaves and devices in the order of the names.
     pub fn as_slice(&self) -> &[Lower]
         ensures { result.now ≡ self.now }
     {
@@ -41,7 +43,7 @@ impl LineLowers {
         self.list.iter().any(|lower| lower.is_mapped(d))
     }
 
-    /// The same once device d is removed.
+    /// Adjusts the indices for the removal of device `d`.
     fn remove(&mut self, d: usize)
         ensures { self.new ≡ map (lower_after d) self.old }
     {
@@ -51,7 +53,7 @@ impl LineLowers {
     }
 }
 
-/// The same for each line of one device.
+/// The leaves and devices that each line of one device names.
 #[derive(Drop)]
 pub struct DeviceLowers {
     lines: Vec<LineLowers>,
@@ -67,18 +69,21 @@ impl Model for DeviceLowers {
 }
 
 impl DeviceLowers {
+    /// Returns the leaves and devices of a device's lines, in order.
     pub fn new(lines: Vec<LineLowers>) -> DeviceLowers
         ensures { result ≡ lines.items }
     {
         DeviceLowers { lines }
     }
 
+    /// Returns the leaves and devices of each line, in order.
     pub fn lines(&self) -> &[LineLowers]
         ensures { result.now ≡ self.now }
     {
         self.lines.as_slice()
     }
 
+    /// Returns the leaf or device that name `i` of a line refers to. Lines and names are numbered from 0.
     pub fn at(&self, line: usize, i: usize) -> Lower
         requires line { line < length self.now }
         requires name { i < length (get_or self.now line []) }
@@ -88,14 +93,14 @@ impl DeviceLowers {
         lowers.list[i]
     }
 
-    /// Whether a line names device d.
+    /// Returns whether a line names device `d`.
     pub fn names(&self, d: usize) -> bool
         ensures { result ≡ list_any (list_any (is_mapped d)) self.now }
     {
         self.lines.iter().any(|line| line.names(d))
     }
 
-    /// The same once device d is removed.
+    /// Adjusts the indices for the removal of device `d`.
     pub fn remove(&mut self, d: usize)
         ensures { self.new ≡ map (map (lower_after d)) self.old }
     {

@@ -10,7 +10,7 @@ use dm_table::{Line, Table};
 use std::alloc::Global;
 use std::marker::Model;
 
-/// A mapped device, by the name that its entry gave it. The size is the sum of its lines' lengths.
+/// A mapped device with the name of its entry. `size` is the sum of the lengths of its lines.
 #[derive(Drop)]
 pub struct Mapped {
     name: Vec<u8>,
@@ -31,7 +31,7 @@ impl Model for Mapped {
     ghost invariant = { λ d. d.size ≡ table_sectors d.table };
 }
 
-/// The sum of the lines' lengths.
+/// Returns the sum of the lengths of the lines.
 pub fn sectors_of(lines: &[Line]) -> u128
     ensures { result ≡ table_sectors lines.now }
 {
@@ -46,11 +46,11 @@ impl Mapped {
     ghost use Rattle.std.specs.Prelude.{◌≡◌, ◌≤◌, ◌+◌, length, IfOk, IfErr};
     ghost use Rattle.stack_rules.specs.Names.{table_sectors};
 
-    /// A device of these parts, which are copied.
+    /// Returns a device with copies of this name and table.
     ///
     /// # Errors
     ///
-    /// `OutOfMemory` if an allocation was refused, of room for the name, the lines or a name in one.
+    /// `OutOfMemory` if an allocation fails, of room for the name, the lines or a name in a line.
     pub fn new(
         alloc: Global,
         name: &[u8],
@@ -71,24 +71,28 @@ impl Mapped {
         })
     }
 
+    /// Returns the name, without `/dev/mapper/`.
     pub fn name(&self) -> &[u8]
         ensures { result.now ≡ self.now.name }
     {
         self.name.as_slice()
     }
 
+    /// Returns whether the device is writable.
     pub fn writable(&self) -> bool
         ensures { result ≡ self.now.writable }
     {
         self.writable
     }
 
+    /// Returns the lines of the device.
     pub fn table(&self) -> &Table
         ensures { result.now ≡ self.now.table }
     {
         &self.table
     }
 
+    /// Returns the size in sectors of 512 bytes.
     pub fn size(&self) -> u128
         ensures { result ≡ table_sectors self.now.table }
     {
@@ -96,7 +100,7 @@ impl Mapped {
     }
 }
 
-/// The place of the first device with that name.
+/// Returns the index of the first device with this name.
 pub fn place_of(devices: &[Mapped], name: &[u8]) -> Option<usize>
     ensures { result ≡ position (λ d. bytes_eq d.name name.now) devices.now }
 {

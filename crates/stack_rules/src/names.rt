@@ -1,11 +1,11 @@
-//! The names that a target has.
+//! The names in a target.
 ghost use Rattle.std.specs.Prelude.{◌≡◌, ◌≤◌, length};
 ghost use Rattle.dm_table.specs.Grammar.{IsTargetOfGrammar};
 ghost use Rattle.stack_rules.specs.Names.{names};
 
 use dm_table::Target;
 
-/// How many names a target has.
+/// Returns the number of names in a target, at most 16 for a target of the grammar.
 pub fn name_count(target: &Target) -> usize
     ensures value { result ≡ length (names target.now) }
     ensures few { IsTargetOfGrammar target.now → result ≤ 16 }

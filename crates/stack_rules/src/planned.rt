@@ -1,4 +1,4 @@
-//! A mapped device of a configuration to come, of which nothing is copied yet.
+//! A mapped device of a planned configuration, not yet copied.
 ghost use Rattle.std.specs.Prelude.{◌≡◌};
 ghost use Rattle.stack_rules.specs.Names.{table_sectors};
 
@@ -6,7 +6,7 @@ use crate::mapped::sectors_of;
 use dm_table::Table;
 use std::marker::Model;
 
-/// A mapped device whose name and table stand where they were read or loaded. The size is the sum of its lines' lengths.
+/// A mapped device that borrows its name and table. `size` is the sum of the lengths of its lines.
 #[derive(Drop)]
 pub struct Planned<'a> {
     name: &'a [u8],
@@ -31,6 +31,7 @@ impl<'a> Planned<'a> {
     ghost use Rattle.std.specs.Prelude.{◌≡◌};
     ghost use Rattle.stack_rules.specs.Names.{table_sectors};
 
+    /// Returns a device that borrows this name and table.
     pub fn new(name: &'a [u8], writable: bool, table: &'a Table) -> Planned<'a>
         ensures { result ≡ record { name = name.now; writable = writable; table = table.now } }
     {
@@ -43,24 +44,28 @@ impl<'a> Planned<'a> {
         }
     }
 
+    /// Returns the name, without `/dev/mapper/`.
     pub fn name(&self) -> &'a [u8]
         ensures { result.now ≡ self.now.name }
     {
         self.name
     }
 
+    /// Returns whether the device is writable.
     pub fn writable(&self) -> bool
         ensures { result ≡ self.now.writable }
     {
         self.writable
     }
 
+    /// Returns the lines of the device.
     pub fn table(&self) -> &'a Table
         ensures { result.now ≡ self.now.table }
     {
         self.table
     }
 
+    /// Returns the size in sectors of 512 bytes.
     pub fn size(&self) -> u128
         ensures { result ≡ table_sectors self.now.table }
     {

@@ -5,19 +5,19 @@ ghost use Rattle.stack_rules.specs.declared.refusal.LoadFault.TheVariants as loa
 use allocation::OutOfMemory;
 use thiserror::Error;
 
-/// Why leaves aren't taken, in the order of the checks.
+/// Why leaves are refused, in the order of the checks.
 #[derive(Clone, Copy, Debug, PartialEq, Eq, Error)]
 #[error("{}", self.name())]
 pub enum ConfigFault {
-    /// Two leaves have one name.
+    /// Two leaves have the same name.
     DuplicateLeaf = 1,
     /// There are more than 64 leaves.
     TooMany = 2,
-    /// A name is no leaf name.
+    /// A name isn't a leaf name.
     BadName = 3,
     /// A leaf has more than 2^54 sectors.
     TooLarge = 4,
-    /// Memory ran out. No call answers it today.
+    /// An allocation failed. No function returns this fault at present.
     NoMemory = 5,
 }
 
@@ -25,14 +25,14 @@ impl ConfigFault {
     ghost use Rattle.std.specs.Prelude.{◌≡◌};
     ghost use Rattle.stack_rules.specs.FaultKinds.{config_number, config_name};
 
-    /// The number that is printed, 1 to 5.
+    /// Returns the number that is printed, 1 to 5.
     pub fn number(self) -> u8
         ensures { result ≡ config_number self }
     {
         self as u8
     }
 
-    /// The name that is printed: the variant's.
+    /// Returns the name that is printed: that of the variant.
     pub fn name(self) -> &'static str
         ensures { result.now ≡ config_name self }
     {
@@ -46,43 +46,47 @@ impl ConfigFault {
     }
 }
 
-/// The rule by which a load is refused, in the order of the rules but for the last two.
+/// The rule that refuses a load, in the order of the checks except for the last two.
 #[derive(Clone, Copy, Debug, PartialEq, Eq, Error)]
 #[error("{}", self.name())]
 pub enum LoadKind {
-    /// Two entries have one name.
+    /// Two entries have the same name.
     DuplicateName = 1,
     /// There would be more than 64 devices, or a device has more than 256 lines.
     TooMany = 2,
-    /// A line names no leaf and no device.
+    /// A line names neither a leaf nor a device.
     NoSuchDevice = 3,
-    /// A chain of lines leads from the device to itself; the device is the first on such a cycle.
+    /// A chain of lines leads from the device to itself. The device is the first that is on a cycle.
     StandsOnItself = 4,
-    /// A line has no sectors.
+    /// A line has length 0.
     ZeroLength = 5,
-    /// A line doesn't start where the lines before it end.
+    /// A line doesn't start at the end of the lines before it.
     Gap = 6,
-    /// A line ends past 2^54 sectors.
+    /// A line ends after 2^54 sectors.
     TooLarge = 7,
-    /// The length of a striped line is no multiple of stripes times chunk.
+    /// The length of a `striped` line isn't a multiple of stripes times chunk size, or that of an `unstriped` line
+    /// isn't a multiple of the chunk size.
     StripesDontDivide = 8,
-    /// A range, a stripe's share or all data blocks of a verity line end past the device that is named.
+    /// A mapped range ends after the named device: the range of a line, the share of a stripe, or all data blocks of
+    /// a `verity` line.
     BeyondDevice = 9,
-    /// A verity line has more sectors than its data blocks.
+    /// A `verity` line is longer than its data blocks.
     LineBeyondTree = 10,
-    /// The tree of a verity line ends past the hash device.
+    /// The tree of a `verity` line ends after the hash device.
     TreeBeyondDevice = 11,
-    /// A verity line stands in a writable device.
+    /// A `verity` line is in a writable device.
     NeedsReadOnly = 12,
     /// A line of a writable device names a read-only leaf or device.
     LowerReadOnly = 13,
-    /// A device's depth is above 8: it is 1 more than that of the deepest that it names, and a leaf's is 0.
+    /// The depth of a device is above 8. The depth of a leaf is 0, that of a device one more than the depth of the
+    /// deepest device that it names.
     TooDeep = 14,
-    /// Reading a sector could move more than 2^32 leaf sectors.
+    /// Reading a sector could read more than 2^32 leaf sectors.
     CostTooLarge = 15,
-    /// The length of a crypt line is no multiple of its unit. Checked after 8.
+    /// The length of a `crypt` line isn't a multiple of its encryption unit. Checked after `StripesDontDivide`.
     UnitDoesntDivide = 16,
-    /// The `iv_offset` of a crypt line is no multiple of its unit's sectors. Checked after 16.
+    /// The `iv_offset` of a `crypt` line isn't a multiple of the sectors of its encryption unit. Checked after
+    /// `UnitDoesntDivide`.
     IvOffset = 17,
 }
 
@@ -90,14 +94,14 @@ impl LoadKind {
     ghost use Rattle.std.specs.Prelude.{◌≡◌};
     ghost use Rattle.stack_rules.specs.FaultKinds.{load_number, load_name};
 
-    /// The number that is printed, 1 to 17.
+    /// Returns the number that is printed, 1 to 17.
     pub fn number(self) -> u8
         ensures { result ≡ load_number self }
     {
         self as u8
     }
 
-    /// The name that is printed: the variant's.
+    /// Returns the name that is printed: that of the variant.
     pub fn name(self) -> &'static str
         ensures { result.now ≡ load_name self }
     {
@@ -123,10 +127,10 @@ impl LoadKind {
     }
 }
 
-/// The first refusal of a load. Devices and lines count from 1.
+/// The first refusal of a load. Devices and lines are numbered from 1.
 ///
-/// For `DuplicateName` the device is the number of the entry in the text, skipped entries counted; for
-/// `TooMany` device and line are 0; where a rule is about a whole device the line is 0.
+/// For `DuplicateName` the device is the number of the entry in the text, which counts skipped entries. For `TooMany`
+/// device and line are 0. For a rule about a whole device the line is 0.
 #[derive(Clone, Copy, Debug, PartialEq, Eq)]
 pub struct Refusal {
     pub kind: LoadKind,
@@ -137,10 +141,10 @@ pub struct Refusal {
 /// Why a text isn't loaded.
 #[derive(Clone, Copy, Debug, PartialEq, Eq, Error)]
 pub enum LoadFault {
-    /// A rule refuses the configuration to come.
+    /// A rule refuses the resulting configuration.
     #[error("a rule refuses the load")]
     Refused(Refusal),
-    /// An allocation was refused.
+    /// An allocation failed.
     #[error("NoMemory")]
     NoMemory,
 }
@@ -157,7 +161,7 @@ impl From<OutOfMemory> for LoadFault {
 #[derive(Clone, Copy, Debug, PartialEq, Eq, Error)]
 #[error("{}", self.name())]
 pub enum RemoveFault {
-    /// There is no mapped device of that name.
+    /// There is no mapped device with this name.
     NoSuchDevice = 1,
     /// Another device names it.
     InUse = 2,
@@ -167,14 +171,14 @@ impl RemoveFault {
     ghost use Rattle.std.specs.Prelude.{◌≡◌};
     ghost use Rattle.stack_rules.specs.FaultKinds.{removal_number, removal_name};
 
-    /// The number that is printed, 1 or 2.
+    /// Returns the number that is printed, 1 or 2.
     pub fn number(self) -> u8
         ensures { result ≡ removal_number self }
     {
         self as u8
     }
 
-    /// The name that is printed: the variant's.
+    /// Returns the name that is printed: that of the variant.
     pub fn name(self) -> &'static str
         ensures { result.now ≡ removal_name self }
     {

@@ -1,4 +1,4 @@
-//! The data blocks of a verity line and the hash tree over them, of whatever size they are said to be.
+//! The data blocks of a `verity` line and the hash tree over them, of any size that its arguments give.
 ghost use Rattle.std.specs.Prelude.{◌≡◌, ◌≤◌, ◌<◌, ◌^◌, option_copied};
 ghost use Rattle.dm_table.specs.Grammar.{IsVerityOfGrammar};
 ghost use Rattle.tree_shape.specs.Shape.{levels, area_blocks};
@@ -6,7 +6,7 @@ ghost use Rattle.stack_rules.specs.Trees.{tree_of, line_data_sectors, line_tree_
 
 use dm_table::{Target, Verity};
 
-/// The arguments of a verity line.
+/// Returns the arguments of a `verity` line, or `None` for another target.
 pub fn verity_of(target: &Target) -> Option<&Verity>
     ensures { option_copied result ≡ verity_of target.now }
 {
@@ -16,15 +16,15 @@ pub fn verity_of(target: &Target) -> Option<&Verity>
     }
 }
 
-/// How many levels a tree has, and how many hash blocks.
+/// The number of levels of a tree, and of its hash blocks.
 #[derive(Clone, Copy)]
 struct TreeSize {
     levels: u64,
     blocks: u64,
 }
 
-// A shape has at most 2^54 sectors. A line is looked at before the devices that it names, which may be
-// too large themselves, so the tree is counted here.
+// A `Shape` has at most 2^54 sectors, but a line is checked before the devices that it names, so its tree may be
+// larger. This function counts levels and blocks without a `Shape`.
 fn tree_size(verity: &Verity) -> TreeSize
     requires { IsVerityOfGrammar verity.now }
     ensures levels { result.levels ≡ levels (tree_of verity.now) }
@@ -43,14 +43,14 @@ fn tree_size(verity: &Verity) -> TreeSize
     TreeSize { levels, blocks }
 }
 
-/// The sectors of all data blocks.
+/// Returns the number of sectors of all data blocks.
 pub fn data_sectors(verity: &Verity) -> u128
     ensures { result ≡ line_data_sectors verity.now }
 {
     u128::from(verity.blocks) * u128::from(verity.data_block / 512)
 }
 
-/// The sectors up to the end of the tree; a tree of no blocks ends at 0.
+/// Returns the number of sectors up to the end of the tree, or 0 if the tree has no block.
 pub fn tree_sectors(verity: &Verity) -> u128
     requires { IsVerityOfGrammar verity.now }
     ensures { result ≡ line_tree_sectors verity.now }
@@ -63,14 +63,14 @@ pub fn tree_sectors(verity: &Verity) -> u128
     end * u128::from(verity.hash_block / 512)
 }
 
-/// The sectors of a data block.
+/// Returns the number of sectors of a data block.
 pub fn block_sectors(verity: &Verity) -> u32
     ensures { result ≡ block_sectors verity.now }
 {
     verity.data_block / 512
 }
 
-/// The sectors of a hash block of each level.
+/// Returns the number of sectors of one hash block of each level.
 pub fn path_sectors(verity: &Verity) -> u64
     requires { IsVerityOfGrammar verity.now }
     ensures value { result ≡ path_sectors verity.now }

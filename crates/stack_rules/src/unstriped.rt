@@ -1,11 +1,11 @@
-//! The range of an unstriped line.
+//! The range of an `unstriped` line.
 ghost use Rattle.std.specs.Prelude.{◌≡◌, ◌+◌};
 ghost use Rattle.dm_table.specs.Grammar.{IsUnstripedOfGrammar};
 ghost use Rattle.stack_rules.specs.targets.Unstriped.{striped_span};
 
 use dm_table::Unstriped;
 
-/// The sector of the striped device before which the last chunk of a line of that length ends.
+/// Returns the sector of the striped device at which the last chunk of a line of `length` sectors ends.
 pub fn striped_end(line: &Unstriped, length: u64) -> u128
     requires { IsUnstripedOfGrammar line.now }
     ensures { result ≡ line.now.base.offset + striped_span line.now length }

@@ -1,4 +1,4 @@
--- What is read of a part of a line, or the fault.
+-- Results of reading a part of a line.
 use Rattle.std.specs.Prelude.{◌≡◌, Result, Ok, Err}
 use Rattle.allocation.specs.Refusal.{IsOutOfMemory}
 use Rattle.dm_table.specs.Names.{most_name}
@@ -6,8 +6,8 @@ use Rattle.dm_table.specs.Reading.{Read}
 use Rattle.table_text.specs.declared.line_fault.LineFault.{LineFault}
 use Rattle.table_text.specs.declared.line_fault.LineFault.TheVariants as line_fault
 
--- the result is the grammar's answer for the part, which does not know its place, unless an allocation of at
--- most a name's length was refused
+-- the result is the grammar's answer for the part, without a position, unless an allocation failed that asked for at
+-- most `most_name` elements
 abbrev pub IsReading : {A : Type 0} → Result A LineFault → Read A → Type 0
 IsReading (Ok value) answer = answer ≡ Ok value
 IsReading (Err (line_fault.Kind kind)) answer = answer ≡ Err kind

@@ -1,4 +1,4 @@
-//! The arguments of a `crypt` line, read.
+//! Reading the arguments of a `crypt` line.
 ghost use Rattle.std.specs.Prelude.{◌≡◌, ◌<◌, ◌∷◌, length, MatchResult};
 ghost use Rattle.dm_table.specs.declared.fault.TextKind.TheVariants as kinds;
 ghost use Rattle.table_text.specs.Reading.{IsReading};
@@ -13,7 +13,7 @@ use crate::target::read_base;
 use dm_table::{Crypt, Key, TextKind};
 use std::alloc::Global;
 
-/// The words that every `crypt` line has.
+/// The mandatory arguments of a `crypt` line.
 #[derive(Drop)]
 struct CryptWords<'a> {
     cipher: &'a [u8],

@@ -1,4 +1,4 @@
-//! Texts cut into words, and at a separator into pieces.
+//! Splitting a text into words, or into pieces at a separator.
 ghost use Rattle.std.specs.Prelude.{◌≡◌, ◌-◌, ◌≤◌, ◌==◌, List, ℕ, [], ◌∷◌, length, IsTrue, ◌↔◌, MatchOption, MatchResult};
 ghost use Rattle.dm_table.specs.declared.fault.TextKind.TheVariants as kinds;
 ghost use Rattle.std.specs.List.{list_all, position_or_len, prefix_len, slice_split, suffix_len};
@@ -7,28 +7,28 @@ ghost use Rattle.dm_table.specs.Words.{IsCons, is_white, is_text, trimmed_text, 
 use dm_table::TextKind;
 use std::marker::Model;
 
-/// Space, tab, carriage return or newline.
+/// Returns whether the byte is a space, tab, carriage return or newline.
 pub(crate) fn is_white(byte: u8) -> bool
     ensures { result ≡ is_white byte }
 {
     byte == b' ' || byte == b'\t' || byte == b'\r' || byte == b'\n'
 }
 
-/// Whether every byte may stand in a text.
+/// Returns whether the text contains only white space and printing ASCII characters other than the backslash.
 pub(crate) fn is_text(text: &[u8]) -> bool
     ensures { result ≡ is_text text.now }
 {
     text.iter().all(|b| is_white(*b) || (0x21 <= *b && *b <= 0x7e && *b != b'\\'))
 }
 
-/// Whether there is white space alone.
+/// Returns whether the text contains only white space.
 pub(crate) fn is_blank(text: &[u8]) -> bool
     ensures { result ≡ list_all is_white text.now }
 {
     text.iter().all(|b| is_white(*b))
 }
 
-/// How many bytes of white space (space, tab, carriage return, newline) the text begins with.
+/// Returns the number of white-space bytes (space, tab, carriage return, newline) at the start of the text.
 pub fn white_len(text: &[u8]) -> usize
     ensures value { result ≡ prefix_len is_white text.now }
     ensures bound { result ≤ length text.now }
@@ -41,7 +41,7 @@ pub fn white_len(text: &[u8]) -> usize
     text.len()
 }
 
-/// How many bytes are left without the white space at the end.
+/// Returns the length of the text without the white space at its end.
 fn trimmed_len(text: &[u8]) -> usize
     ensures value { result ≡ length text.now - suffix_len is_white text.now }
     ensures bound { result ≤ length text.now }
@@ -53,7 +53,7 @@ fn trimmed_len(text: &[u8]) -> usize
     end
 }
 
-/// How many bytes stand before the first white space: all of them, if there is none.
+/// Returns the number of bytes before the first white space, or the length of the text if there is none.
 pub fn word_len(text: &[u8]) -> usize
     ensures value { result ≡ position_or_len is_white text.now }
     ensures bound { result ≤ length text.now }
@@ -66,7 +66,7 @@ pub fn word_len(text: &[u8]) -> usize
     text.len()
 }
 
-/// How many bytes stand before the first separator.
+/// Returns the number of bytes before the first separator, or the length of the text if there is none.
 pub(crate) fn piece_len(text: &[u8], separator: u8) -> usize
     ensures value { result ≡ position_or_len (λ b. b == separator) text.now }
     ensures bound { result ≤ length text.now }
@@ -79,8 +79,7 @@ pub(crate) fn piece_len(text: &[u8], separator: u8) -> usize
     text.len()
 }
 
-/// The words that are left of a text: the longest runs of bytes that are no white space. Any other
-/// byte is part of a word, also one that no table has.
+/// The remaining words of a text: the maximal runs of bytes that aren't white space. Bytes aren't checked otherwise.
 #[derive(Drop)]
 pub struct Words<'a> {
     rest: &'a [u8],
@@ -96,14 +95,14 @@ impl<'a> Model for Words<'a> {
 }
 
 impl<'a> Words<'a> {
-    /// All words of the text.
+    /// Returns all words of the text.
     pub fn new(text: &'a [u8]) -> Words<'a>
         ensures { result ≡ words text.now }
     {
         Words { rest: text }
     }
 
-    /// Takes the first word. Without one it is at its end, and stays there.
+    /// Removes and returns the first word, or returns `None` if no words remain.
     pub fn next_word(&mut self) -> Option<&'a [u8]>
         ensures { MatchOption result
             ((self.old ≡ []) × (self.new ≡ []))
@@ -118,7 +117,11 @@ impl<'a> Words<'a> {
         Some(&rest[..end])
     }
 
-    /// Takes the first word, of which there has to be one.
+    /// Removes and returns the first word.
+    ///
+    /// # Errors
+    ///
+    /// `ArgCount` if no words remain.
     pub(crate) fn take_word(&mut self) -> Result<&'a [u8], TextKind>
         ensures { MatchResult result
             (λ word. self.old ≡ word.now ∷ self.new)
@@ -127,7 +130,11 @@ impl<'a> Words<'a> {
         self.next_word().ok_or(TextKind::ArgCount)
     }
 
-    /// There has to be no word.
+    /// Checks that no words remain.
+    ///
+    /// # Errors
+    ///
+    /// `ArgCount` if a word remains.
     pub(crate) fn end(&self) -> Result<(), TextKind>
         ensures { MatchResult result
             (λ _. self.now ≡ [])
@@ -140,7 +147,7 @@ impl<'a> Words<'a> {
         }
     }
 
-    /// Whether exactly `count` words are left. At most one more is looked at.
+    /// Returns whether exactly `count` words remain. It splits at most one more.
     pub(crate) fn are(&self, count: usize) -> bool
         ensures { IsTrue result ↔ (length self.now ≡ count) }
     {
@@ -154,7 +161,7 @@ impl<'a> Words<'a> {
     }
 }
 
-/// The pieces that are left of a text cut at each separator.
+/// The remaining pieces of a text that is split at each separator.
 #[derive(Drop)]
 pub(crate) struct Pieces<'a> {
     separator: u8,
@@ -180,7 +187,7 @@ impl<'a> Pieces<'a> {
         }
     }
 
-    /// Takes the first piece. Without one it is at its end, and stays there.
+    /// Removes and returns the first piece, or returns `None` if no pieces remain.
     pub(crate) fn next_piece(&mut self) -> Option<&'a [u8]>
         ensures { MatchOption result
             ((self.old ≡ []) × (self.new ≡ []))
@@ -196,7 +203,11 @@ impl<'a> Pieces<'a> {
         Some(&rest[..end])
     }
 
-    /// Takes the first piece, of which there has to be one.
+    /// Removes and returns the first piece.
+    ///
+    /// # Errors
+    ///
+    /// `Fields` if no pieces remain.
     pub(crate) fn take_field(&mut self) -> Result<&'a [u8], TextKind>
         ensures { MatchResult result
             (λ field. self.old ≡ field.now ∷ self.new)
@@ -206,7 +217,7 @@ impl<'a> Pieces<'a> {
     }
 }
 
-/// The text without the white space at both ends.
+/// Returns the text without the white space at both ends.
 pub(crate) fn trim(text: &[u8]) -> &[u8]
     ensures { result.now ≡ trimmed_text text.now }
 {

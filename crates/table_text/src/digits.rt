@@ -1,10 +1,14 @@
-//! Bytes as hexadecimal digits.
+//! Reading bytes in hexadecimal.
 ghost use Rattle.std.specs.Prelude.{◌≡◌, length, MatchResult};
 ghost use Rattle.dm_table.specs.Arguments.{bytes_at};
 
 use dm_table::TextKind;
 
-/// Fills the slice with the bytes of twice as many digits, of either case; else that kind of fault.
+/// Decodes twice as many hexadecimal digits as `out` has bytes, in upper or lower case.
+///
+/// # Errors
+///
+/// `kind` if the word has any other length or character.
 pub(crate) fn decode_digits(word: &[u8], out: &mut [u8], kind: TextKind) -> Result<(), TextKind>
     ensures { MatchResult result
         (λ _. bytes_at (length out.old) kind word.now ≡ Ok out.new)

@@ -1,4 +1,4 @@
-//! Device-mapper tables and stack texts, read from text and printed as text.
+//! Reading device-mapper tables and stacks from text, and printing tables.
 #![tactic(auto)]
 
 mod crypt_arguments;

@@ -11,7 +11,7 @@ use crate::target::read_target;
 use dm_table::{Line, ParseFault, TextFault, TextKind};
 use std::alloc::Global;
 
-/// Reads the line at that place of a text.
+/// Reads a line; a fault gets these numbers of its entry and line.
 pub(crate) fn read_line_at(
     alloc: Global,
     words: Words<'_>,

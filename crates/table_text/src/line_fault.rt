@@ -1,11 +1,11 @@
-//! Why a line was not read.
+//! Why a line was rejected.
 ghost use Rattle.std.specs.Prelude.{◌≡◌};
 ghost use Rattle.table_text.specs.declared.line_fault.LineFault.TheVariants as line_fault;
 
 use allocation::OutOfMemory;
 use dm_table::TextKind;
 
-/// Why a line was not read.
+/// Why a line was rejected, without the position.
 #[derive(Clone, Copy, Debug, PartialEq, Eq)]
 pub(crate) enum LineFault {
     Kind(TextKind),

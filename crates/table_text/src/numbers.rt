@@ -1,12 +1,12 @@
-//! Numbers in a text.
+//! Reading numbers.
 ghost use Rattle.std.specs.Prelude.{◌≡◌};
 ghost use Rattle.dm_table.specs.Numbers.{number};
 ghost use Rattle.dm_table.specs.Arguments.{number_at};
 
 use dm_table::TextKind;
 
-/// The value of one or more decimal digits, if it is below 2^64. Leading zeros are allowed; a sign,
-/// a base and white space are not.
+/// Returns the value of one or more decimal digits if it is below 2^64, and otherwise `None`. Leading zeros are
+/// allowed; a sign, a base prefix and white space are not.
 pub fn number(word: &[u8]) -> Option<u64>
     ensures { result ≡ number word.now }
 {
@@ -23,7 +23,11 @@ pub fn number(word: &[u8]) -> Option<u64>
     Some(value)
 }
 
-/// The number, or the fault `Number`.
+/// Returns the number.
+///
+/// # Errors
+///
+/// `Number` if the word isn't a number below 2^64.
 pub(crate) fn read_number(word: &[u8]) -> Result<u64, TextKind>
     ensures { result ≡ number_at word.now }
 {

@@ -1,4 +1,4 @@
-//! Optional arguments, read.
+//! Reading optional arguments.
 ghost use Rattle.std.specs.Prelude.{◌≡◌, ◌&&◌, true, nat_le, length, map, not};
 ghost use Rattle.std.specs.List.{list_all, list_any};
 ghost use Rattle.std.specs.Str.{bytes_eq};
@@ -12,7 +12,7 @@ use crate::numbers::read_number;
 use dm_table::{Name, Options, TextKind};
 use std::alloc::Global;
 
-/// Reads options of those words, after their count, to the end of the line.
+/// Reads the number of options and the options, all among `known`, up to the end of the line.
 pub(crate) fn read_options(
     alloc: Global,
     mut words: Words<'_>,
@@ -45,7 +45,7 @@ fn read_known(alloc: Global, mut words: Words<'_>, known: &[&str]) -> Result<Opt
     Ok(options)
 }
 
-// Known, and of another name than the options so far.
+// Returns whether the word is a known option with a name that differs from those of the options so far.
 fn is_new(known: &[&str], options: &Options, word: &[u8]) -> bool
     ensures { result ≡ (is_one_of word.now (map (λ word. word.now) known.now) && not (has_name_of word.now options.now)) }
 {

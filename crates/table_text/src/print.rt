@@ -1,4 +1,4 @@
-//! Tables printed as text.
+//! Printing tables.
 ghost use Rattle.std.specs.Prelude.{◌≡◌, ◌≤◌, ◌+◌, ◌∷◌, ◌++◌, [], OnErr, OnOk, IfErr, IfOk, Ok, codes, decimal, flat_map, length};
 ghost use Rattle.allocation.specs.Asked.{asked};
 ghost use Rattle.allocation.specs.Refusal.{IsOutOfMemory};
@@ -15,12 +15,12 @@ use dm_table::{Base, Line, Table, Target};
 use itoa::Buffer;
 use std::alloc::Global;
 
-/// Prints each line on a line of its own, ended by a newline, as `dmsetup create` takes them.
-/// In place of each key, unless `show_keys` asks for it, there are as many zeros.
+/// Returns the text of a table, one line per table line, each with a newline at its end. `dmsetup create` accepts it.
+/// Keys are printed as zeros of the same length unless `show_keys` is set.
 ///
 /// # Errors
 ///
-/// An allocation of room for at most as many bytes as the text has was refused.
+/// `OutOfMemory` if an allocation of at most the length of the text fails.
 pub fn print_table(alloc: Global, table: &Table, show_keys: bool) -> Result<Vec<u8>, OutOfMemory>
     ensures text { IfOk result (λ text. text.items ≡ printed_table show_keys table.now) }
     ensures reads_back { IfOk result (λ text. table_of text.items ≡ Ok (printed_lines show_keys table.now)) }
@@ -34,11 +34,12 @@ pub fn print_table(alloc: Global, table: &Table, show_keys: bool) -> Result<Vec<
     Ok(text)
 }
 
-/// Prints one line, without a newline. A `crypt` line's key is printed as zeros, unless `show_keys` asks for it.
+/// Returns the text of a line, without a newline. The key of a `crypt` line is printed as zeros of the same length
+/// unless `show_keys` is set.
 ///
 /// # Errors
 ///
-/// An allocation of room for at most as many bytes as the text has was refused.
+/// `OutOfMemory` if an allocation of at most the length of the text fails.
 pub fn print_line(alloc: Global, line: &Line, show_keys: bool) -> Result<Vec<u8>, OutOfMemory>
     ensures text { IfOk result (λ text. text.items ≡ line_text show_keys line.now) }
     ensures reads_back { IsLineOfGrammar line.now → IfOk result (λ text. table_of text.items ≡ Ok (printed_lines show_keys (line.now ∷ []))) }

@@ -1,4 +1,4 @@
-//! The arguments of a `crypt` line, printed.
+//! Printing the arguments of a `crypt` line.
 ghost use Rattle.std.specs.Prelude.{◌≡◌, ℕ, ◌+◌, ◌*◌, ◌≤◌, ◌∷◌, ◌++◌, IfErr, OnOk, codes, length, replicate};
 ghost use Rattle.allocation.specs.Asked.{asked};
 ghost use Rattle.hex.specs.Hex.{encode_lower};
@@ -11,7 +11,8 @@ use crate::print_options::print_options;
 use allocation::OutOfMemory;
 use dm_table::{Crypt, Key};
 
-/// Prints the target of a `crypt` line; in place of the key, unless it is asked for, so many zeros.
+/// Prints the type and arguments of a `crypt` line. The key is printed as zeros of the same length unless `show_keys`
+/// is set.
 pub(crate) fn print_crypt(
     text: &mut Vec<u8>,
     crypt: &Crypt,

@@ -1,4 +1,4 @@
-//! Options printed.
+//! Printing optional arguments.
 ghost use Rattle.std.specs.Prelude.{◌≤◌, IfErr, OnOk};
 ghost use Rattle.allocation.specs.Asked.{asked};
 ghost use Rattle.table_text.specs.ArgumentWords.{options_words};
@@ -8,7 +8,7 @@ use crate::print::{push_spaced, push_spaced_number};
 use allocation::OutOfMemory;
 use dm_table::Name;
 
-/// Their number and the options, or nothing where there is none.
+/// Appends the number of options and the options, or nothing if there are none.
 pub(crate) fn print_options(text: &mut Vec<u8>, options: &[Name]) -> Result<(), OutOfMemory>
     ensures ok { OnOk result (PrintsWords text.old (options_words options.now) text.new) }
     ensures err { IfErr result (λ e. asked e ≤ printed_length (options_words options.now)) }

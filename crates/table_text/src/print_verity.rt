@@ -1,4 +1,4 @@
-//! The arguments of a `verity` line, printed.
+//! Printing the arguments of a `verity` line.
 ghost use Rattle.std.specs.Prelude.{◌≡◌, ◌≤◌, ◌+◌, ◌∷◌, ◌++◌, IfErr, OnOk, codes, length};
 ghost use Rattle.allocation.specs.Asked.{asked};
 ghost use Rattle.table_text.specs.ArgumentWords.{options_words, salt_word, verity_words};
@@ -10,7 +10,7 @@ use crate::print_digits::push_digits;
 use allocation::OutOfMemory;
 use dm_table::Verity;
 
-/// Prints the target of a `verity` line.
+/// Prints the type and arguments of a `verity` line.
 pub(crate) fn print_verity(text: &mut Vec<u8>, verity: &Verity) -> Result<(), OutOfMemory>
     ensures ok { OnOk result (PrintsWords text.old (codes "verity" ∷ verity_words verity.now) text.new) }
     ensures err { IfErr result (λ e. asked e ≤ printed_length (codes "verity" ∷ verity_words verity.now)) }
@@ -42,7 +42,7 @@ fn print_salt(text: &mut Vec<u8>, salt: &[u8]) -> Result<(), OutOfMemory>
     }
 }
 
-// The option and its count, where the line has it.
+// Appends the number of options and the option, if the line has it.
 fn print_options(text: &mut Vec<u8>, ignore_zero_blocks: bool) -> Result<(), OutOfMemory>
     ensures ok { OnOk result (PrintsWords text.old (options_words (verity_options ignore_zero_blocks)) text.new) }
     ensures err { IfErr result (λ e. asked e ≤ printed_length (options_words (verity_options ignore_zero_blocks))) }

@@ -12,15 +12,15 @@ use allocation::push;
 use dm_table::{Entry, Name, ParseFault, StackText, Table, TextFault, TextKind, is_mapped_name};
 use std::alloc::Global;
 
-/// Reads a stack text: entries `<name>,<uuid>,<minor>,<flags>,<table>[,<table>+]`, with semicolons
-/// between them, as the kernel's guide `admin-guide/device-mapper/dm-init.rst` has them. An entry of
-/// white space alone is skipped, but counted. A text without an entry has no device.
+/// Reads a stack text: entries `<name>,<uuid>,<minor>,<flags>,<table>[,<table>+]`, separated by semicolons, as in the
+/// kernel's guide `admin-guide/device-mapper/dm-init.rst`. A blank entry is skipped, but numbered. A text without
+/// entries is a stack without devices.
 ///
 /// # Errors
 ///
-/// `Text`: the first fault in reading order; a byte that is no text goes before all others, as entry
-/// 0, line 0, and a fault before an entry's first line stands at line 0. `NoMemory`: an allocation was
-/// refused, for at most as many elements as the longest name has bytes.
+/// - `Text` with the first fault in reading order. A byte that no text may contain comes before all other faults,
+///   with entry 0 and line 0. A fault before the first line of an entry has line 0.
+/// - `NoMemory` if an allocation of at most `most_name` (255) elements fails.
 pub fn parse_stack(alloc: Global, text: &[u8]) -> Result<StackText, ParseFault>
     requires { length text.now < 2 ^ 32 - 1 }
     ensures { IsAnswer result (stack_of text.now) }
@@ -58,7 +58,7 @@ fn read_entry(alloc: Global, text: &[u8], number: u32) -> Result<Entry, ParseFau
     })
 }
 
-// What the fields before the lines say, the first line, and the lines after it.
+// The fields of an entry before its lines, its first line, and the lines after it.
 #[derive(Drop)]
 struct Head<'a> {
     name: &'a [u8],

@@ -11,14 +11,14 @@ use allocation::push;
 use dm_table::{ParseFault, Table, TextFault, TextKind};
 use std::alloc::Global;
 
-/// Reads a table text, as `dmsetup create` takes it: a line for each range of sectors, ended by a
-/// newline. Lines without a word and comments, which begin with `#`, are skipped, but counted.
+/// Reads a table text, as `dmsetup create` accepts it: one line for each range of sectors, separated by newlines.
+/// Blank lines and comments, which begin with `#`, are skipped, but numbered.
 ///
 /// # Errors
 ///
-/// `Text`: the first fault in reading order, of entry 0; a byte that is no text goes before all
-/// others, at line 0, and a text without a line is the fault `Fields` at line 0. `NoMemory`: an
-/// allocation was refused, for at most as many elements as the longest name has bytes.
+/// - `Text` with the first fault in reading order, with entry 0. A byte that no text may contain comes before all
+///   other faults, with line 0. A text without lines has the fault `Fields` with line 0.
+/// - `NoMemory` if an allocation of at most `most_name` (255) elements fails.
 pub fn parse_table(alloc: Global, text: &[u8]) -> Result<Table, ParseFault>
     requires { length text.now < 2 ^ 32 - 1 }
     ensures { IsAnswer result (table_of text.now) }
@@ -54,7 +54,7 @@ fn fault(kind: TextKind) -> ParseFault
     })
 }
 
-/// A line without a word, or a comment.
+/// Returns whether the line is blank or a comment.
 fn is_skipped(line: &[u8]) -> bool
     ensures { result ≡ is_skipped (words line.now) }
 {

@@ -13,7 +13,7 @@ use crate::verity_arguments::read_verity;
 use dm_table::{Base, Bases, Name, Target, TargetType, TextKind, is_device};
 use std::alloc::Global;
 
-/// Reads a target by the word of its type and its arguments.
+/// Reads a target from its type and its arguments.
 #[tactic(auto, unfolding(dm_table::specs::Lines::target_at))]
 pub(crate) fn read_target(
     alloc: Global,

@@ -1,4 +1,4 @@
-//! The arguments of an `unstriped` line, read.
+//! Reading the arguments of an `unstriped` line.
 ghost use Rattle.std.specs.Prelude.{◌≡◌, ◌<◌, ◌∷◌, length, MatchResult};
 ghost use Rattle.dm_table.specs.declared.fault.TextKind.TheVariants as kinds;
 ghost use Rattle.table_text.specs.Reading.{IsReading};
@@ -11,7 +11,7 @@ use crate::target::read_base;
 use dm_table::{TextKind, Unstriped};
 use std::alloc::Global;
 
-/// The words of an `unstriped` line.
+/// The arguments of an `unstriped` line.
 #[derive(Drop)]
 struct UnstripedWords<'a> {
     count: &'a [u8],

@@ -1,4 +1,4 @@
-//! The arguments of a `verity` line, read.
+//! Reading the arguments of a `verity` line.
 ghost use Rattle.std.specs.Prelude.{◌≡◌, ◌/◌, ◌<◌, ◌≤◌, ◌∷◌, length, MatchResult};
 ghost use Rattle.dm_table.specs.declared.fault.TextKind.TheVariants as kinds;
 ghost use Rattle.table_text.specs.Reading.{IsReading};
@@ -14,10 +14,10 @@ use dm_table::{Name, TextKind, Verity, is_device, is_kept};
 use std::alloc::Global;
 use tree_shape::{Algorithm, Digest, Salt, is_block_size};
 
-/// Two for each of 256 bytes.
+/// The largest length of a salt: two digits for each of 256 bytes.
 const MOST_SALT_DIGITS: usize = 512;
 
-/// The words that every `verity` line has.
+/// The mandatory arguments of a `verity` line.
 #[derive(Drop)]
 struct VerityWords<'a> {
     version: &'a [u8],
@@ -149,7 +149,7 @@ fn read_salt(algorithm: Algorithm, word: &[u8]) -> Result<Salt, TextKind>
     decode_salt(algorithm, word, &mut bytes[..word.len() / 2])
 }
 
-// The salt of those digits, which is decoded where there is room for half as many bytes.
+// Returns the salt with these digits. `room` is scratch space of half as many bytes.
 fn decode_salt(algorithm: Algorithm, word: &[u8], room: &mut [u8]) -> Result<Salt, TextKind>
     requires half { length room.old ≡ length word.now / 2 }
     requires fits { length room.old ≤ 256 }

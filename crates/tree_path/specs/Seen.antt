@@ -1,4 +1,4 @@
--- A path's fields and what contracts see of them.
+-- The fields of a path, and its value in contracts.
 use Rattle.std.specs.Prelude.{map}
 use Rattle.tree_path.specs.declared.path.TreePath.TheInside.{Inside}
 use Rattle.tree_path.specs.Path.{PathRecord}

@@ -1,4 +1,4 @@
--- Hash blocks read level by level on the way down to a data block.
+-- Hash blocks that are read level by level, down to a data block.
 use Rattle.std.specs.Prelude.{◌≡◌, ◌≢◌, ℕ, ◌+◌, ◌-◌, ◌*◌, ◌/◌, ◌<◌, ◌≤◌, Bool, IsTrue, List, length, Option, Some, None}
 use Rattle.std.specs.Str.{bytes_eq}
 use Rattle.std.specs.Prelude.{slice_set}
@@ -9,7 +9,7 @@ use Rattle.verity_format.specs.Blocks.{IsFullRead, IsBlockRead}
 use Rattle.verity_format.specs.Image.{tree_sectors}
 use Rattle.tree_path.specs.Path.{PathRecord, IsPathOf, block_of, digest_on, stored_block}
 
--- a path and a device before and after, the data block that is gone to, and from which level
+-- a path and a device before and after the steps, the data block that they lead to, and the level that they begin at
 pub record Steps : Type 0 where
   pub old : PathRecord
   pub new : PathRecord
@@ -21,14 +21,14 @@ pub record Steps : Type 0 where
 abbrev pub steps : PathRecord → PathRecord → Device → Device → ℕ → ℕ → Steps
 steps old new device device' index from = record { old = old; new = new; device = device; device' = device'; index = index; from = from }
 
--- the data block is one of the tree, which lies on the device
+-- the data block is in the tree, and the tree is within the device
 pub record CanDescend (p : PathRecord) (device : Device) (i from to : ℕ) : Type 0 where
   pub index : i < p.shape.blocks
   pub order : to ≤ from
   pub few : from ≤ levels p.shape
   pub fits : tree_sectors p.shape ≤ device.size
 
--- the hash block of level `from` was read, and is good where its digest stands above it
+-- the hash block of level `from` was read; `good` says whether it has its expected digest
 pub record IsStepLoaded (w : Steps) (good : Bool) : Type 0 where
   pub block : List ℕ
   pub inside : w.from < length w.old.blocks
@@ -36,24 +36,25 @@ pub record IsStepLoaded (w : Steps) (good : Bool) : Type 0 where
   pub test : good ≡ bytes_eq (digest w.old.salt block) (digest_on w.old w.index (w.from + 1))
   pub read : IsBlockRead w.device w.old.shape.hash_block (position w.old.shape w.from (ancestor w.old.shape (w.from + 1) w.index)) block w.device'
 
--- one call failed, and counted the failure
+-- one call failed, and the failure was counted
 pub record HasFailedOnce (old new : Device) : Type 0 where
   pub failed : HasFailed old new
   pub counted : new.failures ≡ capped (old.failures + 1)
 
--- that hash block couldn't be read, and what is kept of it is anything
+-- the hash block of level `from` couldn't be read, and its buffer holds arbitrary bytes
 pub record IsUnloaded (w : Steps) : Type 0 where
   pub block : List ℕ
   pub inside : w.from < length w.old.blocks
   pub is : w.new ≡ record w.old { blocks = slice_set w.old.blocks w.from block }
   pub fault : HasFailedOnce w.device w.device'
 
--- the tree stays, and so do the blocks of the levels from `from` up
+-- the tree and the blocks from level `from` up are unchanged
 pub record IsKeptAbove (w : Steps) : Type 0 where
   pub same : IsPathOf w.old.shape w.old.salt w.old.root w.new
   pub kept : (l : ℕ) → w.from ≤ l → block_of w.new l ≡ block_of w.old l
 
--- The hash blocks of the levels below `from` down to one were read, each once, and those down to another are good.
+-- the hash blocks below level `from` down to level `level` were read, each once, and those down to level `good` have
+-- their expected digests
 pub record IsDown (w : Steps) (good level : ℕ) : Type 0 where
   pub same : IsPathOf w.old.shape w.old.salt w.old.root w.new
   pub kept : (l : ℕ) → w.from ≤ l → block_of w.new l ≡ block_of w.old l
@@ -61,7 +62,7 @@ pub record IsDown (w : Steps) (good level : ℕ) : Type 0 where
   pub stored : IsTrue w.device.steady → (l : ℕ) → level ≤ l → l < w.from → block_of w.new l ≡ stored_block w.old.shape w.device.image l w.index
   pub full : IsFullRead w.device ((w.from - level) * (w.old.shape.hash_block / 512)) w.device'
 
--- that of a level has another digest than stands above it, and those between are good
+-- the block of level `level` doesn't have its expected digest; those above it up to `from` do
 pub record IsStopped (w : Steps) (to level : ℕ) : Type 0 where
   pub between : (to ≤ level) × (level < w.from)
   pub down : IsDown w (level + 1) level
@@ -71,6 +72,6 @@ abbrev pub HasCome : Steps → ℕ → Option ℕ → Type 0
 HasCome w to None = IsDown w to to
 HasCome w to (Some level) = IsStopped w to level
 
--- at most n sectors were read, in failed calls too
+-- at most n sectors were read, including those of failed calls
 abbrev pub HasReadAtMost : Device → ℕ → Device → Type 0
 HasReadAtMost old n new = new.reads ≤ old.reads + n

@@ -1,4 +1,5 @@
-//! The way from a tree's root down to a data block: a hash block of each level in memory, read from a device and checked.
+//! The path from the root of a hash tree down to a data block: one hash block of each level in memory, read from a
+//! device and verified.
 #![tactic(auto)]
 
 mod path;

@@ -1,4 +1,4 @@
-//! The hash blocks on the way to a data block.
+//! The hash blocks on the path to a data block.
 ghost use Rattle.std.specs.Prelude.{◌≡◌, ◌≤◌, ◌<◌, ◌+◌, ◌-◌, ◌*◌, ◌/◌, IsTrue, IsOk, OnErr, IfOk};
 ghost use Rattle.allocation.specs.Refusal.{IsOutOfMemory};
 ghost use Rattle.block_device.specs.Device.{HasFailed};
@@ -18,7 +18,7 @@ use std::marker::Model;
 use tree_shape::{Digest, Salt, Shape, digest_in};
 use verity_format::is_same;
 
-/// A tree, and a hash block of each of its levels, which stand on the way to a data block.
+/// A tree, and one hash block of each of its levels.
 #[derive(Drop)]
 pub struct TreePath {
     shape: Shape,
@@ -39,11 +39,11 @@ impl Model for TreePath {
 }
 
 impl TreePath {
-    /// Memory for the hash blocks of each level, with nothing read.
+    /// Returns a path with zeroed hash blocks; nothing is read.
     ///
     /// # Errors
     ///
-    /// `OutOfMemory` if the allocator refused room for a hash block or the list of them.
+    /// `OutOfMemory` if the allocation of a hash block or of the list of hash blocks fails.
     pub fn new(
         alloc: Global,
         shape: Shape,
@@ -62,8 +62,8 @@ impl TreePath {
         })
     }
 
-    /// The digest that stands so many levels above a data block: at level 0 that of the data block, at the highest
-    /// the root.
+    /// Returns the digest expected `level` levels above a data block: at level 0 that of the data block, at the top
+    /// the root hash.
     pub fn digest_at(&self, level: u32, index: u64) -> Digest
         requires { level ≤ levels self.now.shape }
         ensures { result ≡ digest_on self.now index level }
@@ -75,21 +75,21 @@ impl TreePath {
         digest_in(&self.blocks[level as usize], slot)
     }
 
-    /// How many levels the tree has.
+    /// Returns the number of levels of the tree.
     pub fn levels(&self) -> u32
         ensures { result ≡ levels self.now.shape }
     {
         self.shape.levels()
     }
 
-    /// How many data blocks.
+    /// Returns the number of data blocks of the tree.
     pub fn data_blocks(&self) -> u64
         ensures { result ≡ self.now.shape.blocks }
     {
         self.shape.blocks()
     }
 
-    /// The number, within its level, of the hash block on the way to a data block.
+    /// Returns the index, within its level, of the hash block on the path to data block `index`.
     pub fn block_number(&self, level: u32, index: u64) -> u64
         requires { index < self.now.shape.blocks }
         ensures { result ≡ ancestor self.now.shape (level + 1) index }
@@ -97,8 +97,8 @@ impl TreePath {
         self.shape.block_on_path(level, index)
     }
 
-    /// Whether the hash block of a level on the way to a data block is zero after its last used entry, as each one is that
-    /// was formatted.
+    /// Returns whether the hash block of a level on the path to a data block is zero after its last used entry, as in
+    /// every tree that is formatted.
     pub fn is_unused_zero(&self, level: u32, index: u64) -> bool
         requires level { level < levels self.now.shape }
         requires index { index < self.now.shape.blocks }
@@ -109,8 +109,12 @@ impl TreePath {
         is_zero_after(&self.blocks[level as usize], used)
     }
 
-    /// Reads the hash block of a level on the way to a data block, and tells whether its digest stands above it. Where it
-    /// can't be read, what is kept of that block is anything.
+    /// Reads the hash block of a level on the path to a data block. Returns whether it has its expected digest: that
+    /// stored in its parent, or the root hash.
+    ///
+    /// # Errors
+    ///
+    /// `DeviceFault` if the device fails; the buffer of that hash block then holds arbitrary bytes.
     pub fn load<H: BlockDev>(
         &mut self,
         device: &mut H,
@@ -135,8 +139,13 @@ impl TreePath {
         Ok(is_same(&found, &self.digest_at(level + 1, index)))
     }
 
-    /// Reads the hash blocks of the levels from `from - 1` down to `to` on the way to a data block, and checks each
-    /// against the digest that stands above it. It ends with the first whose digest is another one, and names its level.
+    /// Reads the hash blocks of levels `from - 1` down to `to` on the path to a data block, and verifies each with
+    /// its expected digest. Stops after the first that fails verification and returns its level, or `None` if all
+    /// pass.
+    ///
+    /// # Errors
+    ///
+    /// `DeviceFault` if the device fails; the tree and the blocks of the levels from `from` up are unchanged.
     pub fn descend<H: BlockDev>(
         &mut self,
         device: &mut H,

@@ -1,4 +1,4 @@
-//! Blocks read from a device, and memory for them.
+//! Reading blocks from a device, and buffers for them.
 ghost use Rattle.std.specs.Prelude.{◌≡◌, ◌≤◌, ◌/◌, IsTrue, IsOk, OnOk, OnErr, IfOk, All, length, max};
 ghost use Rattle.allocation.specs.Refusal.{IsOutOfMemory};
 ghost use Rattle.verity_format.specs.Blocks.{IsBlockRead, IsOnlyRead};
@@ -9,7 +9,7 @@ use allocation::{OutOfMemory, push, zeros};
 use block_device::{BlockDev, DeviceFault};
 use std::alloc::Global;
 
-/// So many blocks of that size.
+/// Returns `count` blocks of zeros of `size` bytes.
 pub(crate) fn zero_blocks(
     alloc: Global,
     count: u32,
@@ -27,7 +27,7 @@ pub(crate) fn zero_blocks(
     Ok(blocks)
 }
 
-/// Reads a block of the size of `block`.
+/// Reads block `index` of the size of `block`.
 #[tactic(auto, unfolding(verity_format::specs::Blocks::block_at))]
 pub(crate) fn read_block<D: BlockDev>(
     device: &mut D,

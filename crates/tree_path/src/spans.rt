@@ -1,12 +1,12 @@
-//! Which subtree begins at a data block, and how many data blocks it has.
+//! The subtrees that begin at a data block, and their sizes.
 ghost use Rattle.std.specs.Prelude.{◌≡◌, ◌≤◌, ◌^◌, min};
 ghost use Rattle.tree_shape.specs.Shape.{per_block};
 ghost use Rattle.tree_path.specs.Spans.{IsTopAt};
 
 use tree_shape::Shape;
 
-/// The greatest level, of at most `most`, of which a subtree begins at data block `index`: a subtree of level k has a
-/// block of k levels of hash blocks below it, so that one of level 0 is the data block itself.
+/// Returns the highest level, at most `most`, of a subtree that begins at data block `index`. A subtree of level k
+/// has k levels of hash blocks, so one of level 0 is the data block itself.
 pub fn top_at(shape: &Shape, most: u32, index: u64) -> u32
     ensures { IsTopAt (per_block shape.now) most index result }
 {
@@ -23,7 +23,7 @@ pub fn top_at(shape: &Shape, most: u32, index: u64) -> u32
     level
 }
 
-/// How many data blocks a subtree of that level has, and at most `most`.
+/// Returns the number of data blocks of a subtree of that level, but at most `most`.
 pub fn span(shape: &Shape, level: u32, most: u64) -> u64
     requires { most ≤ 2 ^ 54 }
     ensures { result ≡ min (per_block shape.now ^ level) most }

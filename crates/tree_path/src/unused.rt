@@ -1,4 +1,4 @@
-//! Which entries of a hash block hold digests, and whether what is behind them is zero.
+//! The entries of a hash block that hold digests, and whether the bytes after them are zero.
 ghost use Rattle.std.specs.Prelude.{◌≡◌, ◌==◌, ◌≤◌, ◌<◌, ◌*◌, drop, length};
 ghost use Rattle.std.specs.List.{list_all};
 ghost use Rattle.tree_shape.specs.Shape.{level_blocks, levels};
@@ -6,7 +6,8 @@ ghost use Rattle.tree_path.specs.Unused.{digests_in, used_entries};
 
 use tree_shape::{Digest, Shape};
 
-/// How many entries of that hash block of a level hold a digest: all of them, or in the level's last block those that are left.
+/// Returns how many entries of hash block `number` of a level hold a digest: all, or the remaining ones in the last
+/// block of the level.
 pub(crate) fn used_entries(shape: &Shape, level: u32, number: u64) -> u64
     requires level { level < levels shape.now }
     requires inside { number < level_blocks shape.now level }
@@ -20,7 +21,7 @@ pub(crate) fn used_entries(shape: &Shape, level: u32, number: u64) -> u64
         .min(per_block)
 }
 
-// How many digests a level holds.
+// Returns the number of digests in a level.
 fn digests_in(shape: &Shape, level: u32) -> u64
     requires { level < levels shape.now }
     ensures { result ≡ digests_in shape.now level }
@@ -32,7 +33,7 @@ fn digests_in(shape: &Shape, level: u32) -> u64
     shape.level_blocks(level - 1)
 }
 
-/// Whether all bytes of a block after so many entries are zero.
+/// Returns whether all bytes of a block after its first `entries` entries are zero.
 pub(crate) fn is_zero_after(block: &[u8], entries: u64) -> bool
     requires { 32 * entries ≤ length block.now }
     ensures { result ≡ list_all (λ b. b == 0) (drop (32 * entries) block.now) }

@@ -1,16 +1,16 @@
-//! The algorithms of digests.
+//! The digest algorithms.
 ghost use Rattle.std.specs.Prelude.{◌≡◌, ◌≤◌, length};
 ghost use Rattle.tree_shape.specs.Algorithms.{algorithm_name, algorithm_named};
 
-/// What makes the digests of a tree. Tables and superblocks name it.
+/// The algorithm that computes the digests of a tree.
 #[derive(Clone, Copy, Debug, PartialEq, Eq)]
 pub enum Algorithm {
-    /// SHA-256, whose digests have 32 bytes.
+    /// SHA-256, with digests of 32 bytes.
     Sha256,
 }
 
 impl Algorithm {
-    /// Its name as tables and superblocks have it.
+    /// Returns the algorithm's name in tables and superblocks.
     pub fn name(self) -> &'static [u8]
         ensures value { result.now ≡ algorithm_name self }
         ensures size { length result.now ≤ 32 }
@@ -20,7 +20,7 @@ impl Algorithm {
         }
     }
 
-    /// The algorithm of that name.
+    /// Returns the algorithm with this name, or `None` if there is no such algorithm.
     pub fn named(name: &[u8]) -> Option<Algorithm>
         ensures { result ≡ algorithm_named name.now }
     {

@@ -1,10 +1,10 @@
-//! A digest, in place.
+//! A digest of fixed size.
 ghost use Rattle.std.specs.Prelude.{◌≡◌, ◌≤◌, ◌+◌, ◌*◌, length};
 ghost use Rattle.tree_shape.specs.Digests.{digest_in};
 
 use std::marker::Model;
 
-/// A SHA-256 digest, which contracts see as the list of its 32 bytes.
+/// A SHA-256 digest. Contracts treat it as the list of its 32 bytes.
 #[derive(Clone, Copy, Debug, PartialEq, Eq)]
 pub struct Digest {
     bytes: [u8; Digest::SIZE],
@@ -21,17 +21,17 @@ impl Model for Digest {
 }
 
 impl Digest {
-    /// The bytes of a digest.
+    /// The size of a digest in bytes.
     pub const SIZE: usize = 32;
 
-    /// The digest of these bytes.
+    /// Returns the digest with these bytes.
     pub fn new(bytes: [u8; Digest::SIZE]) -> Digest
         ensures { result ≡ bytes }
     {
         Digest { bytes }
     }
 
-    /// The bytes.
+    /// Returns the 32 bytes of the digest.
     pub fn as_bytes(&self) -> &[u8]
         ensures value { result.now ≡ self.now }
         ensures size { length result.now ≡ 32 }
@@ -40,7 +40,7 @@ impl Digest {
     }
 }
 
-/// The digest in that slot of a hash block: 32 bytes, of which slot 0 are the block's first.
+/// Returns the digest in a slot of a hash block: the 32 bytes from byte `32 * slot` on.
 #[tactic(auto, unfolding(crate::specs::Digests::digest_in))]
 pub fn digest_in(block: &[u8], slot: u64) -> Digest
     requires { 32 * slot + 32 ≤ length block.now }

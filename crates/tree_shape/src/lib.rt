@@ -1,4 +1,4 @@
-//! What a hash tree of dm-verity looks like, without its blocks: its shape, digests, and the salt that each block's digest begins with.
+//! The shape of a dm-verity hash tree, its digests, and the salt that is hashed before each block.
 #![tactic(auto)]
 
 mod algorithm;

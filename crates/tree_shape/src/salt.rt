@@ -1,4 +1,4 @@
-//! A salt and its algorithm, in place.
+//! A salt and its digest algorithm, of fixed size.
 ghost use Rattle.std.specs.Prelude.{◌≡◌, ◌-◌, ◌++◌, ◌↔◌, ◌≤◌, length, replicate, IsSome, IfSome};
 ghost use Rattle.tree_shape.specs.Digests.{digest};
 ghost use Rattle.tree_shape.specs.declared.algorithm.Algorithm.TheVariants.{Sha256 as sha256_algorithm};
@@ -7,8 +7,8 @@ use crate::{Algorithm, Digest};
 use sha2::{Digest as _, Sha256};
 use std::marker::Model;
 
-/// What stands before each block as it is hashed, at most 256 bytes, and by which algorithm. Contracts see the list
-/// of those bytes, since there is one algorithm.
+/// The salt that is hashed before each block, at most 256 bytes, and the digest algorithm. Contracts treat it as the
+/// list of its bytes, since there is only one algorithm.
 #[derive(Clone, Copy)]
 pub struct Salt {
     algorithm: Algorithm,
@@ -33,7 +33,7 @@ impl Model for Salt {
 }
 
 impl Salt {
-    /// A salt of these bytes, if there are at most 256.
+    /// Returns a salt with these bytes, or `None` if there are more than 256.
     pub fn new(algorithm: Algorithm, salt: &[u8]) -> Option<Salt>
         ensures found { IsSome result ↔ (length salt.now ≤ 256) }
         ensures value { IfSome result (λ s. s ≡ salt.now) }
@@ -48,14 +48,14 @@ impl Salt {
         })
     }
 
-    /// The algorithm of the digests.
+    /// Returns the digest algorithm.
     pub fn algorithm(&self) -> Algorithm
         ensures { result ≡ sha256_algorithm }
     {
         self.algorithm
     }
 
-    /// The bytes.
+    /// Returns the bytes of the salt, at most 256.
     pub fn bytes(&self) -> &[u8]
         ensures value { result.now ≡ self.now }
         ensures size { length result.now ≤ 256 }
@@ -63,7 +63,7 @@ impl Salt {
         &self.bytes[..self.len]
     }
 
-    /// The digest of the salt followed by the block, both read as they lie.
+    /// Returns the digest of the salt followed by the block. The two are not copied together.
     pub fn digest(&self, block: &[u8]) -> Digest
         ensures { result ≡ digest self.now block.now }
     {
@@ -73,7 +73,7 @@ impl Salt {
     }
 }
 
-/// SHA-256 of the one followed by the other.
+/// Returns SHA-256 of `salt` followed by `block`.
 #[tactic(auto, unfolding(crate::specs::Digests::digest))]
 fn sha256(salt: &[u8], block: &[u8]) -> Digest
     ensures { result ≡ digest salt.now block.now }
@@ -84,7 +84,7 @@ fn sha256(salt: &[u8], block: &[u8]) -> Digest
     Digest::new(hasher.finalize())
 }
 
-/// The bytes, and zeros to the array's end.
+/// Returns the salt padded with zeros to 256 bytes.
 fn padded(salt: &[u8]) -> [u8; 256]
     requires { length salt.now ≤ 256 }
     ensures { result ≡ salt.now ++ replicate (256 - length salt.now) 0 }

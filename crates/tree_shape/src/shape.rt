@@ -1,4 +1,4 @@
-//! The shape of a tree.
+//! The shape of a hash tree.
 ghost use Rattle.std.specs.Prelude.{◌≡◌, ◌+◌, ◌*◌, ◌^◌, ◌<◌, ◌≤◌, IfOk};
 ghost use Rattle.std.specs.Result.{result_err};
 ghost use Rattle.tree_shape.specs.Shape.{IsShape, shape_with, first_fault, is_block_size, is_too_large, blocks_sectors, per_block, levels, level_blocks, position, slot, ancestor, area_blocks, area_end, end_of};
@@ -7,21 +7,21 @@ use crate::Digest;
 use std::marker::Model;
 use thiserror::Error;
 
-/// Why a tree cannot have such a shape.
+/// Why a shape is invalid.
 #[derive(Clone, Copy, Debug, PartialEq, Eq, Error)]
 pub enum ShapeFault {
-    /// A block size is none of 512, 1024, 2048 and 4096.
+    /// A block size is not 512, 1024, 2048 or 4096.
     #[error("BlockSize")]
     BlockSize,
     /// There is no data block.
     #[error("NoBlocks")]
     NoBlocks,
-    /// The data, or a tree that has a block, ends beyond 2^54 sectors.
+    /// The data ends after 2^54 sectors, or the tree has a block and ends after 2^54 sectors.
     #[error("TooLarge")]
     TooLarge,
 }
 
-/// Block sizes in bytes, the number of data blocks, and the hash block at which the tree begins.
+/// The shape of a tree: block sizes in bytes, the number of data blocks, and the hash block at which the tree begins.
 #[derive(Clone, Copy)]
 pub struct Shape {
     data_block: u32,
@@ -43,7 +43,15 @@ impl Model for Shape {
 }
 
 impl Shape {
-    /// The shape, or the first fault in the order of `ShapeFault`.
+    /// Returns the shape with these fields. Block sizes are in bytes, `start` is in hash blocks.
+    ///
+    /// # Errors
+    ///
+    /// The first that applies, in this order:
+    ///
+    /// - `BlockSize` if a block size is not 512, 1024, 2048 or 4096.
+    /// - `NoBlocks` if `blocks` is 0.
+    /// - `TooLarge` if the data, or a tree that has a block, ends after 2^54 sectors.
     #[tactic(auto, unfolding(crate::specs::Shape::first_fault))]
     pub fn new(
         data_block: u32,
@@ -76,7 +84,7 @@ impl Shape {
         })
     }
 
-    /// The size of a data block in bytes.
+    /// Returns the size of a data block in bytes.
     pub fn data_block(&self) -> u32
         ensures value { result ≡ self.now.data_block }
         ensures valid { IsShape self.now }
@@ -84,7 +92,7 @@ impl Shape {
         self.data_block
     }
 
-    /// The size of a hash block in bytes.
+    /// Returns the size of a hash block in bytes.
     pub fn hash_block(&self) -> u32
         ensures value { result ≡ self.now.hash_block }
         ensures valid { IsShape self.now }
@@ -92,7 +100,7 @@ impl Shape {
         self.hash_block
     }
 
-    /// How many data blocks there are.
+    /// Returns the number of data blocks.
     pub fn blocks(&self) -> u64
         ensures value { result ≡ self.now.blocks }
         ensures valid { IsShape self.now }
@@ -100,7 +108,7 @@ impl Shape {
         self.blocks
     }
 
-    /// The hash block at which the tree begins.
+    /// Returns the hash block at which the tree begins.
     pub fn start(&self) -> u64
         ensures value { result ≡ self.now.start }
         ensures valid { IsShape self.now }
@@ -108,7 +116,7 @@ impl Shape {
         self.start
     }
 
-    /// How many digests a hash block holds.
+    /// Returns the number of digests in a hash block, at least 16.
     pub fn per_block(&self) -> u64
         ensures value { result ≡ per_block self.now }
         ensures many { 16 ≤ result }
@@ -117,7 +125,7 @@ impl Shape {
         u64::from(self.hash_block() / Digest::SIZE as u32)
     }
 
-    /// How many levels the tree has; a single data block needs none.
+    /// Returns the number of levels of the tree, at most 14. The tree of a single data block has none.
     pub fn levels(&self) -> u32
         ensures value { result ≡ levels self.now }
         ensures few { result ≤ 14 }
@@ -132,8 +140,8 @@ impl Shape {
         count
     }
 
-    /// How many hash blocks a level has. Levels count from the bottom: level 0 holds the digests of the data
-    /// blocks, and level `levels() - 1` is one block.
+    /// Returns the number of hash blocks in a level. Levels count from the bottom: level 0 holds the digests of the
+    /// data blocks, and level `levels() - 1` is a single block.
     pub fn level_blocks(&self, level: u32) -> u64
         requires { level < levels self.now }
         ensures value { result ≡ level_blocks self.now level }
@@ -143,7 +151,7 @@ impl Shape {
         self.ancestor(level + 1, last) + 1
     }
 
-    /// How many bits the number of a slot has.
+    /// Returns the binary logarithm of the number of slots in a hash block.
     fn slot_bits(&self) -> u32
         ensures value { 2 ^ result ≡ per_block self.now }
         ensures some { 4 ≤ result }
@@ -158,8 +166,8 @@ impl Shape {
         }
     }
 
-    /// The number of the block that many steps above a data block. It is asked for each block that is read, so it divides by
-    /// a shift.
+    /// Returns the index of the block that is `steps` levels above a data block. It is called for each block that is
+    /// read, so it shifts instead of dividing.
     fn ancestor(&self, steps: u32, index: u64) -> u64
         ensures value { result ≡ ancestor self.now steps index }
         ensures valid { IsShape self.now }
@@ -176,7 +184,7 @@ impl Shape {
         }
     }
 
-    /// The number, within its level, of the hash block on the way to a data block.
+    /// Returns the index, within its level, of the hash block on the path to data block `index`.
     pub fn block_on_path(&self, level: u32, index: u64) -> u64
         requires { index < self.now.blocks }
         ensures value { result ≡ ancestor self.now (level + 1) index }
@@ -185,7 +193,8 @@ impl Shape {
         self.ancestor(level, index) >> self.slot_bits()
     }
 
-    /// The slot, in a level's hash block on the way to a data block, of the next block's digest.
+    /// Returns the slot, in the hash block of `level` on the path to data block `index`, of the digest of the next
+    /// block on that path.
     pub fn slot_on_path(&self, level: u32, index: u64) -> u64
         ensures value { result ≡ slot self.now (ancestor self.now level index) }
         ensures inside { 32 * result + 32 ≤ self.now.hash_block }
@@ -193,7 +202,7 @@ impl Shape {
         self.slot(self.ancestor(level, index))
     }
 
-    /// Where block `index` of a level stands, counted in hash blocks from the beginning of the hash device.
+    /// Returns the position of block `index` of a level, in hash blocks from the beginning of the hash device.
     pub fn position(&self, level: u32, index: u64) -> u64
         requires level { level < levels self.now }
         requires index { index < level_blocks self.now level }
@@ -206,7 +215,7 @@ impl Shape {
         start + above + index
     }
 
-    /// The slot of digest `index` of a level in its hash block.
+    /// Returns the slot of digest `index` of a level within its hash block.
     #[tactic(auto, unfolding(crate::specs::Shape::slot))]
     pub fn slot(&self, index: u64) -> u64
         ensures value { result ≡ slot self.now index }
@@ -215,7 +224,7 @@ impl Shape {
         index % (1 << self.slot_bits())
     }
 
-    /// How many hash blocks the whole tree has.
+    /// Returns the number of hash blocks in the whole tree.
     pub fn area_blocks(&self) -> u64
         ensures value { result ≡ area_blocks self.now }
         ensures fewer { result < self.now.blocks }
@@ -223,7 +232,7 @@ impl Shape {
         blocks_over(self.blocks(), self.hash_block())
     }
 
-    /// The hash block behind the tree's last one, or 0 where the tree has no block.
+    /// Returns the hash block after the tree's last one, or 0 if the tree has no block.
     pub fn area_end(&self) -> u64
         ensures value { result ≡ area_end self.now }
         ensures few { result ≤ 2 ^ 54 }
@@ -234,14 +243,14 @@ impl Shape {
     }
 }
 
-/// Whether blocks may have that many bytes: 512, 1024, 2048 or 4096.
+/// Returns whether `size` is a valid block size in bytes: 512, 1024, 2048 or 4096.
 pub fn is_block_size(size: u32) -> bool
     ensures { result ≡ is_block_size size }
 {
     size == 512 || size == 1024 || size == 2048 || size == 4096
 }
 
-/// Whether that many blocks of that size take more than 2^54 sectors.
+/// Returns whether `blocks` blocks of `size` bytes take more than 2^54 sectors.
 fn is_too_large(blocks: u128, size: u32) -> bool
     requires { blocks < 2 ^ 65 }
     ensures { result ≡ is_too_large (blocks_sectors blocks size) }
@@ -249,7 +258,7 @@ fn is_too_large(blocks: u128, size: u32) -> bool
     blocks * u128::from(size / 512) > 1 << 54
 }
 
-/// The block behind the last one, or 0 where there is none.
+/// Returns the block after the last one, or 0 if there are no blocks.
 fn end_of(start: u64, blocks: u64) -> u128
     ensures value { result ≡ end_of start blocks }
     ensures small { result < 2 ^ 65 }
@@ -260,7 +269,7 @@ fn end_of(start: u64, blocks: u64) -> u128
     u128::from(start) + u128::from(blocks)
 }
 
-/// How many hash blocks stand above that many blocks.
+/// Returns the number of hash blocks in a tree over `blocks` blocks.
 fn blocks_over(blocks: u64, hash_block: u32) -> u64
     requires some { 0 < blocks }
     requires digests { 96 ≤ hash_block }

@@ -1,4 +1,4 @@
-//! The cache itself.
+//! The cache.
 ghost use Rattle.std.specs.Prelude.{◌≡◌, ◌⊎◌, [], length, option_map, Ok, OnOk, OnErr, IsOk, IsSome};
 ghost use Rattle.std.specs.Option.{option_copied};
 ghost use Rattle.std.specs.Borrow.{sem};
@@ -13,12 +13,13 @@ use std::marker::Model;
 use std::num::NonZeroUsize;
 use tree_shape::Digest;
 
-/// At most a given number of blocks, each under its key and its digest.
+/// A cache of at most `capacity` verified blocks, each with its key and digest. The least recently used block is
+/// dropped first.
 #[derive(Drop)]
 pub struct BlockCache {
     alloc: Global,
     capacity: u32,
-    // None before a block is kept, so that an empty cache needs no memory.
+    // `None` until a block is stored, so that an empty cache needs no memory.
     slots: Option<LruCache<Key, DigestedBlock>>,
 }
 
@@ -38,7 +39,7 @@ impl Model for BlockCache {
 impl BlockCache {
     ghost use Rattle.verified_cache.specs.Lending.{EndsAs};
 
-    /// An empty cache of at most `capacity` blocks. It needs no memory before a block is kept.
+    /// Returns an empty cache of at most `capacity` blocks. It allocates nothing until a block is stored.
     pub fn empty(alloc: Global, capacity: u32) -> BlockCache
         ensures { result ≡ record { capacity = capacity; blocks = [] } }
     {
@@ -49,14 +50,15 @@ impl BlockCache {
         }
     }
 
-    /// The same cache as `empty` returns. It never fails.
+    /// Returns an empty cache of at most `capacity` blocks, as `empty` does. It never fails.
     pub fn new(alloc: Global, capacity: u32) -> Result<BlockCache, AllocError>
         ensures { result ≡ Ok (record { capacity = capacity; blocks = [] }) }
     {
         Ok(BlockCache::empty(alloc, capacity))
     }
 
-    /// The block kept under this key and this digest, which is then the most recently used.
+    /// Returns the bytes of the block under `key` if it has this digest, and makes it the most recently used block.
+    /// Returns `None` if there is no such block.
     pub fn find(&mut self, key: Key, digest: &Digest) -> Option<&[u8]>
         ensures* leaves { sem 𝓛 (EndsAs self.entry (cache_after_find key digest.now self.old)) }
         ensures answer { option_copied result ≡ option_map (λ b. b.bytes) (block_under key digest.now self.old) }
@@ -72,7 +74,13 @@ impl BlockCache {
         Some(kept.bytes.as_slice())
     }
 
-    /// Keeps the block as the most recently used, in place of what stands under its key.
+    /// Stores a block under its key as the most recently used, in place of the block under that key. If there are
+    /// more blocks than the capacity, the least recently used is dropped.
+    ///
+    /// # Errors
+    ///
+    /// `AllocError` if an allocation fails; the cache is unchanged. It doesn't fail if there is a block under the
+    /// key, or if the capacity is 0.
     pub fn keep(&mut self, key: Key, digest: Digest, block: Vec<u8>) -> Result<(), AllocError>
         ensures ok { OnOk result (self.new ≡ cache_after_keep (record { key = key; digest = digest; bytes = block.items }) self.old) }
         ensures err { OnErr result (self.new ≡ self.old) }
@@ -99,7 +107,7 @@ impl BlockCache {
         self.forget_where(&KeysOfLine { device, line });
     }
 
-    /// Drops the blocks under some keys, and looks at each block once.
+    /// Drops the blocks with keys in `keys`. It checks each block once.
     pub fn forget_where<K: Keys>(&mut self, keys: &K)
         requires { K.can_tell keys.now }
         ensures { self.new ≡ cache_without (K.has keys.now) self.old }
@@ -109,7 +117,7 @@ impl BlockCache {
         }
     }
 
-    /// Makes the least recently used block the most recently used, or drops it where it is under such a key.
+    /// Removes the least recently used block and, unless its key is in `keys`, makes it the most recently used.
     fn move_oldest<K: Keys>(&mut self, keys: &K)
         requires { K.can_tell keys.now }
         ensures { self.new ≡ cache_after_moves (K.has keys.now) 1 self.old }
@@ -135,7 +143,7 @@ impl BlockCache {
         self.slots = None;
     }
 
-    /// How many blocks there are.
+    /// Returns the number of blocks in the cache.
     pub fn len(&self) -> usize
         ensures value { result ≡ length self.now.blocks }
         ensures valid { IsCache self.now }
@@ -146,7 +154,7 @@ impl BlockCache {
         }
     }
 
-    /// How many blocks there may be.
+    /// Returns the largest number of blocks that the cache holds.
     pub fn capacity(&self) -> u32
         ensures { result ≡ self.now.capacity }
     {

@@ -1,5 +1,6 @@
-//! Which hash block a cached block is.
-/// Which hash block: of which mapped device's which table line, at which level of its tree, which block of that level.
+//! The key of a cached hash block.
+/// The identity of a hash block: its mapped device, the line of the device's table, its level in the tree of that
+/// line, and its index within the level.
 #[derive(Clone, Copy, PartialEq, Eq, Hash, Debug)]
 pub struct Key {
     pub device: u32,

@@ -1,24 +1,24 @@
-//! Some of all keys.
+//! Sets of keys.
 ghost use Rattle.std.specs.Prelude.{◌≡◌, Bool};
 ghost use Rattle.verified_cache.specs.declared.key.Key.{Key};
 
 use crate::Key;
 
-/// Some of all keys.
+/// A set of keys.
 pub trait Keys {
-    /// What its question needs to hold.
+    /// The precondition of `has`.
     ghost can_tell: { Self → Type 0 };
 
-    /// Which keys they are.
+    /// The set, as a test of keys.
     ghost has: { Self → Key → Bool };
 
-    /// Whether the key is one of them.
+    /// Returns whether the key is in the set.
     fn has(&self, key: Key) -> bool
         requires { can_tell self.now }
         ensures { result ≡ has self.now key };
 }
 
-/// Those of one line of one device.
+/// The keys of one line of one device.
 #[derive(Clone, Copy)]
 pub(crate) struct KeysOfLine {
     pub(crate) device: u32,

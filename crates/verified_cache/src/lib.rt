@@ -1,4 +1,5 @@
-//! A bounded cache of checked hash blocks, each under its place and its digest. Where it is full, the least recently used goes.
+//! A bounded cache of verified hash blocks, each stored under its key with its digest. A full cache drops the least
+//! recently used block.
 #![tactic(auto)]
 
 mod cache;

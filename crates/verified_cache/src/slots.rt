@@ -1,4 +1,4 @@
-//! The slots of kept blocks.
+//! The slots of cached blocks.
 ghost use Rattle.std.specs.Prelude.{◌≡◌, None, map, IfOk, IfSome, OnErr};
 ghost use Rattle.std.specs.NonZero.{non_zero_usize_get};
 ghost use Rattle.verified_cache.specs.Slots.{slot_block, slot_blocks};
@@ -9,14 +9,18 @@ use std::alloc::{AllocError, Global};
 use std::num::NonZeroUsize;
 use tree_shape::Digest;
 
-/// A block and the digest that it is kept under.
+/// A block and the digest that it was verified against.
 #[derive(Drop)]
 pub(crate) struct DigestedBlock {
     pub(crate) digest: Digest,
     pub(crate) bytes: Vec<u8>,
 }
 
-/// The slots, or new ones for so many blocks if there are none.
+/// Returns the slots, or newly allocated ones for `most` blocks if there are none.
+///
+/// # Errors
+///
+/// `AllocError` if there are no slots and the allocation fails.
 pub(crate) fn slots_or_new(
     alloc: Global,
     slots: Option<LruCache<Key, DigestedBlock>>,

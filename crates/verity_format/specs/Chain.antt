@@ -1,4 +1,4 @@
--- The chain of a data block as it stands on two devices.
+-- The chain of a data block as two devices store it.
 use Rattle.std.specs.Prelude.{◌≡◌, ◌⊎◌, ℕ, zero, suc, ◌+◌, ◌*◌, ◌/◌, IsTrue, List, Vec, [], ◌∷◌, map}
 use Rattle.std.specs.Global.{Global}
 use Rattle.allocation.specs.Refusal.{IsOutOfMemory}
@@ -10,12 +10,12 @@ use Rattle.verity_format.specs.declared.chains.ChainFault.TheVariants.{Device as
 use Rattle.verity_format.specs.Access.{largest_allocation}
 use Rattle.verity_format.specs.Blocks.{IsFullRead, block_at}
 
--- the hash blocks above data block i as they stand, of the n levels from n - 1 down
+-- the stored hash blocks above data block i, of the n levels from n - 1 down to 0
 abbrev pub stored_path : ShapeRecord → List (List ℕ) → ℕ → ℕ → List (List ℕ)
 stored_path shape image zero i = []
 stored_path shape image (suc l) i = block_at image shape.hash_block (position shape l (ancestor shape (l + 1) i)) ∷ stored_path shape image l i
 
--- data block i and the hash blocks on the way to it as they stand
+-- stored data block i and the stored hash blocks on its path
 unfoldable pub stored_chain : ShapeRecord → List (List ℕ) → List (List ℕ) → ℕ → ChainRecord
 stored_chain shape data_image hash_image i = record {
   index = i;
@@ -28,28 +28,28 @@ pub record IsChainRead (shape : ShapeRecord) (data_dev hash_dev data_dev' hash_d
   pub data_read : IsFullRead data_dev (shape.data_block / 512) data_dev'
   pub hash_read : IsFullRead hash_dev (levels shape * (shape.hash_block / 512)) hash_dev'
 
--- one of the two devices failed in the call, or an allocation was refused and neither was accessed
+-- one of the two devices failed in the call, or an allocation failed and neither device was accessed
 abbrev pub IsChainCause : Device → Device → Device → Device → ChainFault → Type 0
 IsChainCause data_dev hash_dev data_dev' hash_dev' DeviceFailed = HasFailed data_dev data_dev' ⊎ HasFailed hash_dev hash_dev'
 IsChainCause data_dev hash_dev data_dev' hash_dev' NoMemory = (data_dev' ≡ data_dev) × (hash_dev' ≡ hash_dev) × IsOutOfMemory largest_allocation
 
--- the hash blocks above data block i were read, each once, over a steady device as they stand there
+-- the hash blocks above data block i were read, each once; if the device is steady, they are those stored there
 pub record IsPathRead (shape : ShapeRecord) (i : ℕ) (old : Device) (blocks : List (List ℕ)) (new : Device) : Type 0 where
   pub path : IsTrue old.steady → blocks ≡ stored_path shape old.image (levels shape) i
   pub full : IsFullRead old (levels shape * (shape.hash_block / 512)) new
 
--- ---- calls, by what a proof sees of the devices: as they were before, and then after
+-- ---- calls, from the device states that a proof sees: first those before, then those after
 
--- over steady devices it is what stands there
+-- if both devices are steady, the chain is the stored one
 abbrev pub IsStoredChain : {D H : Type 0} → (D → Device) → (H → Device) → ShapeRecord → D → H → ℕ → ChainRecord → Type 0
 IsStoredChain data_state hash_state shape d h index chain =
     IsTrue (data_state d).steady → IsTrue (hash_state h).steady → chain ≡ stored_chain shape (data_state d).image (hash_state h).image index
 
--- its blocks were read, each once, and no call failed
+-- the blocks of the chain were read, each once, and no call failed
 abbrev pub ReadsChain : {D H : Type 0} → (D → Device) → (H → Device) → ShapeRecord → D → H → D → H → Type 0
 ReadsChain data_state hash_state shape d h d' h' = IsChainRead shape (data_state d) (hash_state h) (data_state d') (hash_state h')
 
--- why it wasn't read
+-- why the chain wasn't read
 abbrev pub FailsToReadChain : {D H : Type 0} → (D → Device) → (H → Device) → D → H → D → H → ChainFault → Type 0
 FailsToReadChain data_state hash_state d h d' h' fault = IsChainCause (data_state d) (hash_state h) (data_state d') (hash_state h') fault
 

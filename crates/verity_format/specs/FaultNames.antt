@@ -1,4 +1,4 @@
--- The numbers and names of faults in printed text.
+-- The numbers and names of faults in printed output.
 use Rattle.std.specs.Prelude.{ℕ, List, codes}
 use Rattle.verity_format.specs.declared.decoding.SuperFault.{SuperFault}
 use Rattle.verity_format.specs.declared.decoding.SuperFault.TheVariants as super
@@ -7,7 +7,7 @@ use Rattle.verity_format.specs.declared.formatting.FormatFault.TheVariants as fo
 use Rattle.verity_format.specs.declared.verifying.VerifyFault.{VerifyFault}
 use Rattle.verity_format.specs.declared.verifying.VerifyFault.TheVariants as verify
 
--- of a superblock that isn't taken
+-- faults of a superblock
 abbrev pub super_number : SuperFault → ℕ
 super_number super.Signature = 1
 super_number super.Version = 2
@@ -28,7 +28,7 @@ super_name super.HashBlockSize = codes "HashBlockSize"
 super_name super.DataBlocks = codes "DataBlocks"
 super_name super.SaltSize = codes "SaltSize"
 
--- of an image that isn't made
+-- faults of formatting
 abbrev pub format_number : FormatFault → ℕ
 format_number format.Shape = 1
 format_number format.DataTooSmall = 2
@@ -45,7 +45,7 @@ format_name format.HashReadOnly = codes "HashReadOnly"
 format_name format.Device = codes "Device"
 format_name format.NoMemory = codes "NoMemory"
 
--- of images that aren't compared: those of the superblock, and three more
+-- faults of verifying: those of the superblock, and three more
 abbrev pub verify_number : VerifyFault → ℕ
 verify_number (verify.Super fault) = super_number fault
 verify_number verify.TooSmall = 9

@@ -1,4 +1,4 @@
--- A tree made of a device's data blocks, run by run.
+-- A tree that is built from a device's data blocks, run by run.
 use Rattle.std.specs.Prelude.{◌≡◌, ◌⊎◌, ℕ, ◌-◌, ◌*◌, ◌/◌, ◌<◌, ◌≤◌, IsTrue, List, Vec, length, map, All}
 use Rattle.std.specs.Global.{Global}
 use Rattle.allocation.specs.Refusal.{IsOutOfMemory}
@@ -14,7 +14,8 @@ use Rattle.verity_format.specs.Blocks.{IsFullRead, blocks_at}
 abbrev pub IsDigest : List ℕ → Type 0
 IsDigest d = length d ≡ 32
 
--- A run of data blocks was read, each once. The builder took their digests, and put out the blocks that these complete.
+-- a run of data blocks was read, each once; the builder took their digests and emitted the hash blocks that they
+-- complete
 pub record IsRunTaken (shape : ShapeRecord) (salt : List ℕ) (old new : Device) (b b' : BuilderRecord) (out : List PlacedRecord) : Type 0 where
   pub digests : List (List ℕ)
   pub sized : All IsDigest digests
@@ -25,7 +26,7 @@ pub record IsRunTaken (shape : ShapeRecord) (salt : List ℕ) (old new : Device)
   pub read : IsFullRead old (length digests * (shape.data_block / 512)) new
   pub over : IsTrue old.steady → digests ≡ map (digest salt) (blocks_at old.image shape.data_block (shape.blocks - b.left) (length digests))
 
--- the first data blocks were read, each once, and the builder has taken their digests
+-- the first data blocks were read, each once, and the builder took their digests
 pub record IsTaken (shape : ShapeRecord) (salt : List ℕ) (old new : Device) (b : BuilderRecord) : Type 0 where
   pub digests : List (List ℕ)
   pub sized : All IsDigest digests
@@ -34,17 +35,17 @@ pub record IsTaken (shape : ShapeRecord) (salt : List ℕ) (old new : Device) (b
   pub read : IsFullRead old (length digests * (shape.data_block / 512)) new
   pub over : IsTrue old.steady → digests ≡ map (digest salt) (blocks_at old.image shape.data_block 0 (length digests))
 
--- one of two devices failed in the call, or an allocation was refused and neither did
+-- one of two devices failed in the call, or an allocation failed and neither device did
 abbrev pub IsPairCause : Device → Device → Device → Device → TreeFault → Type 0
 IsPairCause data_dev hash_dev data_dev' hash_dev' DeviceFailed = HasFailed data_dev data_dev' ⊎ HasFailed hash_dev hash_dev'
 IsPairCause data_dev hash_dev data_dev' hash_dev' NoMemory = (data_dev'.failures ≡ data_dev.failures) × (hash_dev'.failures ≡ hash_dev.failures) × IsOutOfMemory largest_allocation
 
--- ---- calls, by what a proof sees of the devices: as they were before, and then after
+-- ---- calls, from the device states that a proof sees: first those before, then those after
 
--- the next run was read and taken
+-- the next run was read and taken by the builder
 abbrev pub TakesRun : {D : Type 0} → (D → Device) → ShapeRecord → List ℕ → D → D → BuilderRecord → BuilderRecord → Vec PlacedRecord Global → Type 0
 TakesRun state shape salt d d' b b' out = IsRunTaken shape salt (state d) (state d') b b' out.items
 
--- one of the two failed, or an allocation was refused and neither did
+-- one of the two devices failed, or an allocation failed and neither device did
 abbrev pub FailsOnEither : {D H : Type 0} → (D → Device) → (H → Device) → D → H → D → H → TreeFault → Type 0
 FailsOnEither data_state hash_state d h d' h' fault = IsPairCause (data_state d) (hash_state h) (data_state d') (hash_state h') fault

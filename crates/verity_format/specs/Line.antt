@@ -1,4 +1,4 @@
--- The line of a table that opens a verity image, and what such a text reads as.
+-- The table line that opens a verity image, and how its text is read.
 use Rattle.std.specs.Prelude.{◌≡◌, ℕ, ◌+◌, ◌^◌, ◌<◌, false, true, IsTrue, List, [], ◌∷◌, length, Ok}
 use Rattle.hex.specs.Hex.{IsBytes}
 use Rattle.dm_table.specs.declared.table.Line.{Line}
@@ -10,7 +10,7 @@ pub use Rattle.table_text.specs.ArgumentWords.{salt_word}
 use Rattle.verity_format.specs.Superblock.{SuperRecord, IsSuperblock, shape_of}
 use Rattle.verity_format.specs.Image.{data_sectors}
 
--- all data blocks of an image, from sector 0 on, checked against the tree that begins at that block of the hash device
+-- all data blocks of an image from sector 0 on, verified with the tree at block `start` of the hash device
 abbrev pub verity_line : SuperRecord → List ℕ → List ℕ → List ℕ → ℕ → Line
 verity_line s data_name hash_name root start = record {
   start = 0;
@@ -28,19 +28,19 @@ verity_line s data_name hash_name root start = record {
   });
 }
 
--- its text, without a newline
+-- the text of the line, without a newline
 abbrev pub verity_text : SuperRecord → List ℕ → List ℕ → List ℕ → ℕ → List ℕ
 verity_text s data_name hash_name root start = line_text true (verity_line s data_name hash_name root start)
 
--- room for the names and the text: no allocation for the line asks for more
+-- the largest size that an allocation for the line asks for: the length of the names and the text
 abbrev pub line_room : SuperRecord → List ℕ → List ℕ → List ℕ → ℕ → ℕ
 line_room s data_name hash_name root start = length data_name + length hash_name + length (verity_text s data_name hash_name root start)
 
--- of an image whose tree follows its superblock, at hash block 1
+-- the line of an image whose tree follows its superblock, at hash block 1
 abbrev pub table_text : SuperRecord → List ℕ → List ℕ → List ℕ → List ℕ
 table_text s data_name hash_name root = verity_text s data_name hash_name root 1
 
--- a superblock, the device arguments of its two devices, and a root digest
+-- a superblock, the names of both devices as device arguments, and a root hash
 pub record AreLineParts (s : SuperRecord) (data_name hash_name root : List ℕ) : Type 0 where
   pub superblock : IsSuperblock s
   pub salt : IsBytes s.salt
@@ -49,7 +49,7 @@ pub record AreLineParts (s : SuperRecord) (data_name hash_name root : List ℕ) 
   pub root_size : length root ≡ 32
   pub root_bytes : IsBytes root
 
--- wherever the tree begins, the text is read as that one line
+-- whatever the offset of the tree, the text is read as that single line
 abbrev pub TableLinesReadBack : Type 0
 TableLinesReadBack = (s : SuperRecord) (data_name hash_name root : List ℕ) (start : ℕ) → AreLineParts s data_name hash_name root → start < 2 ^ 64
     → table_of (verity_text s data_name hash_name root start) ≡ Ok (verity_line s data_name hash_name root start ∷ [])

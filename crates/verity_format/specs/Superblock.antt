@@ -1,4 +1,4 @@
--- The verity superblock of version 1: 512 bytes at the beginning of the hash image, numbers little-endian.
+-- The verity superblock of version 1: 512 bytes at the beginning of the hash image, with little-endian numbers.
 use Rattle.std.specs.Prelude.{◌≡◌, ℕ, ◌+◌, ◌-◌, ◌≤◌, not, ◌==◌, nat_lt, List, [], ◌∷◌, ◌++◌, length, replicate, slice_range, codes, Option, Some, None, is_some, if◌then◌else◌}
 use Rattle.std.specs.List.{before_first}
 use Rattle.std.specs.Str.{bytes_eq}
@@ -9,7 +9,7 @@ use Rattle.tree_shape.specs.Shape.{ShapeRecord, IsShape, first_fault, is_block_s
 use Rattle.verity_format.specs.declared.decoding.SuperFault.{SuperFault}
 use Rattle.verity_format.specs.declared.decoding.SuperFault.TheVariants.{Signature, Version, HashType, Algorithm, DataBlockSize, HashBlockSize, DataBlocks, SaltSize}
 
--- what a superblock says: an identifier, the block sizes in bytes, how many data blocks, and the salt
+-- the fields of a superblock: the UUID, the block sizes in bytes, the number of data blocks, and the salt
 pub record SuperRecord : Type 0 where
   pub uuid : List ℕ
   pub data_block : ℕ
@@ -17,7 +17,7 @@ pub record SuperRecord : Type 0 where
   pub blocks : ℕ
   pub salt : List ℕ
 
--- the shape of a tree that begins at hash block 1, behind the superblock
+-- the shape of a tree that begins at hash block 1, after the superblock
 abbrev pub shape_after : ℕ → ℕ → ℕ → ShapeRecord
 shape_after data_block hash_block blocks = record { data_block = data_block; hash_block = hash_block; blocks = blocks; start = 1 }
 
@@ -25,17 +25,17 @@ shape_after data_block hash_block blocks = record { data_block = data_block; has
 abbrev pub shape_of : SuperRecord → ShapeRecord
 shape_of s = shape_after s.data_block s.hash_block s.blocks
 
--- a superblock of these parts
+-- the superblock with these fields
 abbrev pub super_of : List ℕ → ℕ → ℕ → ℕ → List ℕ → SuperRecord
 super_of uuid data_block hash_block blocks salt = record { uuid = uuid; data_block = data_block; hash_block = hash_block; blocks = blocks; salt = salt }
 
--- a superblock that can be made
+-- a valid superblock
 pub record IsSuperblock (s : SuperRecord) : Type 0 where
   pub uuid : length s.uuid ≡ 16
   pub shape : IsShape (shape_of s)
   pub salt : length s.salt ≤ 256
 
--- the number in 2, 4 or 8 bytes from a place on
+-- the number stored in 2, 4 or 8 bytes from an offset on
 abbrev pub field_number16 : List ℕ → ℕ → ℕ
 field_number16 bytes at = from_le_bytes w16 (slice_range bytes at (at + 2))
 
@@ -49,11 +49,11 @@ field_number64 bytes at = from_le_bytes w64 (slice_range bytes at (at + 8))
 abbrev pub signature : List ℕ
 signature = codes "verity" ++ (0 ∷ 0 ∷ [])
 
--- the algorithm's name: what stands in its field before the first zero byte
+-- the algorithm's name: the bytes of its field before the first zero byte
 abbrev pub algorithm_of : List ℕ → List ℕ
 algorithm_of bytes = before_first (λ b. b == 0) (slice_range bytes 32 64)
 
--- the 512 bytes carry the superblock; the bytes that no field speaks of are free
+-- the 512 bytes store the superblock; bytes outside all fields are arbitrary
 pub record Carries (s : SuperRecord) (bytes : List ℕ) : Type 0 where
   pub valid : IsSuperblock s
   pub size : length bytes ≡ 512
@@ -68,14 +68,14 @@ pub record Carries (s : SuperRecord) (bytes : List ℕ) : Type 0 where
   pub salt_size : field_number16 bytes 80 ≡ length s.salt
   pub salt : slice_range bytes 88 (88 + length s.salt) ≡ s.salt
 
--- the spelling in which every free byte is zero
+-- the bytes that store the superblock with zeros outside all fields
 unfoldable pub spelling : SuperRecord → List ℕ
 spelling s = signature ++ to_le_bytes w32 1 ++ to_le_bytes w32 1 ++ s.uuid ++ algorithm_name Sha256 ++ replicate 26 0
     ++ to_le_bytes w32 s.data_block ++ to_le_bytes w32 s.hash_block ++ to_le_bytes w64 s.blocks ++ to_le_bytes w16 (length s.salt) ++ replicate 6 0
     ++ s.salt ++ replicate (424 - length s.salt) 0
 
--- Why the bytes carry no superblock: the first of these tests that fails, in this order. Where both
--- sizes are block sizes, a shape has no fault but that it has no data block or is too large.
+-- why the bytes store no superblock: the first of these checks that fails; with valid block sizes, a shape can only
+-- have no data block or be too large
 unfoldable pub super_fault : List ℕ → Option SuperFault
 super_fault bytes =
     if not (bytes_eq (slice_range bytes 0 8) signature) then Some Signature
@@ -88,7 +88,7 @@ super_fault bytes =
     else if nat_lt 256 (field_number16 bytes 80) then Some SaltSize
     else None
 
--- the record in the fields, each as it is read
+-- the fields as they are read
 unfoldable pub read_of : List ℕ → SuperRecord
 read_of bytes = record {
   uuid = slice_range bytes 16 32;

@@ -1,4 +1,4 @@
-//! Blocks read from a device, and the tree over a device's blocks.
+//! Reading blocks from a device, and computing their digests.
 ghost use Rattle.std.specs.Prelude.{◌≡◌, ◌^◌, ◌≤◌, OnOk, OnErr, is_ok, length};
 ghost use Rattle.std.specs.Str.{bytes_eq};
 ghost use Rattle.block_device.specs.Call.{DeviceDoes};
@@ -14,12 +14,12 @@ use block_device::{BlockDev, DeviceFault};
 use hash_tree::digest_blocks;
 use tree_shape::{Digest, Salt, Shape};
 
-/// Why there is no tree over a device's blocks.
+/// Why no tree was computed over a device's blocks.
 #[derive(Clone, Copy, Debug, PartialEq, Eq)]
 pub(crate) enum TreeFault {
     /// The device failed.
     Device,
-    /// An allocation was refused.
+    /// An allocation failed.
     NoMemory,
 }
 
@@ -43,7 +43,7 @@ impl From<OutOfMemory> for TreeFault {
     }
 }
 
-/// How many sectors of a data device its blocks take.
+/// Returns the number of sectors of the data blocks.
 pub fn data_sectors(shape: &Shape) -> u64
     ensures value { result ≡ data_sectors shape.now }
     ensures small { result ≤ 2 ^ 54 }
@@ -51,7 +51,7 @@ pub fn data_sectors(shape: &Shape) -> u64
     shape.blocks() * u64::from(shape.data_block() / 512)
 }
 
-/// How many sectors of a hash device there are up to the tree's end.
+/// Returns the number of sectors of the hash device up to the end of the tree, or 0 if the tree has no block.
 pub fn tree_sectors(shape: &Shape) -> u64
     ensures value { result ≡ tree_sectors shape.now }
     ensures small { result ≤ 2 ^ 54 }
@@ -59,7 +59,7 @@ pub fn tree_sectors(shape: &Shape) -> u64
     shape.area_end() * u64::from(shape.hash_block() / 512)
 }
 
-/// How many sectors hash block 0 and the tree take.
+/// Returns the number of sectors of hash block 0 and the tree.
 pub fn image_sectors(shape: &Shape) -> u64
     ensures { result ≡ image_sectors shape.now }
 {
@@ -67,14 +67,14 @@ pub fn image_sectors(shape: &Shape) -> u64
     (1 + shape.area_blocks()) * sectors
 }
 
-/// Whether two digests are the same.
+/// Returns whether two digests are equal.
 pub fn is_same(a: &Digest, b: &Digest) -> bool
     ensures { result ≡ bytes_eq a.now b.now }
 {
     a == b
 }
 
-/// Reads a block of the size of `block`.
+/// Reads block `index` of the size of `block`.
 #[tactic(auto, unfolding(crate::specs::Blocks::block_at))]
 pub(crate) fn read_block<D: BlockDev>(
     device: &mut D,
@@ -91,7 +91,7 @@ pub(crate) fn read_block<D: BlockDev>(
     Ok(())
 }
 
-/// Reads blocks of that size into `run`, from block `index` on, and writes their digests.
+/// Reads blocks of `size` bytes from block `index` on into `run` and writes their digests to `digests`.
 pub(crate) fn read_run<D: BlockDev>(
     device: &mut D,
     salt: &Salt,

@@ -1,4 +1,4 @@
-//! Reading a data block with the hash blocks on the way to it.
+//! Reading a data block with the hash blocks on its path.
 ghost use Rattle.std.specs.Prelude.{◌≡◌, ◌+◌, ◌<◌, ◌≤◌, OnOk, OnErr, IfOk, IfErr, All, length};
 ghost use Rattle.allocation.specs.Refusal.{IsOutOfMemory};
 ghost use Rattle.block_device.specs.Device.{HasFailed};
@@ -15,13 +15,13 @@ use std::alloc::Global;
 use thiserror::Error;
 use tree_shape::Shape;
 
-/// Why a chain was not read.
+/// Why a chain wasn't read.
 #[derive(Clone, Copy, Debug, PartialEq, Eq, Error)]
 pub enum ChainFault {
     /// One of the two devices failed in the call.
     #[error("Device")]
     Device,
-    /// An allocation was refused.
+    /// An allocation failed.
     #[error("NoMemory")]
     NoMemory,
 }
@@ -46,9 +46,14 @@ impl From<OutOfMemory> for ChainFault {
     }
 }
 
-/// Reads a data block and the hash blocks on the way to it as they stand, unchecked. `index` counts data blocks.
+/// Reads data block `index` and the hash blocks on its path, without verifying them.
 ///
-/// All memory is taken before the first read.
+/// All memory is allocated before the first read.
+///
+/// # Errors
+///
+/// - `Device` if one of the two devices fails.
+/// - `NoMemory` if an allocation fails; neither device was accessed.
 pub fn read_chain<D: BlockDev, H: BlockDev>(
     alloc: Global,
     data_dev: &mut D,
@@ -75,7 +80,7 @@ pub fn read_chain<D: BlockDev, H: BlockDev>(
     })
 }
 
-// So many blocks of that size.
+// Returns `count` blocks of zeros of `size` bytes.
 fn zero_blocks(alloc: Global, count: u32, size: usize) -> Result<Vec<Vec<u8>>, OutOfMemory>
     ensures count { IfOk result (λ v. length v.items ≡ count) }
     ensures sized { IfOk result (λ v. All (λ b. length b.items ≡ size) v.items) }

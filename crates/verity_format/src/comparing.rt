@@ -1,4 +1,4 @@
-//! Hash blocks compared with those that stand on a device.
+//! Comparing hash blocks with those stored on a device.
 ghost use Rattle.std.specs.Prelude.{◌≡◌, OnErr, IfOk, IfErr, length};
 ghost use Rattle.block_device.specs.Device.{HasFailed};
 ghost use Rattle.hash_tree.specs.Placing.{lesser};
@@ -15,7 +15,7 @@ use hash_tree::{LevelBuilder, Placed};
 use std::alloc::Global;
 use tree_shape::{Digest, Salt, Shape};
 
-/// The lesser of the two numbers.
+/// Returns the smaller of the two numbers.
 fn lesser(least: Option<u64>, block: u64) -> u64
     ensures { result ≡ lesser least block }
 {
@@ -25,7 +25,8 @@ fn lesser(least: Option<u64>, block: u64) -> u64
     }
 }
 
-/// The least number of a block that differs, of one that is known and of these, each read into `block`.
+/// Compares blocks with those stored on the device, which are read into `block`. Returns the smallest number of a
+/// block that differs, including `least`.
 fn compare_blocks<H: BlockDev>(
     hash_dev: &mut H,
     blocks: &[Placed],
@@ -47,8 +48,8 @@ fn compare_blocks<H: BlockDev>(
     Ok(least)
 }
 
-/// The least hash block that differs from the tree over the data device, and the tree's root.
-/// The tree is made and compared level by level.
+/// Returns the first hash block that differs from the tree over the data device, and the root hash of that tree. The
+/// tree is built and compared level by level.
 pub(crate) fn compare_tree<D: BlockDev, H: BlockDev>(
     alloc: Global,
     data_dev: &mut D,

@@ -1,4 +1,4 @@
-//! Reading a superblock.
+//! Reading a superblock from its bytes.
 ghost use Rattle.std.specs.Prelude.{◌≡◌, ◌+◌, ◌≤◌, ◌==◌, ◌↔◌, length, IfOk, IsSome, IfSome, is_some, slice_range, position};
 ghost use Rattle.std.specs.Result.{result_err};
 ghost use Rattle.std.specs.Str.{bytes_eq};
@@ -12,7 +12,7 @@ use crate::Superblock;
 use thiserror::Error;
 use tree_shape::{Algorithm, Salt, Shape, is_block_size};
 
-/// The first field that is wrong, in the order in which the fields are looked at.
+/// The first wrong field of a superblock, in the order of the checks.
 #[derive(Clone, Copy, Debug, PartialEq, Eq, Error)]
 #[error("{}", self.name())]
 pub enum SuperFault {
@@ -22,27 +22,27 @@ pub enum SuperFault {
     Version = 2,
     /// The hash type is not 1.
     HashType = 3,
-    /// The algorithm, up to its first zero byte, is not `sha256`.
+    /// The algorithm's name, up to its first zero byte, is not `sha256`.
     Algorithm = 4,
-    /// The data block size is none of 512, 1024, 2048 and 4096.
+    /// The data block size is not 512, 1024, 2048 or 4096.
     DataBlockSize = 5,
-    /// The hash block size is none of 512, 1024, 2048 and 4096.
+    /// The hash block size is not 512, 1024, 2048 or 4096.
     HashBlockSize = 6,
-    /// There is no data block, or the data or the tree ends beyond 2^54 sectors.
+    /// There is no data block, or the data or the tree ends after 2^54 sectors.
     DataBlocks = 7,
     /// The salt has more than 256 bytes.
     SaltSize = 8,
 }
 
 impl SuperFault {
-    /// Its number in printed text.
+    /// Returns the number in printed output.
     pub fn number(self) -> u8
         ensures { result ≡ super_number self }
     {
         self as u8
     }
 
-    /// Its name in printed text.
+    /// Returns the name in printed output.
     pub fn name(self) -> &'static str
         ensures { result.now ≡ super_name self }
     {
@@ -59,18 +59,22 @@ impl SuperFault {
     }
 }
 
-/// The superblock that the bytes carry, or the first field that is wrong.
+/// Returns the superblock that the bytes store.
+///
+/// # Errors
+///
+/// The first wrong field, in the order of `SuperFault`.
 pub fn decode(bytes: &[u8; 512]) -> Result<Superblock, SuperFault>
     ensures ok { IfOk result (λ s. Carries s bytes.now) }
     ensures err { result_err result ≡ super_fault bytes.now }
-    // what carries a superblock is read as that one, and so is what `encode` wrote
+    // bytes that store a superblock are decoded as that superblock, and so are the bytes that `encode` returns
     ensures carried { (s : SuperRecord) → Carries s bytes.now → result ≡ Ok s }
     ensures written { (s : SuperRecord) → IsSuperblock s → bytes.now ≡ spelling s → result ≡ Ok s }
 {
     fields(bytes)
 }
 
-// The record in the fields, or the first field that is wrong.
+// Returns the fields of the superblock, or the first wrong field.
 #[tactic(auto, unfolding(crate::specs::Superblock::super_fault, crate::specs::Superblock::read_of))]
 fn fields(bytes: &[u8; 512]) -> Result<Superblock, SuperFault>
     ensures value { IfOk result (λ s. s ≡ read_of bytes.now) }
@@ -105,7 +109,7 @@ fn fields(bytes: &[u8; 512]) -> Result<Superblock, SuperFault>
     Ok(Superblock::with_shape(uuid_of(bytes), shape, salt))
 }
 
-// The salt, unless it is too long.
+// Returns the salt, or `None` if it is too long.
 fn salt_of(algorithm: Algorithm, bytes: &[u8; 512]) -> Option<Salt>
     ensures found { IsSome result ↔ (field_number16 bytes.now 80 ≤ 256) }
     ensures value { IfSome result (λ s. s ≡ slice_range bytes.now 88 (88 + field_number16 bytes.now 80)) }
@@ -152,14 +156,14 @@ fn number64(bytes: &[u8], at: usize) -> u64
     u64::from_le_bytes(number)
 }
 
-// The algorithm that the field names up to its first zero byte.
+// Returns the algorithm named by the field up to its first zero byte.
 fn algorithm_of(field: &[u8]) -> Option<Algorithm>
     ensures { is_some result ≡ bytes_eq (before_first (λ b. b == 0) field.now) (algorithm_name Sha256) }
 {
     Algorithm::named(before_zero(field))
 }
 
-// What stands before the first zero byte, or all where there is none.
+// Returns the bytes before the first zero byte, or all if there is none.
 fn before_zero(field: &[u8]) -> &[u8]
     ensures { result.now ≡ before_first (λ b. b == 0) field.now }
 {

@@ -1,4 +1,4 @@
-//! Making a hash image over a data image.
+//! Formatting: writing the hash image of a data image.
 ghost use Rattle.std.specs.Prelude.{◌≡◌, IfOk, IfErr, OnErr, length};
 ghost use Rattle.allocation.specs.Refusal.{IsOutOfMemory};
 ghost use Rattle.verity_format.specs.Image.{first_block};
@@ -18,31 +18,31 @@ use std::alloc::Global;
 use thiserror::Error;
 use tree_shape::{Digest, Salt, Shape};
 
-/// Why nothing was formatted, or not all of it.
+/// Why formatting was refused or didn't complete.
 #[derive(Clone, Copy, Debug, PartialEq, Eq, Error)]
 pub enum FormatFault {
-    /// There is no tree of such a shape.
+    /// The shape of the tree is invalid.
     #[error("Shape")]
     Shape,
-    /// The data device has fewer sectors than the data blocks.
+    /// The data device is smaller than the data blocks.
     #[error("DataTooSmall")]
     DataTooSmall,
-    /// The hash device has fewer sectors of 512 bytes than are needed.
+    /// The hash device has fewer sectors of 512 bytes than `needed`.
     #[error("HashTooSmall needed {needed}")]
     HashTooSmall { needed: u64 },
-    /// The hash device may not be written.
+    /// The hash device is read-only.
     #[error("HashReadOnly")]
     HashReadOnly,
     /// One of the two devices failed in the call.
     #[error("Device")]
     Device,
-    /// An allocation was refused.
+    /// An allocation failed.
     #[error("NoMemory")]
     NoMemory,
 }
 
 impl FormatFault {
-    /// Its number in printed text.
+    /// Returns the number in printed output.
     pub fn number(self) -> u8
         ensures { result ≡ format_number self }
     {
@@ -56,7 +56,7 @@ impl FormatFault {
         }
     }
 
-    /// Its name in printed text.
+    /// Returns the name in printed output.
     pub fn name(self) -> &'static str
         ensures { result.now ≡ format_name self }
     {
@@ -104,25 +104,31 @@ impl From<TreeFault> for FormatFault {
     }
 }
 
-/// Formats the hash device over the data device: the superblock, zeros up to hash block 1, and the tree.
-/// Gives the root digest.
+/// Formats the hash device for the data device: writes the superblock, zeros up to hash block 1, and the tree.
+/// Returns the root hash.
 ///
-/// The data device is read once, in runs, and never written. The tree is written first, level by level with one
-/// block of each level in memory, and hash block 0 with the superblock last. So after `Device` or `NoMemory` no new
-/// superblock stands over an unfinished tree, unless the write of hash block 0 itself failed; then the whole tree
-/// stands. A superblock of an earlier format stays until it is overwritten. Nothing is synced: a device that holds
-/// writes back may write hash block 0 first.
+/// The data device is read once, in runs, and never written. The tree is written first, level by level, with one
+/// block of each level in memory. Hash block 0 with the superblock is written last. After `Device` or `NoMemory`
+/// there is no new superblock, unless the write of hash block 0 itself failed; then the whole tree has been written.
+/// The superblock of an earlier format stays until it is overwritten. Nothing is synced: a device with a write cache
+/// may store hash block 0 first.
+///
+/// # Errors
+///
+/// - `DataTooSmall`, `HashTooSmall` or `HashReadOnly`, the first that applies; neither device was accessed.
+/// - `Device` if one of the two devices fails.
+/// - `NoMemory` if an allocation fails.
 pub fn format<D: BlockDev, H: BlockDev>(
     alloc: Global,
     data_dev: &mut D,
     hash_dev: &mut H,
     params: Superblock,
 ) -> Result<Digest, FormatFault>
-    // also which calls these were, whatever the devices are
+    // also states all calls, whatever the devices do
     ensures devices { MovesImage D.state D.does H.state H.does params data_dev.old hash_dev.old data_dev.new hash_dev.new result }
     ensures ok { IfOk result (Formats D.state H.state params data_dev.old hash_dev.old data_dev.new hash_dev.new) }
     ensures err { IfErr result (FormatEnds D.state H.state params data_dev.old hash_dev.old data_dev.new hash_dev.new) }
-    // where a refusal applies it is answered, and neither device was asked
+    // a refusal that applies is returned, and neither device was accessed
     ensures refused { RefusesFormat D.state H.state params data_dev.old hash_dev.old data_dev.new hash_dev.new result }
 {
     let shape = params.shape();
@@ -133,22 +139,27 @@ pub fn format<D: BlockDev, H: BlockDev>(
     Ok(root)
 }
 
-/// The parts of a superblock that is to be formatted.
+/// The options of formatting: the fields of the superblock.
 #[derive(Clone, Copy)]
 pub struct FormatOptions {
-    /// The identifier, in the order of its text.
+    /// The UUID in the byte order of its text form.
     pub uuid: [u8; 16],
     /// The size of a data block in bytes: 512, 1024, 2048 or 4096.
     pub data_block: u32,
-    /// The size of a hash block in bytes, of the same four.
+    /// The size of a hash block in bytes: 512, 1024, 2048 or 4096.
     pub hash_block: u32,
-    /// How many data blocks; `None` stands for all whole blocks of the data device.
+    /// The number of data blocks; `None` means all whole blocks of the data device.
     pub blocks: Option<u64>,
-    /// What each block's digest begins with.
+    /// The salt that is hashed before each block.
     pub salt: Salt,
 }
 
-/// Formats as `format` does, with a superblock of these parts.
+/// Formats as `format` does, with a superblock of these options.
+///
+/// # Errors
+///
+/// Those of `format` and, before all others, `Shape` if the shape of the tree is invalid; then neither device was
+/// accessed.
 pub fn format_with<D: BlockDev, H: BlockDev>(
     alloc: Global,
     data_dev: &mut D,
@@ -172,7 +183,8 @@ pub fn format_with<D: BlockDev, H: BlockDev>(
     }
 }
 
-/// The number of data blocks that is given, or that of all whole blocks of that size, in bytes, in so many sectors.
+/// Returns the number of data blocks if it is given, or the number of whole blocks of `size` bytes in `sectors`
+/// sectors.
 pub fn given_blocks(blocks: Option<u64>, size: u32, sectors: u64) -> u64
     ensures { result ≡ given_blocks blocks size sectors }
 {
@@ -182,7 +194,7 @@ pub fn given_blocks(blocks: Option<u64>, size: u32, sectors: u64) -> u64
     }
 }
 
-// How many blocks of that size there are in so many sectors.
+// Returns the number of whole blocks of `size` bytes in `sectors` sectors.
 fn whole_blocks(sectors: u64, size: u32) -> u64
     ensures { result ≡ whole_blocks sectors size }
 {
@@ -192,7 +204,7 @@ fn whole_blocks(sectors: u64, size: u32) -> u64
     sectors / u64::from(size / 512)
 }
 
-// Hash block 0: the superblock, and zeros.
+// Returns hash block 0: the superblock padded with zeros.
 fn encoded_block(alloc: Global, params: &Superblock) -> Result<Vec<u8>, OutOfMemory>
     ensures value { IfOk result (λ v. v.items ≡ first_block params.now) }
     ensures size { IfOk result (λ v. length v.items ≡ params.now.hash_block) }

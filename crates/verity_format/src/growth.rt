@@ -1,4 +1,4 @@
-//! A tree made of a device's data blocks, run by run.
+//! A tree that is built from a device's data blocks, run by run.
 ghost use Rattle.std.specs.Prelude.{IfOk, IfErr, length};
 ghost use Rattle.block_device.specs.Call.{DeviceDoes};
 ghost use Rattle.verity_format.specs.Access.{IsTreeCause};
@@ -14,10 +14,10 @@ use hash_tree::{LevelBuilder, Placed};
 use std::alloc::Global;
 use tree_shape::{Digest, Salt, Shape};
 
-/// How many bytes of the data are read in one call.
+/// The number of bytes of data that are read in one call.
 pub(crate) const RUN: usize = 1 << 16;
 
-/// Reads the next data blocks, as many as fit `run`, and gives the hash blocks that their digests complete.
+/// Reads the next data blocks, as many as fit `run`, and returns the hash blocks that their digests complete.
 pub(crate) fn take_run<D: BlockDev>(
     alloc: Global,
     device: &mut D,

@@ -1,4 +1,4 @@
-//! Verity images: the superblock, making a hash image over a data image, and checking one.
+//! Verity images: the superblock, formatting a hash image for a data image, and verifying one.
 #![tactic(auto)]
 
 mod access;

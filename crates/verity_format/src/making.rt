@@ -1,4 +1,4 @@
-//! Making a tree over a data image.
+//! Writing a tree over a data image.
 ghost use Rattle.std.specs.Prelude.{◌≡◌, IfErr, IfOk};
 ghost use Rattle.std.specs.Result.{result_err};
 ghost use Rattle.block_device.specs.Call.{DeviceDoes};
@@ -14,15 +14,17 @@ use block_device::BlockDev;
 use std::alloc::Global;
 use tree_shape::{Digest, Shape};
 
-/// Writes the tree over the data device to the hash device, from hash block `tree.shape.start()` on, and returns its root hash.
+/// Writes the tree over the data device to the hash device, from hash block `tree.shape.start()` on, and returns its
+/// root hash.
 ///
-/// The data device is read once, in runs, and never written. The tree is written level by level with one block of each level
-/// in memory. Nothing is synced.
+/// The data device is read once, in runs, and never written. The tree is written level by level, with one block of
+/// each level in memory. Nothing is synced.
 ///
 /// # Errors
 ///
-/// `DataTooSmall`, `HashTooSmall` or `HashReadOnly`, in this order, before either device is accessed; `Device` if one of the two
-/// devices fails; `NoMemory` if an allocation fails.
+/// - `DataTooSmall`, `HashTooSmall` or `HashReadOnly`, the first that applies; neither device was accessed.
+/// - `Device` if one of the two devices fails.
+/// - `NoMemory` if an allocation fails.
 pub fn make_tree<D: BlockDev, H: BlockDev>(
     alloc: Global,
     data_dev: &mut D,
@@ -32,7 +34,7 @@ pub fn make_tree<D: BlockDev, H: BlockDev>(
     ensures devices { MovesTree D.state H.state tree.now.shape data_dev.old hash_dev.old data_dev.new hash_dev.new }
     ensures ok { IfOk result (BuildsTree D.state H.state tree.now data_dev.old hash_dev.old data_dev.new hash_dev.new) }
     ensures err { IfErr result (FailsToBuildTree D.state H.state tree.now data_dev.old hash_dev.old data_dev.new hash_dev.new) }
-    // which calls these were, whatever the devices are
+    // states all calls, whatever the devices do
     ensures handed { HandsTreeOver (DeviceDoes D.state D.does) (DeviceDoes H.state H.does) tree.now.shape tree.now.salt data_dev.old hash_dev.old data_dev.new hash_dev.new result }
 {
     check_room(data_dev, hash_dev, &tree.shape, tree_sectors(&tree.shape))?;
@@ -40,7 +42,15 @@ pub fn make_tree<D: BlockDev, H: BlockDev>(
     Ok(root)
 }
 
-/// Whether the data device has the data blocks, and the hash device so many sectors that may be written.
+/// Checks the sizes of both devices and that the hash device is writable.
+///
+/// # Errors
+///
+/// The first that applies, in this order:
+///
+/// - `DataTooSmall` if the data device is smaller than the data blocks.
+/// - `HashTooSmall` if the hash device has fewer than `needed` sectors.
+/// - `HashReadOnly` if the hash device is read-only.
 pub fn check_room<D: BlockDev, H: BlockDev>(
     data_dev: &D,
     hash_dev: &H,

@@ -1,4 +1,4 @@
-//! The superblock, and how it is written.
+//! The superblock and its encoding.
 ghost use Rattle.std.specs.Prelude.{◌≡◌, ◌+◌, ◌≤◌, ◌++◌, length, take, drop, IfOk};
 ghost use Rattle.std.specs.Result.{result_err};
 ghost use Rattle.tree_shape.specs.Shape.{IsShape, first_fault};
@@ -9,8 +9,8 @@ use crate::VerityTree;
 use std::marker::Model;
 use tree_shape::{Salt, Shape, ShapeFault};
 
-/// What stands before the tree of a hash image: an identifier, the block sizes in bytes, the number of
-/// data blocks, and the salt. The tree begins at hash block 1.
+/// The superblock at the beginning of a hash image: a UUID, the block sizes in bytes, the number of data blocks, and
+/// the salt. The tree begins at hash block 1.
 #[derive(Clone, Copy)]
 pub struct Superblock {
     uuid: [u8; 16],
@@ -35,7 +35,11 @@ impl Model for Superblock {
 }
 
 impl Superblock {
-    /// The superblock of these parts, or the first fault of its tree's shape.
+    /// Returns the superblock with these fields.
+    ///
+    /// # Errors
+    ///
+    /// The first fault of the tree's shape.
     pub fn new(
         uuid: [u8; 16],
         data_block: u32,
@@ -50,7 +54,7 @@ impl Superblock {
         Ok(Superblock::with_shape(uuid, shape, salt))
     }
 
-    // The superblock of a tree that begins at hash block 1.
+    // Returns the superblock of a tree that begins at hash block 1.
     pub(crate) fn with_shape(uuid: [u8; 16], shape: Shape, salt: Salt) -> Superblock
         requires start { shape.start ≡ 1 }
         requires valid { IsShape shape }
@@ -59,7 +63,7 @@ impl Superblock {
         Superblock { uuid, shape, salt }
     }
 
-    /// The identifier, in the order of its text.
+    /// Returns the UUID in the byte order of its text form.
     pub fn uuid(&self) -> [u8; 16]
         ensures value { result ≡ self.now.uuid }
         ensures size { length self.now.uuid ≡ 16 }
@@ -67,35 +71,35 @@ impl Superblock {
         self.uuid
     }
 
-    /// The size of a data block in bytes.
+    /// Returns the size of a data block in bytes.
     pub fn data_block(&self) -> u32
         ensures { result ≡ self.now.data_block }
     {
         self.shape.data_block()
     }
 
-    /// The size of a hash block in bytes.
+    /// Returns the size of a hash block in bytes.
     pub fn hash_block(&self) -> u32
         ensures { result ≡ self.now.hash_block }
     {
         self.shape.hash_block()
     }
 
-    /// How many data blocks there are.
+    /// Returns the number of data blocks.
     pub fn blocks(&self) -> u64
         ensures { result ≡ self.now.blocks }
     {
         self.shape.blocks()
     }
 
-    /// What each block's digest begins with.
+    /// Returns the salt that is hashed before each block.
     pub fn salt(&self) -> Salt
         ensures { result ≡ self.now.salt }
     {
         self.salt
     }
 
-    /// The shape of the tree, which begins at hash block 1.
+    /// Returns the shape of the tree, which begins at hash block 1.
     pub fn shape(&self) -> Shape
         ensures value { result ≡ shape_of self.now }
         ensures valid { IsShape (shape_of self.now) }
@@ -103,7 +107,7 @@ impl Superblock {
         self.shape
     }
 
-    /// The tree after the superblock, which begins at hash block 1.
+    /// Returns the tree that follows the superblock, from hash block 1 on.
     pub fn tree(&self) -> VerityTree
         ensures value { result ≡ superblock_tree self.now }
         ensures valid { IsShape (shape_of self.now) }
@@ -114,7 +118,7 @@ impl Superblock {
         }
     }
 
-    /// The tree of the same parts without a superblock before it, which begins at hash block 0.
+    /// Returns the tree with the same fields without a superblock before it, from hash block 0 on.
     pub fn tree_alone(&self) -> VerityTree
         ensures value { result ≡ tree_alone self.now }
         ensures valid { IsShape (tree_alone self.now).shape }
@@ -130,7 +134,8 @@ impl Superblock {
         }
     }
 
-    /// The 512 bytes at the beginning of a hash image. Every byte that no field uses is zero.
+    /// Returns the 512 bytes that store the superblock at the beginning of a hash image. Bytes outside all fields are
+    /// zero.
     pub fn encode(&self) -> [u8; 512]
         ensures value { result ≡ spelling self.now }
         ensures carried { Carries self.now result }
@@ -154,7 +159,7 @@ impl Superblock {
     }
 }
 
-// Writes the part at that place.
+// Writes `part` at offset `at`.
 pub(crate) fn put(bytes: &mut [u8], at: usize, part: &[u8])
     requires { at + length part.now ≤ length bytes.old }
     ensures { bytes.new ≡ take at bytes.old ++ part.now ++ drop (at + length part.now) bytes.old }

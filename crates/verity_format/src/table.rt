@@ -1,4 +1,4 @@
-//! The line of a table that opens a verity image.
+//! The table line that opens a verity image.
 ghost use Rattle.std.specs.Prelude.{◌≡◌, ◌≤◌, ◌+◌, IfErr, IfOk, OnErr, length};
 ghost use Rattle.allocation.specs.Asked.{asked};
 ghost use Rattle.allocation.specs.Refusal.{IsOutOfMemory};
@@ -12,11 +12,12 @@ use std::alloc::{AllocError, Global};
 use table_text::print_line;
 use tree_shape::Digest;
 
-/// The table line of the image, `0 N verity 1 DATA HASH ..`, without a newline.
+/// Returns the table line of the image, `0 N verity 1 DATA HASH ..`, without a newline. The tree begins at hash block
+/// 1.
 ///
 /// # Errors
 ///
-/// An allocation of room for at most as many bytes as the names and the line have was refused.
+/// `AllocError` if an allocation of at most the length of the names and the line fails.
 pub fn table_line(
     alloc: Global,
     superblock: &Superblock,
@@ -30,11 +31,11 @@ pub fn table_line(
     table_line_at(alloc, superblock, data_name, hash_name, root, 1)
 }
 
-/// The table line of an image whose tree begins at block `start` of the hash device, counted in hash blocks from 0, without a newline.
+/// Returns the table line of an image whose tree begins at hash block `start` of the hash device, without a newline.
 ///
 /// # Errors
 ///
-/// An allocation of room for at most as many bytes as the names and the line have was refused.
+/// `AllocError` if an allocation of at most the length of the names and the line fails.
 pub fn table_line_at(
     alloc: Global,
     superblock: &Superblock,

@@ -1,8 +1,8 @@
-//! What a hash tree is, whatever lies before it on its device.
+//! A hash tree with or without a superblock before it.
 use tree_shape::{Salt, Shape};
 
-/// A tree's shape, and what each block's digest begins with. The tree begins at hash block `shape.start()` of its device: 1 after a
-/// superblock, 0 without one.
+/// The shape of a tree, and the salt that is hashed before each block. The tree begins at hash block `shape.start()`
+/// of its device: 1 after a superblock, 0 without one.
 #[derive(Clone, Copy)]
 pub struct VerityTree {
     pub shape: Shape,

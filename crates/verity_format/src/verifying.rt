@@ -1,4 +1,4 @@
-//! Comparing a hash image with a data image.
+//! Verifying: comparing a hash image with a data image.
 ghost use Rattle.std.specs.Prelude.{◌≡◌, List, ℕ, OnOk, IfOk, IfErr};
 ghost use Rattle.verity_format.specs.Blocks.{BothOnlyRead, IsOnlyRead, IsFullRead};
 ghost use Rattle.verity_format.specs.FaultNames.{verify_number, verify_name};
@@ -12,36 +12,36 @@ use std::alloc::Global;
 use thiserror::Error;
 use tree_shape::{Digest, Shape};
 
-/// What was found.
+/// The result of a comparison.
 #[derive(Clone, Copy, Debug, PartialEq, Eq)]
 pub enum Verdict {
-    /// The tree over the data stands on the hash device, and its root is the one given.
+    /// The hash device stores the tree over the data, and its root hash is the expected one.
     Matches,
-    /// The tree stands there, and its root is another one.
+    /// The hash device stores the tree over the data, but its root hash is not the expected one.
     RootDiffers,
-    /// The least hash block that differs, counted from the beginning of the hash device.
+    /// The first hash block that differs, numbered from the beginning of the hash device.
     AreaDiffers(u64),
 }
 
-/// Why the devices were not compared.
+/// Why the devices weren't compared.
 #[derive(Clone, Copy, Debug, PartialEq, Eq, Error)]
 pub enum VerifyFault {
-    /// The hash device does not begin with a superblock.
+    /// The hash device doesn't begin with a superblock.
     #[error(transparent)]
     Super(SuperFault),
-    /// There is no sector for the superblock, or the data or the tree goes past its device.
+    /// There is no sector for the superblock, or the data or the tree ends after its device.
     #[error("TooSmall")]
     TooSmall,
     /// One of the two devices failed in the call.
     #[error("Device")]
     Device,
-    /// An allocation was refused.
+    /// An allocation failed.
     #[error("NoMemory")]
     NoMemory,
 }
 
 impl VerifyFault {
-    /// Its number in printed text; of a superblock's fault that one's.
+    /// Returns the number in printed output. For `Super` it is that of the superblock's fault.
     pub fn number(self) -> u8
         ensures { result ≡ verify_number self }
     {
@@ -53,7 +53,7 @@ impl VerifyFault {
         }
     }
 
-    /// Its name in printed text; of a superblock's fault that one's.
+    /// Returns the name in printed output. For `Super` it is that of the superblock's fault.
     pub fn name(self) -> &'static str
         ensures { result.now ≡ verify_name self }
     {
@@ -99,10 +99,17 @@ impl From<TreeFault> for VerifyFault {
     }
 }
 
-/// Compares the tree over the data device with the one on the hash device, and its root with the one given.
+/// Compares the tree over the data device with the one on the hash device, and its root hash with `root`.
 ///
-/// The tree is made level by level, with one block of each level in memory. All data and all hash blocks of the
-/// tree are read, each once. What stands between the superblock and hash block 1 is not compared.
+/// The tree is built level by level, with one block of each level in memory. All data blocks and all hash blocks of
+/// the tree are read, each once. The bytes between the superblock and hash block 1 are not compared.
+///
+/// # Errors
+///
+/// - `Super` with the first wrong field of the superblock.
+/// - `TooSmall` if there is no sector for the superblock, or the data or the tree ends after its device.
+/// - `Device` if one of the two devices fails.
+/// - `NoMemory` if an allocation fails.
 pub fn verify<D: BlockDev, H: BlockDev>(
     alloc: Global,
     data_dev: &mut D,
@@ -118,13 +125,14 @@ pub fn verify<D: BlockDev, H: BlockDev>(
     verify_tree(alloc, data_dev, hash_dev, &superblock.tree(), root)
 }
 
-/// Compares the tree over the data device with the one on the hash device from hash block `tree.shape.start()` on, and its root
-/// with the one given, as `verify` does. Nothing before the tree is read.
+/// Compares the tree over the data device with the one on the hash device from hash block `tree.shape.start()` on,
+/// and its root hash with `root`, as `verify` does. Nothing before the tree is read.
 ///
 /// # Errors
 ///
-/// `TooSmall` if the data or the tree goes past its device, before either is read; `Device` if one of the two devices fails;
-/// `NoMemory` if an allocation fails.
+/// - `TooSmall` if the data or the tree ends after its device; neither device was read.
+/// - `Device` if one of the two devices fails.
+/// - `NoMemory` if an allocation fails.
 pub fn verify_tree<D: BlockDev, H: BlockDev>(
     alloc: Global,
     data_dev: &mut D,
@@ -149,8 +157,13 @@ pub fn verify_tree<D: BlockDev, H: BlockDev>(
     Ok(Verdict::Matches)
 }
 
-/// The superblock at the beginning of the hash device. It is refused as `verify` refuses it: the first wrong
-/// field, or `TooSmall` where there is no sector.
+/// Reads the superblock at the beginning of the hash device.
+///
+/// # Errors
+///
+/// - `Super` with the first wrong field.
+/// - `TooSmall` if the device has no sector.
+/// - `Device` if the device fails.
 pub fn read_superblock<H: BlockDev>(hash_dev: &mut H) -> Result<Superblock, VerifyFault>
     ensures read { IsOnlyRead (H.state hash_dev.old) (H.state hash_dev.new) }
     ensures found { IfOk result (λ s. (sector : List ℕ) × IsReadFrom (H.state hash_dev.old) sector s) }
@@ -165,7 +178,7 @@ pub fn read_superblock<H: BlockDev>(hash_dev: &mut H) -> Result<Superblock, Veri
     Ok(decode(&sector)?)
 }
 
-// Whether the data or the tree goes past its device.
+// Returns whether the data or the tree ends after its device.
 fn is_too_small<D: BlockDev, H: BlockDev>(data_dev: &D, hash_dev: &H, shape: &Shape) -> bool
     ensures { result ≡ is_too_small shape.now (D.state data_dev.now) (H.state hash_dev.now) }
 {

@@ -1,4 +1,4 @@
-//! A tree written as it grows.
+//! A tree that is written while it is built.
 ghost use Rattle.std.specs.Prelude.{OnOk, OnErr, IfOk, IfErr, is_ok};
 ghost use Rattle.block_device.specs.Call.{DeviceDoes};
 ghost use Rattle.block_device.specs.Device.{HasFailed};
@@ -14,7 +14,7 @@ use hash_tree::{LevelBuilder, Placed};
 use std::alloc::Global;
 use tree_shape::{Digest, Salt, Shape};
 
-/// Writes the blocks, each at its place.
+/// Writes the blocks, each at its offset.
 fn write_blocks<H: BlockDev>(
     hash_dev: &mut H,
     size: usize,
@@ -33,7 +33,7 @@ fn write_blocks<H: BlockDev>(
     Ok(())
 }
 
-/// Writes the tree over the data device level by level, from its first hash block on, and gives its root.
+/// Writes the tree over the data device level by level, from its first hash block on, and returns its root hash.
 pub(crate) fn write_tree<D: BlockDev, H: BlockDev>(
     alloc: Global,
     data_dev: &mut D,

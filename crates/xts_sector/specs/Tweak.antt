@@ -19,7 +19,7 @@ product_byte a k = bit_xor (2 * (slice_index a k % 128)) (if k == 0 then 135 * (
 unfoldable pub times_alpha : List ℕ → List ℕ
 times_alpha a = map (product_byte a) (range_with_len 0 16)
 
--- the product of a block by the power j of α
+-- the product of a block by α^j
 abbrev pub times_alpha_power : ℕ → List ℕ → List ℕ
 times_alpha_power zero a = a
 times_alpha_power (suc j) a = times_alpha (times_alpha_power j a)

@@ -1,4 +1,4 @@
-//! Decryption of a unit under one AES key (IEEE 1619-2007, 5.4).
+//! Decryption of a unit with one AES key (IEEE 1619-2007, 5.4).
 
 ghost use Rattle.std.specs.Prelude.{◌≡◌, ℕ, ◌/◌, ◌%◌, ◌<◌, ◌≤◌, length};
 ghost use Rattle.aes_block.specs.Blocks.{block};
@@ -9,7 +9,7 @@ use crate::masks::{Masks, PART, add_masks, make_masks};
 use crate::tweak::Block;
 use aes_lanes::LanesKey;
 
-/// Decrypts at most 32 blocks. The tweak of block j is mask j.
+/// Decrypts at most 32 blocks. Mask j is the tweak of block j.
 fn decrypt_part(key: &LanesKey, masks: &Masks, blocks: &mut [u8])
     requires { (length blocks.old % 16 ≡ 0) × (length blocks.old ≤ PART) }
     ensures value { blocks.new ≡ decrypted_blocks key.now (block masks.now) blocks.old }
@@ -21,7 +21,7 @@ fn decrypt_part(key: &LanesKey, masks: &Masks, blocks: &mut [u8])
     add_masks(blocks, masks);
 }
 
-/// Decrypts a unit of whole blocks, whose first block has the tweak `first`.
+/// Decrypts a unit of whole blocks in place. `first` is the tweak of its first block.
 pub fn decrypt_blocks(key: &LanesKey, first: &Block, unit: &mut [u8])
     requires { length unit.old % 16 ≡ 0 }
     ensures value { unit.new ≡ decrypted_blocks key.now (λ j. times_alpha_power j first.now) unit.old }

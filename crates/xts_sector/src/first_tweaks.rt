@@ -1,4 +1,4 @@
-//! The tweaks of the first blocks of units: their numbers enciphered (IEEE 1619-2007, 5.3.1), sixteen at once.
+//! The tweaks of the first blocks of units: their encrypted numbers (IEEE 1619-2007, 5.3.1), sixteen at once.
 
 ghost use Rattle.std.specs.Prelude.{◌≡◌, ℕ, ◌*◌, ◌%◌, ◌<◌, ◌≤◌, length, slice_index};
 ghost use Rattle.aes_block.specs.Blocks.{block};
@@ -8,16 +8,16 @@ ghost use Rattle.xts_sector.specs.Tweak.{unit_number};
 use crate::tweak::{Block, unit_number};
 use aes_lanes::LanesKey;
 
-/// The most units whose numbers are enciphered at once.
+/// The largest number of units whose numbers are encrypted at once.
 pub const AT_ONCE: usize = 16;
 
-/// From so many numbers on it is faster to encipher sixteen blocks at once than each by itself.
+/// From this many numbers on, encrypting sixteen blocks at once is faster than encrypting each separately.
 const MANY: usize = 8;
 
-/// The tweaks of the first blocks of sixteen units, one after the other.
+/// The tweaks of the first blocks of sixteen units, stored consecutively.
 pub type FirstTweaks = [u8; 256];
 
-/// The tweak of the first block of the unit of this number.
+/// Returns the tweak of the first block of unit `number`.
 pub fn first_tweak(key: &LanesKey, number: u64) -> Block
     ensures { result ≡ cipher key.now (unit_number number) }
 {
@@ -26,7 +26,7 @@ pub fn first_tweak(key: &LanesKey, number: u64) -> Block
     tweak
 }
 
-/// How many bytes are enciphered for so many numbers.
+/// Returns how many bytes are encrypted for `count` numbers.
 fn enciphered(count: usize) -> usize
     requires { count ≤ AT_ONCE }
     ensures { (16 * count ≤ result) × (result ≤ 256) × (result % 16 ≡ 0) }
@@ -34,7 +34,7 @@ fn enciphered(count: usize) -> usize
     if count < MANY { 16 * count } else { 256 }
 }
 
-/// Writes the numbers of units, one after the other.
+/// Writes the numbers of units, consecutively, 16 bytes each.
 fn put_numbers(numbers: &[u64], blocks: &mut FirstTweaks)
     requires { length numbers.now ≤ AT_ONCE }
     ensures { (j : ℕ) → j < length numbers.now → block blocks.new j ≡ unit_number (slice_index numbers.now j) }
@@ -45,7 +45,7 @@ fn put_numbers(numbers: &[u64], blocks: &mut FirstTweaks)
     }
 }
 
-/// Makes the tweaks of the first blocks of the units of these numbers.
+/// Writes the tweaks of the first blocks of the units with these numbers, at most 16.
 pub fn make_first_tweaks(key: &LanesKey, numbers: &[u64], tweaks: &mut FirstTweaks)
     requires { length numbers.now ≤ AT_ONCE }
     ensures { (j : ℕ) → j < length numbers.now → block tweaks.new j ≡ cipher key.now (unit_number (slice_index numbers.now j)) }
@@ -54,7 +54,7 @@ pub fn make_first_tweaks(key: &LanesKey, numbers: &[u64], tweaks: &mut FirstTwea
     key.encrypt_blocks(&mut tweaks[..enciphered(numbers.len())]);
 }
 
-/// One of the tweaks.
+/// Returns tweak `j`.
 pub fn tweak_at(tweaks: &FirstTweaks, j: usize) -> Block
     requires { j < AT_ONCE }
     ensures { result ≡ block tweaks.now j }

@@ -1,4 +1,5 @@
-//! XTS-AES on data units of whole blocks (IEEE 1619-2007), over the block cipher of `aes_block`, many blocks at once by `aes_lanes`.
+//! XTS-AES on data units of whole blocks (IEEE 1619-2007), over the block cipher of `aes_block`. `aes_lanes`
+//! processes sixteen blocks at once.
 #![tactic(auto)]
 
 mod decryption;

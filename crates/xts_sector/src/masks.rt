@@ -1,4 +1,4 @@
-//! The tweaks T (IEEE 1619-2007, 5.3.1) of the blocks of a part, here called masks, and their sums with the blocks.
+//! The tweaks T (IEEE 1619-2007, 5.3.1) of the blocks of a part, called masks here, and their addition to the blocks.
 
 ghost use Rattle.std.specs.Prelude.{◌≡◌, ◌≢◌, ℕ, ◌+◌, ◌-◌, ◌*◌, ◌/◌, ◌%◌, ◌<◌, ◌++◌, length};
 ghost use Rattle.aes_block.specs.Blocks.{block, joined};
@@ -9,13 +9,13 @@ ghost use Rattle.xts_sector.specs.Tweak.{number_block, times_alpha_power};
 use crate::tweak::{Block, times_alpha};
 use std::simd::prelude::*;
 
-/// The bytes of a part of a unit. Masks are made for a whole part, also where fewer blocks are left.
+/// The size of a part of a unit in bytes. Masks are computed for a whole part even if fewer blocks remain.
 pub const PART: usize = 512;
 
-/// The masks of the 32 blocks of a part, one after the other.
+/// The masks of the 32 blocks of a part, stored consecutively.
 pub type Masks = [u8; PART];
 
-/// Writes two masks.
+/// Writes two masks, given as a vector.
 #[inline(always)]
 fn write_two_masks(two: u8x32, masks: &mut [u8])
     requires { length masks.old ≡ 32 }
@@ -24,7 +24,7 @@ fn write_two_masks(two: u8x32, masks: &mut [u8])
     two.copy_to_slice(masks);
 }
 
-/// Writes two tweaks.
+/// Writes two masks, given as numbers.
 #[inline(always)]
 fn write_two_tweaks(first: u128, second: u128, masks: &mut [u8])
     requires { length masks.old ≡ 32 }
@@ -38,7 +38,7 @@ fn write_two_tweaks(first: u128, second: u128, masks: &mut [u8])
     write_two_masks(halves.to_le_bytes(), masks);
 }
 
-/// Writes the masks of the first eight blocks, from `first` on.
+/// Writes the masks of the first eight blocks; `first` is the first.
 fn write_first_masks(first: u128, masks: &mut Masks)
     ensures { (j : ℕ) → j < 8 → block masks.new j ≡ times_alpha_power j (number_block first) }
 {
@@ -50,8 +50,8 @@ fn write_first_masks(first: u128, masks: &mut Masks)
     }
 }
 
-/// The products of two masks by α^8 (5.2). The shuffle moves each up by a byte and puts the byte that leaves at the top in below,
-/// which is its product by 1; the shifts add those by x, x^2 and x^7.
+/// Returns the products of two masks by α^8 (5.2). The shuffle rotates each mask by one byte, which adds the product
+/// of the top byte by 1; the shifts add its products by x, x^2 and x^7.
 #[inline(always)]
 fn two_products(masks: &[u8]) -> u8x32
     requires { length masks.now ≡ 32 }
@@ -70,7 +70,7 @@ fn two_products(masks: &[u8]) -> u8x32
     products.to_le_bytes()
 }
 
-/// Writes over the first eight masks those of the eight blocks that come after the last.
+/// Overwrites the first eight masks with those of the eight blocks after the part.
 fn write_next_masks(masks: &mut Masks)
     ensures { (j : ℕ) → j < 8 → block masks.new j ≡ times_alpha_power 8 (block masks.old (24 + j)) }
 {
@@ -80,7 +80,7 @@ fn write_next_masks(masks: &mut Masks)
     }
 }
 
-/// Makes all masks from the first eight, each from the one eight before.
+/// Computes all masks of a part from its first eight.
 fn extend_masks(masks: &mut Masks)
     ensures { masks.new ≡ joined (λ j. times_alpha_power (8 * (j / 8)) (block masks.old (j % 8))) 32 }
 {
@@ -90,8 +90,8 @@ fn extend_masks(masks: &mut Masks)
     }
 }
 
-/// Makes the masks of part `i` of the unit whose first block has the tweak `first`: of part 0 from `first`, of each other from
-/// those of the part before.
+/// Computes the masks of part `i` of the unit whose first block has the tweak `first`. Part 0 is computed from
+/// `first`, any other from the masks of the previous part.
 pub fn make_masks(first: &Block, i: usize, masks: &mut Masks)
     ensures { (i ≢ 0 → HoldMasks first.now (i - 1) masks.old) → HoldMasks first.now i masks.new }
 {
@@ -103,7 +103,7 @@ pub fn make_masks(first: &Block, i: usize, masks: &mut Masks)
     extend_masks(masks);
 }
 
-/// Adds to a block its mask.
+/// Adds a mask to its block.
 #[inline(always)]
 fn add_mask(block: &mut [u8], mask: &[u8])
     requires block { length block.old ≡ 16 }
@@ -114,7 +114,7 @@ fn add_mask(block: &mut [u8], mask: &[u8])
     sum.copy_to_slice(block);
 }
 
-/// Adds to two blocks their masks.
+/// Adds two masks to their blocks.
 #[inline(always)]
 fn add_two_masks(blocks: &mut [u8], masks: &[u8])
     requires blocks { length blocks.old ≡ 32 }
@@ -125,7 +125,7 @@ fn add_two_masks(blocks: &mut [u8], masks: &[u8])
     sum.copy_to_slice(blocks);
 }
 
-/// Adds to each block its mask, two blocks at once.
+/// Adds to each block its mask, two blocks at a time.
 pub fn add_masks(blocks: &mut [u8], masks: &[u8])
     requires same { length masks.now ≡ length blocks.old }
     requires whole { length blocks.old % 16 ≡ 0 }

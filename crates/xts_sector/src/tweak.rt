@@ -6,7 +6,7 @@ ghost use Rattle.xts_sector.specs.Tweak.{unit_number, number_block, times_alpha}
 /// A block of the cipher.
 pub type Block = [u8; 16];
 
-/// The number of a data unit, as 16 bytes in little-endian order (5.1).
+/// Returns the number of a data unit as 16 bytes in little-endian order (5.1).
 pub fn unit_number(unit: u64) -> Block
     ensures { result ≡ unit_number unit }
 {
@@ -15,7 +15,7 @@ pub fn unit_number(unit: u64) -> Block
     number
 }
 
-/// The product of a block by α, the polynomial x (5.2). A block is read as a number in little-endian order.
+/// Returns the product of a block by α, the polynomial x (5.2). The block is a little-endian number.
 #[inline(always)]
 pub fn times_alpha(a: u128) -> u128
     ensures { number_block result ≡ times_alpha (number_block a) }

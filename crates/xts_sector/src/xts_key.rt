@@ -12,7 +12,8 @@ use crate::tweak::Block;
 use aes_lanes::LanesKey;
 use std::marker::Model;
 
-/// A key of 32 or 64 bytes: an AES key for the data, and then one for the tweak. Contracts see it as those bytes.
+/// An XTS-AES key of 32 or 64 bytes: an AES key for the data followed by one for the tweak. Contracts treat it as the
+/// list of its bytes.
 #[derive(Drop)]
 pub struct XtsKey {
     data_key: LanesKey,
@@ -32,7 +33,7 @@ impl Model for XtsKey {
 }
 
 impl XtsKey {
-    /// The key of these bytes; None unless they are 32 or 64.
+    /// Returns the key with these bytes, or `None` unless there are 32 or 64 of them.
     pub fn new(key: &[u8]) -> Option<XtsKey>
         ensures found { IsSome result ↔ IsXtsKeyLength (length key.now) }
         ensures value { IfSome result (λ k. k ≡ key.now) }
@@ -44,7 +45,7 @@ impl XtsKey {
         })
     }
 
-    /// Encrypts the unit of this number in place. A unit of no bytes stays as it is.
+    /// Encrypts unit `number` in place. Its length must be a multiple of 16; an empty unit is unchanged.
     pub fn encrypt(&self, number: u64, unit: &mut [u8])
         requires { length unit.old % 16 ≡ 0 }
         ensures value { unit.new ≡ encrypted self.now number unit.old }
@@ -54,7 +55,7 @@ impl XtsKey {
         encrypt_blocks(&self.data_key, &first, unit);
     }
 
-    /// Decrypts the unit of this number in place. A unit of no bytes stays as it is.
+    /// Decrypts unit `number` in place. Its length must be a multiple of 16; an empty unit is unchanged.
     pub fn decrypt(&self, number: u64, unit: &mut [u8])
         requires { length unit.old % 16 ≡ 0 }
         ensures value { unit.new ≡ decrypted self.now number unit.old }
@@ -64,7 +65,8 @@ impl XtsKey {
         decrypt_blocks(&self.data_key, &first, unit);
     }
 
-    /// Encrypts units of `size` bytes in place, each under its number.
+    /// Encrypts consecutive units of `size` bytes in place, unit i with `numbers[i]`. `size` must be a multiple of
+    /// 16.
     pub fn encrypt_units(&self, numbers: &[u64], size: usize, units: &mut [u8])
         requires size { size % 16 ≡ 0 }
         requires whole { length units.old ≡ size * length numbers.now }
@@ -79,7 +81,8 @@ impl XtsKey {
         }
     }
 
-    /// Decrypts units of `size` bytes in place, each under its number.
+    /// Decrypts consecutive units of `size` bytes in place, unit i with `numbers[i]`. `size` must be a multiple of
+    /// 16.
     pub fn decrypt_units(&self, numbers: &[u64], size: usize, units: &mut [u8])
         requires size { size % 16 ≡ 0 }
         requires whole { length units.old ≡ size * length numbers.now }
@@ -94,7 +97,7 @@ impl XtsKey {
         }
     }
 
-    /// Where sixteen units begin with unit `i`, makes the tweaks of their first blocks.
+    /// Computes the first tweaks of the next sixteen units if unit `i` is the first of such a group.
     fn make_ready(&self, numbers: &[u64], i: usize, tweaks: &mut FirstTweaks)
         requires { i < length numbers.now }
         ensures { (i % 16 ≢ 0 → HoldTweaks self.now numbers.now (i - 1) tweaks.old) → HoldTweaks self.now numbers.now i tweaks.new }
@@ -105,7 +108,7 @@ impl XtsKey {
         }
     }
 
-    /// Encrypts a unit in place, whose first block has this tweak.
+    /// Encrypts a unit in place. `first` is the tweak of its first block.
     fn encrypt_from(&self, first: &Block, unit: &mut [u8])
         requires { length unit.old % 16 ≡ 0 }
         ensures value { (n : ℕ) → first.now ≡ tweak self.now n 0 → unit.new ≡ encrypted self.now n unit.old }
@@ -114,7 +117,7 @@ impl XtsKey {
         encrypt_blocks(&self.data_key, first, unit);
     }
 
-    /// Decrypts a unit in place, whose first block has this tweak.
+    /// Decrypts a unit in place. `first` is the tweak of its first block.
     fn decrypt_from(&self, first: &Block, unit: &mut [u8])
         requires { length unit.old % 16 ≡ 0 }
         ensures value { (n : ℕ) → first.now ≡ tweak self.now n 0 → unit.new ≡ decrypted self.now n unit.old }

@@ -1,4 +1,4 @@
--- `crypt`: the sectors of a unit are decrypted, and encrypted, as one.
+-- `crypt`: the sectors of a unit are encrypted and decrypted together.
 use Rattle.std.specs.Prelude.{◌≡◌, ℕ, Bool, ◌+◌, ◌/◌, ◌%◌, ◌==◌, nat_lt, List, length, if◌then◌else◌}
 use Rattle.std.specs.List.{concat}
 use Rattle.block_device.specs.Device.{sectors_of, spliced}
@@ -11,7 +11,7 @@ use Rattle.stack_meaning.specs.Said.{Said}
 use Rattle.stack_meaning.specs.Putting.{Putting, read_put}
 use Rattle.stack_meaning.specs.TargetMeaning.{TargetMeaning, own}
 
--- Sector s of a `crypt` line: that of its unit decrypted, all of whose sectors are on its way.
+-- sector s of a `crypt` line: that of its decrypted unit; all sectors of the unit are on its path
 abbrev pub crypt_said : (ℕ → Said) → CryptUnits → List ℕ → ℕ → Said
 crypt_said lower units key s =
     let first = unit_first units s in
@@ -25,17 +25,17 @@ crypt_said lower units key s =
       encrypts = Unit {0};
     }
 
--- the sectors of the unit with sector s, encrypted
+-- the sectors of the unit that contains sector s, encrypted
 abbrev pub encrypted_sectors : CryptUnits → List ℕ → ℕ → List ℕ → List (List ℕ)
 encrypted_sectors units key s bytes = sectors_of (per_unit units) (encrypted_unit units key (s / per_unit units) bytes)
 
--- a unit's bytes, as they stand beneath, with sectors from s on in the place of its own
+-- the decrypted bytes of a unit, with the sectors from s on replaced
 abbrev pub changed_unit : CryptUnits → List ℕ → ℕ → List (List ℕ) → List ℕ → List ℕ
 changed_unit units key s sectors bytes =
     concat (spliced (sectors_of (per_unit units) (decrypted_unit units key (s / per_unit units) bytes)) (s % per_unit units) sectors)
 
--- A run of one unit, from its sector s on: all of it is put as it is; of a part, the unit is read, changed and put
--- whole.
+-- a run within one unit, from its sector s on: a whole unit is written directly; for a part, the unit is read,
+-- modified and written as a whole
 abbrev pub unit_put : (Images → ℕ → Outcome) → (ℕ → Putting) → CryptUnits → List ℕ → ℕ → Putting
 unit_put reads puts units key s sectors images =
     if length sectors == per_unit units
@@ -43,7 +43,7 @@ unit_put reads puts units key s sectors images =
     else read_put (span (reads images) (unit_first units s) (per_unit units))
     (λ bytes. puts (unit_first units s) (encrypted_sectors units key s (changed_unit units key s sectors bytes))) images
 
--- sector s and the next one lie in one unit
+-- sector s and the next one are in the same unit
 abbrev pub in_unit : CryptUnits → ℕ → Bool
 in_unit units s = nat_lt (s % per_unit units + 1) (per_unit units)
 

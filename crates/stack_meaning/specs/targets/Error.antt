@@ -1,4 +1,4 @@
--- `error`: a fault, wherever it is read or written.
+-- `error`: all reads and writes fail.
 use Rattle.std.specs.Prelude.{◌≡◌, [], true, Err}
 use Rattle.stack_meaning.specs.Outcomes.{error_target}
 use Rattle.stack_meaning.specs.Said.{Said}

@@ -1,4 +1,4 @@
--- `verity`: data blocks, each checked from the root down.
+-- `verity`: data blocks, each verified from the root hash down.
 use Rattle.std.specs.Prelude.{◌≡◌, ℕ, ◌+◌, ◌/◌, ◌%◌, nat_lt, Bool, List, [], ◌∷◌, Contains, Ok}
 use Rattle.hash_tree.specs.Chain.{ChainRecord, IsGood}
 use Rattle.block_device.specs.Device.{Device}
@@ -12,18 +12,18 @@ use Rattle.stack_meaning.specs.Said.{Said}
 use Rattle.stack_meaning.specs.Putting.{done}
 use Rattle.stack_meaning.specs.TargetMeaning.{TargetMeaning, own}
 
--- a chain that was found at that entry, and is good for that verity line
+-- a chain that was found for this entry, and is valid for this `verity` line
 pub record IsShown (chains : List FoundRecord) (entry : Entry) (v : Verity) (x : FoundRecord) : Type 0 where
   pub given : Contains chains x
   pub at : found_entry x ≡ entry
   pub good : IsGood (tree_of v) v.salt v.root x.chain
 
--- the sector of a chain's content at which sector s of its line stands
+-- the part of a chain's content that is sector s of its line
 abbrev pub content_part : Verity → ℕ → List ℕ → List ℕ
 content_part v s content = part content (s % block_sectors v)
 
--- Sector s of a verity line, the l-th of device d: that of its data block, which is checked from the root down.
--- It may be that of a good chain which was found for it, and no write reaches it.
+-- sector s of a `verity` line, which is line l of device d: that of its data block, verified from the root hash down;
+-- it may be that of a valid chain that was found for it, and no write reaches it
 abbrev pub verity_said : (ℕ → Said) → (ℕ → Said) → ℕ → ℕ → Verity → ℕ → Said
 verity_said on_data on_hash d l v s =
     let i = s / block_sectors v in
@@ -36,7 +36,7 @@ verity_said on_data on_hash d l v s =
       encrypts = ⊥;
     }
 
--- a chain of a verity line on these leaves: it is good, and where they are steady its content is the data block
+-- a chain of a `verity` line over these leaves: it is valid, and if they are steady its content is the data block
 pub record IsOfVerity (on_data on_hash : ℕ → Said) (these : ℕ → Bool) (leaves : List Device) (v : Verity) (chain : ChainRecord) : Type 0 where
   pub good : IsGood (tree_of v) v.salt v.root chain
   pub exact : AreSteady these leaves → verified_block v (λ t. (on_data t).means (steady_images leaves)) (λ t. (on_hash t).means (steady_images leaves)) chain.index ≡ Ok chain.content

@@ -1,4 +1,4 @@
--- `zero`: zeros, and what is written is dropped.
+-- `zero`: reads return zeros, writes are discarded.
 use Rattle.std.specs.Prelude.{◌≡◌, [], true, Ok}
 use Rattle.stack_meaning.specs.Outcomes.{zero_sector}
 use Rattle.stack_meaning.specs.Said.{Said}

@@ -1,4 +1,4 @@
--- `crypt`: units of one device, encrypted there.
+-- `crypt`: encrypted units of one device.
 use Rattle.std.specs.Prelude.{[], ◌∷◌, ◌*◌, ◌%◌, ◌==◌, not, Some}
 use Rattle.dm_table.specs.declared.crypt.Crypt.{Crypt}
 use Rattle.stack_rules.specs.declared.refusal.LoadKind.TheVariants.{UnitDoesntDivide, IvOffset}

@@ -1,4 +1,4 @@
--- `error`: a fault, wherever it is read or written.
+-- `error`: all reads and writes fail.
 use Rattle.stack_rules.specs.TargetRules.{TargetRules, bare}
 
 abbrev pub error : TargetRules

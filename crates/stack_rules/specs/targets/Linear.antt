@@ -1,4 +1,4 @@
--- `linear`: sectors of one device, from its offset on.
+-- `linear`: sectors of one device, from an offset on.
 use Rattle.std.specs.Prelude.{[], ◌∷◌, Some}
 use Rattle.dm_table.specs.declared.table.Base.{Base}
 use Rattle.stack_rules.specs.TargetRules.{TargetRules, bare, range_from}

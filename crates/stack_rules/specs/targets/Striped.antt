@@ -1,5 +1,4 @@
--- `striped`: chunks on some devices in turn. Chunk k is on device k % n of its n devices, as their chunk k / n from
--- the offset on.
+-- `striped`: chunks on n devices in turn. Chunk k is chunk k / n, from the offset on, of device k % n.
 use Rattle.std.specs.Prelude.{ℕ, ◌+◌, ◌*◌, ◌/◌, ◌%◌, ◌==◌, not, List, [], ◌∷◌, length, map, Some}
 use Rattle.dm_table.specs.declared.table.Base.{Base}
 use Rattle.stack_rules.specs.declared.refusal.LoadKind.TheVariants.{StripesDontDivide}

@@ -1,4 +1,4 @@
--- `verity`: data blocks of one device, checked by a tree on another.
+-- `verity`: data blocks of one device, verified with a hash tree on another.
 use Rattle.std.specs.Prelude.{[], ◌∷◌, ◌+◌, ◌*◌, true, nat_lt, Some, None, if◌then◌else◌}
 use Rattle.tree_shape.specs.Digests.{digest}
 use Rattle.dm_table.specs.declared.verity.Verity.{Verity}

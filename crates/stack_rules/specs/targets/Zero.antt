@@ -1,4 +1,4 @@
--- `zero`: zeros, wherever it is read.
+-- `zero`: reads return zeros.
 use Rattle.stack_rules.specs.TargetRules.{TargetRules, bare}
 
 abbrev pub zero : TargetRules
