@@ -1,4 +1,4 @@
-//! The statuses where bytes of a device are read or stored: 1 refused, 3 a fault of the stack.
+//! The exit statuses of `cat` and `store`: 1 for a refusal, 3 for a fault of the stack.
 ghost use Rattle.std.specs.Prelude.{◌≡◌};
 ghost use Rattle.transfer_commands.specs.StreamTexts.{cat_status, store_status};
 
