@@ -59,7 +59,7 @@ pub record IsCatStop (d first count : ℕ) (old new : CatSide) (fault : IoFault)
   pub alike : fault ≢ io.NoMemory → AreAlike old.stack.config d (first + k) n
   pub means : AreSteady (leaves_of old.stack.config (mapped d)) old.stack.leaves → MeansFault (sector old.stack.config (steady_images old.stack.leaves) (mapped d) (first + k)) fault
 
--- why writing stopped early; the last argument but one is whether the writer failed
+-- why writing stopped early; `failed` is whether the writer failed
 abbrev pub IsCatEnd : ℕ → SectorRange → CatSide → CatSide → Bool → CatFault → Type 0
 IsCatEnd d range old new failed Range = (new ≡ old) × (size old.stack.config (mapped d) < range.first + range.count)
 IsCatEnd d range old new failed (Read fault) = IsCatStop d range.first range.count old new fault
