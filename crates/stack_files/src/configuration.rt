@@ -11,7 +11,7 @@ use stack_loader::{config_over, load};
 use std::alloc::Global;
 use table_text::parse_stack;
 
-/// The configuration that a stack file's text makes of the leaves of its bindings.
+/// Returns the configuration that a stack file makes of the bindings' backing devices.
 pub fn open_configuration<'a, I: Images>(
     alloc: Global,
     images: &mut I,
@@ -28,7 +28,7 @@ pub fn open_configuration<'a, I: Images>(
     configuration_of(alloc, leaves, text.bytes.as_slice())
 }
 
-/// The configuration that a stack text makes of leaves.
+/// Returns the configuration that a stack text makes of backing devices.
 pub fn configuration_of<'a>(
     alloc: Global,
     leaves: Vec<Leaf>,
