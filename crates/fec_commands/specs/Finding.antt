@@ -38,7 +38,7 @@ pub record LooksForThree {S D : Type 0} (w : Calls S D) (places : TwoPlaces) (fe
   pub hash_found : FindsFile (record w { old = one; new = two }) places.paths.hash_path false found.hash
   pub parity_found : FindsFile (record w { old = two }) fec.path true found.parity
 
--- whether a file can be created couldn't be tested, so it was created at once
+-- the trial of a path failed, so the file was created at once
 pub record IsMadeAtOnce {S D : Type 0} (w : Calls S D) (path : List ℕ) : Type 0 where
   pub between : S
   pub cause : ReplaceFault
@@ -49,7 +49,7 @@ pub record IsMadeAtOnce {S D : Type 0} (w : Calls S D) (path : List ℕ) : Type 
 abbrev pub CanMake : {S D : Type 0} → Calls S D → List ℕ → Type 0
 CanMake w path = w.relations.tries w.old path (Ok tt) w.new ⊎ IsMadeAtOnce w path
 
--- a file can neither be created nor tested
+-- the trial of a path failed, and the file can't be created
 pub record FailsToMake {S D : Type 0} (w : Calls S D) (path : List ℕ) (file : UnopenedFile) : Type 0 where
   pub between : S
   pub cause : ReplaceFault

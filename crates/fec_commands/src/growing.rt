@@ -32,8 +32,8 @@ fn make_room<'a, I: Images>(
     }
 }
 
-/// Checks that a file can be created at a path. If the check itself isn't possible, the file is created at once, to get the
-/// fault of that.
+/// Checks that a file can be created at a path. If the trial fails, the file is created at once; if this fails too, its fault
+/// is returned.
 pub(crate) fn check_path<'a, I: Images>(
     images: &mut I,
     path: &'a str,

@@ -24,7 +24,7 @@ fn differ(a: Option<u64>, b: Option<u64>) -> bool
     }
 }
 
-// The block size in an option: 4,096 bytes if there is none. Only numbers below 2^32 count.
+// The block size in an option: 4,096 bytes if there is none. `None` if it isn't a number below 2^32.
 fn size_in(word: Option<&str>) -> Option<u64>
     ensures { result ≡ block_size_of (text_of word.entry) }
 {
