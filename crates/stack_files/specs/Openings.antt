@@ -68,7 +68,7 @@ backing_room (part path writable at) = 1
 backing_room (zeros n) = n * 512
 backing_room (ramp n) = n * 512
 
--- the same for a binding: also its name, and a backing device with its device
+-- the same for a binding, with its name, and one more element for the backing device and its device
 abbrev pub binding_room : BindingRecord → ℕ
 binding_room binding = length binding.name + 1 + backing_room binding.backing
 
