@@ -64,7 +64,7 @@ pub record MakesFec {S D T G : Type 0} (texts : OptionTexts) (w : Calls S D) (d 
   pub formats : FormatsAt texts (record w { old = measured; new = between }) d f.format (Some []) (Some text)
   pub protects : Protects f.format.grow (record w { old = between }) (format_places f.format) f.fec
 
--- the same, and then the text was printed
+-- the image and its parity were written, and then the text was printed
 pub record FormatsFec {S D T G : Type 0} (texts : OptionTexts) (w : Calls S D) (d : Drawing T G) (f : FecFormatRecord) (old new : Option (List ℕ)) : Type 0 where
   pub text : List ℕ
   pub made : MakesFec texts w d f text
@@ -146,7 +146,7 @@ pub record EndsOpened {S D : Type 0} (w : Calls S D) (v : FecVerifyRecord) (old 
 abbrev pub IsVerifyFecEnd : {S D : Type 0} → Calls S D → FecVerifyRecord → Option (List ℕ) → Option (List ℕ) → Bool → FecFault → Type 0
 IsVerifyFecEnd w v old new failed fault = (EndsUnsaid w fault × (new ≡ old)) ⊎ (IsVerifyUnopened w v old new fault ⊎ EndsOpened w v old new failed fault)
 
--- ---- the same for the program's arguments, the opener and the writer, each before and after, and the source of generators
+-- ---- in terms of the program's arguments, the opener and the writer, each before and after, and the source of generators
 
 -- a `format` whose text is kept in memory
 abbrev pub KeepsText : {S D T G : Type 0} → OptionWords → FormatWords → Opener S D → (D → Device) → S → S → Drawing T G → Vec ℕ Global → Type 0

@@ -58,6 +58,6 @@ IsProtectionEnd true w places fec fault =
     ⊎ (GrowsThen w fec (λ v. IsProtectEnd v places fec fault) ⊎ GrowsTwiceThen w places fec (λ v. IsProtectEnd v places fec fault)))
 IsProtectionEnd false w places fec fault = IsProtectEnd w places fec fault
 
--- the same for the program's arguments, and the opener before and after
+-- why there is no parity, by the program's arguments and the opener before and after
 abbrev pub FailsToProtect : {S D : Type 0} → Bool → Opener S D → (D → Device) → S → S → ImagePlaces → FecFile → FecFault → Type 0
 FailsToProtect grow relations state old new places fec fault = IsProtectionEnd grow (calls relations state old new) (two_places places) (fec_record fec) fault

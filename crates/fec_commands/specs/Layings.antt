@@ -60,7 +60,7 @@ IsLayoutEnd data_dev hash_dev first pin hash_dev' BlockSizes = HasOtherSizes has
 IsLayoutEnd data_dev hash_dev first pin hash_dev' (Parity fault) = ⊥
 IsLayoutEnd data_dev hash_dev first pin hash_dev' (Differs round) = ⊥
 
--- ---- the same for devices of any type
+-- ---- in terms of devices of any type
 
 abbrev pub IsLaidOut : {D H : Type 0} → (D → Device) → (H → Device) → D → H → ℕ → Option Pin → ℕ → H → LaidTree → Type 0
 IsLaidOut data_state hash_state data_dev hash_dev first pin roots hash_dev' laid = LaysOut (data_state data_dev) (hash_state hash_dev) first pin roots (hash_state hash_dev') laid

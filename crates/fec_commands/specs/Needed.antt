@@ -18,11 +18,12 @@ pub record TakesSectors (shape : ShapeRecord) (hash_sectors roots needed : ℕ) 
   pub is : IsLayoutOf shape hash_sectors roots layout
   pub value : needed ≡ parity_sectors layout
 
--- the same for the image that these options make, from so many sectors of data, with so many for the hash image
+-- how many sectors the parity takes of the image that these options make, from so many sectors of data, with so many for the
+-- hash image
 abbrev pub IsNeeded : ImageOptions → ℕ → ℕ → ℕ → ℕ → Type 0
 IsNeeded options data_sectors hash_sectors roots needed = TakesSectors (said_shape options data_sectors) hash_sectors roots needed
 
--- the same for HASH extended to the hash image's size if it has fewer sectors
+-- how many it takes if HASH is extended to the hash image's size when it has fewer sectors
 abbrev pub IsNeededGrown : ImageOptions → FoundSectors → ℕ → ℕ → Type 0
 IsNeededGrown options sectors roots needed = IsNeeded options sectors.«data» (max sectors.hash (image_sectors (said_shape options sectors.«data»))) roots needed
 

@@ -76,7 +76,7 @@ abbrev pub IsParityEnd : Device → Device → Device → Extent → Device → 
 IsParityEnd data_dev hash_dev parity_dev extent parity_dev' fault =
     EndsUnlaid data_dev hash_dev parity_dev extent parity_dev' fault ⊎ EndsUnsealed data_dev hash_dev parity_dev extent parity_dev' fault
 
--- ---- the same for devices of any type
+-- ---- in terms of devices of any type
 
 abbrev pub IsProtectedBy : {D H P : Type 0} → (D → Device) → (H → Device) → (P → Device) → D → H → P → Extent → P → Type 0
 IsProtectedBy data_state hash_state parity_state data_dev hash_dev parity extent parity' =
@@ -86,7 +86,7 @@ abbrev pub IsUnprotected : {D H P : Type 0} → (D → Device) → (H → Device
 IsUnprotected data_state hash_state parity_state data_dev hash_dev parity extent parity' fault =
     IsParityEnd (data_state data_dev) (hash_state hash_dev) (parity_state parity) extent (parity_state parity') fault
 
--- ---- the same for files
+-- ---- in terms of files
 
 -- The parity of the image was written to the file, which is neither of the images, synced, and closed.
 pub record ProtectsImage {S D : Type 0} (w : Calls S D) (places : TwoPlaces) (fec : FecRecord) : Type 0 where

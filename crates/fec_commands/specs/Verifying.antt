@@ -149,7 +149,7 @@ IsFecQuiet BlockSizes old new = new ≡ old
 IsFecQuiet (Parity fault) old new = new ≡ old
 IsFecQuiet (Differs round) old new = new ≡ old
 
--- ---- the same for devices of any type, an opener and a writer, each before and after, and the program's arguments
+-- ---- in terms of devices of any type, an opener and a writer, each before and after, and the program's arguments
 
 abbrev pub parts_by : {D H P : Type 0} → (D → Device) → (H → Device) → (P → Device) → D → H → P → ℕ → Option Pin → ℕ → Parts
 parts_by data_state hash_state parity_state d h p first pin roots = record { data_dev = data_state d; hash_dev = hash_state h; parity_dev = parity_state p; first = first; pin = pin; roots = roots }

@@ -13,7 +13,6 @@ const OF_A_MILLION: &str = "cdc76e5c9914fb9281a1c7e284d73e67f1809a48a497200e046d
 
 /// The lengths of a prefix and of a block, and the digest of the eight digests, concatenated. Byte i of a prefix is 7 i + 1,
 /// and byte i of block j is 13 i + 31 j + 5, modulo 256.
-/// byte i of block j 13 i + 31 j + 5, modulo 256.
 static VECTORS: [(usize, usize, &str); 11] = [
     (
         0,

@@ -53,7 +53,7 @@ unfoldable pub queried : Bool → Bool → ℕ → List ℕ → Option Bool
 queried listing named zero rest = named_at_end named rest
 queried listing named (suc n) rest = if not (is_string rest) then None else queried listing (named || names_context listing (string_in rest)) n (behind_string rest)
 
--- the same for the number of queries and the queries themselves
+-- whether the queries name the context; the bytes are the number of queries, then the queries
 abbrev pub wanted_of : Bool → List ℕ → Option Bool
 wanted_of listing bytes = queried listing (is_of_all listing (big_endian32 bytes 0)) (big_endian32 bytes 0) (drop 4 bytes)
 

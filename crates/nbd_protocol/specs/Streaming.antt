@@ -45,7 +45,7 @@ Fills old new bytes (Ok true) = Consumes old new bytes
 Fills old new bytes (Ok false) = Consumes old new [] × IsAtEnd new
 Fills old new bytes (Err fault) = (short : IsShort (length bytes) old new fault) × (fault ≡ Lost → 0 < length short.part)
 
--- the same for a part of a buffer, from a reader
+-- `count` bytes of a buffer, from `start` on, were filled from a reader, or not
 abbrev pub FillsPart : {R : Type 0} → (R → Option (List ℕ)) → CountedRecord R → CountedRecord R → ℕ → ℕ → List ℕ → Result Bool ServiceFault → Type 0
 FillsPart remaining old new start count buffer result = Fills (remaining old.inner) (remaining new.inner) (take count (drop start buffer)) result
 
@@ -76,7 +76,7 @@ pub record TakesToPlace (found : Option (Vec ℕ Global)) (sectors start n : ℕ
   pub room : IfSome found (λ v. length v.items ≡ 512 * sectors)
   pub refused : IfNone found (IsOutOfMemory (512 * sectors))
 
--- the same for a reader
+-- n bytes were received from a reader, and are at offset `start` of so many sectors, unless the allocation was refused
 abbrev pub TakesSectors : {R : Type 0} → (R → Option (List ℕ)) → CountedRecord R → CountedRecord R → ℕ → ℕ → ℕ → Option (Vec ℕ Global) → Type 0
 TakesSectors remaining old new sectors start n found = TakesToPlace found sectors start n (remaining old.inner) (remaining new.inner)
 

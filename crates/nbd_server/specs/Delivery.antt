@@ -97,11 +97,11 @@ abbrev pub AnswersPiece : ExportRecord → Delivery → Progress → World → W
 AnswersPiece e d p w w' old new (Some next) = (chunk : List ℕ) × GoesOnReplying e d p w chunk next w' × Appends old new chunk
 AnswersPiece e d p w w' old new None = (chunk : List ℕ) × IsLost e d p w chunk w' × Appends old new chunk
 
--- the same for an export and a writer
+-- the result of a piece of an export whose chunks were written to a writer
 abbrev pub WritesPiece : {W : Type 0} → (W → Option (List ℕ)) → CountedRecord W → CountedRecord W → Export → Delivery → Progress → World → World → Option Progress → Type 0
 WritesPiece contents old new export d p w w' next = AnswersPiece (export_record export) d p w w' (contents old.inner) (contents new.inner) next
 
--- the same if the writer failed in the chunks of the piece
+-- what a piece did if the writer failed in its chunks
 abbrev pub SendsPiece : ExportRecord → Delivery → Progress → World → World → Type 0
 SendsPiece e d p w w' = ((chunk : List ℕ) × (next : Progress) × GoesOnReplying e d p w chunk next w') ⊎ ((chunk : List ℕ) × IsLost e d p w chunk w')
 

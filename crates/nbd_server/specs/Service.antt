@@ -114,7 +114,7 @@ EndsReply Is Ends old new (Ok next) = (reply : List ℕ) × Is reply next × App
 EndsReply Is Ends old new (Err WriteFault) = (reply : List ℕ) × (next : Phase) × Is reply next
 EndsReply Is Ends old new (Err fault) = Keeps old new × Ends fault
 
--- the same for an option, and for an option whose data are too long
+-- how the reply to an option ends, and to an option whose data are too long
 abbrev pub EndsOption : {W : Type 0} → (W → Option (List ℕ)) → CountedRecord W → CountedRecord W → List Export → Terms → ℕ → List ℕ → Result Phase ServiceFault → Type 0
 EndsOption contents old new exports terms option content result =
     EndsReply (IsAnswered (export_records exports) terms option content) (IsExportUnnamed (export_records exports) option content) (contents old.inner) (contents new.inner) result

@@ -126,7 +126,7 @@ pub record ReadsStatus (e : ExportRecord) (w : World) (offset count : ℕ) (one 
 abbrev pub TellsExtents : ExportRecord → World → ℕ → ℕ → Bool → List ℕ → World → Type 0
 TellsExtents e w offset count one told w' = (HasStatus (TouchZeros w.stack.config e) offset count one told × (w' ≡ w)) ⊎ ReadsStatus e w offset count one told w'
 
--- the same in memory
+-- the status of a byte range, in memory
 abbrev pub AreExtentsTold : ExportRecord → World → ℕ → ℕ → Bool → World → Vec ℕ Global → Type 0
 AreExtentsTold e w offset count one w' told = TellsExtents e w offset count one told.items w'
 
@@ -207,7 +207,7 @@ pub record IsTakenAndServed (e : ExportRecord) (a : Agreement) (w : World) (h : 
   pub serves : ServesRequest e a w h payload (data_outcome outcome) w'
   pub inside : IsSendable outcome
 
--- the same for a reader
+-- the payload of a request was received from a reader, and the request was served
 abbrev pub Handles : {R : Type 0} → (R → Option (List ℕ)) → CountedRecord R → CountedRecord R → Export → Agreement → Header → World → World → Result Data RequestError → Type 0
 Handles remaining old new export a h w w' outcome = IsTakenAndServed (export_record export) a w h (remaining old.inner) (remaining new.inner) outcome w'
 

@@ -62,7 +62,7 @@ pub(crate) static DAMAGES: [Damage; 18] = [
         still: &[],
         told: "",
     },
-    // the same with three levels, in three passes
+    // such damage in a tree of three levels, repaired in three passes
     Damage {
         case: 8,
         lost: &[500, 501, 505, 1],

@@ -57,7 +57,7 @@ pub record IsUnlaidEnd (parity_dev : Device) (first roots : ℕ) (w w' : RepairW
 abbrev pub HalfMendsByParity : Plan → Device → ℕ → RepairWorld → RepairWorld → Option (List ℕ) → Option (List ℕ) → ParityRepairFault → Type 0
 HalfMendsByParity plan parity_dev roots w w' old new fault = IsUnlaidEnd parity_dev plan.copy_first roots w w' old new fault ⊎ EndsHalf plan w w' old new fault
 
--- the same for the open parity, and a writer before and after
+-- a repair of devices with parity, by the open parity and the writer before and after
 abbrev pub IsMendedByFec : {P W : Type 0} → (P → Device) → (W → Option (List ℕ)) → Plan → Parity P → RepairWorld → RepairWorld → CountedRecord W → CountedRecord W → Outcome → Type 0
 IsMendedByFec state contents plan parity w w' old new outcome =
     MendsByParity plan (state parity.device) parity.roots w w' (contents old.inner) (contents new.inner) outcome
@@ -169,7 +169,7 @@ IsParityRepairEnd w p fec copies trusted old new failed fault =
     EndsUnopenedByParity w p copies old new fault ⊎ (EndsWithoutParity w p fec copies old new fault ⊎ (EndsRefusedByParity w p fec copies trusted old new fault
     ⊎ (EndsUnmendedByParity w p fec copies trusted old new fault ⊎ EndsBehindByParity w p fec copies trusted old new failed fault)))
 
--- ---- the same for an opener, a writer before and after, and the arguments
+-- ---- in terms of an opener, a writer before and after, and the arguments
 
 abbrev pub IsPairMendedByFec : {S D W : Type 0} → Opener S D → (D → Device) → S → S → RepairPlaces → Opened D → Parity D → List ℕ
     → (W → Option (List ℕ)) → CountedRecord W → CountedRecord W → Outcome → Type 0

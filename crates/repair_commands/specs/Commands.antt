@@ -137,7 +137,7 @@ pub record EndsBehind {S D : Type 0} (w : Calls S D) (p : Places) (copies : List
 abbrev pub IsRepairEnd : {S D : Type 0} → Calls S D → Places → List ImageCopy → TrustedRoot → Option (List ℕ) → Option (List ℕ) → Bool → TreeFault → Type 0
 IsRepairEnd w p copies trusted old new failed fault = IsMendingEnd w p copies trusted old new fault ⊎ EndsBehind w p copies trusted old new failed fault
 
--- ---- the same for an opener, a writer before and after, and the arguments
+-- ---- in terms of an opener, a writer before and after, and the arguments
 
 abbrev pub GivesBackBoth : {S D : Type 0} → Opener S D → (D → Device) → S → S → RepairPlaces → Parts → D → D → Type 0
 GivesBackBoth relations state old new places parts data_dev hash_dev = GivesBackImages places.write (calls relations state old new) (places_of places) parts data_dev hash_dev

@@ -44,7 +44,7 @@ RefusesEach {S} {D} w files (p ∷ ps) fault =
     IsCopyUnopened w files p fault
     ⊎ ((between : S) × ((d : D) × (OpensImageCopy (record w { new = between }) files p d × RefusesEach (record w { old = between }) files ps fault)))
 
--- ---- the same for an opener before and after, and the hashes or the data of copies
+-- ---- in terms of an opener before and after, and the hashes or the data of copies
 
 abbrev pub EachIsOpen : {S D : Type 0} → Opener S D → (D → Device) → S → S → List FileUse → Bool → List ImageCopy → Vec D Global → Type 0
 EachIsOpen relations state old new files hashes copies devices = OpensEachCopy (calls relations state old new) files (map (path_in hashes) copies) devices.items

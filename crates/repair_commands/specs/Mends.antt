@@ -149,7 +149,7 @@ pub record HalfMendsPlaced (plan : Plan) (parity : Bool) (w w' : RepairWorld) (o
 abbrev pub HalfMendsByCopies : Plan → RepairWorld → RepairWorld → Option (List ℕ) → Option (List ℕ) → TreeFault → Type 0
 HalfMendsByCopies plan w w' old new fault = IsRefusedPlace plan w w' old new fault ⊎ HalfMendsPlaced plan false w w' old new fault
 
--- ---- the same for a writer before and after
+-- ---- in terms of a writer before and after
 
 abbrev pub IsMendedByCopies : {W : Type 0} → (W → Option (List ℕ)) → Plan → RepairWorld → RepairWorld → CountedRecord W → CountedRecord W → Outcome → Type 0
 IsMendedByCopies contents plan w w' old new outcome = MendsByCopies plan w w' (contents old.inner) (contents new.inner) outcome

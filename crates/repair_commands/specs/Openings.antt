@@ -70,7 +70,7 @@ pub record EndsUncopied {S D : Type 0} (w : Calls S D) (p : Places) (copies : Li
 abbrev pub FailsToOpenCopies : {S D : Type 0} → Calls S D → Places → List ImageCopy → TreeFault → Type 0
 FailsToOpenCopies w p copies fault = EndsUnmeasured w p fault ⊎ (EndsUnpaired w p fault ⊎ EndsUncopied w p copies fault)
 
--- ---- the same for an opener before and after, and the places in the arguments
+-- ---- in terms of an opener before and after, and the places in the arguments
 
 abbrev pub AreCopiesOpened : {S D : Type 0} → Opener S D → (D → Device) → S → S → List FileUse → List ImageCopy → Copies D → Type 0
 AreCopiesOpened relations state old new files copies opened = OpensCopies (calls relations state old new) files copies opened

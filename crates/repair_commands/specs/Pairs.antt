@@ -86,7 +86,7 @@ FailsToOpenPair w p parts fault = IsPartEnd w [] p.data_path p.write parts.data_
 abbrev pub pair_uses : {D : Type 0} → Bool → Parts → Pair D → List FileUse
 pair_uses write parts pair = part_use write parts.data_part pair.data_image ∷ part_use write parts.hash_part pair.hash_image ∷ []
 
--- ---- the same for an opener before and after, and the places in the arguments
+-- ---- in terms of an opener before and after, and the places in the arguments
 
 abbrev pub AreMeasured : {S D : Type 0} → Opener S D → (D → Device) → S → S → RepairPlaces → Parts → Type 0
 AreMeasured relations state old new places parts = MeasuresBoth (calls relations state old new) (places_of places) parts

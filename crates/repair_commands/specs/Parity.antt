@@ -31,7 +31,7 @@ pub record OpensParity {S D : Type 0} (w : Calls S D) (write : Bool) (o : Opened
 abbrev pub FailsToOpenParity : {S D : Type 0} → Calls S D → Bool → Opened D → FecRecord → UnopenedFile → Type 0
 FailsToOpenParity w write o fec file = RefusesApart w (pair_uses write o.parts o.pair) fec.path false file
 
--- the same for an opener before and after, and the arguments
+-- the parity file was opened, by the opener before and after and the arguments
 abbrev pub IsFecOpened : {S D : Type 0} → Opener S D → (D → Device) → S → S → Bool → Opened D → FecFile → Parity D → Type 0
 IsFecOpened relations state old new write o fec parity = OpensParity (calls relations state old new) write o (fec_record fec) parity
 
@@ -76,7 +76,7 @@ IsUnlaid data_dev hash_dev parity_dev first roots hash_dev' (Tree fault) = ⊥
 IsUnlaid data_dev hash_dev parity_dev first roots hash_dev' BlockSizes = HaveOtherSizes data_dev hash_dev
 IsUnlaid data_dev hash_dev parity_dev first roots hash_dev' (TooSmall needed) = IsParityShort data_dev hash_dev parity_dev roots needed
 
--- the same for devices of any type
+-- the layout of the parity, by the states of devices of any type
 abbrev pub LaysAcross : {D H P : Type 0} → (D → Device) → (H → Device) → (P → Device) → D → H → ℕ → Parity P → H → Layout → Type 0
 LaysAcross data_state hash_state parity_state data_dev hash_dev first parity hash_dev' layout =
     LaysOutParity (data_state data_dev) (hash_state hash_dev) (parity_state parity.device) first parity.roots (hash_state hash_dev') layout

@@ -51,7 +51,7 @@ TellsRest outcome w p trusted old new = TellsKnown (known_good outcome p.first) 
 abbrev pub IsRestEnd : {S D : Type 0} → Outcome → Calls S D → Places → TrustedRoot → Option (List ℕ) → Option (List ℕ) → Bool → TreeFault → Type 0
 IsRestEnd outcome w p trusted old new failed fault = IsKnownEnd (known_good outcome p.first) w p trusted old new failed fault
 
--- ---- the same for an opener, a writer before and after, and the places in the arguments
+-- ---- in terms of an opener, a writer before and after, and the places in the arguments
 
 abbrev pub IsRestTold : {S D W : Type 0} → Outcome → Opener S D → (D → Device) → S → S → RepairPlaces → TrustedRoot → (W → Option (List ℕ)) → CountedRecord W → CountedRecord W → Type 0
 IsRestTold outcome relations state old new places trusted contents before behind =

@@ -34,7 +34,7 @@ IsMisplaced hash_dev first hash_dev' (Survey (Image fault)) = IsReadCause hash_d
 IsMisplaced hash_dev first hash_dev' Unaligned = IsUnaligned hash_dev first
 IsMisplaced hash_dev first hash_dev' fault = ⊥
 
--- the same for devices of any type
+-- the hash image begins where it may, by the states of a device of any type
 abbrev pub IsPlacedBy : {H : Type 0} → (H → Device) → H → ℕ → H → Type 0
 IsPlacedBy state hash_dev first hash_dev' = IsPlaced (state hash_dev) first (state hash_dev')
 

@@ -49,7 +49,7 @@ IsUnusedCause trusted hash_dev hash_dev' UnusedEntries = HoldsUnused trusted has
 IsUnusedCause trusted hash_dev hash_dev' (Unpinned mismatch) = IsTreeUnpinned hash_dev trusted.pin mismatch
 IsUnusedCause trusted hash_dev hash_dev' fault = ⊥
 
--- the same for devices of any type
+-- the image is accepted, by the states of a device of any type
 abbrev pub IsUnusedPassedBy : {H : Type 0} → (H → Device) → TrustedRoot → H → H → Bool → Type 0
 IsUnusedPassedBy state trusted hash_dev hash_dev' whole = IsUnusedPassed trusted (state hash_dev) (state hash_dev') whole
 

@@ -129,7 +129,7 @@ abbrev pub IsCopyEnd : {S D : Type 0} → Calls S D → CopyWords → Option (Li
 IsCopyEnd w words old new failed fault =
     ((new ≡ old) × IsOutputUncopied w words.words words.out fault) ⊎ IsUnreported (StopsCopy w words) (Copies w words) false old new failed fault
 
--- ---- the same for the arguments of a call
+-- ---- in terms of the arguments of a call
 
 -- there is no such device, or no image with room for it
 abbrev pub FailsTo : {S D : Type 0} → Opener S D → (D → Device) → S → S → StackFile → NamedDevice → List ℕ → RecoveringFault → Type 0

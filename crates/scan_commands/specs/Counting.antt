@@ -44,7 +44,7 @@ IsCountsEnd counts old new failed (Lost read lost) = (read ≡ counts.read) × (
 IsCountsEnd counts old new failed Write = failed ≡ true
 IsCountsEnd counts old new failed fault = ⊥
 
--- the same for a counted writer, before and after
+-- why the counts weren't printed, by a counted writer before and after
 abbrev pub EndsCounts : {T : Type 0} → (T → Option (List ℕ)) → CountedRecord T → CountedRecord T → Counts → RecoveringFault → Type 0
 EndsCounts contents old new counts fault = IsCountsEnd counts (listed_by contents old) (contents new.inner) new.failed fault
 

@@ -95,7 +95,7 @@ abbrev pub recovery_ending : RecoveryFault → PassFault
 recovery_ending recovery.NoMemory = NoMemory
 recovery_ending recovery.Output = Output
 
--- ---- the same for the opener, before and after its calls
+-- ---- in terms of the opener, before and after its calls
 
 -- the map of a map file
 abbrev pub ReadsMap : {S D : Type 0} → Opener S D → (D → Device) → S → S → MapPath → ℕ → List Run → Type 0

@@ -68,7 +68,7 @@ abbrev pub StopsPass : {S D : Type 0} → Calls S D → Option MapPathRecord →
 StopsPass w None d m fault = (w.new ≡ w.old) × IsRecoveryStopped d m fault
 StopsPass w (Some file) d m fault = IsUnrescued w file d m fault
 
--- ---- the same for the arguments of a call
+-- ---- in terms of the arguments of a call
 
 -- the device is one of the stack's, and the other device is writable and has room for all its sectors
 pub record CanPass {D O : Type 0} (state : O → Device) (p : Passing D O) : Type 0 where

@@ -84,7 +84,7 @@ pub record StopsEarly (Stopped : Early) (json : Bool) (old new : Option (List �
 abbrev pub IsUnreported : Early → Whole → Bool → Option (List ℕ) → Option (List ℕ) → Bool → RecoveringFault → Type 0
 IsUnreported Stopped Done json old new failed fault = StopsEarly Stopped json old new failed fault ⊎ LosesSectors Done json old new failed fault
 
--- ---- the same for the arguments of a call
+-- ---- in terms of the arguments of a call
 
 -- the text of the runs that are kept, and whether a run couldn't be kept
 abbrev pub kept_text : KeptRuns → Listed

@@ -61,7 +61,7 @@ abbrev pub IsScanEnd : {S D : Type 0} → Calls S D → ScanWords → Option (Li
 IsScanEnd w words old new failed fault =
     ((new ≡ old) × IsRecoveryStackless (FailsToFindDevice w words.words) fault) ⊎ IsUnreported (StopsScan w words) (Scans w words) words.json old new failed fault
 
--- ---- the same for the arguments of a call, for an open device
+-- ---- in terms of the arguments of a call, for an open device
 
 module _ {S D E T : Type 0} (relations : Opener S D) (state : D → Device) (seen : Discard → Device) (contents : T → Option (List ℕ)) (images images' : S) (old new : Passing E Discard) (writer writer' : CountedRecord T) where
   abbrev scanned : Listed → Listed → Moving

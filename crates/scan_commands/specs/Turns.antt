@@ -126,7 +126,7 @@ pub record IsTurnsEnd {S : Type 0} (k : Kept S) (first : Progressed S) (images :
   pub turns : Turns k first now
   pub stops : StopsIn k now images new fault
 
--- ---- the same for the arguments of a call
+-- ---- in terms of the arguments of a call
 
 -- a turn, which results in this map
 abbrev pub TakesTurn : {S O L : Type 0} → Replaces S → (O → Device) → (L → Listed) → ℕ → NextTurn → S → Parties O L → S → Parties O L → List Run → Type 0

@@ -37,7 +37,7 @@ pub record FailsToTake {S D : Type 0} (w : Calls S D) (bindings : List BindingRe
 abbrev pub FailsToStand : {S D : Type 0} → Calls S D → List BindingRecord → StackFault → Type 0
 FailsToStand w bindings fault = IsOpeningEnd (IsBindingEnd w [] bindings) fault ⊎ FailsToTake w bindings fault
 
--- ---- the same for the opener, before and after its calls, and the program's arguments
+-- ---- in terms of the opener, before and after its calls, and the program's arguments
 
 -- the stack over the backing devices of bindings
 abbrev pub StandsBy : {S D : Type 0} → Opener S D → (D → Device) → S → S → List Binding → ℕ → StackRecord → Type 0

@@ -85,7 +85,7 @@ ClosesEach {S} w (backing ∷ backings) (device ∷ devices) =
 abbrev pub names_in : List LeafRecord → List (List ℕ)
 names_in leaves = map (λ leaf. leaf.name) leaves
 
--- ---- the same for the opener, before and after its calls, and the program's arguments
+-- ---- in terms of the opener, before and after its calls, and the program's arguments
 
 -- the device of a binding is opened next to some files, and its file is one of them then
 abbrev pub Backs : {S D : Type 0} → Opener S D → (D → Device) → S → S → Vec FileUse Global → Vec FileUse Global → Backing → D → Type 0

@@ -25,7 +25,7 @@ pub record GivesBack {S D : Type 0} (w : Calls S D) (bindings : List BindingReco
   pub are_synced : AreSynced leaves outcome leaves'
   pub back : IsGivenBack w bindings leaves'
 
--- ---- the same for the opener, before and after its calls, and the program's arguments
+-- ---- in terms of the opener, before and after its calls, and the program's arguments
 
 -- the images of the bindings are closed, in the state of these backing devices
 abbrev pub GivesStackBack : {S D : Type 0} → Opener S D → (D → Device) → S → S → List Binding → List Device → Type 0

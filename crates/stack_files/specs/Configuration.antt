@@ -26,7 +26,7 @@ abbrev pub with_text : Configuration → Result (List Entry) TextFault → Resul
 with_text c (Ok entries) = with_entries c entries (first_refusal c entries)
 with_text c (Err fault) = Err (Text fault)
 
--- the same, after a fault of the backing devices
+-- the configuration of a text over backing devices, unless they have a fault
 abbrev pub with_leaves : List LeafRecord → Option ConfigFault → Result (List Entry) TextFault → Result Configuration StackFault
 with_leaves leaves None entries = with_text (leaves_alone leaves) entries
 with_leaves leaves (Some fault) entries = Err (Leaves fault)

@@ -52,7 +52,7 @@ pub record DeviceWords : Type 0 where
 abbrev pub device_words : StackWords → List ℕ → ℕ → DeviceWords
 device_words words name cache = record { words = words; name = name; cache = cache }
 
--- the same by a stack file and a named device
+-- a stack file and a named device
 abbrev pub words_for : StackFile → NamedDevice → DeviceWords
 words_for file device = device_words (stack_words file) device.name.now device.cache
 
@@ -82,7 +82,7 @@ pub record FindsNone {S D : Type 0} (w : Calls S D) (words : DeviceWords) (out :
 abbrev pub FailsToFindOutput : {S D : Type 0} → Calls S D → DeviceWords → List ℕ → StackFault → Type 0
 FailsToFindOutput w words out fault = IsOpeningEnd (FailsToOpenOutput w words.words out) fault ⊎ FindsNone w words out fault
 
--- ---- the same for the opener, before and after its calls, and the program's arguments
+-- ---- in terms of the opener, before and after its calls, and the program's arguments
 
 -- a device by its name, in the stack of a text over open backing devices
 abbrev pub HasNamed : {D : Type 0} → (D → Device) → OpenStack D → NamedDevice → StackRecord × DevId → Type 0

@@ -108,7 +108,7 @@ OpensOutput w words out over image = OpensBeside w words out true over image
 abbrev pub FailsToOpenOutput : {S D : Type 0} → Calls S D → StackWords → List ℕ → OpeningFault → Type 0
 FailsToOpenOutput w words out fault = FailsToOpenBeside w words out true fault
 
--- ---- the same for the opener, before and after its calls, and the program's arguments
+-- ---- in terms of the opener, before and after its calls, and the program's arguments
 
 -- STACK and the bindings are opened
 abbrev pub OpensByFile : {S D : Type 0} → Opener S D → (D → Device) → S → S → StackFile → OpenStack D → Type 0
@@ -134,7 +134,7 @@ OpensWith relations state old new file path writable = λ both. OpensBeside (cal
 abbrev pub FailsWith : {S D : Type 0} → Opener S D → (D → Device) → S → S → StackFile → List ℕ → Bool → OpeningFault → Type 0
 FailsWith relations state old new file path writable = FailsToOpenBeside (calls relations state old new) (stack_words file) path writable
 
--- the same for an image that is only read
+-- STACK, an image that is only read, and the bindings are opened
 abbrev pub OpensWithInput : {S D : Type 0} → Opener S D → (D → Device) → S → S → StackFile → List ℕ → OpenStack D × OpenImage D → Type 0
 OpensWithInput relations state old new file source = OpensWith relations state old new file source false
 
@@ -142,7 +142,7 @@ OpensWithInput relations state old new file source = OpensWith relations state o
 abbrev pub FailsWithInput : {S D : Type 0} → Opener S D → (D → Device) → S → S → StackFile → List ℕ → OpeningFault → Type 0
 FailsWithInput relations state old new file source = FailsWith relations state old new file source false
 
--- the same for OUT, which is written
+-- STACK, OUT for writing, and the bindings are opened
 abbrev pub OpensWithOutput : {S D : Type 0} → Opener S D → (D → Device) → S → S → StackFile → List ℕ → OpenStack D × OpenImage D → Type 0
 OpensWithOutput relations state old new file out = λ both. OpensOutput (calls relations state old new) (stack_words file) out both.0 both.1
 

@@ -68,7 +68,7 @@ backing_room (part path writable at) = 1
 backing_room (zeros n) = n * 512
 backing_room (ramp n) = n * 512
 
--- the same for a binding, with its name, and one more element for the backing device and its device
+-- the most elements that one allocation requests for a binding: its name, its backing device and device, and what these hold
 abbrev pub binding_room : BindingRecord → ℕ
 binding_room binding = length binding.name + 1 + backing_room binding.backing
 
@@ -111,7 +111,7 @@ abbrev pub IsBindingEnd : {S D : Type 0} → Calls S D → List FileUse → List
 IsBindingEnd w files bindings NoMemory = RunsOut w files (backings_of bindings) × IsOutOfMemory (bindings_room files bindings)
 IsBindingEnd w files bindings fault = RefusesBinding w files (backings_of bindings) fault
 
--- ---- the same for the opener, before and after its calls, and the program's arguments
+-- ---- in terms of the opener, before and after its calls, and the program's arguments
 
 -- the data to be written to a device can't be read
 abbrev pub RefusesSource : {S D : Type 0} → Opener S D → (D → Device) → S → S → List ℕ → UnopenedFile → Type 0

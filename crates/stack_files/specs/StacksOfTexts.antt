@@ -44,7 +44,7 @@ FailsBehind {S} {D} w words Fails fault =
 abbrev pub FailsToLoadFile : {S D : Type 0} → Calls S D → StackWords → StackFault → Type 0
 FailsToLoadFile w words fault = FailsBehind w words FailsToLoad fault
 
--- ---- the same for the opener, before and after its calls, and the program's arguments
+-- ---- in terms of the opener, before and after its calls, and the program's arguments
 
 -- the configuration that the text makes
 abbrev pub ConfiguresBy : {S D : Type 0} → Opener S D → (D → Device) → S → S → StackFile → Configuration → Type 0

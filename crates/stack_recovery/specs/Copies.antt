@@ -10,7 +10,7 @@ image_after first (lost fault) n image = image
 image_after first (again fault) n image = image
 image_after first kept n image = image
 
--- the same for a sequence of pieces, from the first sector on
+-- the image after a sequence of pieces, from the first sector on
 abbrev pub copied_image : ℕ → List PieceRead → List (List ℕ) → List (List ℕ)
 copied_image first [] image = image
 copied_image first (r ∷ more) image = copied_image (first + length (states_of r)) more (image_after first r.found r.count image)

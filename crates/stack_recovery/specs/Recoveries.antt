@@ -80,7 +80,7 @@ IsRescueEnd marks d old new fault = EndsEarly true marks d old new fault
 abbrev pub IsRecoveryEnd : ℕ → Sides → Sides → RecoveryFault → Type 0
 IsRecoveryEnd d old new fault = EndsEarly false [] d old new fault
 
--- ---- the same for the arguments of a call
+-- ---- in terms of the arguments of a call
 
 -- a stack, the output device, and the receiver of lost runs
 pub record Parties (O L : Type 0) : Type 0 where
@@ -98,7 +98,7 @@ seen_sides state told p = sides p.stack (state p.out) (told p.listing)
 abbrev pub RecoversBy : {O L : Type 0} → (O → Device) → (L → Listed) → ℕ → Parties O L → Parties O L → Counts → Type 0
 RecoversBy state told d old new counts = Recovers d (seen_sides state told old) counts (seen_sides state told new)
 
--- the same for a device's index, and the arguments before and after the call
+-- a recovery of a device, by its index and the arguments before and after the call
 abbrev pub Recovered : {O L : Type 0} → (O → Device) → (L → Listed) → DevId → StackRecord → O → L → StackRecord → O → L → Counts → Type 0
 Recovered state told d stack out listing stack' out' listing' counts = RecoversBy state told d.0 (parties stack out listing) (parties stack' out' listing') counts
 
@@ -132,7 +132,7 @@ pub record GoesOver (before : List Bool) (d : ℕ) (old : Sides) (counts : Count
 abbrev pub Rescues : List Bool → ℕ → Sides → Rescued → Sides → Type 0
 Rescues before d old rescued new = GoesOver before d old rescued.counts (Some rescued.map) new
 
--- the same for the arguments of a call
+-- such a recovery, by the arguments before and after the call
 abbrev pub GoesOverBy : {O L : Type 0} → (O → Device) → (L → Listed) → List Bool → ℕ → Parties O L → Option (List Run) → Parties O L → Counts → Type 0
 GoesOverBy state told before d old made new counts = GoesOver before d (seen_sides state told old) counts made (seen_sides state told new)
 

@@ -77,6 +77,6 @@ abbrev pub IsSurveyOver : List Bool → ℕ → ℕ → StackRecord → List Pie
 IsSurveyOver marks d first w [] w' = w' ≡ w
 IsSurveyOver marks d first w (r ∷ more) w' = IsPieceSurveyed marks d first w r × IsSurveyOver marks d (first + length (states_of r)) r.after more w'
 
--- the same if no sector was read before
+-- such a scan, in which no sector was read before
 abbrev pub IsStackSurvey : ℕ → ℕ → StackRecord → List PieceRead → StackRecord → Type 0
 IsStackSurvey d first w reads w' = IsSurveyOver [] d first w reads w'

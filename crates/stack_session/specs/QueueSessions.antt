@@ -28,7 +28,7 @@ pub record IsQueueSession (first end : World) (old new : Streams) (result : Resu
   -- in each case the lines that were served are a run of the queue, to which the queue's law applies
   pub led : IsLed EachPart first end
 
--- the same for a counted reader and a counted writer, before and after
+-- such a session, by a counted reader and a counted writer, before and after
 abbrev pub IsQueueSessionOf : {R W : Type 0} → World → World → (R → Option (List ℕ)) → (W → Option (List ℕ)) → CountedRecord R → CountedRecord W → CountedRecord R → CountedRecord W → Result Unit SessionFault → Type 0
 IsQueueSessionOf first end remaining contents reader writer reader' writer' result =
     IsQueueSession first end (streams (remaining reader.inner) (contents writer.inner)) (streams (remaining reader'.inner) (contents writer'.inner)) result

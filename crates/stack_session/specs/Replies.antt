@@ -113,7 +113,7 @@ pub record WholeStep (w : World) (e : Event) (w' : World) : Type 0 where
 abbrev pub IsReplyTo : World → CommandRecord → World → List ℕ → Type 0
 IsReplyTo w command w' reply = RepliesTo WholeStep w command reply w'
 
--- ---- the same for the arguments of a call
+-- ---- in terms of the arguments of a call
 
 -- the reply to a command was written, or the writer failed in it
 abbrev pub RepliesBy : {T : Type 0} → (T → Option (List ℕ)) → CountedRecord T → CountedRecord T → World → World → CommandRecord → Result Unit WriteFault → Type 0

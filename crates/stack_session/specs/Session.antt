@@ -68,7 +68,7 @@ pub record ServesFront {S : Type 0} (replies : Replying S) (first : S) (input : 
 abbrev pub AddsText : {T : Type 0} → (T → Option (List ℕ)) → CountedRecord T → CountedRecord T → (List ℕ → Type 0) → Type 0
 AddsText contents old new P = Grows (contents old.inner) (contents new.inner) P
 
--- the same, and the text was flushed
+-- a text of which P holds was written and flushed
 abbrev pub HandsOnText : {T : Type 0} → (T → Option (List ℕ)) → CountedRecord T → CountedRecord T → (List ℕ → Type 0) → Type 0
 HandsOnText contents old new P = (new.pending ≡ false) × AddsText contents old new P
 
@@ -99,7 +99,7 @@ pub record IsSessionStopped {T : Type 0} (old new : Option (List ℕ)) (Front : 
   pub write_fault : IsErrOf result WriteFault → (output : List ℕ) × Front output
   pub no_memory : IsErrOf result NoMemory → Grows old new Front
 
--- the same for a counted writer
+-- how a session stopped, by a counted writer before and after
 abbrev pub StopsWriting : {T A : Type 0} → (T → Option (List ℕ)) → CountedRecord T → CountedRecord T → (List ℕ → Type 0) → Result A SessionFault → Type 0
 StopsWriting contents old new Front result = IsSessionStopped (contents old.inner) (contents new.inner) Front result
 
@@ -129,7 +129,7 @@ pub record IsSession {S : Type 0} (replies : Replying S) (first last : S) (old n
   -- memory ran out after the first lines, and the output is their replies
   pub no_memory : IsErrOf result NoMemory → Taking old new (λ taken. Grows old.output new.output (ServesFront replies first (take LIMIT taken) last))
 
--- the same for a counted reader and a counted writer, before and after
+-- a session, by a counted reader and a counted writer, before and after
 abbrev pub IsSessionOf : {S R W : Type 0} → Replying S → S → S → (R → Option (List ℕ)) → (W → Option (List ℕ)) → CountedRecord R → CountedRecord W → CountedRecord R → CountedRecord W → Result Unit SessionFault → Type 0
 IsSessionOf replies first last remaining contents reader writer reader' writer' result =
     IsSession replies first last (streams (remaining reader.inner) (contents writer.inner)) (streams (remaining reader'.inner) (contents writer'.inner)) result

@@ -93,7 +93,7 @@ abbrev pub reply_text : ℕ → Reply → List ℕ
 reply_text first (Sectors got) = sector_lines (length got.bytes / 512) first got.bytes
 reply_text first Written = written_text
 
--- the same, or the fault that ended the request
+-- the result of a request, or the fault that ended it
 abbrev pub answer_text : ℕ → Result Reply IoFault → List ℕ
 answer_text first (Ok reply) = reply_text first reply
 answer_text first (Err fault) = io_text fault
@@ -127,7 +127,7 @@ cost_text sectors depth read write =
 abbrev pub moved_text : ℕ → ℕ → List ℕ
 moved_text reads writes = codes "moved " ++ (decimal reads ++ (codes " " ++ (decimal writes ++ codes "\n")))
 
--- ---- the same for the arguments of a call
+-- ---- in terms of the arguments of a call
 
 -- the whole sectors of these bytes; the first has that number
 abbrev pub sectors_text : ℕ → List ℕ → List ℕ

@@ -28,7 +28,6 @@ cat_side stack written = record { stack = stack; written = written }
 -- The bytes of k sectors of device d from the first on were written, and nothing else. Over any backing devices there are
 -- verified chains for the bytes; over steady ones the bytes are what the stack means. Only backing devices below the device
 -- were accessed, by reads.
--- stands.
 pub record IsCat (d first k : ℕ) (old new : CatSide) : Type 0 where
   pub bytes : List ℕ
   pub most : ℕ
@@ -65,7 +64,7 @@ IsCatEnd d range old new failed Range = (new ≡ old) × (size old.stack.config 
 IsCatEnd d range old new failed (Read fault) = IsCatStop d range.first range.count old new fault
 IsCatEnd d range old new failed Write = failed ≡ true
 
--- ---- the same for the arguments of a call: the stack and a counted writer, before and after
+-- ---- in terms of the arguments of a call: the stack and a counted writer, before and after
 
 abbrev pub CatsBy : {T : Type 0} → (T → Option (List ℕ)) → ℕ → SectorRange → StackRecord → CountedRecord T → StackRecord → CountedRecord T → Type 0
 CatsBy contents d range stack writer stack' writer' =

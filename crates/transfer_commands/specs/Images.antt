@@ -60,7 +60,7 @@ IsStoredEnd d first w source w' source' fault =
     IsImageRefused d first w source w' source' fault
     ⊎ (IsImageStopSynced d first w source w' source' fault ⊎ IsImageSyncStop d first w source w' fault)
 
--- ---- the same for the arguments of a call
+-- ---- in terms of the arguments of a call
 
 -- all sectors of the source were written, and nothing is synced yet
 abbrev pub HasStoredAll : ℕ → ℕ → StackRecord → Device → StackRecord → ℕ → Type 0

@@ -37,7 +37,7 @@ IsRequestStackless Fails fault = ⊥
 abbrev pub FailsToRead : {S D : Type 0} → Calls S D → StackWords → ℕ → RequestRecord → RequestFault → Type 0
 FailsToRead w words cache request fault = IsRequestStackless (FailsToLoadFile w words) fault ⊎ FailsToAsk w words cache request fault
 
--- ---- the same for the opener, before and after its calls, and for the program's arguments
+-- ---- in terms of the opener, before and after its calls, and of the program's arguments
 
 -- the sectors are read
 abbrev pub ReadsBy : {S D : Type 0} → Opener S D → (D → Device) → S → S → StackFile → ℕ → Sectors → Reply → Type 0

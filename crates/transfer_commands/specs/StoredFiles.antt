@@ -114,8 +114,8 @@ abbrev pub IsFileEnd : {S D : Type 0} → Calls S D → FileWords → Option (Li
 IsFileEnd w words old new failed fault =
     ((new ≡ old) × IsStackless (IsUnstored w words) fault) ⊎ (FailsToStoreFile w words old new fault ⊎ ((n : ℕ) × StoresFile w words n × IsStreamUnwritten failed fault))
 
--- ---- the same for the arguments of a call
+-- ---- in terms of the arguments of a call
 
--- the same for a source, as a proof sees it
+-- why not all sectors of a source were stored, by the states of the source
 abbrev pub EndsWhole : {T : Type 0} → (T → Device) → Bool → ℕ → ℕ → StackRecord → T → StackRecord → T → StoreFault → Type 0
 EndsWhole state part d first stack source stack' source' = IsWholeEnd part d first stack (state source) stack' (state source')

@@ -149,7 +149,7 @@ IsProbeEnd old new broken cause.TooLong = (more : List ℕ) × (0 < length more)
 IsProbeEnd old new broken cause.Read = (more : List ℕ) × Consumes old new more × broken
 IsProbeEnd old new broken other = ⊥
 
--- ---- the same for the arguments of a call: the stack and a counted reader, before and after
+-- ---- in terms of the arguments of a call: the stack and a counted reader, before and after
 
 abbrev pub StoresBy : {T : Type 0} → (T → Option (List ℕ)) → ℕ → StorePlace → StackRecord → CountedRecord T → StackRecord → CountedRecord T → ℕ → Type 0
 StoresBy remaining d place stack reader stack' reader' n =

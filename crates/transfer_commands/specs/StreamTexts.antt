@@ -29,7 +29,7 @@ cat_status fault = 1
 abbrev pub stored_text : ℕ → List ℕ
 stored_text n = codes "written " ++ (decimal n ++ codes "\n")
 
--- the same, and then a line
+-- the number of written sectors, and then another line
 unfoldable pub late_text : ℕ → List ℕ → List ℕ
 late_text n line = stored_text n ++ line
 

@@ -41,7 +41,7 @@ pub record Puts {S D : Type 0} (w : Calls S D) (words : PutWords) (after : World
   pub made : IsStackOf w.state over words.cache stack
   pub served : HasReply (new_world stack) (words.put source.bytes.items) reply after
 
--- the same, and the images were closed, synced or not
+-- the source's bytes were written, and the images were closed, synced or not
 pub record PutsBack {S D : Type 0} (w : Calls S D) (words : PutWords) (synced : Result Unit IoFault) : Type 0 where
   pub after : World
   pub between : S
@@ -81,7 +81,7 @@ IsUnsyncedBehind Done fault = ⊥
 abbrev pub IsPutEnd : {S D : Type 0} → Calls S D → PutWords → RequestFault → Type 0
 IsPutEnd w words fault = IsRequestStackless (FailsToLoadSource w words) fault ⊎ (FailsToPut w words fault ⊎ IsUnsyncedBehind (PutsBack w words) fault)
 
--- ---- the same for the opener, before and after its calls, and for the program's arguments
+-- ---- in terms of the opener, before and after its calls, and of the program's arguments
 
 -- the write of the source's bytes to a transfer's destination
 abbrev pub words_to_put : StackFile → ℕ → Transfer → PutWords

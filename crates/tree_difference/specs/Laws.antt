@@ -34,7 +34,7 @@ pub record AreBothContents (t : Trees) (first second : List (List ℕ)) : Type 0
   pub first_root : t.first_root ≡ root t.first.hash_block t.first_salt (map (digest t.first_salt) first)
   pub second_root : t.second_root ≡ root t.second.hash_block t.second_salt (map (digest t.second_salt) second)
 
--- the same for the data blocks themselves
+-- a block found the same is the same in both data, and one found changed differs; or two different inputs have one digest
 abbrev pub SameContentsAreSame : Type 0
 SameContentsAreSame = (t : Trees) → AreComparable t → (first second : List (List ℕ)) → AreBothContents t first second → (i : ℕ) → i < common_blocks t → IsSame t i
     → (slice_index_or first i [] ≡ slice_index_or second i []) ⊎ Collide t.first_salt

@@ -33,11 +33,11 @@ pub record IsAskedOnce (n : ℕ) (old new : Device) (copies copies' : List Devic
   pub writes : HasWrittenAtMost old n new
   pub copies_read : AreReadAtMost copies n copies'
 
--- the same for a device, copies, and a buffer
+-- a block as long as a buffer was read, sought in each copy, and written, each at most once
 abbrev pub AsksOnce : {B C Z : Type 0} → (B → Device) → (C → Device) → List ℕ → B → B → Vec C Z → Vec C Z → Type 0
 AsksOnce state copy_state block old new copies copies' = IsAskedOnce (length block / 512) (state old) (state new) (map copy_state copies.items) (map copy_state copies'.items)
 
--- the same for the hash device of an image and its copies
+-- such a block of the hash device of an image
 abbrev pub AsksHashOnce : List ℕ → RepairWorld → RepairWorld → Type 0
 AsksHashOnce block w w' = IsAskedOnce (length block / 512) w.hash_dev w'.hash_dev w.hash_copies w'.hash_copies
 
@@ -139,15 +139,15 @@ left_of s h k = s.blocks - k * per_block s ^ h
 abbrev pub LeavesBlock : (ℕ → Bill) → ShapeRecord → ℕ → ℕ → RepairWorld → RepairWorld → Type 0
 LeavesBlock due s h k w w' = LeavesWorld (due (left_of s h k)) (due (left_of s h (k + 1))) w w'
 
--- the same for a block that is made from blocks of a lower height
+-- the accesses for a block that is made from blocks of a lower height
 abbrev pub LeavesMade : ShapeRecord → Making → RepairWorld → RepairWorld → Type 0
 LeavesMade s m w w' = LeavesBlock (made_over s m.from) s (m.from + m.steps) m.number w w'
 
--- the same for a visit of the block above data block i
+-- the accesses for a visit of the block above data block i
 abbrev pub LeavesVisit : ShapeRecord → ℕ → ℕ → RepairWorld → RepairWorld → Type 0
 LeavesVisit s h i w w' = LeavesBlock (visits_over s h) s h (ancestor s h i) w w'
 
--- the same, and the block is read back if it was written
+-- the accesses for such a visit, and for reading the block back if it was written
 abbrev pub LeavesChecked : ShapeRecord → ℕ → ℕ → RepairWorld → RepairWorld → Type 0
 LeavesChecked s h i w w' = LeavesBlock (checks_over s h) s h (ancestor s h i) w w'
 
@@ -158,6 +158,6 @@ LeavesHashVisit s l i w w' = LeavesVisit s (suc l) i w w'
 abbrev pub LeavesBeneath : ShapeRecord → ℕ → ℕ → RepairWorld → RepairWorld → Type 0
 LeavesBeneath s l i w w' = LeavesBlock (beneath_over s l) s (suc l) (ancestor s (suc l) i) w w'
 
--- the same for the blocks of a row
+-- the accesses for the blocks of a row
 abbrev pub LeavesRow : (ShapeRecord → ℕ → ℕ → Bill) → ShapeRecord → Row → RepairWorld → RepairWorld → Type 0
 LeavesRow due s row w w' = LeavesWorld (due s row.height (s.blocks - row.first)) (due s row.height (s.blocks - row.first - per_block s ^ (row.height + 1))) w w'

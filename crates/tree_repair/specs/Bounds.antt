@@ -47,7 +47,7 @@ pub record RepairsInOnePass (plan : Plan) (w w' : RepairWorld) (old new : Option
   pub repairs : Repairs plan false w w' old new fault
   pub within : IsOnePass (shape_of repairs.s) w w'
 
--- the same for a run that ended early as well; or there was no image to repair
+-- such a repair, or one that ended early; or there was no image to repair
 abbrev pub IsRepairWithin : {W T : Type 0} → (W → Option (List ℕ)) → Plan → RepairWorld → RepairWorld → CountedRecord W → CountedRecord W → Result T RepairFault → Type 0
 IsRepairWithin contents plan w w' old new result =
     (IsErrAnd result (IsNoImageCause w.data_dev w.hash_dev w'.hash_dev) × IsHashReadAlone w w') ⊎ RepairsInOnePass plan w w' (contents old.inner) (contents new.inner) (result_err result)

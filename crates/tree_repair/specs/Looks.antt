@@ -19,11 +19,11 @@ look s sectors old new copies copies' = record {
   write = s.repair.now.write;
 }
 
--- the same for a hash block of an image
+-- the check of a hash block of an image
 abbrev pub tree_look : Sought → List ℕ → RepairWorld → RepairWorld → Look
 tree_look s block w w' = look s (length block / 512) w.hash_dev w'.hash_dev w.hash_copies w'.hash_copies
 
--- the same for a device, copies and a buffer
+-- the check of a block as long as a buffer, by the states of its device and the copies
 abbrev pub look_by : {B C Z : Type 0} → (B → Device) → (C → Device) → Sought → List ℕ → B → B → Vec C Z → Vec C Z → Look
 look_by state copy_state s block old new copies copies' = look s (length block / 512) (state old) (state new) (map copy_state copies.items) (map copy_state copies'.items)
 

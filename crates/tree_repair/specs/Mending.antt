@@ -29,12 +29,12 @@ pub record IsBlockPut (old : Device) (first sectors : ℕ) (bytes : List ℕ) (d
   pub image : IsTrue done → IsTrue old.steady → new.image ≡ spliced old.image first (sectors_of sectors bytes)
   pub sure : IsTrue old.never_fails → IsTrue done
 
--- the same if the repair may write; otherwise nothing is written
+-- a write of a block if the repair may write; otherwise nothing is done
 abbrev pub IsAllowedPut : Bool → Device → ℕ → ℕ → List ℕ → Bool → Device → Type 0
 IsAllowedPut true old first sectors bytes done new = IsBlockPut old first sectors bytes done new
 IsAllowedPut false old first sectors bytes done new = (new ≡ old) × (done ≡ true)
 
--- the same for all bytes in a buffer
+-- such a write of all bytes in a buffer
 abbrev pub IsPutAt : Bool → Device → ℕ → List ℕ → Bool → Device → Type 0
 IsPutAt write old first bytes done new = IsAllowedPut write old first (length bytes / 512) bytes done new
 
@@ -85,7 +85,8 @@ pub record IsBlockReplaced (old : Device) (first : ℕ) (w : Wanted) (write : Bo
   pub good : digest w.salt bytes ≡ w.digest_is
   pub put : IsAllowedPut write between first w.sectors bytes done new
 
--- the same with parity as the source; how parity restored the bytes is stated elsewhere
+-- the block is corrupt, and parity restored its bytes, which were written, or the write failed; how parity restores bytes is
+-- stated elsewhere
 pub record IsFoundByParity (l : Look) (bytes : List ℕ) (done : Bool) : Type 0 where
   pub replaced : IsBlockReplaced l.old l.first l.w l.write bytes done l.new
   pub copies_read : AreEachRead l.copies l.copies'

@@ -53,12 +53,12 @@ pub record IsGoodNow (j : Job) (h i : ℕ) (w : RepairWorld) : Type 0 where
   pub bytes : List ℕ
   pub there : IsThere (own h w) (sector_at j.tree.shape h i) (wanted j.tree.salt (digest_on p i h) (size_at j.tree.shape h / 512)) bytes
 
--- the same for a block of an image
+-- a corrupt block of an image was replaced, or the block is valid and was only read
 abbrev pub IsPlaced : Job → ℕ → ℕ → List ℕ → RepairWorld → RepairWorld → Bool → Type 0
 IsPlaced j h i bytes w w' true = IsVisited j (visit h i mended.Parity bytes true) w w'
 IsPlaced j h i bytes w w' false = IsWorldRead w w' × IsGoodNow j h i w
 
--- the same, and after a write the devices were only read
+-- a corrupt block of an image was replaced, and the devices were only read afterwards; or the block is valid and was only read
 abbrev pub IsPlacedAndRead : Job → ℕ → ℕ → List ℕ → RepairWorld → RepairWorld → Bool → Type 0
 IsPlacedAndRead j h i bytes w w' true = (x : RepairWorld) × (IsVisited j (visit h i mended.Parity bytes true) w x × IsWorldRead x w')
 IsPlacedAndRead j h i bytes w w' false = IsWorldRead w w' × IsGoodNow j h i w

@@ -71,11 +71,11 @@ pub record IsReplacedOnce (n : ℕ) (old new : Device) : Type 0 where
   pub reads : HasReadAtMost old n new
   pub writes : HasWrittenAtMost old n new
 
--- the same for a block of an image
+-- a block of an image was read and written, at most once
 abbrev pub put_bill : ℕ → ParityBill
 put_bill n = record { data_reads = n; hash_reads = n; parity_reads = 0; data_writes = n; hash_writes = n; data_sought = 0; hash_sought = 0 }
 
--- the same, and then the block was read back
+-- a block of an image was read and written, and then read back
 abbrev pub kept_bill : ℕ → ParityBill
 kept_bill n = record (put_bill n) { data_reads = n + n; hash_reads = n + n }
 
@@ -169,7 +169,7 @@ pub record TellsOfHash (j : Job) (h : ℕ) (w w' : RepairWorld) (old new : Optio
   pub run : HasRun j w w' old new fault
   pub came : IsTrue told → 0 < h → 1 ≤ hashes_back run.visits
 
--- the same for a writer and the result of the run
+-- such a run, by the writer before and after and the result
 abbrev pub TellsBack : {W : Type 0} → (W → Option (List ℕ)) → Job → ℕ → RepairWorld → RepairWorld → CountedRecord W → CountedRecord W → Result Bool RepairFault → Type 0
 TellsBack contents j h w w' old new result = TellsOfHash j h w w' (contents old.inner) (contents new.inner) (result_err result) (told_of result)
 
@@ -197,7 +197,7 @@ pub record RunsInPasses (j : Job) (l : Layout) (most : ℕ) (w w' : RepairWorld)
   pub sought_few : sought ≤ passes * image_blocks j.tree.shape
   pub within : IsAskedWithin (parity_bill j.tree.shape l 0 passes sought) w w' p p'
 
--- the same for one pass, a writer, and the result of the run
+-- a run in one pass, by the writer before and after and the result
 abbrev pub RunsInOne : {W : Type 0} → (W → Option (List ℕ)) → Job → Layout → RepairWorld → RepairWorld → Device → Device → CountedRecord W → CountedRecord W → Result Came RepairFault → Type 0
 RunsInOne contents j l w w' p p' old new result = RunsInPasses j l 1 w w' p p' (contents old.inner) (contents new.inner) (result_err result) (tree_told result)
 
@@ -219,7 +219,7 @@ pub record RepairsInPasses (plan : Plan) (l : Layout) (w w' : RepairWorld) (p p'
   pub sought_few : sought ≤ passes * image_blocks (shape_of repairs.s)
   pub within : IsAskedWithin (parity_bill (shape_of repairs.s) l 1 passes sought) w w' p p'
 
--- the same for a run that ended early as well; or there was no image to repair
+-- such a repair, or one that ended early; or there was no image to repair
 abbrev pub IsParityWithin : {W T : Type 0} → (W → Option (List ℕ)) → Plan → Layout → RepairWorld → RepairWorld → Device → Device → CountedRecord W → CountedRecord W → Result T RepairFault → Type 0
 IsParityWithin contents plan l w w' p p' old new result =
     (IsErrAnd result (IsNoImageCause w.data_dev w.hash_dev w'.hash_dev) × (IsHashReadAlone w w' × (p' ≡ p)))

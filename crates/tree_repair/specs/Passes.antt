@@ -38,7 +38,7 @@ pub record HasNoted (j : Job) (Due : ℕ → ℕ → Type 0) (w w' : RepairWorld
   pub any : IsNone fault → b.any ≡ false → (a.any ≡ false) × All (IsGoodThen j) run.visits
   pub passed : IsNone fault → b.passed ≡ false → (a.passed ≡ false) × ((h i : ℕ) → Due h i → IsVisitedIn j.tree.shape h i run.visits)
 
--- the same for a writer and the result of the run
+-- such a run, by the writer before and after and the result
 abbrev pub Notes : {W T : Type 0} → (W → Option (List ℕ)) → Job → (ℕ → ℕ → Type 0) → RepairWorld → RepairWorld → BadBlocks → BadBlocks → CountedRecord W → CountedRecord W → Result T RepairFault → Type 0
 Notes contents j Due w w' a b old new result = HasNoted j Due w w' (contents old.inner) (contents new.inner) a b (result_err result)
 

@@ -30,11 +30,11 @@ pub record Repairs (plan : Plan) (parity : Bool) (w w' : RepairWorld) (old new :
   pub images : AreImages w.data_dev w.hash_dev s
   pub run : HasRun (job_of s plan parity) w w' old new fault
 
--- the same to the end, for a writer
+-- a repair to the end without parity, by the writer before and after
 abbrev pub IsRepair : {W : Type 0} → (W → Option (List ℕ)) → Plan → RepairWorld → RepairWorld → CountedRecord W → CountedRecord W → Type 0
 IsRepair contents plan w w' old new = Repairs plan false w w' (contents old.inner) (contents new.inner) None
 
--- the same with parity
+-- a repair to the end with parity, by the writer before and after
 abbrev pub IsParityRepair : {W : Type 0} → (W → Option (List ℕ)) → Plan → RepairWorld → RepairWorld → CountedRecord W → CountedRecord W → Type 0
 IsParityRepair contents plan w w' old new = Repairs plan true w w' (contents old.inner) (contents new.inner) None
 
@@ -44,7 +44,7 @@ pub record LooksAtAll (plan : Plan) (w w' : RepairWorld) (old new : Option (List
   pub repairs : Repairs plan false w w' old new None
   pub looked : (h i : ℕ) → h ≤ levels (shape_of repairs.s) → i < (shape_of repairs.s).blocks → IsLookedAt (job_of repairs.s plan false) h i repairs.run.visits w w'
 
--- the same for a writer
+-- such a repair, by the writer before and after
 abbrev pub IsGoneOver : {W : Type 0} → (W → Option (List ℕ)) → Plan → RepairWorld → RepairWorld → CountedRecord W → CountedRecord W → Type 0
 IsGoneOver contents plan w w' old new = LooksAtAll plan w w' (contents old.inner) (contents new.inner)
 
@@ -56,7 +56,7 @@ pub record SeeksByParity (plan : Plan) (l : Layout) (w w' : RepairWorld) (p p' :
   pub valid : IsShape (shape_of s)
   pub ends : EndsInPass (job_of s plan true) l w w' p p'
 
--- the same for the parity device
+-- such a repair, by the states of the parity device
 abbrev pub IsSoughtByParity : {P : Type 0} → (P → Device) → Plan → Layout → RepairWorld → RepairWorld → P → P → Type 0
 IsSoughtByParity state plan l w w' old new = SeeksByParity plan l w w' (state old) (state new)
 

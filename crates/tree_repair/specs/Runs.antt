@@ -207,7 +207,7 @@ pub record HasRun (j : Job) (w w' : RepairWorld) (old new : Option (List ℕ)) (
   pub printed : IsNone fault → Appends old new (flat_map (visit_line j) visits)
   pub cause : IfSome fault (IsEndCause visits)
 
--- the same for a writer and the result of the run
+-- a run, by the writer before and after and the result
 abbrev pub Ran : {W T : Type 0} → (W → Option (List ℕ)) → Job → RepairWorld → RepairWorld → CountedRecord W → CountedRecord W → Result T RepairFault → Type 0
 Ran contents j w w' old new result = HasRun j w w' (contents old.inner) (contents new.inner) (result_err result)
 

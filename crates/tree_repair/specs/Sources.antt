@@ -61,7 +61,7 @@ AreNotIn copies first w k = (j : ℕ) → j < k → (d : Device) → IsWithout (
 abbrev pub AreInNone : List Device → ℕ → Wanted → Type 0
 AreInNone copies first w = AreNotIn copies first w (length copies)
 
--- ---- the same for the arguments of functions; `state` gives the devices
+-- ---- in terms of the arguments of functions; `state` gives the devices
 
 -- the expected bytes weren't read
 abbrev pub FindsBad : {B : Type 0} → (B → Device) → B → B → ℕ → Wanted → Type 0

@@ -48,7 +48,6 @@ pub struct Plan {
 ///
 /// - `Image` if there is no superblock, a device is too small, a write failed, or an allocation was refused.
 /// - `Write` if a line can't be written.
-/// for that; after a failed call of the image's devices it isn't known, since a sector that couldn't be read may fail again.
 pub fn repair_image<D: BlockDev, H: BlockDev, C: BlockDev, W: Write>(
     alloc: Global,
     image: &mut DamagedImage<D, H, C>,

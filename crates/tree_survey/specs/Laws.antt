@@ -28,7 +28,8 @@ pub record AreContents (t : Tree) (contents : List (List ℕ)) : Type 0 where
   pub blocks : AreBlocks t.shape.blocks t.shape.data_block contents
   pub root : t.root ≡ root t.shape.hash_block t.salt (map (digest t.salt) contents)
 
--- the same for the data blocks themselves
+-- a valid block is the one of any data whose tree has this root, and a changed block isn't; or two different inputs have one
+-- digest
 abbrev pub GoodContentsAreData : Type 0
 GoodContentsAreData = (t : Tree) → (contents : List (List ℕ)) → AreContents t contents → (i : ℕ) → i < t.shape.blocks → (content : List ℕ) → IsGoodAt t i content
     → (content ≡ slice_index_or contents i []) ⊎ Collide t.salt

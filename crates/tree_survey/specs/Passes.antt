@@ -69,7 +69,6 @@ IsHidden t w lost i above_good state =
 -- The states of all data blocks, each with the content that was read and the path that proves it, unless a read failed. A valid
 -- block was read. For each block that couldn't be read, a call of its device failed. On a steady data device the contents are
 -- the stored blocks; on steady devices the states are those of the stored blocks, again unless a read failed.
--- states are those of what stands there, again unless a read failed.
 pub record AreSeen (t : Tree) (w : Pass) (states : List State) : Type 0 where
   pub count : length states ≡ t.shape.blocks
   pub lost : Unreadable

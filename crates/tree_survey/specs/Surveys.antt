@@ -40,7 +40,7 @@ IsSeenBy t i found (Some Changed) = IsChangedBy t i found
 IsSeenBy t i found (Some Unknown) = IsUnknownAt t i
 IsSeenBy t i found (Some kind) = ⊥
 
--- the same by the block's content
+-- the state of a data block by its content, and what proves it
 abbrev pub IsGoodAt : Tree → ℕ → List ℕ → Type 0
 IsGoodAt t i content = IsGoodBy t i (digest t.salt content)
 
@@ -67,7 +67,7 @@ IsStoredBy t image i found (Some Changed) = AllStand t image i × (found ≢ sto
 IsStoredBy t image i found (Some Unknown) = (l : ℕ) × ((l < levels t.shape) × (HasDigestAbove t image l i → ⊥))
 IsStoredBy t image i found (Some kind) = ⊥
 
--- the same for the block that is stored on the data device
+-- the state of the data block that is stored on the data device
 abbrev pub IsContentStoredAs : Tree → List (List ℕ) → List (List ℕ) → ℕ → State → Type 0
 IsContentStoredAs t data_image hash_image i state = IsStoredBy t hash_image i (digest t.salt (block_at data_image t.shape.data_block i)) state
 

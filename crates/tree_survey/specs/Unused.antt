@@ -76,6 +76,6 @@ found_from false good = Nonzero
 found_from true zero = Zero
 found_from true (suc n) = Unknown
 
--- the same for a device, as a proof sees it
+-- the hash blocks on this path were read from a device, given by its state
 abbrev pub IsUnusedReadBy : {H : Type 0} → (H → Device) → Tree → H → H → Unused → Type 0
 IsUnusedReadBy state t h h' found = IsUnusedRead t (state h) (state h') found
