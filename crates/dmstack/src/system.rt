@@ -16,6 +16,7 @@ pub struct System<'a, R> {
 }
 
 impl<'a, R: Clock + Eprint> System<'a, R> {
+    /// Returns the services of the system.
     pub fn new(rt: &'a R) -> System<'a, R> {
         System {
             rt,

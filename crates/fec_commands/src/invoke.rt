@@ -30,6 +30,12 @@ use verity_commands::{VerityFault, sector_at};
 
 /// Runs `format --fec FILE [--fec-roots N] [--grow] [--progress] [OPTION..] DATA HASH`. It formats as `format` does, and then
 /// writes the parity, which is synced before anything is printed. FILE is opened and measured before anything is written.
+///
+/// # Errors
+///
+/// - `Verity` if the arguments give no value, or the image can't be made or its text printed.
+/// - `BlockSizes` if the arguments give two block sizes.
+/// - `Parity` if FILE is too small, or the parity can't be written and synced.
 pub fn invoke_format_fec<'a, I: Images, G: Generators + Watchers, W: Write>(
     alloc: Global,
     images: &mut I,
@@ -66,6 +72,13 @@ pub fn invoke_format_fec<'a, I: Images, G: Generators + Watchers, W: Write>(
 /// Runs `verify --fec FILE [--fec-roots N] [--hash-offset BYTES] [--root-hash-file FILE] [--progress] DATA HASH [ROOT]`. It
 /// verifies as `verify` does, and then compares the parity. Each file is opened once, and FILE is measured before anything is
 /// printed.
+///
+/// # Errors
+///
+/// - `Verity` if a file can't be opened or read, the image isn't the one with this root hash, or a line can't be printed.
+/// - `BlockSizes` if the superblock has two block sizes.
+/// - `Parity` if FILE is too small, or the parity can't be compared.
+/// - `Differs` if the parity isn't that of the image.
 pub fn invoke_verify_fec<'a, I: Images, S: Watchers, W: Write>(
     alloc: Global,
     images: &mut I,

@@ -29,6 +29,12 @@ use verity_commands::TreeFault;
 
 /// Runs `repair --fec FILE [--fec-roots N] ..`. It repairs as `repair_images` does, and restores each block that no copy has by
 /// the parity in FILE. FILE is opened last, for reading.
+///
+/// # Errors
+///
+/// - `Tree` with the faults of `repair_images`.
+/// - `BlockSizes` if the superblock has two block sizes.
+/// - `TooSmall` if FILE has fewer sectors than needed.
 pub fn repair_by_parity<'a, I: Images, S: Watchers, W: Write>(
     alloc: Global,
     images: &mut I,

@@ -24,6 +24,14 @@ use verity_commands::TreeFault;
 /// Runs `repair [--check] [--hash-offset BYTES] DATA HASH ROOT [COPY ..]`. It prints a line for each corrupt block that was
 /// found in a copy, and then what `verify --all` prints. If the repair left all blocks valid, they aren't read again for that.
 /// Each copy is read at the block's offset in DATA or in HASH.
+///
+/// # Errors
+///
+/// - `Open` if a file can't be opened, or conflicts with an open one.
+/// - `Survey` if there is no superblock, an image is too small, a device failed, or memory ran out.
+/// - `Unaligned`, `Unpinned` or `UnusedEntries` if the image is refused before anything is written.
+/// - `Damaged` if blocks are still lost.
+/// - `Write` if a line can't be written.
 pub fn repair_images<'a, I: Images, S: Watchers, W: Write>(
     alloc: Global,
     images: &mut I,

@@ -12,6 +12,14 @@ use std::alloc::Global;
 use table_text::parse_stack;
 
 /// Returns the configuration that a stack file makes of the bindings' backing devices.
+///
+/// # Errors
+///
+/// - `NoMemory` if an allocation was refused.
+/// - `TooLong` if the stack file has more than 1 MiB.
+/// - `Open` if a file can't be opened or read, or conflicts with an open one.
+/// - `Outside` if a binding's part isn't within its file.
+/// - `Leaves`, `Text` or `Load` if the configuration is refused.
 pub fn open_configuration<'a, I: Images>(
     alloc: Global,
     images: &mut I,
@@ -29,6 +37,11 @@ pub fn open_configuration<'a, I: Images>(
 }
 
 /// Returns the configuration that a stack text makes of backing devices.
+///
+/// # Errors
+///
+/// The first of these faults: `Leaves` if the backing devices are refused, `Text` if the text has a fault, `Load` if the load
+/// is refused. `NoMemory` if an allocation was refused.
 pub fn configuration_of<'a>(
     alloc: Global,
     leaves: Vec<Leaf>,

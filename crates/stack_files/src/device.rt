@@ -20,6 +20,10 @@ pub struct NamedDevice<'a> {
 }
 
 /// Opens the stack of a stack file over its bindings, and finds the device with that name.
+///
+/// # Errors
+///
+/// The faults of `open_loaded`, and `NoSuchDevice` if the stack has no device with that name.
 pub fn open_device<'a, I: Images>(
     alloc: Global,
     images: &mut I,
@@ -36,6 +40,10 @@ pub fn open_device<'a, I: Images>(
 
 /// Opens the stack of a stack file, finds the device with that name, and opens an image to copy to, which mustn't be the stack
 /// file.
+///
+/// # Errors
+///
+/// The faults of `open_device`; `Open` also if the image can't be opened, or is the stack file.
 pub fn open_device_and_output<'a, I: Images>(
     alloc: Global,
     images: &mut I,
@@ -54,6 +62,10 @@ pub fn open_device_and_output<'a, I: Images>(
 }
 
 /// Makes the stack of a text over the open backing devices, and finds the device with that name.
+///
+/// # Errors
+///
+/// The faults of `load_stack`, and `NoSuchDevice` if the stack has no device with that name.
 pub fn find_device<'a, D: BlockDev + Drop>(
     alloc: Global,
     over: OpenStack<D>,

@@ -86,6 +86,12 @@ fn open_backing<'a, I: Images>(
 }
 
 /// Opens the bindings' backing devices in order, next to these open files.
+///
+/// # Errors
+///
+/// - `NoMemory` if an allocation was refused.
+/// - `Open` if a file can't be opened, or conflicts with an open one.
+/// - `Outside` if a binding's part isn't within its file.
 pub fn open_all<'a, I: Images>(
     alloc: Global,
     images: &mut I,

@@ -33,6 +33,10 @@ pub fn read_stack<'a, I: Images>(
 }
 
 /// Reads at most 2,049 sectors of a file that is to be written to a device.
+///
+/// # Errors
+///
+/// `UnopenedFile` if it can't be opened or read.
 pub fn read_source<'a, I: Images>(
     images: &mut I,
     path: &'a str,

@@ -16,6 +16,10 @@ use stack_loader::config_over;
 use std::alloc::Global;
 
 /// Opens the stack of a stack file over its bindings, with a cache of `cache` hash blocks.
+///
+/// # Errors
+///
+/// The faults of `open_configuration`.
 pub fn open_loaded<'a, I: Images>(
     alloc: Global,
     images: &mut I,
@@ -30,6 +34,13 @@ pub fn open_loaded<'a, I: Images>(
 }
 
 /// Opens a stack without mapped devices over bindings, with a cache of `cache` hash blocks.
+///
+/// # Errors
+///
+/// - `NoMemory` if an allocation was refused.
+/// - `Open` if a file can't be opened, or conflicts with an open one.
+/// - `Outside` if a binding's part isn't within its file.
+/// - `Leaves` if the backing devices are refused.
 pub fn open_leaves<'a, I: Images>(
     alloc: Global,
     images: &mut I,
@@ -45,6 +56,10 @@ pub fn open_leaves<'a, I: Images>(
 }
 
 /// Makes the stack of a text over the open backing devices.
+///
+/// # Errors
+///
+/// The faults of `configuration_of`.
 pub fn load_stack<'a, D: BlockDev + Drop>(
     alloc: Global,
     over: OpenStack<D>,

@@ -39,6 +39,13 @@ fn text_use(text: &FileText) -> FileUse
 }
 
 /// Reads a stack file, and then opens the bindings' backing devices.
+///
+/// # Errors
+///
+/// - `NoMemory` if an allocation was refused.
+/// - `TooLong` if the stack file has more than 1 MiB.
+/// - `Open` if a file can't be opened or read, or conflicts with an open one.
+/// - `Outside` if a binding's part isn't within its file.
 pub fn open_stack<'a, I: Images>(
     alloc: Global,
     images: &mut I,
@@ -62,6 +69,10 @@ pub fn open_stack<'a, I: Images>(
 }
 
 /// Reads a stack file, then a file that is to be written to a device, and then opens the bindings.
+///
+/// # Errors
+///
+/// The faults of `open_stack`; `Open` also if the file to be written can't be opened or read.
 pub fn open_with_source<'a, I: Images>(
     alloc: Global,
     images: &mut I,
@@ -84,6 +95,10 @@ pub fn open_with_source<'a, I: Images>(
 }
 
 /// Reads a stack file, then opens an image to copy to, which mustn't be the stack file, and then the bindings.
+///
+/// # Errors
+///
+/// The faults of `open_stack`; `Open` also if the image can't be opened, or is the stack file.
 pub fn open_with_output<'a, I: Images>(
     alloc: Global,
     images: &mut I,
@@ -98,6 +113,10 @@ pub fn open_with_output<'a, I: Images>(
 }
 
 /// Reads a stack file, then opens an image for reading, which may be the stack file, and then the bindings.
+///
+/// # Errors
+///
+/// The faults of `open_stack`; `Open` also if the image can't be opened.
 pub fn open_with_input<'a, I: Images>(
     alloc: Global,
     images: &mut I,

@@ -9,6 +9,7 @@ const REFUSED: u8 = 1;
 
 const FAULT: u8 = 3;
 
+/// Returns the exit status for a fault of `cat`.
 pub fn cat_status(fault: CatFault) -> u8
     ensures { result ≡ cat_status fault }
 {
@@ -19,6 +20,7 @@ pub fn cat_status(fault: CatFault) -> u8
     }
 }
 
+/// Returns the exit status for a fault of `store`.
 pub fn store_status(fault: StoreFault) -> u8
     ensures { result ≡ store_status fault }
 {
