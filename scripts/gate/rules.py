@@ -5,7 +5,7 @@
     rules.py --list   prints that list as the sources have it; new entries are at the end and lack a reason
 
 The rules are: how many clauses and parameters a function has, how long a clause, a body and a file are; that a crate cites of the
-`proofs/` of another one only `proofs/lemmas`; that each lemma is cited, or named for callers by its crate's README; that what the
+`proofs/` of another one only `proofs/lemmas`; where std is called on files; that each lemma is cited, or named for callers by its crate's README; that what the
 documents name in backticks is in the sources, and that their links lead somewhere; that scripts/README.md names each script; that
 prose has the terms of the field and not the phrases that scripts/lib/phrases.py replaces.
 
@@ -34,6 +34,7 @@ LIMITS = {
     "body": ("lines in its body", 40),
     "file": ("lines", 300),
     "phrases": ("phrases that scripts/lib/phrases.py replaces", 0),
+    "system": ("calls of the operating system on files", 0),
 }
 # Of the others, what is wrong.
 FAULTS = {
@@ -43,7 +44,10 @@ FAULTS = {
     "link": "leads nowhere",
     "script": "is named by no line of scripts/README.md",
 }
-CITED = re.compile(r"Rattle\.(\w+)\.proofs\.([\w.+]*[\w+])|\b(\w+)::proofs::([\w:]+)")
+CITED = re.compile(r"Rattle\.(\w+)\.proofs\b(?:\.([\w.+]*[\w+]))?|\b(\w+)::proofs\b(?:::([\w:]+))?")
+# Calls of std on files, whose evidence says that they were made, and not that no other was.
+SYSTEM = re.compile(r"\bfs::[a-z_]+\(|\bOpenOptions::new\(|\bfchown\(|\.(?:set_len|set_permissions|sync_all|sync_data|(?:read|write)(?:_exact|_all)?_at)\(")
+COMMENT = re.compile(r"//.*")
 
 
 def crates():
@@ -71,7 +75,9 @@ def of_files():
     for path in sorted(it for kind in kinds for it in glob.glob(f"crates/*/{kind}", recursive=True)):
         text, own = text_of(path), path.split("/")[1]
         yield from over("file", path, "-", text.count("\n"))
-        cited = {(it[1] or it[3], (it[2] or it[4]).replace("::", ".")) for it in CITED.finditer(text)}
+        if path.endswith(".rt"):
+            yield from over("system", path, "-", len(SYSTEM.findall(COMMENT.sub("", text))))
+        cited = {(it[1] or it[3], (it[2] or it[4] or "").replace("::", ".")) for it in CITED.finditer(text)}
         for crate, module in sorted(cited):
             if crate in names and crate != own and not module.startswith("lemmas"):
                 yield ("foreign", path, f"{crate}.{module}"), None

@@ -4,7 +4,8 @@ use Rattle.std.specs.Prelude.{◌||◌, Option, String, cond, find, option_map, 
 use Rattle.std.specs.List.{list_any}
 use Rattle.std.specs.Option.{option_or}
 use Rattle.std.specs.Str.{bytes_eq}
-use Rattle.std.proofs.lemmas.List.{find-append, take_while-cons}
+use Rattle.std.proofs.lemmas.List.Folds.{find-append}
+use Rattle.std.proofs.lemmas.List.Sums.{take_while-cons}
 use Rattle.command_line.specs.FormatOptions.{text_of}
 use Rattle.manual_pages.specs.declared.command.Command.{Command}
 use Rattle.manual_pages.specs.declared.page.Page.{Page}

@@ -45,9 +45,9 @@ pub record Progressed (S : Type 0) : Type 0 where
 abbrev pub progressed : {S : Type 0} → S → Sides → List Run → ℕ → Progressed S
 progressed images sides runs at = record { images = images; sides = sides; runs = runs; at = at }
 
--- the sectors of a turn: 64 MiB, or a 256th of a larger device
+-- the sectors of a turn: 64 MiB, or about a 256th of a larger device, in whole groups of eight sectors
 unfoldable pub turn_len : ℕ → ℕ
-turn_len sectors = max 131072 (sectors / 256)
+turn_len sectors = max 131072 ((sectors / 2048 + 1) * 8)
 
 -- the marks that a turn reads by: those of the map in the span; all other sectors count as read before, so that they aren't
 -- read

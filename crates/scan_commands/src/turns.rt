@@ -21,6 +21,9 @@ use std::alloc::Global;
 
 const LEAST_TURN: u64 = 131_072;
 
+// A turn has whole groups of eight sectors, since units and data blocks have at most as many.
+const GROUP: u64 = 8;
+
 const MOST_TURNS: u64 = 256;
 
 // How many sectors one turn covers, of a device of so many.
@@ -29,7 +32,7 @@ fn turn_len(sectors: u64) -> u64
     ensures value { result ≡ turn_len sectors }
     ensures some { 1 ≤ result }
 {
-    LEAST_TURN.max(sectors / MOST_TURNS)
+    LEAST_TURN.max((sectors / (MOST_TURNS * GROUP) + 1) * GROUP)
 }
 
 // The map that a turn reads by: all sectors outside the span count as read before.
@@ -107,8 +110,8 @@ fn take_turn<'a, I: Images, D: BlockDev, O: SyncDev, L: Listing, P: Progress>(
     Ok(map)
 }
 
-/// Reads the sectors of a mapped device that a map doesn't mark as read, in turns of 64 MiB or of a 256th of the device,
-/// whichever is more.
+/// Reads the sectors of a mapped device that a map doesn't mark as read, in turns of 64 MiB, or of about a 256th of a larger
+/// device.
 ///
 /// Each turn reports the longest runs of sectors that are lost by one fault, copies the readable sectors to the same offset of
 /// another device, which has room for all, and syncs that device. Then it replaces the map file by the map of what was read and

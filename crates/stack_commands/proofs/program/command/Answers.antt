@@ -17,7 +17,7 @@ returns-then-output_is_data g c = inr (record {
   kept = λ is. is;
   noted = λ command output failed. c.end.ensures.failed (same-failed c.run.new.errors c.explain.new.errors (c.explain.ensures.other command) failed);
   told_so = told-elsewhere _ c.in-Err.fault _ _ _ _ (sym c.output_is_data.ensures ∙ c.if-output_is_data.true)
-      (λ usage. explained-kept g.E.Write.contents _ _ _ _ _ refl c.end.ensures.failed (c.explain.ensures.usage usage))
+      (λ usage. explained-kept g.E.Write.contents _ _ c.explain.new.errors c.explain.new.errors _ refl c.end.ensures.failed (c.explain.ensures.usage usage))
       (λ other. same-contents g.E.Write.contents c.run.new.errors c.explain.new.errors (c.explain.ensures.other other)) c.end.ensures.told;
 })
 
