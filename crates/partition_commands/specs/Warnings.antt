@@ -42,7 +42,7 @@ sector_warning w past elsewhere = if w.cut_short then warning_line past else war
 -- of each copy
 unfoldable pub primary_warnings : CopyWarnings → List ℕ
 primary_warnings w =
-    sector_warning w (codes "the disk is smaller than its table states") (codes "the primary doesn't place the backup in the last sector")
+    sector_warning w (codes "the disk is smaller than its table states") (codes "the backup lies before the end of the disk")
     ++ warning_if w.reserved (codes "reserved bytes of the primary header aren't zero")
 
 unfoldable pub backup_warnings : CopyWarnings → List ℕ

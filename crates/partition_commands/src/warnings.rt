@@ -91,7 +91,7 @@ fn say_primary<W: Write>(writer: &mut Counted<W>, warnings: CopyWarnings) -> Res
         writer,
         warnings,
         b"the disk is smaller than its table states",
-        b"the primary doesn't place the backup in the last sector",
+        b"the backup lies before the end of the disk",
     )?;
     say_if(
         writer,
