@@ -1,4 +1,5 @@
-//! Digests of blocks side by side, beside the kit's SHA-256 of one block after the other, over 64 MiB of blocks of 4,096 bytes.
+//! Digests of blocks in parallel, compared with the kit's SHA-256 of one block after another, over 64 MiB of blocks of 4,096
+//! bytes.
 use crate::medians::{RUNS, median};
 use anyhow::{Context, Result, bail};
 use hash_tree::digest_blocks;
@@ -10,7 +11,7 @@ const BLOCK: usize = 4096;
 
 const BLOCKS: usize = 16384;
 
-/// Runs both in turn, and prints how many times as fast ours are, by the medians of processor time, and our time.
+/// Runs both in turn, and prints the ratio of their median processor times, and our time.
 pub fn measure<R: CpuClock + Print + AllocGlobal>(rt: &R) -> Result<()> {
     let salt = Salt::new(Algorithm::Sha256, &[0xa5; 32]).context("the salt is too long")?;
     let blocks = vec![in rt.alloc(); 0x5au8; BLOCKS * BLOCK]?;
@@ -24,7 +25,7 @@ pub fn measure<R: CpuClock + Print + AllocGlobal>(rt: &R) -> Result<()> {
         let start = rt.process_cpu_time()?;
         digest_blocks(&salt, BLOCK, &blocks, &mut made);
         let between = rt.process_cpu_time()?;
-        // All blocks are equal and their number is even.
+        // All blocks are equal, and their number is even.
         if folded(&made) ^ folded_one_by_one(&blocks) != 0 {
             bail!("digests of equal blocks differ");
         }
@@ -43,7 +44,7 @@ pub fn measure<R: CpuClock + Print + AllocGlobal>(rt: &R) -> Result<()> {
     Ok(())
 }
 
-/// A byte that hangs on all digests, so that no compiler leaves one out.
+/// Returns a byte that depends on all digests, so that the compiler can't omit any.
 fn folded(digests: &[Digest]) -> u8 {
     let mut byte = 0;
     for digest in digests {
@@ -52,7 +53,7 @@ fn folded(digests: &[Digest]) -> u8 {
     byte
 }
 
-/// The same of the digests of all blocks.
+/// Returns the same byte, with the blocks digested one after another.
 fn folded_one_by_one(blocks: &[u8]) -> u8 {
     let mut byte = 0;
     for block in blocks.chunks_exact(BLOCK) {

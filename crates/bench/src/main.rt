@@ -1,4 +1,4 @@
-//! Benchmarks of what no command shows alone: the digests and the cipher. And the calls of the libraries that no command makes.
+//! Benchmarks of what no command shows alone, the digests and the cipher; and calls of the libraries that no command makes.
 #![tactic(auto)]
 
 mod digests;

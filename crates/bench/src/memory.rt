@@ -1,4 +1,5 @@
-//! Calls that no command makes, each repeated if it runs out of memory: `scripts/gate/refuse_memory.sh` refuses their allocations.
+//! Calls that no command makes. Each is repeated if it runs out of memory; `scripts/gate/refuse_memory.sh` refuses their
+//! allocations.
 ghost use Rattle.std.specs.Prelude.{◌≡◌};
 
 use anyhow::{Context, Result, bail};
@@ -12,13 +13,13 @@ use verity_format::{ChainFault, data_sectors, read_chain, tree_sectors};
 
 const TABLE: &[u8] = b"0 8 striped 2 4 A 0 B 0\n8 8 linear C 2\n16 1 error\n";
 
-/// By hashlib: under the salt `salt`, of blocks of 512 bytes.
+/// By hashlib, with the salt `salt` and blocks of 512 bytes.
 const ROOT: [u8; 32] = [
     0x2b, 0x39, 0xdc, 0x60, 0x24, 0xa8, 0x44, 0x40, 0x6b, 0xc0, 0x6b, 0x88, 0xc2, 0x8e, 0x36, 0xb4,
     0xbc, 0x4c, 0xcd, 0xee, 0x33, 0x02, 0x82, 0x11, 0x79, 0xcf, 0xfc, 0xd1, 0x90, 0x65, 0xec, 0x31,
 ];
 
-/// Says of each call whether it had no memory, and that it then gave what it should.
+/// Prints a line for each call that ran out of memory, and a line for each call once it returned the expected result.
 pub fn show<R: Print + AllocGlobal>(rt: &R) -> Result<()> {
     let table = table_of(rt)?;
     if table.lines().len() != 3 {
@@ -87,7 +88,7 @@ fn area_of<R: Print + AllocGlobal>(rt: &R, shape: &Shape) -> Result<(Vec<u8>, Di
     }
 }
 
-// The chain of block 3, of devices whose k-th sector is filled with the byte k.
+// The chain of block 3, on devices whose k-th sector is filled with the byte k.
 fn chain_of<R: Print + AllocGlobal>(rt: &R, shape: &Shape) -> Result<Chain> {
     let alloc = rt.alloc();
     let mut data_dev = MemoryDev::ramp(alloc, 17, false).map_err(AllocError::from)?;

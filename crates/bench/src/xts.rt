@@ -1,4 +1,4 @@
-//! XTS over 16 MiB of units under keys of 32 bytes each, in megabytes a second of processor time.
+//! XTS over 16 MiB of units with keys of 32 bytes each, in megabytes per second of processor time.
 ghost use Rattle.std.specs.Prelude.{◌≡◌, ◌<◌, ◌%◌};
 
 use crate::medians::{RUNS, median};
@@ -52,7 +52,7 @@ fn measure_units<R: CpuClock + Print + AllocGlobal>(
     Ok(())
 }
 
-/// The bytes by the median of the times, which are in microseconds.
+/// Returns the speed for the median of the times, which are in microseconds.
 fn speed(times: Vec<u128>) -> u128 {
     BYTES as u128 / median(times).max(1)
 }

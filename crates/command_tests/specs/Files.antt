@@ -13,6 +13,6 @@ abbrev pub file_at_place : {Z : Type 0} → List (Vec ℕ Z) → Option ℕ → 
 file_at_place images None = None
 file_at_place images (Some place) = file_at images place
 
--- what stands under a path
+-- the image with that name
 abbrev pub file_under : MemoryImages → List ℕ → Option FileRecord
 file_under m path = file_at_place m.images.items (named_place m.names.items path)

@@ -1,4 +1,4 @@
--- What a proof sees of images in memory.
+-- Images in memory as a proof sees them.
 use Rattle.std.specs.Prelude.{◌≡◌, ◌==◌, ℕ, Bool, not, IsSome, List, length, ◌/◌, ◌%◌, take, Option, Some, None, Result, Ok, Err}
 use Rattle.std.specs.Str.{bytes_eq}
 use Rattle.block_device.specs.declared.file_id.FileId.{FileId}
@@ -19,15 +19,15 @@ use Rattle.command_tests.specs.Parts.{LiesWithin, grown_image, part_bytes, with_
 use Rattle.image_files.specs.Opener.{Opener}
 use Rattle.image_files.specs.declared.texts.ReplaceFault.{ReplaceFault}
 
--- these bytes stand under a path, at this place
+-- these bytes are the image with that name, at this index
 abbrev pub StandsAt : MemoryImages → List ℕ → ℕ → List ℕ → Type 0
 StandsAt m path place bytes = Stands m.names.items m.images.items path place bytes
 
--- the identity of what stands at a place
+-- the identity of the image at an index
 abbrev pub id_at : ℕ → Option FileId
 id_at place = Some (Inode 0 place)
 
--- a device over a copy of the bytes that stand under a path
+-- a device over a copy of the image with that name
 pub record IsCopy (m : MemoryImages) (path : List ℕ) (writable : Bool) (image : OpenImage MemoryDev) : Type 0 where
   pub place : ℕ
   pub bytes : List ℕ
@@ -40,7 +40,7 @@ abbrev pub OpensCopy : MemoryImages → List ℕ → Bool → Result (OpenImage 
 OpensCopy m path writable (Ok image) = IsCopy m path writable image
 OpensCopy m path writable (Err fault) = IsUncopied m.names.items m.images.items path fault
 
--- the first bytes of those that stand under a path
+-- the first bytes of the image with that name
 pub record IsText (m : MemoryImages) (path : List ℕ) (most : ℕ) (text : FileText) : Type 0 where
   pub place : ℕ
   pub bytes : List ℕ
@@ -52,12 +52,12 @@ abbrev pub TellsText : MemoryImages → List ℕ → ℕ → Result FileText Ope
 TellsText m path most (Ok text) = IsText m path most text
 TellsText m path most (Err fault) = IsUncopied m.names.items m.images.items path fault
 
--- a device's bytes stand under its path from then on
+-- the image at an index gets the bytes of a device
 abbrev pub PutsAt : Option ℕ → List ℕ → MemoryImages → MemoryImages → Type 0
 PutsAt None bytes old new = new ≡ old
 PutsAt (Some place) bytes old new = (new.names ≡ old.names) × AreBytesPut old.images.items place bytes new.images.items
 
--- a device over a copy of the bytes of a part of those that stand under a path
+-- a device over a copy of a part of the image with that name
 pub record IsPartCopy (m : MemoryImages) (path : List ℕ) (writable : Bool) (part : Part) (image : OpenImage MemoryDev) : Type 0 where
   pub place : ℕ
   pub bytes : List ℕ
@@ -67,7 +67,7 @@ pub record IsPartCopy (m : MemoryImages) (path : List ℕ) (writable : Bool) (pa
   pub holds : memory_bytes image.device ≡ part_bytes bytes part
   pub id : image.id ≡ id_at place
 
--- the part isn't inside of what stands under a path
+-- the part isn't within the image with that name
 pub record IsOutside (m : MemoryImages) (path : List ℕ) (part : Part) : Type 0 where
   pub place : ℕ
   pub bytes : List ℕ
@@ -79,17 +79,17 @@ OpensPartCopy m path writable part (Ok image) = IsPartCopy m path writable part 
 OpensPartCopy m path writable part (Err (Open fault)) = IsUncopied m.names.items m.images.items path fault
 OpensPartCopy m path writable part (Err Outside) = IsOutside m path part
 
--- what stands at a place is changed so
+-- the image at an index is changed by this function
 abbrev pub ChangesAt : Option ℕ → (List ℕ → List ℕ) → MemoryImages → MemoryImages → Type 0
 ChangesAt None change old new = new ≡ old
 ChangesAt (Some place) change old new = (new.names ≡ old.names) × IsChanged old.images.items place change new.images.items
 
--- it is grown, or it stays as it is
+-- the image is extended, or unchanged
 abbrev pub GrowsAt : MemoryImages → List ℕ → ℕ → Result (Unit {0}) OpenFault → MemoryImages → Type 0
 GrowsAt old path sectors (Ok done) new = ChangesAt (named_place old.names.items path) (λ image. grown_image image sectors) old new
 GrowsAt old path sectors (Err fault) new = ChangesAt (named_place old.names.items path) (λ image. image) old new
 
--- whether what stands under a path ends inside a sector
+-- whether the image with that name ends inside a sector
 pub record IsMeasured (m : MemoryImages) (path : List ℕ) (part : Bool) : Type 0 where
   pub place : ℕ
   pub bytes : List ℕ
@@ -100,7 +100,7 @@ abbrev pub Measures : MemoryImages → List ℕ → Result Bool OpenFault → Ty
 Measures m path (Ok part) = IsMeasured m path part
 Measures m path (Err fault) = IsUncopied m.names.items m.images.items path fault
 
--- bytes stand in the place of those that stood under a path
+-- the image with that name is replaced by these bytes
 pub record IsReplaced (old : MemoryImages) (path bytes : List ℕ) (new : MemoryImages) : Type 0 where
   pub place : ℕ
   pub held : List ℕ
@@ -108,12 +108,12 @@ pub record IsReplaced (old : MemoryImages) (path bytes : List ℕ) (new : Memory
   pub names : new.names ≡ old.names
   pub put : AreBytesPut old.images.items place bytes new.images.items
 
--- or all stays as it is
+-- the image is replaced, or all is unchanged
 abbrev pub ReplacesAt : MemoryImages → List ℕ → List ℕ → Result (Unit {0}) ReplaceFault → MemoryImages → Type 0
 ReplacesAt old path bytes (Ok done) new = IsReplaced old path bytes new
 ReplacesAt old path bytes (Err fault) new = new ≡ old
 
--- what stands under no name isn't made
+-- an image whose name doesn't exist isn't created
 abbrev pub IsTrial : MemoryImages → List ℕ → Result (Unit {0}) ReplaceFault → Type 0
 IsTrial m path (Ok done) = IsSome (named_place m.names.items path)
 IsTrial m path (Err fault) = named_place m.names.items path ≡ None

@@ -1,4 +1,4 @@
--- What a test sees of what it opens.
+-- What a test states about the files that it opens.
 use Rattle.image_files.specs.Opener.{Opener}
 
 -- nothing

@@ -1,4 +1,4 @@
-//! What is printed and what then stands in the images, with a failure at each call of a device.
+//! What commands print, and what the images then hold, with a failure at each call of a device.
 use crate::failing_images::FailingImages;
 use crate::named_images::MemoryImages;
 use crate::quiet_system::QuietSystem;
@@ -12,8 +12,7 @@ use std::test::Fail;
 
 const STACK: &[u8] = b"a,,,rw,0 2 linear D 0";
 
-/// The words; what is read; the call that fails; the status, what is printed, and with what the image's sectors are then
-/// filled.
+/// The arguments; the input; the call that fails; the status, the output, and the byte that then fills the image's sectors.
 #[derive(Clone, Copy)]
 struct Row {
     words: &'static [&'static str],
@@ -79,7 +78,7 @@ const SESSION: Row = Row {
     ..WRITE
 };
 
-// A client that ends the handshake by NBD_OPT_ABORT, and the answers of the protocol's document.
+// A client that ends the handshake by NBD_OPT_ABORT, and the replies from the protocol's document.
 const NBD: Row = Row {
     words: &["nbd", "stack", "a", "D=rw:image"],
     input: b"\x00\x00\x00\x03IHAVEOPT\x00\x00\x00\x02\x00\x00\x00\x00",
@@ -87,7 +86,7 @@ const NBD: Row = Row {
     ..READ
 };
 
-// Two blocks of 512 zeros: the root is the SHA-256 digest of theirs, filled up with zeros.
+// Two blocks of 512 zeros. The root hash is the SHA-256 digest of their two digests, padded with zeros.
 const FORMAT: Row = Row {
     words: &[
         "format",
@@ -106,7 +105,7 @@ const FORMAT: Row = Row {
     ..READ
 };
 
-// A data block with its superblock behind it, in one file that is opened as two parts.
+// A data block followed by its superblock, in one file that is opened as two parts.
 const REPAIR: Row = Row {
     words: &[
         "repair",
@@ -123,7 +122,7 @@ const REPAIR: Row = Row {
 
 static ROWS: [Row; 31] = [
     WRITE,
-    // The write fails, and then the sync: the image has what was written.
+    // The write fails, and then the sync: the image has the data that were written.
     Row {
         call: 1,
         status: 3,
@@ -160,7 +159,7 @@ static ROWS: [Row; 31] = [
     },
     LOAD,
     CAT,
-    // What a failed piece has is read again.
+    // The sectors of a failed piece are read again.
     Row { call: 1, ..CAT },
     SCAN,
     Row { call: 1, ..SCAN },
@@ -171,7 +170,7 @@ static ROWS: [Row; 31] = [
         filled: [0, 0],
         ..SESSION
     },
-    // The sync at its end fails.
+    // The sync at the end fails.
     Row {
         call: 2,
         status: 3,
@@ -180,7 +179,7 @@ static ROWS: [Row; 31] = [
     },
     NBD,
     FORMAT,
-    // The data can't be read, or the superblock not written.
+    // The data can't be read, or the superblock can't be written.
     Row {
         call: 1,
         status: 1,
@@ -188,7 +187,7 @@ static ROWS: [Row; 31] = [
         ..FORMAT
     },
     REPAIR,
-    // The superblock can't be read: as the hash blocks' unused entries are looked at, as its place is checked, or as the
+    // The superblock can't be read: for the check of the hash blocks' unused entries, for the check of its offset, or as the
     // repair begins. Nothing was written.
     Row {
         call: 1,
@@ -208,14 +207,14 @@ static ROWS: [Row; 31] = [
         printed: b"refused 10 Device\n",
         ..REPAIR
     },
-    // The block isn't read back, and then the superblock's device isn't synced.
+    // The block can't be read back; then the sync of the superblock's device fails.
     Row {
         call: 4,
         status: 1,
         printed: b"repaired data 0 copy 1\nrefused 10 Device\n",
         ..REPAIR
     },
-    // The data aren't synced.
+    // The sync of the data fails.
     Row {
         call: 5,
         status: 1,
@@ -237,7 +236,7 @@ static ROWS: [Row; 31] = [
         printed: b"repairable data 0 copy 1\nchanged 0 1\ngood 0 changed 1 unknown 0\n",
         ..REPAIR
     },
-    // It has no superblock.
+    // The image has no superblock.
     Row {
         words: &["dump", "image"],
         status: 1,
@@ -251,7 +250,7 @@ static ROWS: [Row; 31] = [
         ..READ
     },
     COPY,
-    // An image under two words, and one that isn't there.
+    // One image for two arguments, and an image that doesn't exist.
     Row {
         words: &["copy", "stack", "a", "image", "D=rw:image"],
         status: 1,
@@ -274,7 +273,7 @@ fn filled(alloc: Global, bytes: [u8; 2]) -> Result<Vec<u8>, Fail> {
     Ok(image)
 }
 
-// A data block, and the superblock of its tree, which has no hash block.
+// A data block, and the superblock of its tree, which has no hash blocks.
 const SUPERBLOCK: &[u8] =
     b"verity\0\0\x01\0\0\0\x01\0\0\0\0\0\0\0\0\0\0\0\0\0\0\0\0\0\0\0sha256\0\0\0\0\0\0\0\0\0\0\0\0\0\0\0\0\0\0\0\0\0\0\0\0\0\0\0\x02\0\0\0\x02\0\0\x01";
 
@@ -309,7 +308,7 @@ fn words_of(alloc: Global, row: &Row) -> Result<Vec<String>, Fail> {
     Ok(words)
 }
 
-/// Whether the words do so.
+/// Whether the command behaves as the row says.
 fn is_so(rt: &HostRuntime, row: &Row) -> Result<bool, Fail> {
     let alloc = rt.alloc();
     let words = words_of(alloc, row)?;

@@ -1,4 +1,4 @@
-//! Images in memory, of which each device that is opened fails at one of its calls.
+//! Images in memory whose devices each fail at one call.
 ghost use Rattle.command_tests.specs.Relations.{any_relations};
 
 use crate::named_images::MemoryImages;
@@ -6,7 +6,7 @@ use block_device::{BlockDev, FailAt, MemoryDev, OpenFault};
 use device_adapters::Part;
 use image_files::{FileText, Images, OpenImage, PartFault, ReplaceFault};
 
-/// The number of the call that fails is counted from the opening of a device; it is 0 where none fails.
+/// The number of the call that fails, counted from the opening of a device; 0 if none fails.
 #[derive(Drop)]
 pub struct FailingImages {
     pub images: MemoryImages,
@@ -71,7 +71,7 @@ impl Images for FailingImages {
         self.images.try_replace(path)
     }
 
-    // Its counts are numbers of 64 bits, which its own calls say.
+    // The counters have 64 bits, which calls of the device provide.
     fn of_memory(memory: MemoryDev) -> FailAt<MemoryDev> {
         let _counts = (memory.reads(), memory.writes());
         FailAt::new(memory, 0)

@@ -1,10 +1,10 @@
-//! Laws of the definitions: each function's contract is the law, and its call gives it.
+//! Laws of these images: each function's contract states the law, and a call of the function provides it.
 ghost use Rattle.block_device.specs.contracts.memory.MemoryDevBlockDev.TheImpl.{ghosts};
 ghost use Rattle.image_files.specs.Promises.{KeepsFiles};
 ghost use Rattle.command_tests.specs.Files.{file_under};
 ghost use Rattle.command_tests.specs.MemoryRelations.{memory_relations};
 
-/// Images in memory keep what is taken of an operating system's files.
+/// Images in memory satisfy what is assumed of an operating system's files.
 pub fn images_keep_files()
     ensures { KeepsFiles memory_relations ghosts.state file_under }
 {}

@@ -1,5 +1,5 @@
-//! Tests of commands over images in memory, of which each device fails at one of its calls, and these images.
-//! A crate with tests is proved twice, so they have a crate of their own.
+//! Tests of commands over images in memory, whose devices each fail at one call; and these images. A crate with tests is proved
+//! twice, so they have their own crate.
 #![tactic(auto)]
 
 #[cfg(test)]

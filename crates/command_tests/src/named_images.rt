@@ -11,8 +11,8 @@ use std::alloc::AllocError;
 
 const SECTOR: usize = 512;
 
-/// Images in memory under names, of which the first with a name counts. An open image is a copy; its name has what was
-/// written to it once it is closed.
+/// Images in memory with names; if a name occurs twice, the first counts. An open image is a copy. When it is closed, the named
+/// image gets its bytes.
 #[derive(Drop)]
 pub struct MemoryImages {
     names: Vec<String>,
@@ -20,7 +20,7 @@ pub struct MemoryImages {
 }
 
 impl MemoryImages {
-    /// The images under the names at the same places.
+    /// Returns the images with the names at the same indices.
     pub fn new(names: Vec<String>, images: Vec<Vec<u8>>) -> MemoryImages
         ensures names { result.names ≡ names }
         ensures images { result.images ≡ images }
@@ -29,14 +29,14 @@ impl MemoryImages {
     }
 }
 
-// The first place with that name.
+// The first index with that name.
 fn place_of(names: &[String], path: &str) -> Option<usize>
     ensures { result ≡ named_place names.now path.now }
 {
     names.iter().position(|name| name.as_str() == path)
 }
 
-// A copy of what stands under a path, and its place.
+// A copy of the image with that name, and its index.
 fn copy_under(
     names: &[String],
     images: &[Vec<u8>],
@@ -81,7 +81,7 @@ fn grow_image(images: &mut Vec<Vec<u8>>, place: usize, sectors: u64) -> Result<(
     }
 }
 
-// Puts the bytes of a part in their place.
+// Replaces the bytes of a part of an image.
 fn put_part(images: &mut Vec<Vec<u8>>, place: usize, part: Part, bytes: Vec<u8>)
     ensures { IsChanged images.old.items place (λ image. with_part image part bytes.items) images.new.items }
 {
@@ -127,7 +127,7 @@ impl Images for MemoryImages {
         })
     }
 
-    // Its first bytes.
+    // Returns the first bytes.
     fn read_text(&mut self, path: &str, most: usize) -> Result<FileText, OpenFault> {
         let (place, mut bytes) = copy_under(&self.names, &self.images, path)?;
         bytes.truncate(most);
@@ -152,7 +152,7 @@ impl Images for MemoryImages {
         }
     }
 
-    // What stands under no name isn't made.
+    // An image whose name doesn't exist isn't created.
     fn grow(&mut self, path: &str, sectors: u64) -> Result<(), OpenFault> {
         let Some(place) = place_of(&self.names, path) else {
             return Err(OpenFault::NotFound);
@@ -165,12 +165,12 @@ impl Images for MemoryImages {
         Ok(bytes.len() % SECTOR != 0)
     }
 
-    // A place is a name.
+    // Two paths are the same place if the names are equal.
     fn is_one_place(&mut self, path: &str, other: &str) -> Result<bool, OpenFault> {
         Ok(path == other)
     }
 
-    // What stands under no name isn't made.
+    // An image whose name doesn't exist isn't created.
     fn replace(&mut self, path: &str, bytes: &[u8]) -> Result<(), ReplaceFault> {
         let Ok((place, mut text)) = copy_under(&self.names, &self.images, path) else {
             return Err(ReplaceFault::Write);

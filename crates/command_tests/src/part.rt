@@ -7,10 +7,10 @@ use device_adapters::Part;
 
 const SECTOR: usize = 512;
 
-// The bytes of an image stay below 2^63.
+// An image has fewer than 2^63 bytes.
 const MOST_SECTORS: u64 = 1 << 54;
 
-/// The bytes of a part, where all of it is inside.
+/// Returns the bytes of a part, if the part is within the image.
 pub fn part_of(mut bytes: Vec<u8>, part: Part) -> Option<Vec<u8>>
     ensures inside { IsSome result ↔ LiesWithin bytes.items part }
     ensures bytes { IfSome result (λ held. held.items ≡ part_bytes bytes.items part) }
@@ -24,7 +24,7 @@ pub fn part_of(mut bytes: Vec<u8>, part: Part) -> Option<Vec<u8>>
     Some(bytes)
 }
 
-/// The image with these bytes in place of the part's, where all of it is inside.
+/// Replaces the bytes of a part of an image, if the part is within the image.
 pub fn overwrite(image: &mut Vec<u8>, part: Part, mut bytes: Vec<u8>)
     ensures { image.new.items ≡ with_part image.old.items part bytes.items }
 {
@@ -36,7 +36,7 @@ pub fn overwrite(image: &mut Vec<u8>, part: Part, mut bytes: Vec<u8>)
     put_at(image, part.first as usize * SECTOR, bytes.as_slice());
 }
 
-// These bytes in place of those from an offset on, where there are as many.
+// Replaces the bytes from an offset on, if the image has as many.
 fn put_at(image: &mut Vec<u8>, offset: usize, bytes: &[u8])
     ensures { image.new.items ≡ with_bytes image.old.items offset bytes.now }
 {
@@ -47,7 +47,7 @@ fn put_at(image: &mut Vec<u8>, offset: usize, bytes: &[u8])
     image.as_mut_slice()[offset..end].copy_from_slice(bytes);
 }
 
-/// The image with zeros behind it, so that it has at least so many sectors.
+/// Extends the image with zeros to at least so many sectors.
 pub fn lengthen(image: &mut Vec<u8>, sectors: u64) -> Result<(), OpenFault>
     ensures ok { OnOk result (image.new.items ≡ grown_image image.old.items sectors) }
     ensures err { OnErr result (image.new.items ≡ image.old.items) }

@@ -1,4 +1,4 @@
-//! Generators that are seeded by the system, and nothing that is shown.
+//! Generators that are seeded by the system, and no progress line.
 ghost use Rattle.std.specs.Prelude.{◌≡◌};
 
 use device_adapters::{NoProgress, Progress, Watchers};

@@ -1,4 +1,4 @@
-//! The program: hands the command line, standard input and standard output to `stack_commands`.
+//! The program: passes the command line, standard input and standard output to `stack_commands`.
 #![tactic(auto)]
 
 mod system;
@@ -14,7 +14,7 @@ use std::{env, io};
 use system::System;
 
 fn main(rt: HostRuntime) -> ExitCode {
-    // In place of a closed standard stream stands a folder: else the first image would stand there, and get the replies.
+    // A directory replaces a closed standard stream: otherwise the first image would get its descriptor, and the replies.
     let _input = File::open(&rt, "/");
     let _output = File::open(&rt, "/");
     let _errors = File::open(&rt, "/");
@@ -42,14 +42,14 @@ fn main(rt: HostRuntime) -> ExitCode {
         Err(_) => end_unread(&rt, &mut writer, &mut errors, CommandFault::Usage),
     };
     let status = if writer.flush().is_ok() { status } else { 1 };
-    // The readers of `cat` and `nbd` may go away: that isn't reported.
+    // The readers of `cat` and `nbd` may close the output; this isn't reported.
     if writer.failed() && !is_data(&rt) {
         let _said = errors.put(b"dmstack: standard output failed\n");
     }
     ExitCode::from(status)
 }
 
-// Tells why a command ends whose words can't all be read: on standard error where its output is data.
+// Prints why a command ends whose arguments can't all be read; on standard error if its output is data.
 fn end_unread<R: Env, W: Write, E: Write>(
     rt: &R,
     writer: &mut Counted<W>,
@@ -63,7 +63,7 @@ fn end_unread<R: Env, W: Write, E: Write>(
     }
 }
 
-// Whether the output is data for another program, as the first word says.
+// Whether the output is data for another program, by the first argument.
 fn is_data<R: Env>(rt: &R) -> bool {
     let mut buffer = [0; 4];
     let Ok(length) = rt.arg(1, &mut buffer) else {
@@ -75,7 +75,7 @@ fn is_data<R: Env>(rt: &R) -> bool {
     }
 }
 
-// The words behind the program's name. One that is not UTF-8 is an error of another kind than memory.
+// The arguments after the program's name. An argument that isn't UTF-8 has an error kind other than `OutOfMemory`.
 fn words_of<R: Env + AllocGlobal>(rt: &R) -> io::Result<Vec<String>> {
     let mut words = env::args(rt)?;
     let _ = words.next();

@@ -1,4 +1,4 @@
-//! What the system gives: generators of random bytes, and a line that shows how far a transfer has come.
+//! The services of the system: generators of random bytes, and the progress line.
 ghost use Rattle.std.specs.Prelude.{◌≡◌};
 
 use device_adapters::{Progress, ProgressLine, Watchers};
@@ -7,7 +7,7 @@ use rand::rngs::StdRng;
 use std::random::RandomSource;
 use std::rt::Clock;
 
-/// Generators that are seeded by the system, and a line on standard error.
+/// Generators that are seeded by the system, and a progress line on standard error.
 #[derive(Drop)]
 pub struct System<'a, R> {
     rt: &'a R,
@@ -16,6 +16,7 @@ pub struct System<'a, R> {
 }
 
 impl<'a, R: Clock + Eprint> System<'a, R> {
+    /// Returns the services of the system.
     pub fn new(rt: &'a R) -> System<'a, R> {
         System {
             rt,

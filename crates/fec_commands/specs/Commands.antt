@@ -32,14 +32,14 @@ use Rattle.fec_commands.specs.Images.{FailsToOpenThree, OpensThree}
 use Rattle.fec_commands.specs.Sizes.{says_two_sizes}
 use Rattle.fec_commands.specs.Verifying.{IsFecQuiet, IsVerifyThreeEnd, VerifiesThree}
 
--- where the images of the words are
+-- where the images are, by the arguments
 abbrev pub format_places : FormatRecord → TwoPlaces
 format_places f = image_places f.data_path f.hash_path f.hash_offset
 
 abbrev pub verify_places : VerifyRecord → TwoPlaces
 verify_places v = image_places v.data_path v.hash_path v.hash_offset
 
--- a `format` whose text is kept in memory ended so
+-- a `format` whose text is kept in memory ended in this fault
 pub record IsKeptEnd {S D T G : Type 0} (texts : OptionTexts) (w : Calls S D) (d : Drawing T G) (f : FormatRecord) (fault : VerityFault) : Type 0 where
   pub ended : VerityFault
   pub text : Option (List ℕ)
@@ -49,13 +49,14 @@ pub record IsKeptEnd {S D T G : Type 0} (texts : OptionTexts) (w : Calls S D) (d
 
 -- ---- `format --fec`
 
--- FILE will do for what the words say: images were opened, and none was written, made or made longer, but a FILE that was made at once
+-- FILE is large enough: images were opened, and none was written, created or extended, except that FILE may have been created
+-- at once
 pub record FitsWords {S D : Type 0} (texts : OptionTexts) (w : Calls S D) (f : FecFormatRecord) : Type 0 where
   pub options : ImageOptions
   pub said : AreSaid texts options
   pub fits : FitsFile f.format.grow options w (format_places f.format) f.fec
 
--- FILE will do; the image was formatted as without parity, with this text; then its parity was written and synced.
+-- FILE is large enough; the image was formatted as without parity, with this text; then its parity was written and synced.
 pub record MakesFec {S D T G : Type 0} (texts : OptionTexts) (w : Calls S D) (d : Drawing T G) (f : FecFormatRecord) (text : List ℕ) : Type 0 where
   pub measured : S
   pub fits : FitsWords texts (record w { new = measured }) f
@@ -63,32 +64,32 @@ pub record MakesFec {S D T G : Type 0} (texts : OptionTexts) (w : Calls S D) (d 
   pub formats : FormatsAt texts (record w { old = measured; new = between }) d f.format (Some []) (Some text)
   pub protects : Protects f.format.grow (record w { old = between }) (format_places f.format) f.fec
 
--- and then the text was printed
+-- the image and its parity were written, and then the text was printed
 pub record FormatsFec {S D T G : Type 0} (texts : OptionTexts) (w : Calls S D) (d : Drawing T G) (f : FecFormatRecord) (old new : Option (List ℕ)) : Type 0 where
   pub text : List ℕ
   pub made : MakesFec texts w d f text
   pub printed : Appends old new text
 
--- words say no value, and nothing was opened
+-- the arguments give no value, and nothing was opened
 pub record EndsUnsaid {S D : Type 0} (w : Calls S D) (fault : FecFault) : Type 0 where
   pub cause : VerityFault
   pub unsaid : IsUnsaid cause
   pub is : fault ≡ Verity cause
   pub same : w.new ≡ w.old
 
--- they say two sizes of blocks, and nothing was opened
+-- the arguments give two block sizes, and nothing was opened
 pub record EndsUnlike {S D : Type 0} (texts : OptionTexts) (w : Calls S D) (fault : FecFault) : Type 0 where
   pub two : says_two_sizes texts ≡ true
   pub is : fault ≡ BlockSizes
   pub same : w.new ≡ w.old
 
--- FILE won't do for what the options say: images were opened, and none was written, made or made longer
+-- FILE isn't large enough for what the options make: images were opened, and none was written, created or extended
 pub record EndsUnfit {S D : Type 0} (texts : OptionTexts) (w : Calls S D) (f : FecFormatRecord) (fault : FecFault) : Type 0 where
   pub options : ImageOptions
   pub said : AreSaid texts options
   pub unfit : IsUnfit f.format.grow options w (format_places f.format) f.fec fault
 
--- it will, and the image wasn't made
+-- FILE is large enough, and the image couldn't be made
 pub record EndsUnmade {S D T G : Type 0} (texts : OptionTexts) (w : Calls S D) (d : Drawing T G) (f : FecFormatRecord) (fault : FecFault) : Type 0 where
   pub measured : S
   pub fits : FitsWords texts (record w { new = measured }) f
@@ -96,7 +97,7 @@ pub record EndsUnmade {S D T G : Type 0} (texts : OptionTexts) (w : Calls S D) (
   pub ends : IsKeptEnd texts (record w { old = measured }) d f.format cause
   pub is : fault ≡ Verity cause
 
--- it was made, and its parity isn't on its medium
+-- the image was made, and its parity isn't synced
 pub record EndsUnguarded {S D T G : Type 0} (texts : OptionTexts) (w : Calls S D) (d : Drawing T G) (f : FecFormatRecord) (fault : FecFault) : Type 0 where
   pub measured : S
   pub fits : FitsWords texts (record w { new = measured }) f
@@ -112,7 +113,7 @@ pub record EndsUntold {S D T G : Type 0} (texts : OptionTexts) (w : Calls S D) (
   pub has_failed : failed ≡ true
   pub is : fault ≡ unwritten
 
--- one of these; nothing is printed, unless it is the writing that fails
+-- one of these; nothing is printed, unless the writer is what failed
 abbrev pub IsFormatFecEnd : {S D T G : Type 0} → OptionTexts → Calls S D → Drawing T G → FecFormatRecord → Option (List ℕ) → Option (List ℕ) → Bool → FecFault → Type 0
 IsFormatFecEnd texts w d f old new failed fault =
     (EndsUnsaid w fault ⊎ (EndsUnlike texts w fault ⊎ (EndsUnfit texts w f fault ⊎ (EndsUnmade texts w d f fault ⊎ (EndsUnguarded texts w d f fault ⊎ EndsUntold texts w d f failed fault)))))
@@ -120,7 +121,7 @@ IsFormatFecEnd texts w d f old new failed fault =
 
 -- ---- `verify --fec`
 
--- all three were opened for reading; the image was compared with its tree, and then its parity with the file's
+-- all three files were opened for reading; the image was compared with its tree, and then its parity with the file's
 pub record VerifiesFec {S D : Type 0} (w : Calls S D) (v : FecVerifyRecord) (old new : Option (List ℕ)) : Type 0 where
   pub between : S
   pub three : ThreeImages D
@@ -128,14 +129,14 @@ pub record VerifiesFec {S D : Type 0} (w : Calls S D) (v : FecVerifyRecord) (old
   pub opened : OpensThree (record w { new = between }) (verify_places v.verify) v.fec false three
   pub verifies : VerifiesThree (record w { old = between }) three v old new
 
--- a file isn't opened
+-- a file can't be opened
 pub record IsVerifyUnopened {S D : Type 0} (w : Calls S D) (v : FecVerifyRecord) (old new : Option (List ℕ)) (fault : FecFault) : Type 0 where
   pub file : UnopenedFile
   pub refused : FailsToOpenThree w (verify_places v.verify) v.fec false file
   pub is : fault ≡ unopened file
   pub quiet : new ≡ old
 
--- all three were opened, and then it ended so
+-- all three files were opened, and then the command ended in this fault
 pub record EndsOpened {S D : Type 0} (w : Calls S D) (v : FecVerifyRecord) (old new : Option (List ℕ)) (failed : Bool) (fault : FecFault) : Type 0 where
   pub between : S
   pub three : ThreeImages D
@@ -145,7 +146,7 @@ pub record EndsOpened {S D : Type 0} (w : Calls S D) (v : FecVerifyRecord) (old 
 abbrev pub IsVerifyFecEnd : {S D : Type 0} → Calls S D → FecVerifyRecord → Option (List ℕ) → Option (List ℕ) → Bool → FecFault → Type 0
 IsVerifyFecEnd w v old new failed fault = (EndsUnsaid w fault × (new ≡ old)) ⊎ (IsVerifyUnopened w v old new fault ⊎ EndsOpened w v old new failed fault)
 
--- ---- the same by the program's own words, the opener and the writer, each before and after, and what makes generators
+-- ---- in terms of the program's arguments, the opener and the writer, each before and after, and the source of generators
 
 -- a `format` whose text is kept in memory
 abbrev pub KeepsText : {S D T G : Type 0} → OptionWords → FormatWords → Opener S D → (D → Device) → S → S → Drawing T G → Vec ℕ Global → Type 0

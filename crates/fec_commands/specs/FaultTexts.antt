@@ -1,4 +1,4 @@
--- What is printed of commands on images with parity that end early, and their status.
+-- The line and the status of commands on images with parity that end early.
 use Rattle.std.specs.Prelude.{ℕ, List, ◌++◌, codes, decimal}
 use Rattle.fec_area.specs.declared.writing.ParityFault.{ParityFault}
 use Rattle.fec_area.specs.declared.writing.ParityFault.TheVariants as parity
@@ -8,7 +8,7 @@ use Rattle.verity_commands.specs.Texts.{verity_text}
 use Rattle.fec_commands.specs.declared.fault.FecFault.{FecFault}
 use Rattle.fec_commands.specs.declared.fault.FecFault.TheVariants as fec
 
--- parity that isn't written or compared, and what it needs
+-- why parity can't be written or compared, with the needed sectors
 abbrev pub parity_text : ParityFault → List ℕ
 parity_text (parity.TooSmall needed) = codes "refused 25 FecTooSmall needed " ++ (decimal needed ++ codes "\n")
 parity_text parity.ReadOnly = codes "refused 26 FecReadOnly\n"
@@ -24,7 +24,7 @@ fec_text fec.BlockSizes = codes "refused 24 OtherBlockSizes\n"
 fec_text (fec.Parity fault) = parity_text fault
 fec_text (fec.Differs round) = differs_text round
 
--- 3 where images or parity differ, 2 for words that are no command, else 1
+-- 3 if images or parity differ, 2 for a usage error, otherwise 1
 abbrev pub fec_status : FecFault → ℕ
 fec_status (fec.Verity fault) = verity_status fault
 fec_status fec.BlockSizes = 1

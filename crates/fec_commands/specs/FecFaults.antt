@@ -9,7 +9,7 @@ use Rattle.verity_commands.specs.declared.verity_fault.VerityFault.TheVariants a
 use Rattle.fec_commands.specs.declared.fault.FecFault.{FecFault}
 use Rattle.fec_commands.specs.declared.fault.FecFault.TheVariants as fec
 
--- a file isn't opened
+-- a file can't be opened
 abbrev pub unopened : UnopenedFile → FecFault
 unopened file = fec.Verity (verity.Image (image.Open file))
 
@@ -21,7 +21,7 @@ no_tree fault = fec.Verity (verity.Image (no_tree_fault fault))
 abbrev pub unwritten : FecFault
 unwritten = fec.Verity (verity.Image image.Write)
 
--- The text of a `format` is kept in memory, so it can't be written only where memory ran out.
+-- The text of a `format` is kept in memory, so it can't be written only if memory ran out.
 abbrev pub kept_image : ImageFault → ImageFault
 kept_image image.Write = image.NoMemory
 kept_image fault = fault

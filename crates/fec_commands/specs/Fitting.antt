@@ -1,4 +1,4 @@
--- Whether the file of the parity will do, before anything is written or printed.
+-- The size of the parity file, checked before anything is written or printed.
 use Rattle.std.specs.Prelude.{◌≡◌, ◌⊎◌, ℕ, ◌<◌, ◌≤◌, Bool, true, false}
 use Rattle.block_device.specs.Device.{Device}
 use Rattle.command_line.specs.declared.image_options.ImageOptions.{ImageOptions}
@@ -22,9 +22,9 @@ use Rattle.fec_commands.specs.Images.{OpensThree, extent_of}
 use Rattle.fec_commands.specs.Needed.{IsNeeded}
 use Rattle.fec_commands.specs.Protecting.{IsProtectUnopened}
 
--- ---- of an image that is to be made
+-- ---- for an image that is to be made
 
--- a device has fewer
+-- a device has fewer sectors than needed
 pub record IsShortOf (options : ImageOptions) (data_dev hash_dev parity_dev : Device) (extent : Extent) (needed : ℕ) : Type 0 where
   pub needs : IsNeeded options (before data_dev extent.end).size (behind hash_dev extent.first).size extent.roots needed
   pub short : parity_dev.size < needed
@@ -35,12 +35,12 @@ IsShortByOptions options data_dev hash_dev parity_dev extent ReadOnly = ⊥
 IsShortByOptions options data_dev hash_dev parity_dev extent DeviceFailed = ⊥
 IsShortByOptions options data_dev hash_dev parity_dev extent NoMemory = ⊥
 
--- DATA and HASH were opened for reading, and the file of the parity for writing, which is neither of them
+-- DATA and HASH were opened for reading, and the parity file for writing; it is neither of them
 pub record OpensForWords {S D : Type 0} (w : Calls S D) (places : TwoPlaces) (fec : FecRecord) : Type 0 where
   pub three : ThreeImages D
   pub opened : OpensThree w places fec true three
 
--- they were, and the file is too short for the parity of what the options say
+-- all were opened, and the file is too short for the parity of what the options make
 pub record EndsTooShort {S D : Type 0} (options : ImageOptions) (w : Calls S D) (places : TwoPlaces) (fec : FecRecord) (fault : FecFault) : Type 0 where
   pub three : ThreeImages D
   pub opened : OpensThree w places fec true three
@@ -51,21 +51,21 @@ pub record EndsTooShort {S D : Type 0} (options : ImageOptions) (w : Calls S D) 
 abbrev pub IsTooShortByWords : {S D : Type 0} → ImageOptions → Calls S D → TwoPlaces → FecRecord → FecFault → Type 0
 IsTooShortByWords options w places fec fault = IsProtectUnopened w places fec fault ⊎ EndsTooShort options w places fec fault
 
--- ---- of an image that is to be made in files that grow
+-- ---- for an image that is to be made in files that grow
 
--- the files that are there were opened, FILE is none of the others and can be made, and no block device that is too short
+-- the files that exist were opened; FILE is none of the others, can be created, and isn't a block device that is too short
 pub record FitsGrown {S D : Type 0} (options : ImageOptions) (w : Calls S D) (places : TwoPlaces) (fec : FecRecord) : Type 0 where
   pub found : FoundThree D
   pub finds : FindsThree w places fec found
   pub fixed : FitsFixedSize w.state found options places.first fec.roots
 
--- a file that is there isn't opened, or FILE can't be made
+-- a file that exists can't be opened, or FILE can't be created
 pub record EndsUnfound {S D : Type 0} (w : Calls S D) (places : TwoPlaces) (fec : FecRecord) (fault : FecFault) : Type 0 where
   pub file : UnopenedFile
   pub unfound : IsUnfound w places fec file
   pub is : fault ≡ unopened file
 
--- FILE is a block device that is too short; files were opened, and none was made, written or made longer
+-- FILE is a block device that is too short; files were opened, and none was created, written or extended
 pub record EndsFixedTooShort {S D : Type 0} (options : ImageOptions) (w : Calls S D) (places : TwoPlaces) (fec : FecRecord) (fault : FecFault) : Type 0 where
   pub found : FoundThree D
   pub cause : ParityFault

@@ -1,4 +1,4 @@
--- `format --grow --fec` to a block device, which no format makes longer.
+-- `format --grow --fec` with a block device as parity file, which can't be extended.
 use Rattle.std.specs.Prelude.{◌≡◌, ℕ, ◌<◌, ◌≤◌, true, Option, None, Some}
 use Rattle.block_device.specs.Device.{Device}
 use Rattle.block_device.specs.declared.file_id.FileId.{FileId}
@@ -17,25 +17,25 @@ abbrev pub hash_found_id : {D : Type 0} → Option (OpenImage D) → Option File
 hash_found_id None = None
 hash_found_id (Some image) = image.id
 
--- how many sectors a file has from that one on; none if it isn't there
+-- how many sectors a file has from `first` on; 0 if it doesn't exist
 abbrev pub sectors_behind : {D : Type 0} → (D → Device) → Option (OpenImage D) → ℕ → ℕ
 sectors_behind state None first = 0
 sectors_behind state (Some image) first = (behind (state image.device) first).size
 
--- how many sectors of data there are, and how many HASH has from the hash image's first one on
+-- how many sectors of data there are, and how many HASH has from the hash image's first sector on
 abbrev pub found_sectors : {D : Type 0} → (D → Device) → FoundThree D → ℕ → FoundSectors
 found_sectors state found first = record {
   «data» = (before (state found.«data».device) (end_of_data found.«data».id (hash_found_id found.hash) first)).size;
   hash = sectors_behind state found.hash first;
 }
 
--- if FILE is a block device, it has the sectors that the parity takes of what these options make there
+-- if FILE is a block device, it has enough sectors for the parity of what these options make
 abbrev pub FitsFixedSize : {D : Type 0} → (D → Device) → FoundThree D → ImageOptions → ℕ → ℕ → Type 0
 FitsFixedSize {D} state found options first roots =
     (parity : OpenImage D) → found.parity ≡ Some parity → is_block_device parity.id ≡ true
     → AreEnough (IsNeededGrown options (found_sectors state found first) roots) options (found_sectors state found first).«data» (state parity.device).size
 
--- it is one, and has fewer
+-- FILE is a block device, and has fewer sectors
 pub record IsFixedShortOf {D : Type 0} (state : D → Device) (found : FoundThree D) (options : ImageOptions) (first roots needed : ℕ) : Type 0 where
   pub parity : OpenImage D
   pub there : found.parity ≡ Some parity

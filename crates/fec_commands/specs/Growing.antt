@@ -1,4 +1,4 @@
--- `format --grow --fec`: the parity's file is made where there is none, and has the sectors that are needed where it had fewer.
+-- `format --grow --fec`: the parity file is created if it doesn't exist, and extended if it has too few sectors.
 use Rattle.std.specs.Prelude.{◌≡◌, ◌⊎◌, ℕ, Bool, true, false, List, Err}
 use Rattle.fec_area.specs.declared.writing.ParityFault.TheVariants.{TooSmall}
 use Rattle.image_files.specs.declared.opening.UnopenedFile.{UnopenedFile}
@@ -14,24 +14,24 @@ use Rattle.command_line.specs.declared.fec_file.FecFile.{FecFile}
 use Rattle.command_line.specs.FecFiles.{FecRecord, fec_record}
 use Rattle.fec_commands.specs.Protecting.{IsProtectEnd, ProtectsImage}
 
--- the file couldn't be made so long
+-- the file couldn't be extended to so many sectors
 pub record IsFileUnmade {S D : Type 0} (w : Calls S D) (path : List ℕ) (sectors : ℕ) (file : UnopenedFile) : Type 0 where
   pub path_is : file.path.now ≡ path
   pub refused : w.relations.grows w.old path sectors (Err file.fault) w.new
 
--- the command ends so
+-- the command ends in this fault
 pub record EndsUngrown {S D : Type 0} (w : Calls S D) (path : List ℕ) (sectors : ℕ) (fault : FecFault) : Type 0 where
   pub file : UnopenedFile
   pub unmade : IsFileUnmade w path sectors file
   pub is : fault ≡ unopened file
 
--- the file was made where there was none, and then that was done
+-- the file was created if it didn't exist, and then `Then` was done
 pub record GrowsThen {S D : Type 0} (w : Calls S D) (fec : FecRecord) (Then : Calls S D → Type 0) : Type 0 where
   pub between : S
   pub made : GrowsFile (record w { new = between }) fec.path 0
   pub follows : Then (record w { old = between })
 
--- it had too few sectors, and was given as many as are needed; then that was done
+-- the file had too few sectors, was extended to as many as needed, and then `Then` was done
 pub record GrowsTwiceThen {S D : Type 0} (w : Calls S D) (places : TwoPlaces) (fec : FecRecord) (Then : Calls S D → Type 0) : Type 0 where
   pub tried : S
   pub room : S
@@ -40,14 +40,14 @@ pub record GrowsTwiceThen {S D : Type 0} (w : Calls S D) (places : TwoPlaces) (f
   pub grown : GrowsFile (record w { old = tried; new = room }) fec.path needed
   pub follows : Then (record w { old = room })
 
--- it had too few, and couldn't be made longer
+-- the file had too few sectors, and couldn't be extended
 pub record FailsToGrowParity {S D : Type 0} (w : Calls S D) (places : TwoPlaces) (fec : FecRecord) (fault : FecFault) : Type 0 where
   pub tried : S
   pub needed : ℕ
   pub vain : GrowsThen (record w { new = tried }) fec (λ v. IsProtectEnd v places fec (Parity (TooSmall needed)))
   pub ungrown : EndsUngrown (record w { old = tried }) fec.path needed fault
 
--- with `--grow`, and without
+-- with `--grow` and without
 abbrev pub Protects : {S D : Type 0} → Bool → Calls S D → TwoPlaces → FecRecord → Type 0
 Protects true w places fec = GrowsThen w fec (λ v. ProtectsImage v places fec) ⊎ GrowsTwiceThen w places fec (λ v. ProtectsImage v places fec)
 Protects false w places fec = ProtectsImage w places fec
@@ -58,6 +58,6 @@ IsProtectionEnd true w places fec fault =
     ⊎ (GrowsThen w fec (λ v. IsProtectEnd v places fec fault) ⊎ GrowsTwiceThen w places fec (λ v. IsProtectEnd v places fec fault)))
 IsProtectionEnd false w places fec fault = IsProtectEnd w places fec fault
 
--- the same by the program's own words, and the opener before and behind
+-- why there is no parity, by the program's arguments and the opener before and after
 abbrev pub FailsToProtect : {S D : Type 0} → Bool → Opener S D → (D → Device) → S → S → ImagePlaces → FecFile → FecFault → Type 0
 FailsToProtect grow relations state old new places fec fault = IsProtectionEnd grow (calls relations state old new) (two_places places) (fec_record fec) fault

@@ -1,4 +1,4 @@
--- The images of a command on parity: which paths are opened, in which order and with which rights.
+-- The images of a command on parity: which paths are opened, in which order, for reading or writing.
 use Rattle.std.specs.Prelude.{◌⊎◌, ℕ, ◌-◌, ◌^◌, ◌&&◌, nat_lt, Bool, false, List, [], ◌∷◌, Option, if◌then◌else◌}
 use Rattle.block_device.specs.declared.file_id.FileId.{FileId}
 use Rattle.image_files.specs.declared.file_use.FileUse.{FileUse}
@@ -21,8 +21,8 @@ use Rattle.command_line.specs.FecFiles.{FecRecord, fec_record}
 abbrev pub uses_of : {D : Type 0} → OpenImage D → OpenImage D → List FileUse
 uses_of data_image hash_image = image_use false data_image ∷ image_use false hash_image ∷ []
 
--- The data image was opened for reading, the hash image too, and then the file of the parity, which is none of them where it
--- may be written.
+-- The data image was opened for reading, the hash image for reading, and then the parity file. If the latter is writable, it is
+-- neither of the images.
 pub record OpensThree {S D : Type 0} (w : Calls S D) (places : TwoPlaces) (fec : FecRecord) (writable : Bool) (three : ThreeImages D) : Type 0 where
   pub one : S
   pub two : S
@@ -30,14 +30,14 @@ pub record OpensThree {S D : Type 0} (w : Calls S D) (places : TwoPlaces) (fec :
   pub hash_opened : Opens (record w { old = one; new = two }) places.paths.hash_path false three.hash
   pub parity_opened : OpensApart (record w { old = two }) (uses_of three.«data» three.hash) fec.path writable three.parity
 
--- the data image was opened, and the hash image wasn't
+-- the data image was opened, and the hash image couldn't be
 pub record RefusesHashFile {S D : Type 0} (w : Calls S D) (places : TwoPlaces) (file : UnopenedFile) : Type 0 where
   pub one : S
   pub data_image : OpenImage D
   pub data_opened : Opens (record w { new = one }) places.paths.data_path false data_image
   pub refused : Refuses (record w { old = one }) places.paths.hash_path false file
 
--- both were opened, and the file of the parity wasn't, or is one of them
+-- both images were opened, and the parity file couldn't be, or is one of them
 pub record RefusesParity {S D : Type 0} (w : Calls S D) (places : TwoPlaces) (fec : FecRecord) (writable : Bool) (file : UnopenedFile) : Type 0 where
   pub one : S
   pub two : S
@@ -47,12 +47,12 @@ pub record RefusesParity {S D : Type 0} (w : Calls S D) (places : TwoPlaces) (fe
   pub hash_opened : Opens (record w { old = one; new = two }) places.paths.hash_path false hash_image
   pub refused : RefusesApart (record w { old = two }) (uses_of data_image hash_image) fec.path writable file
 
--- one of the three isn't opened, the first that is refused
+-- the first of the three files that is refused
 abbrev pub FailsToOpenThree : {S D : Type 0} → Calls S D → TwoPlaces → FecRecord → Bool → UnopenedFile → Type 0
 FailsToOpenThree w places fec writable file =
     Refuses w places.paths.data_path false file ⊎ (RefusesHashFile w places file ⊎ RefusesParity w places fec writable file)
 
--- where the data end: in one file before the hash image, else at the end of theirs
+-- where the data end: at the hash image's first sector if both are one file, otherwise at the end of the data file
 abbrev pub end_of_data : Option FileId → Option FileId → ℕ → ℕ
 end_of_data data_id hash_id first = if nat_lt 0 first && is_one_file data_id hash_id then first else 2 ^ 64 - 1
 
@@ -63,8 +63,8 @@ three_data_end three first = end_of_data three.«data».id three.hash.id first
 abbrev pub extent_of : {D : Type 0} → TwoPlaces → FecRecord → ThreeImages D → Extent
 extent_of places fec three = record { end = three_data_end three places.first; first = places.first; roots = fec.roots }
 
--- a relation of the opener's calls, the places of the images and the parity's file: by the opener before and after the calls, and by
--- the program's own words for the others
+-- a relation of the opener's calls, the places of the images and the parity file, for the opener before and after the calls and
+-- the program's own arguments
 abbrev pub Does : {S D : Type 0} {T : Type 1} → (Calls S D → TwoPlaces → FecRecord → T) → Opener S D → (D → Device) → S → S → ImagePlaces → FecFile → T
 Does relation relations state old new places fec = relation (calls relations state old new) (two_places places) (fec_record fec)
 

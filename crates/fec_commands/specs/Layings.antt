@@ -1,4 +1,4 @@
--- How parity lies across a verity image, by its superblock.
+-- The layout of the parity of a verity image, by its superblock.
 use Rattle.std.specs.Prelude.{◌≡◌, ◌≢◌, ◌⊎◌, ℕ, ◌<◌, ◌≤◌, Option}
 use Rattle.block_device.specs.Device.{Device}
 use Rattle.fec_area.specs.Layouts.{IsLaidOn, IsLayoutOf}
@@ -22,7 +22,8 @@ use Rattle.fec_commands.specs.declared.image.LaidTree.{LaidTree}
 abbrev pub IsRoots : ℕ → Type 0
 IsRoots roots = (2 ≤ roots) × (roots ≤ 24)
 
--- The superblock was read once and has the values of the pin, if there is one. The layout is that of its tree; the covered blocks lie on the two devices.
+-- The superblock was read once and has the values of the pin, if there is one. The layout is that of its tree, and the covered
+-- blocks are within the two devices.
 pub record LaysOut (data_dev hash_dev : Device) (first : ℕ) (pin : Option Pin) (roots : ℕ) (hash_dev' : Device) (laid : LaidTree) : Type 0 where
   pub super : SuperRecord
   pub super_read : ReadsSuper hash_dev first pin super
@@ -31,20 +32,21 @@ pub record LaysOut (data_dev hash_dev : Device) (first : ℕ) (pin : Option Pin)
   pub laid_on : IsLaidOn laid.layout data_dev hash_dev'
   pub read : IsFullRead hash_dev 1 hash_dev'
 
--- it speaks of more data than there are
+-- the superblock has more data than there are
 pub record AreDataShort (data_dev hash_dev : Device) (first : ℕ) (pin : Option Pin) (fault : VerifyFault) : Type 0 where
   pub super : SuperRecord
   pub super_read : ReadsSuper hash_dev first pin super
   pub short : data_dev.size < data_sectors (shape_of super)
   pub is : fault ≡ TooSmall
 
--- its data and hash blocks have different sizes
+-- the superblock's data blocks and hash blocks have different sizes
 pub record HasOtherSizes (hash_dev : Device) (first : ℕ) (pin : Option Pin) : Type 0 where
   pub super : SuperRecord
   pub super_read : ReadsSuper hash_dev first pin super
   pub differ : super.data_block ≢ super.hash_block
 
--- the superblock isn't read or taken, speaks of more data, differs from the pin, or no hash block begins there
+-- the superblock couldn't be read, is invalid, has more data than there are, differs from the pin, or no hash block can begin
+-- there
 abbrev pub IsSuperUnread : Device → Device → ℕ → Option Pin → Device → ImageFault → Type 0
 IsSuperUnread data_dev hash_dev first pin hash_dev' (Verify fault) = IsReadCause hash_dev hash_dev' fault ⊎ AreDataShort data_dev hash_dev first pin fault
 IsSuperUnread data_dev hash_dev first pin hash_dev' Unaligned = IsTreeUnaligned hash_dev first pin
@@ -58,7 +60,7 @@ IsLayoutEnd data_dev hash_dev first pin hash_dev' BlockSizes = HasOtherSizes has
 IsLayoutEnd data_dev hash_dev first pin hash_dev' (Parity fault) = ⊥
 IsLayoutEnd data_dev hash_dev first pin hash_dev' (Differs round) = ⊥
 
--- ---- the same by what devices of any kind are
+-- ---- in terms of devices of any type
 
 abbrev pub IsLaidOut : {D H : Type 0} → (D → Device) → (H → Device) → D → H → ℕ → Option Pin → ℕ → H → LaidTree → Type 0
 IsLaidOut data_state hash_state data_dev hash_dev first pin roots hash_dev' laid = LaysOut (data_state data_dev) (hash_state hash_dev) first pin roots (hash_state hash_dev') laid

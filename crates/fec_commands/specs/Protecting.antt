@@ -1,4 +1,4 @@
--- Parity of an image that stands in files, written to a file.
+-- The parity of an image in files, written to a file.
 use Rattle.std.specs.Prelude.{◌≡◌, ◌⊎◌, None, true}
 use Rattle.block_device.specs.Device.{Device, IsUnsynced, synced}
 use Rattle.fec_area.specs.declared.layout.Layout.{Layout}
@@ -20,7 +20,7 @@ use Rattle.command_line.specs.FecFiles.{FecRecord}
 use Rattle.fec_commands.specs.Images.{FailsToOpenThree, OpensThree, extent_of}
 use Rattle.fec_commands.specs.Layings.{IsLayoutEnd, LaysOut}
 
--- the parity was written, behind it all is as it was, and it was put on the medium
+-- the parity was written and synced, and everything after it is unchanged
 pub record IsSealed (l : Layout) (data_dev hash_dev parity_dev parity_dev' : Device) : Type 0 where
   pub data_dev' : Device
   pub hash_dev' : Device
@@ -29,14 +29,14 @@ pub record IsSealed (l : Layout) (data_dev hash_dev parity_dev parity_dev' : Dev
   pub only : IsOnlyWritten parity_dev (parity_sectors l) written_dev
   pub is_synced : parity_dev' ≡ synced written_dev
 
--- it wasn't written, or not all of it, for this reason
+-- the parity wasn't written, or not all of it, for this reason
 pub record IsParityUnfinished (l : Layout) (data_dev hash_dev parity_dev parity_dev' : Device) (fault : ParityFault) : Type 0 where
   pub data_dev' : Device
   pub hash_dev' : Device
   pub cause : IsParityCause l data_dev hash_dev parity_dev data_dev' hash_dev' parity_dev' fault
   pub only : IsOnlyWritten parity_dev (parity_sectors l) parity_dev'
 
--- it was written, but may not be on the medium
+-- the parity was written, but its sync failed
 pub record IsUnsealed (l : Layout) (data_dev hash_dev parity_dev parity_dev' : Device) (fault : ParityFault) : Type 0 where
   pub data_dev' : Device
   pub hash_dev' : Device
@@ -50,7 +50,7 @@ abbrev pub IsSealingEnd : Layout → Device → Device → Device → Device →
 IsSealingEnd l data_dev hash_dev parity_dev parity_dev' fault =
     IsParityUnfinished l data_dev hash_dev parity_dev parity_dev' fault ⊎ IsUnsealed l data_dev hash_dev parity_dev parity_dev' fault
 
--- of what lies before the data's end and behind the hash image's first sector
+-- the parity of the data before the data's end, and of the hash image after its first sector
 pub record ProtectsBehind (data_dev hash_dev parity_dev : Device) (extent : Extent) (parity_dev' : Device) : Type 0 where
   pub laid : LaidTree
   pub read_dev : Device
@@ -63,7 +63,7 @@ pub record EndsUnlaid (data_dev hash_dev parity_dev : Device) (extent : Extent) 
   pub ends : IsLayoutEnd (before data_dev extent.end) (behind hash_dev extent.first) extent.first None read_dev fault
   pub same : parity_dev' ≡ parity_dev
 
--- there is one, and the parity isn't on its medium
+-- there is a layout, and the parity isn't written and synced
 pub record EndsUnsealed (data_dev hash_dev parity_dev : Device) (extent : Extent) (parity_dev' : Device) (fault : FecFault) : Type 0 where
   pub laid : LaidTree
   pub read_dev : Device
@@ -76,7 +76,7 @@ abbrev pub IsParityEnd : Device → Device → Device → Extent → Device → 
 IsParityEnd data_dev hash_dev parity_dev extent parity_dev' fault =
     EndsUnlaid data_dev hash_dev parity_dev extent parity_dev' fault ⊎ EndsUnsealed data_dev hash_dev parity_dev extent parity_dev' fault
 
--- ---- the same by what devices of any kind are
+-- ---- in terms of devices of any type
 
 abbrev pub IsProtectedBy : {D H P : Type 0} → (D → Device) → (H → Device) → (P → Device) → D → H → P → Extent → P → Type 0
 IsProtectedBy data_state hash_state parity_state data_dev hash_dev parity extent parity' =
@@ -86,9 +86,9 @@ abbrev pub IsUnprotected : {D H P : Type 0} → (D → Device) → (H → Device
 IsUnprotected data_state hash_state parity_state data_dev hash_dev parity extent parity' fault =
     IsParityEnd (data_state data_dev) (hash_state hash_dev) (parity_state parity) extent (parity_state parity') fault
 
--- ---- of files
+-- ---- in terms of files
 
--- The parity of the image was written to the file, which is neither of the images, synced, and given back under its path.
+-- The parity of the image was written to the file, which is neither of the images, synced, and closed.
 pub record ProtectsImage {S D : Type 0} (w : Calls S D) (places : TwoPlaces) (fec : FecRecord) : Type 0 where
   pub between : S
   pub three : ThreeImages D
@@ -97,13 +97,13 @@ pub record ProtectsImage {S D : Type 0} (w : Calls S D) (places : TwoPlaces) (fe
   pub protects : ProtectsBehind (w.state three.«data».device) (w.state three.hash.device) (w.state three.parity.device) (extent_of places fec three) (w.state closed_dev)
   pub closed : w.relations.takes between fec.path closed_dev w.new
 
--- a file isn't opened
+-- a file can't be opened
 pub record IsProtectUnopened {S D : Type 0} (w : Calls S D) (places : TwoPlaces) (fec : FecRecord) (fault : FecFault) : Type 0 where
   pub file : UnopenedFile
   pub refused : FailsToOpenThree w places fec true file
   pub is : fault ≡ unopened file
 
--- all three are open, and the parity isn't on its medium
+-- all three files are open, and the parity isn't written and synced
 pub record EndsUnprotected {S D : Type 0} (w : Calls S D) (places : TwoPlaces) (fec : FecRecord) (fault : FecFault) : Type 0 where
   pub three : ThreeImages D
   pub parity_dev' : D

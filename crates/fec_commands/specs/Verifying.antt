@@ -1,4 +1,4 @@
--- What `verify --fec` finds of an image and its parity in files that are open, what it prints, and how it ends early.
+-- What `verify --fec` finds of an image and its parity in open files, what it prints, and how it ends early.
 use Rattle.std.specs.Prelude.{◌≡◌, ◌⊎◌, ℕ, ◌/◌, ◌<◌, ◌≤◌, Bool, true, List, Option, None, Some, codes}
 use Rattle.std.specs.Io.KnownBytes.{Appends}
 use Rattle.block_device.specs.Device.{Device}
@@ -30,7 +30,7 @@ use Rattle.fec_commands.specs.FecFaults.{unwritten}
 use Rattle.fec_commands.specs.Images.{three_data_end}
 use Rattle.fec_commands.specs.Layings.{IsLayoutEnd, LaysOut}
 
--- ---- the parts of an image, the device of its parity, and the pin that is given
+-- ---- the parts of an image, the device of its parity, and the pin
 
 pub record Parts : Type 0 where
   pub data_dev : Device
@@ -40,12 +40,12 @@ pub record Parts : Type 0 where
   pub pin : Option Pin
   pub roots : ℕ
 
--- the superblock was read once and has the values of the pin, if there is one, and the parity of its image has room on its device
+-- the superblock was read once and has the values of the pin, if there is one, and the parity device has enough sectors
 pub record Measures (p : Parts) (read_dev : Device) (laid : LaidTree) : Type 0 where
   pub lays : LaysOut p.data_dev p.hash_dev p.first p.pin p.roots read_dev laid
   pub room : parity_sectors laid.layout ≤ p.parity_dev.size
 
--- it hasn't
+-- the parity device has too few sectors
 pub record IsParityShort (p : Parts) (fault : FecFault) : Type 0 where
   pub laid : LaidTree
   pub read_dev : Device
@@ -53,7 +53,7 @@ pub record IsParityShort (p : Parts) (fault : FecFault) : Type 0 where
   pub short : p.parity_dev.size < parity_sectors laid.layout
   pub is : fault ≡ Parity (TooSmall (parity_sectors laid.layout))
 
--- that, or there is no layout
+-- the parity device is too small, or there is no layout
 abbrev pub IsUnmeasured : Parts → FecFault → Type 0
 IsUnmeasured p fault = ((read_dev : Device) × IsLayoutEnd p.data_dev p.hash_dev p.first p.pin read_dev fault) ⊎ IsParityShort p fault
 
@@ -62,14 +62,14 @@ pub record ChecksParity (l : Layout) (data_dev hash_dev parity_dev : Device) (ol
   pub checked : IsChecked l data_dev hash_dev parity_dev None
   pub printed : Appends old new (codes "parity ok\n")
 
--- it wasn't compared, or is another one from that round on, and nothing was printed; or the line can't be written
+-- the parity couldn't be compared, or differs from that round on, and nothing was printed; or the line can't be written
 abbrev pub IsParityEnd : Layout → Device → Device → Device → Option (List ℕ) → Option (List ℕ) → Bool → FecFault → Type 0
 IsParityEnd l data_dev hash_dev parity_dev old new failed (Parity cause) =
     ((data_dev' : Device) × ((hash_dev' : Device) × ((parity_dev' : Device) × IsCheckCause l data_dev hash_dev parity_dev data_dev' hash_dev' parity_dev' cause))) × (new ≡ old)
 IsParityEnd l data_dev hash_dev parity_dev old new failed (Differs round) = IsChecked l data_dev hash_dev parity_dev (Some round) × (new ≡ old)
 IsParityEnd l data_dev hash_dev parity_dev old new failed fault = IsChecked l data_dev hash_dev parity_dev None × ((failed ≡ true) × (fault ≡ unwritten))
 
--- the tree of the superblock stands over the data, under that root, and this is printed
+-- the superblock's tree with that root hash matches the data, and this is printed
 pub record MatchesLaid (p : Parts) (root : List ℕ) (old new : Option (List ℕ)) : Type 0 where
   pub laid : LaidTree
   pub read_dev : Device
@@ -79,7 +79,7 @@ pub record MatchesLaid (p : Parts) (root : List ℕ) (old new : Option (List ℕ
   pub found : IsTreeFound laid.tree.shape laid.tree.salt p.data_dev read_dev data_dev' hash_dev' root Matches
   pub printed : Appends old new (codes "matches\n")
 
--- it doesn't, or that isn't known or printed
+-- the tree doesn't match, or this isn't known or printed
 pub record EndsComparing (p : Parts) (root : List ℕ) (old new : Option (List ℕ)) (failed : Bool) (fault : FecFault) : Type 0 where
   pub cause : ImageFault
   pub laid : LaidTree
@@ -91,19 +91,19 @@ pub record EndsComparing (p : Parts) (root : List ℕ) (old new : Option (List �
   pub is : fault ≡ Verity (Image cause)
   pub quiet : IsQuiet cause old new
 
--- it does, and the parity isn't that of the image, or isn't compared
+-- the tree matches, and the parity isn't that of the image, or couldn't be compared
 pub record EndsChecking (p : Parts) (root : List ℕ) (old new : Option (List ℕ)) (failed : Bool) (fault : FecFault) : Type 0 where
   pub between : Option (List ℕ)
   pub matches : MatchesLaid p root old between
   pub ends : IsParityEnd matches.laid.layout matches.data_dev' matches.hash_dev' p.parity_dev between new failed fault
 
--- both
+-- the tree and the parity match
 pub record VerifiesParts (p : Parts) (root : List ℕ) (old new : Option (List ℕ)) : Type 0 where
   pub told : Option (List ℕ)
   pub matches : MatchesLaid p root old told
   pub checks : ChecksParity matches.laid.layout matches.data_dev' matches.hash_dev' p.parity_dev told new
 
--- ---- files that are open; the arguments, a file or a pin give the root, which is read before the superblock
+-- ---- open files; the arguments, a file or a pin give the root hash, which is read before the superblock
 
 abbrev pub parts_of : {D : Type 0} → (D → Device) → ThreeImages D → FecVerifyRecord → Option Pin → Parts
 parts_of state three v pin =
@@ -122,14 +122,14 @@ pub record VerifiesThree {S D : Type 0} (w : Calls S D) (three : ThreeImages D) 
   pub told : TellsTrusted w v.verify.root trusted
   pub verifies : VerifiesParts (parts_of w.state three v trusted.pin) trusted.root old new
 
--- there is no root, or no pin
+-- there is no root hash, or no pin
 pub record EndsUnrooted {S D : Type 0} (w : Calls S D) (v : FecVerifyRecord) (fault : FecFault) : Type 0 where
   pub cause : ImageFault
   pub ends : IsTrustedEnd w v.verify.root cause
   pub is : fault ≡ Verity (Image cause)
 
--- there is no layout, or no room for the parity, and nothing was printed; or the image isn't the one under the root, or isn't compared;
--- or it is, as is printed, and its parity isn't, or isn't compared
+-- There is no layout, or no room for the parity, and nothing was printed; or the image isn't the one with this root hash, or
+-- couldn't be compared; or it is, which is printed, and its parity isn't, or couldn't be compared.
 abbrev pub IsPartsEnd : Parts → List ℕ → Option (List ℕ) → Option (List ℕ) → Bool → FecFault → Type 0
 IsPartsEnd p root old new failed fault = (IsUnmeasured p fault × (new ≡ old)) ⊎ (EndsComparing p root old new failed fault ⊎ EndsChecking p root old new failed fault)
 
@@ -138,18 +138,18 @@ pub record EndsRooted {S D : Type 0} (w : Calls S D) (three : ThreeImages D) (v 
   pub told : TellsTrusted w v.verify.root trusted
   pub ends : IsPartsEnd (parts_of w.state three v trusted.pin) trusted.root old new failed fault
 
--- there is no root, and nothing was printed; or it ended later
+-- there is no root hash, and nothing was printed; or the command ended later
 abbrev pub IsVerifyThreeEnd : {S D : Type 0} → Calls S D → ThreeImages D → FecVerifyRecord → Option (List ℕ) → Option (List ℕ) → Bool → FecFault → Type 0
 IsVerifyThreeEnd w three v old new failed fault = (EndsUnrooted w v fault × (new ≡ old)) ⊎ EndsRooted w three v old new failed fault
 
--- nothing is written ahead of what ends it, unless it is the writing that fails
+-- nothing is written before the fault, unless the writer is what failed
 abbrev pub IsFecQuiet : FecFault → Option (List ℕ) → Option (List ℕ) → Type 0
 IsFecQuiet (Verity fault) old new = IsVerityQuiet fault old new
 IsFecQuiet BlockSizes old new = new ≡ old
 IsFecQuiet (Parity fault) old new = new ≡ old
 IsFecQuiet (Differs round) old new = new ≡ old
 
--- ---- the same by what devices of any kind are, an opener and a writer, each before and after, and the program's own words
+-- ---- in terms of devices of any type, an opener and a writer, each before and after, and the program's arguments
 
 abbrev pub parts_by : {D H P : Type 0} → (D → Device) → (H → Device) → (P → Device) → D → H → P → ℕ → Option Pin → ℕ → Parts
 parts_by data_state hash_state parity_state d h p first pin roots = record { data_dev = data_state d; hash_dev = hash_state h; parity_dev = parity_state p; first = first; pin = pin; roots = roots }

@@ -8,16 +8,16 @@ use image_files::UnopenedFile;
 use program_io::WriteFault;
 use verity_commands::VerityFault;
 
-/// Why a command on an image with parity ends early.
+/// Why a command on an image with parity ended early.
 #[derive(Clone, Copy, Debug, PartialEq, Eq)]
 pub enum FecFault<'a> {
-    /// The image isn't made, opened or read, or isn't the one under the root.
+    /// The image can't be made, opened or read, or isn't the one with this root hash.
     Verity(VerityFault<'a>),
-    /// Data and hash blocks have different sizes.
+    /// The data blocks and the hash blocks have different sizes.
     BlockSizes,
-    /// The parity isn't written or compared.
+    /// The parity can't be written or compared.
     Parity(ParityFault),
-    /// That round's parity, the first, isn't that of the image.
+    /// The parity of this round, the first such round, isn't that of the image.
     Differs(u64),
 }
 

@@ -1,5 +1,5 @@
-//! What is printed of a command on an image with parity that ends early, and its status: 1 refused, 2 for words that are
-//! no command, 3 for images or parity that differ.
+//! The line and the status of a command on an image with parity that ends early: 1 for a refusal, 2 for a usage error, 3 for
+//! images or parity that differ.
 ghost use Rattle.std.specs.Prelude.{◌≡◌};
 ghost use Rattle.program_io.specs.Counted.{Writes};
 ghost use Rattle.fec_commands.specs.FaultTexts.{differs_text, fec_status, fec_text, parity_text};
@@ -15,7 +15,11 @@ const REFUSED: u8 = 1;
 
 const FAULT: u8 = 3;
 
-/// One line, or none where a line can't be written.
+/// Prints the line of a fault; prints nothing if a line can't be written.
+///
+/// # Errors
+///
+/// `WriteFault` if the writer failed.
 pub fn say_fec_fault<W: Write>(
     writer: &mut Counted<W>,
     fault: FecFault<'_>,
@@ -30,7 +34,7 @@ pub fn say_fec_fault<W: Write>(
     }
 }
 
-/// The status of a command that ends so.
+/// Returns the exit status for a fault.
 pub fn fec_status(fault: FecFault<'_>) -> u8
     ensures { result ≡ fec_status fault.entry }
 {
@@ -41,7 +45,7 @@ pub fn fec_status(fault: FecFault<'_>) -> u8
     }
 }
 
-// `refused K NAME`, and how many sectors are needed
+// Prints `refused K NAME`, followed by the needed sectors if the file is too small.
 fn say_parity_fault<W: Write>(writer: &mut Counted<W>, fault: ParityFault) -> Result<(), WriteFault>
     ensures { Writes W.contents writer.old writer.new (parity_text fault) result }
 {
@@ -55,7 +59,7 @@ fn say_parity_fault<W: Write>(writer: &mut Counted<W>, fault: ParityFault) -> Re
     }
 }
 
-// `parity differs in round N`
+// Prints `parity differs in round N`.
 fn say_difference<W: Write>(writer: &mut Counted<W>, round: u64) -> Result<(), WriteFault>
     ensures { Writes W.contents writer.old writer.new (differs_text round) result }
 {

@@ -1,4 +1,4 @@
-//! `format --grow --fec`: the files that are there are opened before any is made or made longer.
+//! `format --grow --fec`: opens the files that exist before any file is created or extended.
 ghost use Rattle.std.specs.Prelude.{◌≡◌, IfErr, IfOk, OnOk};
 ghost use Rattle.image_files.specs.FileUses.{image_use};
 ghost use Rattle.image_files.specs.OnePlace.{FailsToCompare};
@@ -13,7 +13,7 @@ use command_line::FecFile;
 use image_commands::ImagePlaces;
 use image_files::{FileUse, Images, OpenImage, UnopenedFile, has_clash, is_one_place, open_image};
 
-/// DATA, and HASH and the file of the parity if they are there, open.
+/// DATA, and HASH and the parity file if they exist, open.
 #[derive(Drop)]
 pub(crate) struct FoundThree<D> {
     pub data: OpenImage<D>,
@@ -21,8 +21,8 @@ pub(crate) struct FoundThree<D> {
     pub parity: Option<OpenImage<D>>,
 }
 
-/// Opens DATA for reading, HASH if it is there, and the file of the parity for writing if it is there. That file may not be
-/// one of the two. If it isn't there, it can be made, and HASH isn't to be made in its place.
+/// Opens DATA for reading, HASH if it exists, and the parity file for writing if it exists. The parity file must be neither
+/// DATA nor HASH. If it doesn't exist, it must be possible to create it, and HASH mustn't be created at the same place.
 pub(crate) fn find_three<'a, I: Images>(
     images: &mut I,
     places: &ImagePlaces<'a>,
@@ -43,7 +43,7 @@ pub(crate) fn find_three<'a, I: Images>(
     Ok(FoundThree { data, hash, parity })
 }
 
-// Checks that the file of the parity is there or can be made.
+// Checks that the parity file exists or can be created.
 fn check_ready<'a, I: Images>(
     images: &mut I,
     parity: &Option<OpenImage<I::Dev>>,
@@ -60,7 +60,7 @@ fn check_ready<'a, I: Images>(
     }
 }
 
-// Checks that a file that isn't there can be made, and isn't HASH once that is made.
+// Checks that a missing parity file can be created, and won't be the same file as HASH.
 fn check_new<'a, I: Images>(
     images: &mut I,
     hash: &Option<OpenImage<I::Dev>>,
@@ -78,7 +78,7 @@ fn check_new<'a, I: Images>(
     check_path(images, path)
 }
 
-// Whether HASH isn't there, and both are to be made in one place.
+// Whether HASH is missing too, and both would be created at the same place.
 fn is_made_twice<'a, I: Images>(
     images: &mut I,
     hash: &Option<OpenImage<I::Dev>>,
@@ -94,7 +94,7 @@ fn is_made_twice<'a, I: Images>(
     }
 }
 
-// The image under a path, or nothing if there is none.
+// Opens the image at a path. Returns `None` if there is no such file.
 fn find<'a, I: Images>(
     images: &mut I,
     path: &'a str,
@@ -110,7 +110,7 @@ fn find<'a, I: Images>(
     }
 }
 
-// Whether the file of the parity is one of the two others that are there.
+// Whether the parity file is DATA or HASH.
 fn is_used<D>(
     data: &OpenImage<D>,
     hash: &Option<OpenImage<D>>,

@@ -1,4 +1,4 @@
-//! Whether the file of the parity will do, before anything is written or printed.
+//! Checks the size of the parity file before anything is written or printed.
 ghost use Rattle.std.specs.Prelude.{IfErr, OnOk};
 ghost use Rattle.fec_commands.specs.Fitting.{IsShortByOptions, IsTooShortByWords, OpensForWords};
 ghost use Rattle.fec_commands.specs.Images.{Does};
@@ -15,8 +15,8 @@ use image_commands::ImagePlaces;
 use image_files::{Images, OpenImage};
 use std::marker::Brand;
 
-/// Opens DATA and HASH for reading and FILE for writing, and checks that FILE has the sectors that the parity of the image
-/// takes that the options say.
+/// Opens DATA and HASH for reading and FILE for writing, and checks that FILE has enough sectors for the parity of the image
+/// that the options make.
 pub(crate) fn measure_words<'a, I: Images>(
     images: &mut I,
     places: &ImagePlaces<'a>,
@@ -51,7 +51,8 @@ pub(crate) fn measure_words<'a, I: Images>(
     Ok(())
 }
 
-// Whether a device has room for the parity of what options say of two others, before and behind a sector.
+// Checks that a device has enough sectors for the parity of the image that options make on two devices: the data before one
+// sector, the hash image after another.
 fn check_room<D: BlockDev + Drop, H: BlockDev + Drop, P: BlockDev>(
     data_dev: D,
     hash_dev: H,

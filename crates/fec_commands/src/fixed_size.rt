@@ -1,4 +1,4 @@
-//! `format --grow --fec` to a block device, which no format makes longer.
+//! `format --grow --fec` with a block device as parity file, which can't be extended.
 ghost use Rattle.std.specs.Prelude.{◌≡◌, ◌≤◌, ◌^◌, IfErr, OnOk};
 ghost use Rattle.fec_commands.specs.FixedSize.{FitsFixedSize, IsFixedTooShort, found_sectors, hash_found_id, sectors_behind};
 ghost use Rattle.fec_commands.specs.Layings.{IsRoots};
@@ -11,12 +11,12 @@ use command_line::ImageOptions;
 use fec_area::ParityFault;
 use image_files::{OpenImage, is_block_device};
 
-/// Checks that FILE, if it is a block device, has the sectors that the parity takes of the image that options make, once HASH is
-/// made as long as the hash image is.
+/// Checks that FILE, if it is a block device, has enough sectors for the parity of the image that the options make, after HASH
+/// is extended to the hash image's size.
 ///
 /// # Errors
 ///
-/// `TooSmall`.
+/// `TooSmall` if it has fewer sectors.
 pub(crate) fn check_fixed_size<D: BlockDev>(
     found: &FoundThree<D>,
     options: &ImageOptions,
@@ -43,7 +43,7 @@ pub(crate) fn check_fixed_size<D: BlockDev>(
     Ok(())
 }
 
-// How many sectors of data there are, and how many HASH has from the hash image's first one on.
+// How many sectors of data there are, and how many HASH has from the hash image's first sector on.
 fn found_sectors<D: BlockDev>(found: &FoundThree<D>, first: u64) -> FoundSectors
     ensures value { result ≡ found_sectors D.state found.now first }
     ensures small { result.hash ≤ 2 ^ 54 }
@@ -64,7 +64,7 @@ fn hash_found_id<D>(hash: &Option<OpenImage<D>>) -> Option<FileId>
     }
 }
 
-// How many sectors a file has from that one on; none if it isn't there.
+// How many sectors a file has from `first` on; 0 if it doesn't exist.
 fn sectors_behind<D: BlockDev>(file: &Option<OpenImage<D>>, first: u64) -> u64
     ensures value { result ≡ sectors_behind D.state file.now first }
     ensures small { result ≤ 2 ^ 54 }

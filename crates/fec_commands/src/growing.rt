@@ -1,4 +1,4 @@
-//! The parity of a verity image, written to a file that is made, or made longer, where it has too few sectors.
+//! Writes the parity of a verity image to a file, which is created, or extended if it has too few sectors.
 ghost use Rattle.std.specs.Prelude.{◌≡◌, true, Err, IfErr, IfSome, OnOk};
 ghost use Rattle.image_files.specs.Opener.{calls};
 ghost use Rattle.fec_area.specs.declared.writing.ParityFault.TheVariants as parity_fault;
@@ -17,7 +17,7 @@ use image_commands::ImagePlaces;
 use image_files::{Images, UnopenedFile};
 use std::alloc::Global;
 
-// The file under a path has at least so many sectors from then on.
+// Makes sure that the file at a path has at least `sectors` sectors.
 fn make_room<'a, I: Images>(
     images: &mut I,
     path: &'a str,
@@ -32,7 +32,8 @@ fn make_room<'a, I: Images>(
     }
 }
 
-/// Checks that a file can be made under a path. If none can be created there, it is made at once, for the fault of that.
+/// Checks that a file can be created at a path. If the trial fails, the file is created at once; if this fails too, its fault
+/// is returned.
 pub(crate) fn check_path<'a, I: Images>(
     images: &mut I,
     path: &'a str,
@@ -46,7 +47,7 @@ pub(crate) fn check_path<'a, I: Images>(
     }
 }
 
-// How many sectors the parity's file has to have, where the writing ended since it has fewer.
+// How many sectors the parity file must have, if writing failed because it has fewer.
 fn needed_by(tried: &Result<(), FecFault<'_>>) -> Option<u64>
     ensures { IfSome result (λ needed. tried.now ≡ Err (fec_fault.Parity (parity_fault.TooSmall needed))) }
 {
@@ -56,7 +57,7 @@ fn needed_by(tried: &Result<(), FecFault<'_>>) -> Option<u64>
     }
 }
 
-/// Writes the parity once its file has the sectors that are needed.
+/// Writes the parity after making sure that its file has enough sectors.
 pub(crate) fn protect_growing<'a, I: Images>(
     alloc: Global,
     images: &mut I,

@@ -1,4 +1,4 @@
-//! A verity image and the file of its parity, open, and how parity lies across the image.
+//! A verity image and its parity file, open, and the layout of the parity.
 ghost use Rattle.std.specs.Prelude.{◌≡◌, ◌&&◌, nat_le, nat_lt, IfErr, IfOk};
 ghost use Rattle.image_files.specs.Opener.{IsFresh};
 ghost use Rattle.fec_area.specs.Layouts.{IsLayout};
@@ -15,7 +15,7 @@ use image_pin::Pin;
 use verity_commands::VerityFault;
 use verity_format::{VerifyFault, VerityTree, data_sectors};
 
-/// A data image, its hash image and their parity, open.
+/// A data image, its hash image and their parity file, open.
 #[derive(Drop)]
 pub(crate) struct ThreeImages<D> {
     pub data: OpenImage<D>,
@@ -23,14 +23,14 @@ pub(crate) struct ThreeImages<D> {
     pub parity: OpenImage<D>,
 }
 
-/// A tree, and how parity lies across its image.
+/// A tree, and the layout of the parity of its image.
 #[derive(Clone, Copy)]
 pub(crate) struct LaidTree {
     pub tree: VerityTree,
     pub layout: Layout,
 }
 
-/// Where in their files the data end and the hash image begins, in sectors of 512 bytes, and how many bytes of parity a
+/// Where the data end and the hash image begins in their files, in sectors of 512 bytes, and how many bytes of parity a
 /// codeword has.
 #[derive(Clone, Copy)]
 pub(crate) struct Extent {
@@ -39,15 +39,15 @@ pub(crate) struct Extent {
     pub roots: u32,
 }
 
-/// Whether a codeword may have so many bytes of parity.
+/// Returns whether a codeword may have so many bytes of parity: 2 to 24.
 pub(crate) fn is_roots(roots: u32) -> bool
     ensures { result ≡ (nat_le 2 roots && nat_le roots 24) }
 {
     roots >= 2 && roots <= 24
 }
 
-/// Opens the data image for reading, the hash image too, and then the file of the parity, for writing too where
-/// `write` says so, which may be neither of them then.
+/// Opens the data image for reading, the hash image for reading, and then the parity file; if `write` is set, the latter for
+/// writing, and it must be neither of the images.
 pub(crate) fn open_three<'a, I: Images>(
     images: &mut I,
     places: &ImagePlaces<'a>,
@@ -76,14 +76,15 @@ pub(crate) fn open_three<'a, I: Images>(
     Ok(ThreeImages { data, hash, parity })
 }
 
-/// The sector where the data end: in one file before the hash image, else at the end of theirs.
+/// Returns the sector where the data end: the hash image's first sector if both are one file, otherwise the end of the data
+/// file.
 pub(crate) fn data_end<D>(three: &ThreeImages<D>, first: u64) -> u64
     ensures { result ≡ three_data_end three.now first }
 {
     end_of_data(three.data.id, three.hash.id, first)
 }
 
-/// The same, by which files DATA and HASH are.
+/// Returns the sector where the data end, by the identities of the files DATA and HASH.
 pub(crate) fn end_of_data(data: Option<FileId>, hash: Option<FileId>, first: u64) -> u64
     ensures { result ≡ end_of_data «data» hash first }
 {
@@ -93,7 +94,8 @@ pub(crate) fn end_of_data(data: Option<FileId>, hash: Option<FileId>, first: u64
     u64::MAX
 }
 
-/// The tree of an image, whose superblock is read once and has the values of the pin, if there is one, and how parity with so many bytes in a codeword lies across the image.
+/// Returns the tree of an image and the layout of its parity, with so many bytes of parity in a codeword. The superblock is
+/// read once; if there is a pin, it must have the pin's values.
 pub(crate) fn lay_out<'a, D: BlockDev, H: BlockDev>(
     data_dev: &D,
     hash_dev: &mut H,

@@ -1,4 +1,4 @@
-//! The commands on images with parity by their words.
+//! The commands on images with parity, with their arguments.
 ghost use Rattle.std.specs.Prelude.{IfErr, OnOk, true};
 ghost use Rattle.image_commands.specs.Drawing.{drawing};
 ghost use Rattle.fec_commands.specs.Commands.{FailsToFormatFec, FailsToVerifyFec, FormatsFecByWords, VerifiesFecByWords};
@@ -28,8 +28,14 @@ use std::alloc::Global;
 use std::io::Write;
 use verity_commands::{VerityFault, sector_at};
 
-/// `format --fec FILE [--fec-roots N] [--grow] [--progress] [OPTION..] DATA HASH`: as `format`, and then the parity, which is synced
-/// before anything is printed. FILE is opened and measured before anything is written.
+/// Runs `format --fec FILE [--fec-roots N] [--grow] [--progress] [OPTION..] DATA HASH`. It formats as `format` does, and then
+/// writes the parity, which is synced before anything is printed. FILE is opened and measured before anything is written.
+///
+/// # Errors
+///
+/// - `Verity` if the arguments give no value, or the image can't be made or its text printed.
+/// - `BlockSizes` if the arguments give two block sizes.
+/// - `Parity` if FILE is too small, or the parity can't be written and synced.
 pub fn invoke_format_fec<'a, I: Images, G: Generators + Watchers, W: Write>(
     alloc: Global,
     images: &mut I,
@@ -63,8 +69,16 @@ pub fn invoke_format_fec<'a, I: Images, G: Generators + Watchers, W: Write>(
     Ok(())
 }
 
-/// `verify --fec FILE [--fec-roots N] [--hash-offset BYTES] [--root-hash-file FILE] [--progress] DATA HASH [ROOT]`: as `verify`, and then
-/// the parity. Each file is opened once, and FILE is measured before anything is printed.
+/// Runs `verify --fec FILE [--fec-roots N] [--hash-offset BYTES] [--root-hash-file FILE] [--progress] DATA HASH [ROOT]`. It
+/// verifies as `verify` does, and then compares the parity. Each file is opened once, and FILE is measured before anything is
+/// printed.
+///
+/// # Errors
+///
+/// - `Verity` if a file can't be opened or read, the image isn't the one with this root hash, or a line can't be printed.
+/// - `BlockSizes` if the superblock has two block sizes.
+/// - `Parity` if FILE is too small, or the parity can't be compared.
+/// - `Differs` if the parity isn't that of the image.
 pub fn invoke_verify_fec<'a, I: Images, S: Watchers, W: Write>(
     alloc: Global,
     images: &mut I,
@@ -87,7 +101,7 @@ pub fn invoke_verify_fec<'a, I: Images, S: Watchers, W: Write>(
     verify_open(alloc, images, watchers, three, words, writer)
 }
 
-// Whether the file of the parity will do for what the options say, or can be made.
+// Checks that the parity file is large enough for the image that the options make, or can be made so.
 fn check_file<'a, I: Images>(
     images: &mut I,
     places: &ImagePlaces<'a>,
@@ -105,7 +119,7 @@ fn check_file<'a, I: Images>(
     measure_words(images, places, fec, options)
 }
 
-// With `--grow`, checks that FILE is there or can be made, and that a block device is large enough.
+// With `--grow`, checks that FILE exists or can be created, and that a block device is large enough.
 fn check_grown<'a, I: Images>(
     images: &mut I,
     places: &ImagePlaces<'a>,
@@ -121,7 +135,7 @@ fn check_grown<'a, I: Images>(
     Ok(())
 }
 
-// Writes the parity, and makes its file as long as is needed where `grow` says so.
+// Writes the parity. If `grow` is set, its file is extended as far as needed.
 fn protect<'a, I: Images>(
     alloc: Global,
     images: &mut I,

@@ -1,4 +1,4 @@
-//! The text of a `format`, kept in memory until the parity stands.
+//! The output of a `format`, kept in memory until the parity is written.
 ghost use Rattle.std.specs.Prelude.{◌≡◌, IfErr, IfOk};
 ghost use Rattle.image_commands.specs.Drawing.{drawing};
 ghost use Rattle.fec_commands.specs.FecFaults.{kept_fault, kept_image};
@@ -12,7 +12,7 @@ use program_io::Counted;
 use std::alloc::Global;
 use verity_commands::{VerityFault, invoke_format};
 
-/// Makes the image, and gives the text that is printed of it.
+/// Formats the image, and returns the text to print.
 pub(crate) fn format_kept<'a, I: Images, G: Generators + Watchers>(
     alloc: Global,
     images: &mut I,
@@ -30,7 +30,7 @@ pub(crate) fn format_kept<'a, I: Images, G: Generators + Watchers>(
     }
 }
 
-// A text that is kept can't be written only where memory ran out.
+// A text that is kept in memory can't be written only if memory ran out.
 fn kept_fault(fault: VerityFault<'_>) -> VerityFault<'_>
     ensures { result ≡ kept_fault fault.entry }
 {

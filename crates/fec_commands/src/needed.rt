@@ -1,4 +1,4 @@
-//! How many sectors the parity takes of an image that is to be made.
+//! How many sectors the parity of an image takes before the image exists.
 ghost use Rattle.std.specs.Prelude.{◌≡◌, ◌≢◌, ◌≤◌, ◌^◌, IfNone, IfSome, is_some, true};
 ghost use Rattle.fec_commands.specs.Layings.{IsRoots};
 ghost use Rattle.fec_commands.specs.Needed.{HasNone, IsNeeded, IsNeededGrown, TakesSectors, said_shape};
@@ -9,15 +9,15 @@ use fec_area::Layout;
 use tree_shape::Shape;
 use verity_format::{given_blocks, image_sectors};
 
-/// How many sectors of data there are, and how many HASH has from the hash image's first one on.
+/// How many sectors of data there are, and how many HASH has from the hash image's first sector on.
 #[derive(Clone, Copy)]
 pub(crate) struct FoundSectors {
     pub data: u64,
     pub hash: u64,
 }
 
-/// How many sectors the parity takes of an image that options make over so many sectors of data, with so many for the hash image.
-/// `None` if they make none.
+/// Returns how many sectors the parity takes of the image that options make from so many sectors of data, with so many sectors
+/// for the hash image. `None` if the options make no image with parity.
 pub(crate) fn needed_sectors(
     options: &ImageOptions,
     data_sectors: u64,
@@ -33,7 +33,7 @@ pub(crate) fn needed_sectors(
     parity_of(&shape, hash_sectors, roots)
 }
 
-/// How many it takes if HASH is made as long as the hash image is, where it has fewer sectors.
+/// Returns the same for HASH extended to the hash image's size if it has fewer sectors.
 pub(crate) fn needed_grown(options: &ImageOptions, sectors: FoundSectors, roots: u32) -> Option<u64>
     requires roots { IsRoots roots }
     requires small { sectors.hash ≤ 2 ^ 54 }

@@ -1,4 +1,4 @@
-//! The parity of a verity image, written to a file.
+//! Writes the parity of a verity image to a file.
 ghost use Rattle.std.specs.Prelude.{◌≡◌, IfErr, OnOk};
 ghost use Rattle.fec_area.specs.Layouts.{IsLaidOn};
 ghost use Rattle.fec_area.specs.Rounds.{OnlyReadsCovered};
@@ -17,7 +17,7 @@ use image_files::{Images, OpenImage};
 use std::alloc::Global;
 use std::marker::Brand;
 
-/// Writes the parity of an image that stands in files to a file, has it put on its medium, and gives it back.
+/// Writes the parity of an image in files to a file, syncs it, and closes it.
 pub(crate) fn protect_image<'a, I: Images>(
     alloc: Global,
     images: &mut I,
@@ -53,7 +53,7 @@ pub(crate) fn protect_image<'a, I: Images>(
     Ok(())
 }
 
-// Writes the parity of what lies on two devices before and behind a sector, and has it put on its medium.
+// Writes and syncs the parity of what two devices store: the data before one sector, the hash image after another.
 fn protect_behind<'a, D: BlockDev + Drop, H: BlockDev + Drop, P: SyncDev>(
     alloc: Global,
     data_dev: D,
@@ -72,7 +72,7 @@ fn protect_behind<'a, D: BlockDev + Drop, H: BlockDev + Drop, P: SyncDev>(
     Ok(())
 }
 
-// Writes the parity, and has it put on its medium.
+// Writes the parity, and syncs it.
 fn write_synced<D: BlockDev, H: BlockDev, P: SyncDev>(
     alloc: Global,
     layout: &Layout,

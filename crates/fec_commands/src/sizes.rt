@@ -1,4 +1,4 @@
-//! The block sizes that options say.
+//! The block sizes in the options.
 ghost use Rattle.std.specs.Prelude.{◌≡◌};
 ghost use Rattle.command_line.specs.FormatOptions.{block_size_of, option_texts, text_of};
 ghost use Rattle.fec_commands.specs.Sizes.{differ, says_two_sizes};
@@ -8,7 +8,7 @@ use table_text::number;
 
 const SIZE: u64 = 4096;
 
-/// Whether the options say two sizes, one of data and another one of hash blocks.
+/// Returns whether the options give different sizes for data blocks and hash blocks.
 pub(crate) fn says_two_sizes(options: &OptionWords<'_>) -> bool
     ensures { result ≡ says_two_sizes (option_texts options.now) }
 {
@@ -24,7 +24,7 @@ fn differ(a: Option<u64>, b: Option<u64>) -> bool
     }
 }
 
-// 4,096 bytes unless the word says another number below 2^32.
+// The block size in an option: 4,096 bytes if there is none. `None` if it isn't a number below 2^32.
 fn size_in(word: Option<&str>) -> Option<u64>
     ensures { result ≡ block_size_of (text_of word.entry) }
 {

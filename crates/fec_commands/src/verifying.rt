@@ -1,4 +1,4 @@
-//! `verify --fec`: an image and its parity, compared over files that are opened once.
+//! `verify --fec`: compares an image and its parity in files that are opened once.
 ghost use Rattle.std.specs.Prelude.{IfErr, IfOk, OnOk};
 ghost use Rattle.fec_area.specs.Layouts.{IsLaidOn};
 ghost use Rattle.fec_commands.specs.Layings.{IsRoots};
@@ -18,7 +18,8 @@ use std::alloc::Global;
 use std::io::Write;
 use verity_commands::{sector_at, trusted_in};
 
-/// Compares an image with its tree, and then its parity with the one in a file. The superblock is read once, after the root or the pin.
+/// Compares an image with its tree, and then its parity with the parity file. The superblock is read once, after the root hash
+/// or the pin.
 pub(crate) fn verify_open<'a, I: Images, S: Watchers, W: Write>(
     alloc: Global,
     images: &mut I,
@@ -73,7 +74,7 @@ pub(crate) fn verify_open<'a, I: Images, S: Watchers, W: Write>(
     print_checked(alloc, &mut parts, &laid.layout, &mut parity_dev, writer)
 }
 
-// The tree of an image, and how its parity lies across it, which has all its sectors on its device.
+// Returns the tree of an image and the layout of its parity, for which the parity device has enough sectors.
 fn measure<'a, D: BlockDev, H: BlockDev, P: BlockDev>(
     data_dev: &D,
     hash_dev: &mut H,
@@ -94,7 +95,7 @@ fn measure<'a, D: BlockDev, H: BlockDev, P: BlockDev>(
     Ok(laid)
 }
 
-// Compares the parity, and prints that it is the image's. Another one is the fault `Differs`.
+// Compares the parity, and prints that it is the image's. Otherwise the fault is `Differs`.
 fn print_checked<'a, D: BlockDev, H: BlockDev, P: BlockDev, W: Write>(
     alloc: Global,
     two: &mut ImagePair<D, H>,

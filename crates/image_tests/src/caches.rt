@@ -1,9 +1,9 @@
-//! A row of calls against answers that are written down, and the largest capacities.
+//! A sequence of calls with their expected answers, and the largest capacities.
 use std::test::Fail;
 use tree_shape::Digest;
 use verified_cache::{BlockCache, Key};
 
-/// Block `block` of line `line`.
+/// Returns the key of a block of a line.
 fn key_of(line: u32, block: u64) -> Key {
     Key {
         device: 1,
@@ -13,7 +13,7 @@ fn key_of(line: u32, block: u64) -> Key {
     }
 }
 
-/// The first byte of what is found, under the digest of which each byte is that one.
+/// Returns the first byte of the block that is cached for the key with a digest whose bytes are all `digest`.
 fn found(cache: &mut BlockCache, key: Key, digest: u8) -> Option<u8> {
     cache
         .find(key, &Digest::new([digest; 32]))?
@@ -21,8 +21,8 @@ fn found(cache: &mut BlockCache, key: Key, digest: u8) -> Option<u8> {
         .copied()
 }
 
-/// What is kept, and under which digest; and what is then found of three blocks, in this order: where it was kept under
-/// another digest nothing, and that is no use. Blocks are of line 1 or 2.
+/// A block that is cached, and its digest; then what is found of three blocks, in this order. A lookup with another digest
+/// finds nothing, and doesn't count as a use. Blocks are of line 1 or 2.
 const CALLS: [(u32, u64, u8, u8, [(u32, u64, u8, Option<u8>); 3]); 6] = [
     (
         1,

@@ -1,5 +1,5 @@
-//! AES and XTS of what no `crypt` line asks for: single blocks, units of other lengths, the last numbers, many units in one call.
-//! Beside other implementations; `scripts/by_hand/cipher_digests.py` prints the digests.
+//! AES and XTS with arguments that no `crypt` line has: single blocks, units of other sizes, the last numbers, many units in
+//! one call. The expected values are other implementations'; `scripts/by_hand/cipher_digests.py` prints the digests.
 
 use crate::has_digits;
 use aes_block::AesKey;
@@ -8,7 +8,7 @@ use sha2::{Digest, Sha256};
 use std::test::Fail;
 use xts_sector::XtsKey;
 
-/// A key, a block and its ciphertext. The first two are FIPS 197's (appendix C.1 and C.3), and the others OpenSSL's.
+/// A key, a block and its ciphertext. The first two are from FIPS 197 (appendix C.1 and C.3), and the others from OpenSSL.
 static BLOCKS: [(&[u8], &[u8; 16], &[u8; 16]); 12] = [
     (
         b"\x00\x01\x02\x03\x04\x05\x06\x07\x08\x09\x0a\x0b\x0c\x0d\x0e\x0f",
@@ -72,7 +72,7 @@ static BLOCKS: [(&[u8], &[u8; 16], &[u8; 16]); 12] = [
     ),
 ];
 
-/// The length of a key, and the digest of 33 blocks that it enciphered.
+/// The length of a key, and the digest of 33 blocks that it encrypted.
 static LANES: [(usize, &str); 2] = [
     (
         16,
@@ -84,7 +84,7 @@ static LANES: [(usize, &str); 2] = [
     ),
 ];
 
-/// The size of a unit, and the digest of what it is under both keys and the numbers 0, 1 and 2^64 - 1.
+/// The size of a unit, and the digest of its ciphertexts under both keys and the numbers 0, 1 and 2^64 - 1.
 static UNITS: [(usize, &str); 11] = [
     (
         16,
@@ -132,7 +132,8 @@ static UNITS: [(usize, &str); 11] = [
     ),
 ];
 
-/// So many units, and the digest of what they are where their numbers, which pass 2^64 - 1, are 1 apart, or 8, or go down by 7.
+/// A number of units, and the digest of their ciphertexts. Their numbers, which pass 2^64 - 1, are 1 apart, 8 apart, or go down
+/// by 7.
 static CALLS: [(u8, &str); 9] = [
     (
         0,
@@ -172,7 +173,7 @@ static CALLS: [(u8, &str); 9] = [
     ),
 ];
 
-/// The bytes 0, 1, 2 ..
+/// Returns the bytes 0, 1, 2 ..
 fn counted() -> [u8; 64] {
     let mut bytes = [0; 64];
     for k in 0..64_u8 {
@@ -181,7 +182,7 @@ fn counted() -> [u8; 64] {
     bytes
 }
 
-/// Fills with bytes that look drawn.
+/// Fills a buffer with pseudo-random bytes.
 fn draw(bytes: &mut [u8]) {
     let mut seed = 7u32;
     for byte in bytes.iter_mut() {
@@ -223,7 +224,7 @@ fn blocks_are_those_of_others(rt: HostRuntime) -> Result<(), Fail> {
     Ok(())
 }
 
-/// Adds to the sum what a unit is under each of three numbers, and says whether it is decrypted to itself.
+/// Adds the ciphertexts of a unit under three numbers to the sum, and returns whether each decrypts to the unit.
 fn one_unit(key: &XtsKey, plain: &[u8], sum: &mut Sha256) -> bool {
     let mut bytes = [0; 4096];
     if plain.len() > 4096 || plain.len() % 16 != 0 {
@@ -242,7 +243,8 @@ fn one_unit(key: &XtsKey, plain: &[u8], sum: &mut Sha256) -> bool {
     true
 }
 
-/// The same of so many units in one call, whose numbers are `step` apart.
+/// Adds the ciphertexts of many units in one call, whose numbers are `step` apart, to the sum, and returns whether they decrypt
+/// to the units.
 fn many_units(key: &XtsKey, plain: &[u8], step: u64, sum: &mut Sha256) -> bool {
     let count = plain.len() / 512;
     if count > 33 || plain.len() % 512 != 0 {

@@ -1,12 +1,12 @@
-//! A call of a file that is longer than any of the program's, and what a device that isn't steady gives behind a failure.
+//! A call of a file that is longer than any of the program's, and what an unsteady device returns after a failure.
 use block_device::{BlockDev, DeviceFault, FailAt, FileDev, MemoryDev, ScriptDev, SyncDev};
 use std::fs;
 use std::test::Fail;
 
-/// More than 3 MiB, and no multiple of 64 KiB.
+/// More than 3 MiB, and not a multiple of 64 KiB.
 const SECTORS: u32 = 6147;
 
-// Writes the bytes from that sector on, and says whether they fit and were written.
+// Writes bytes from a sector on, and returns whether they fit and were written.
 fn writes<D: BlockDev>(dev: &mut D, first: u64, bytes: &[u8]) -> bool {
     let sectors = bytes.len() as u64 / 512;
     let fits = first <= dev.sectors() && sectors <= dev.sectors() - first;
@@ -16,7 +16,7 @@ fn writes<D: BlockDev>(dev: &mut D, first: u64, bytes: &[u8]) -> bool {
     dev.write(first, bytes).is_ok()
 }
 
-// Reads so many bytes from that sector on, and says whether they were there and were read.
+// Reads bytes from a sector on, and returns whether they exist and were read.
 fn reads<D: BlockDev>(dev: &mut D, first: u64, out: &mut [u8]) -> bool {
     let sectors = out.len() as u64 / 512;
     let fits = first <= dev.sectors() && sectors <= dev.sectors() - first;

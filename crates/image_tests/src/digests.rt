@@ -1,4 +1,4 @@
-//! Digests beside those of FIPS 180-4's examples and of Python's hashlib, of sizes and prefixes that no tree has.
+//! Digests compared with the examples of FIPS 180-4 and with Python's hashlib, for sizes and prefixes that no tree has.
 use crate::has_digits;
 use sha2::{Digest, Sha256};
 use sha256_lanes::digest_eight;
@@ -11,8 +11,8 @@ const OF_TWO_BLOCKS: &str = "248d6a61d20638b8e5c026930c3e6039a33ce45964ff2167f6e
 
 const OF_A_MILLION: &str = "cdc76e5c9914fb9281a1c7e284d73e67f1809a48a497200e046d39ccc7112cd0";
 
-/// The lengths of a prefix and of a block, and the digest of the eight digests one after another. Byte i of a prefix is 7 i + 1, and
-/// byte i of block j 13 i + 31 j + 5, modulo 256.
+/// The lengths of a prefix and of a block, and the digest of the eight digests, concatenated. Byte i of a prefix is 7 i + 1,
+/// and byte i of block j is 13 i + 31 j + 5, modulo 256.
 static VECTORS: [(usize, usize, &str); 11] = [
     (
         0,
@@ -71,7 +71,7 @@ static VECTORS: [(usize, usize, &str); 11] = [
     ),
 ];
 
-/// So many bytes, each by `step` more than the one before, modulo 256, behind others.
+/// Appends `len` bytes, the first of which is `first` and each other by `step` more than the one before, modulo 256.
 fn push_from(bytes: &mut Vec<u8>, first: u8, step: u8, len: usize) -> Result<(), AllocError> {
     let mut byte = first;
     for _ in 0..len {
@@ -81,7 +81,7 @@ fn push_from(bytes: &mut Vec<u8>, first: u8, step: u8, len: usize) -> Result<(),
     Ok(())
 }
 
-/// Whether all eight are the digest with these digits.
+/// Whether all eight digests have these digits.
 fn are_all(digests: &[[u8; 32]; 8], wanted: &str) -> bool {
     for digest in digests.iter() {
         if !has_digits(digest, wanted) {
@@ -91,7 +91,7 @@ fn are_all(digests: &[[u8; 32]; 8], wanted: &str) -> bool {
     true
 }
 
-/// Whether the eight digests of a vector are those of hashlib.
+/// Whether the eight digests of a vector are hashlib's.
 fn is_so(alloc: Global, prefix_len: usize, size: usize, wanted: &str) -> Result<bool, AllocError> {
     let (mut prefix, mut blocks) = (Vec::new(alloc), Vec::new(alloc));
     push_from(&mut prefix, 1, 7, prefix_len)?;

@@ -1,5 +1,5 @@
-//! Tests of ciphers, digests, trees, caches, devices, `verity` lines and syncs, over public calls: what no word of the program reaches.
-//! They stand in a crate of their own, since a crate with tests is proved twice.
+//! Tests of ciphers, digests, trees, caches, devices, `verity` lines and syncs through public functions, for what no argument
+//! of the program reaches. A crate with tests is proved twice, so they have their own crate.
 #![tactic(auto)]
 
 #[cfg(test)]

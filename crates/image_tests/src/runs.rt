@@ -1,4 +1,4 @@
-//! Runs of data blocks of a `verity` line: how often a read calls each leaf, and which fault ends it.
+//! Runs of data blocks of a `verity` line: how often a read calls each backing device, and which fault ends it.
 use crate::stacks::{read, stack_of};
 use block_device::{FailAt, MemoryDev};
 use hash_tree::area;
@@ -7,23 +7,23 @@ use std::alloc::{AllocError, Global};
 use std::test::Fail;
 use tree_shape::{Algorithm, Digest, Salt, Shape};
 
-/// Blocks of data, each of one sector; those of the tree are one at the top and two below.
+/// The number of data blocks, each of one sector. The tree has one block at the top and two below.
 const BLOCKS: usize = 32;
 
 const SECTOR: usize = 512;
 
-/// Which of the blocks has ones where the others have zeros, or zeros where they have ones.
+/// The block that has ones if the others have zeros, and zeros if they have ones.
 const ODD: usize = 9;
 
-/// A text over leaf `A` with data and leaf `B` with the tree behind one sector; its root is hashlib's.
+/// A text over backing device `A` with the data and `B` with the tree after one sector; its root hash is hashlib's.
 struct Run {
     text: &'static [u8],
-    /// The byte of all blocks but the odd one.
+    /// The byte of all other blocks.
     usual: u8,
-    /// The sector of `A` where the odd one lies.
+    /// The sector of `A` that holds the odd block.
     place: usize,
-    /// How often a read of all blocks calls `A`: where blocks may be ignored, a run ends with its hash block too. And how many
-    /// sectors it reads of both leaves.
+    /// How often a read of all blocks calls `A`, and how many sectors it reads from both backing devices. If blocks may be
+    /// ignored, a run ends with its hash block.
     calls: u64,
     sectors: u64,
 }
@@ -65,7 +65,7 @@ fn fill(bytes: &mut [u8], sector: usize, byte: u8) {
     }
 }
 
-/// The data, of which one sector is changed where there is one of that number.
+/// Returns the data, with the sector `changed` modified if there is one.
 fn data_of(alloc: Global, run: &Run, changed: usize) -> Result<Vec<u8>, AllocError> {
     let mut bytes = vec![in alloc; run.usual; BLOCKS * SECTOR]?;
     fill(bytes.as_mut_slice(), run.place, run.usual ^ 1);
@@ -73,7 +73,7 @@ fn data_of(alloc: Global, run: &Run, changed: usize) -> Result<Vec<u8>, AllocErr
     Ok(bytes)
 }
 
-/// The tree of the data unchanged, behind one sector.
+/// Returns the tree of the unmodified data, after one sector.
 fn tree_of(alloc: Global, run: &Run) -> Result<Vec<u8>, Fail> {
     let salt = Salt::new(Algorithm::Sha256, b"").ok_or("no salt")?;
     let shape = Shape::new(512, 512, BLOCKS as u64, 1)?;
@@ -91,8 +91,8 @@ fn tree_of(alloc: Global, run: &Run) -> Result<Vec<u8>, Fail> {
     Ok(bytes)
 }
 
-/// How a read of all blocks ends, and how many sectors it has read: with one sector of the data changed where there is one of
-/// that number, and leaf `A` and leaf `B` failing in that call of theirs, counted from 1.
+/// Returns how a read of all blocks ends, and how many sectors it has read, with the sector `changed` of the data modified if
+/// there is one, and `A` and `B` failing at call `a` and call `b`, counted from 1.
 fn ended(
     alloc: Global,
     run: &Run,
@@ -130,7 +130,7 @@ fn a_read_of_a_run_calls_each_leaf_as_often_as_it_must(rt: HostRuntime) -> Resul
     Ok(())
 }
 
-/// Whichever block differs, what is behind the run isn't read, nor anything twice.
+/// Whichever block differs, nothing after its run is read, and nothing is read twice.
 #[test]
 fn a_run_ends_at_its_first_block_that_differs(rt: HostRuntime) -> Result<(), Fail> {
     let alloc = rt.alloc();

@@ -1,4 +1,4 @@
-//! Stacks of texts over two leaves, and their pieces read and written.
+//! Stacks of texts over two backing devices, and reads and writes of their pieces.
 ghost use Rattle.std.specs.Prelude.{◌≡◌, ◌∷◌, [], IfOk};
 
 use block_device::BlockDev;
@@ -9,7 +9,7 @@ use std::alloc::{AllocError, Global};
 use std::test::Fail;
 use table_text::parse_stack;
 
-/// The leaf of that name which the device serves.
+/// Returns the backing device with that name that the device serves.
 fn leaf_of<D: BlockDev>(alloc: Global, name: &[u8], device: &D) -> Result<Leaf, AllocError>
     ensures { IfOk result (λ leaf. (leaf.sectors ≡ (D.state device.now).size) × (leaf.writable ≡ (D.state device.now).may_write)) }
 {
@@ -29,7 +29,7 @@ fn pair<T: Drop>(alloc: Global, a: T, b: T) -> Result<Vec<T>, AllocError>
     Ok(both)
 }
 
-/// The stack of a text over the leaves `A` and `B`, whose cache keeps so many blocks.
+/// Returns the stack of a text over the backing devices `A` and `B`, with a cache of `capacity` blocks.
 pub fn stack_of<D: BlockDev + Drop>(
     alloc: Global,
     a: D,
@@ -49,7 +49,7 @@ pub fn stack_of<D: BlockDev + Drop>(
     Ok(stack)
 }
 
-/// The piece of a device, if it lies inside.
+/// Reads a piece of a device. Returns `None` if the piece isn't within the device.
 pub fn read<D: BlockDev>(
     stack: &mut Stack<D>,
     name: &[u8],
@@ -68,7 +68,7 @@ pub fn read<D: BlockDev>(
     Some(stack.read_piece(d, first, n))
 }
 
-/// Writes a piece, if the device may be written there.
+/// Writes a piece of a device. Returns `None` if the device can't be written there.
 pub fn write_to<D: BlockDev>(
     stack: &mut Stack<D>,
     name: &[u8],

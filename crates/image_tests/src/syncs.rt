@@ -1,4 +1,4 @@
-//! Which leaves a sync asks.
+//! Which backing devices a sync calls.
 use crate::stacks::{stack_of, write_to};
 use block_device::{FailAt, MemoryDev};
 use stack_engine::{IoFault, Stack};
@@ -6,7 +6,7 @@ use std::test::Fail;
 
 const SIDE_BY_SIDE: &[u8] = b"a,,,rw,0 8 linear A 0;b,,,rw,0 8 linear B 0";
 
-/// Whether both leaves are synced once they are written, in order up to the first fault, and then no more.
+/// Whether both backing devices are synced after a write, in order up to the first fault, and not again afterwards.
 fn are_synced_in_order(stack: &mut Stack<FailAt<MemoryDev>>) -> bool {
     stack.sync() == Ok(())
         && write_to(stack, b"a", 2, &[1; 512]) == Some(Ok(()))
@@ -16,7 +16,7 @@ fn are_synced_in_order(stack: &mut Stack<FailAt<MemoryDev>>) -> bool {
         && stack.sync() == Ok(())
 }
 
-/// A sync is a call that a failing device counts: here the second of each.
+/// A sync is a call that a failing device counts; here it is the second call of each device.
 #[test]
 fn syncs_the_leaves_that_were_written(rt: HostRuntime) -> Result<(), Fail> {
     let alloc = rt.alloc();

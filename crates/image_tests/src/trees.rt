@@ -1,11 +1,12 @@
-//! Whole trees in memory, where two chains differ, and shapes: calls and sizes of which the program makes no use.
+//! Trees in memory, where two chains differ, and shapes, for calls and sizes that the program doesn't use.
 use crate::has_digits;
 use hash_tree::{Chain, Place, area, collide};
 use std::alloc::{AllocError, Global};
 use std::test::Fail;
 use tree_shape::{Algorithm, Salt, Shape, ShapeFault};
 
-/// The size of a hash block, the root and the digest of the area, by Python's hashlib: digest i is that of the eight bytes of i.
+/// The size of a hash block, the root hash and the digest of the area, by Python's hashlib. Digest i is that of the eight bytes
+/// of i.
 static TREES: [(u32, &str, &str); 2] = [
     (
         512,
@@ -39,7 +40,7 @@ fn areas_of_20001_digests(rt: HostRuntime) -> Result<(), Fail> {
     Ok(())
 }
 
-/// A chain of two hash blocks and a content, each of one byte.
+/// Returns a chain of two hash blocks and a content, each of one byte.
 fn chain_of(
     alloc: Global,
     index: u64,

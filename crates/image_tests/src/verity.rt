@@ -1,4 +1,4 @@
-//! A `verity` line over a device that answers another block each time.
+//! A `verity` line over a device that returns another block at each read.
 use crate::stacks::{read, stack_of};
 use block_device::ScriptDev;
 use stack_engine::{Answer, Fault, IoFault};
@@ -6,7 +6,7 @@ use std::alloc::Global;
 use std::test::Fail;
 use tree_shape::{Algorithm, Salt};
 
-/// Two blocks of zeros, without a salt; the root is hashlib's.
+/// Two blocks of zeros, without a salt; the root hash is Python's hashlib's.
 const TWO: &[u8] =
     b"v,,,ro,0 2 verity 1 A B 512 512 2 1 sha256 182a1c8ba54d084e24f1018f709256fd40fa272278e35622dfef43d6ec1b1a9b -";
 
@@ -29,7 +29,7 @@ fn is_mismatch(answer: &Option<Result<Answer, IoFault>>) -> bool {
     }
 }
 
-/// A device of which the tree's block is read at first, and then one of which a byte is another.
+/// A device whose first read returns the tree's block, and later reads a block with another byte.
 fn hash_dev(alloc: Global) -> Result<ScriptDev, Fail> {
     let zeros = Salt::new(Algorithm::Sha256, b"")
         .ok_or("no salt")?
@@ -44,7 +44,8 @@ fn hash_dev(alloc: Global) -> Result<ScriptDev, Fail> {
     Ok(ScriptDev::new(2, blocks))
 }
 
-/// Without a cache the first sector is read once, and with one it is read again, each time with one sector more.
+/// The second read of the sector succeeds with a cache, and fails without one, because the device returns another block then.
+/// Both transfer one more sector.
 #[test]
 fn answers_the_block_that_it_checked(rt: HostRuntime) -> Result<(), Fail> {
     let alloc = rt.alloc();

@@ -1,5 +1,4 @@
--- The chunks of a structured reply (in the protocol's document "Structured reply chunk message" and "Structured reply
--- types").
+-- The chunks of a structured reply (the protocol's document, "Structured reply chunk message" and "Structured reply types").
 use Rattle.std.specs.Prelude.{ℕ, ◌+◌, Bool, true, List, ◌++◌, length, if◌then◌else◌}
 use Rattle.nbd_protocol.specs.Headers.{error_number}
 use Rattle.nbd_protocol.specs.Numbers.{bytes16, bytes32, bytes64}
@@ -12,34 +11,34 @@ chunk_magic = 0x668e33ef
 abbrev pub flag_of_last : Bool → ℕ
 flag_of_last done = if done then 1 else 0
 
--- a chunk of that type under that cookie, before its payload, of which there are so many bytes
+-- the header of a chunk with `count` bytes of payload
 abbrev pub chunk_head : Bool → ℕ → ℕ → ℕ → List ℕ
 chunk_head done kind cookie count = bytes32 chunk_magic ++ (bytes16 (flag_of_last done) ++ (bytes16 kind ++ (bytes64 cookie ++ bytes32 count)))
 
--- NONE, the last of a reply
+-- NONE, the last chunk of a reply
 abbrev pub none_chunk : ℕ → List ℕ
 none_chunk cookie = chunk_head true 0 cookie 0
 
--- OFFSET_DATA: bytes of the export from a place on
+-- OFFSET_DATA: bytes of the export from an offset on
 abbrev pub data_chunk : Bool → ℕ → ℕ → List ℕ → List ℕ
 data_chunk done cookie offset content = chunk_head done 1 cookie (8 + length content) ++ (bytes64 offset ++ content)
 
--- OFFSET_HOLE: so many bytes of the export from a place on are zeros
+-- OFFSET_HOLE: `count` bytes of the export from an offset on are zeros
 abbrev pub hole_chunk : Bool → ℕ → ℕ → ℕ → List ℕ
 hole_chunk done cookie offset count = chunk_head done 2 cookie 12 ++ (bytes64 offset ++ bytes32 count)
 
--- BLOCK_STATUS of the only context, the last of a reply: what is told of extents
+-- BLOCK_STATUS, the last chunk of a reply: the extent descriptors of the only context, whose number is 1
 abbrev pub status_chunk : ℕ → List ℕ → List ℕ
 status_chunk cookie told = chunk_head true 5 cookie (4 + length told) ++ (bytes32 1 ++ told)
 
--- the number of an error, and the length of its text, which is none
+-- an error number, and the length 0 of its message
 abbrev pub error_told : RequestError → List ℕ
 error_told error = bytes32 (error_number error) ++ bytes16 0
 
--- ERROR, the last of a reply
+-- ERROR, the last chunk of a reply
 abbrev pub error_chunk : ℕ → RequestError → List ℕ
 error_chunk cookie error = chunk_head true 0x8001 cookie 6 ++ error_told error
 
--- ERROR_OFFSET, the last of a reply: the first byte that can't be had is the one at that place
+-- ERROR_OFFSET, the last chunk of a reply: the error occurs at that byte
 abbrev pub error_at_chunk : ℕ → ℕ → RequestError → List ℕ
 error_at_chunk cookie offset error = chunk_head true 0x8002 cookie 14 ++ (error_told error ++ bytes64 offset)

@@ -1,5 +1,5 @@
--- Metadata contexts: what a client queries of them, and what it is told (in the protocol's document "Metadata
--- querying", NBD_OPT_LIST_META_CONTEXT and NBD_OPT_SET_META_CONTEXT).
+-- Metadata contexts: the queries of a client, and the replies (the protocol's document, "Metadata querying",
+-- NBD_OPT_LIST_META_CONTEXT and NBD_OPT_SET_META_CONTEXT).
 use Rattle.std.specs.Prelude.{ℕ, zero, suc, ◌+◌, ◌==◌, ◌&&◌, ◌||◌, not, nat_le, Bool, true, false, List, [], ◌++◌, length, take, drop, codes, Option, Some, None, if◌then◌else◌}
 use Rattle.std.specs.Str.{bytes_eq}
 use Rattle.nbd_protocol.specs.Numbers.{big_endian32, bytes32}
@@ -9,14 +9,14 @@ use Rattle.nbd_protocol.specs.declared.export.Export.{Export}
 use Rattle.nbd_protocol.specs.declared.phase.Terms.{Terms}
 use Rattle.nbd_protocol.specs.declared.option_reply.Refusal.TheVariants.{Invalid, Unknown}
 
--- LIST_META_CONTEXT, and SET_META_CONTEXT
+-- LIST_META_CONTEXT and SET_META_CONTEXT
 abbrev pub list_context : ℕ
 list_context = 9
 
 abbrev pub set_context : ℕ
 set_context = 10
 
--- ---- strings: a length, and so many bytes
+-- ---- strings: a length in four bytes, then so many bytes
 
 abbrev pub is_string : List ℕ → Bool
 is_string bytes = nat_le 4 (length bytes) && nat_le (4 + big_endian32 bytes 0) (length bytes)
@@ -29,31 +29,31 @@ behind_string bytes = drop (4 + big_endian32 bytes 0) bytes
 
 -- ---- queries
 
--- the only context: what is zeros, and what is a hole
+-- the only context: which bytes are zeros, and which are holes
 unfoldable pub context_name : List ℕ
 context_name = codes "base:allocation"
 
 unfoldable pub context_namespace : List ℕ
 context_namespace = codes "base:"
 
--- a query names it, a LIST by its namespace too
+-- a query names the context; in a LIST its namespace does too
 abbrev pub names_context : Bool → List ℕ → Bool
 names_context listing query = bytes_eq query context_name || (listing && bytes_eq query context_namespace)
 
--- a LIST without any query is of each context
+-- a LIST without queries names every context
 abbrev pub is_of_all : Bool → ℕ → Bool
 is_of_all listing count = listing && (count == 0)
 
--- whether it was named, where nothing is left
+-- whether the context was named; none if bytes are left after the last query
 abbrev pub named_at_end : Bool → List ℕ → Option Bool
 named_at_end named rest = if length rest == 0 then Some named else None
 
--- whether it was named, or one of n queries names it; none where they don't have the length that they say
+-- whether the context was named, or one of n queries names it; none if the lengths don't add up
 unfoldable pub queried : Bool → Bool → ℕ → List ℕ → Option Bool
 queried listing named zero rest = named_at_end named rest
 queried listing named (suc n) rest = if not (is_string rest) then None else queried listing (named || names_context listing (string_in rest)) n (behind_string rest)
 
--- the data: an export's name, how many queries there are, and these
+-- whether the queries name the context; the bytes are the number of queries, then the queries
 abbrev pub wanted_of : Bool → List ℕ → Option Bool
 wanted_of listing bytes = queried listing (is_of_all listing (big_endian32 bytes 0)) (big_endian32 bytes 0) (drop 4 bytes)
 
@@ -65,18 +65,18 @@ wants_context listing content =
 
 -- ---- replies
 
--- the context under its number, which means nothing in a LIST
+-- the number of the context, which has no meaning in a LIST
 abbrev pub context_number : Bool → ℕ
 context_number listing = if listing then 0 else 1
 
 abbrev pub told_context : Bool → ℕ → List ℕ
 told_context listing option = reply_head option 4 19 ++ (bytes32 (context_number listing) ++ context_name)
 
--- where it is named
+-- the context, if it was named
 abbrev pub named_context : Bool → ℕ → Bool → List ℕ
 named_context listing option named = if named then told_context listing option else []
 
--- the same of an export that is there
+-- the replies about an export; without an export the reply is ERR_UNKNOWN
 abbrev pub context_of : Bool → ℕ → Bool → Option ℕ → List ℕ
 context_of listing option named None = refused Unknown option
 context_of listing option named (Some place) = named_context listing option named ++ acknowledged option
@@ -85,17 +85,17 @@ abbrev pub contexts_at : Bool → ℕ → Option Bool → Option ℕ → List �
 contexts_at listing option None found = refused Invalid option
 contexts_at listing option (Some named) found = context_of listing option named found
 
--- the same of the export and the queries in the data
+-- the replies about the export and the queries in the data
 abbrev pub contexts_in : List ExportRecord → Bool → ℕ → List ℕ → List ℕ
 contexts_in es listing option content = contexts_at listing option (wants_context listing content) (asked es (string_in content))
 
--- only a client that asked for structured replies may query
+-- only a client that agreed on structured replies may query
 abbrev pub contexts_reply : List ExportRecord → Terms → ℕ → List ℕ → List ℕ
 contexts_reply es terms option content =
     if not terms.structured then refused Invalid option
     else contexts_in es (option == list_context) option content
 
--- the export of which a SET selects the context
+-- the export for which a SET selects the context
 abbrev pub selected : Option Bool → Option ℕ → Option ℕ
 selected (Some true) found = found
 selected (Some false) found = None
@@ -104,14 +104,14 @@ selected None found = None
 abbrev pub selected_in : List ExportRecord → List ℕ → Option ℕ
 selected_in es content = selected (wants_context false content) (asked es (string_in content))
 
--- that of the last SET, which replaces what an earlier one selected even where it fails
+-- the export that the last SET selected: a SET replaces the selection even if it fails
 abbrev pub status_after : List ExportRecord → Terms → ℕ → List ℕ → Option ℕ
 status_after es terms option content =
     if not (option == set_context) then terms.status
     else if not terms.structured then None
     else selected_in es content
 
--- ---- the replies, by the exports as a call has them
+-- ---- the replies, for exports in memory
 
 abbrev pub contexts_by : List Export → Terms → ℕ → List ℕ → List ℕ
 contexts_by exports terms option content = contexts_reply (export_records exports) terms option content

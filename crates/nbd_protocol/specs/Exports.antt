@@ -1,4 +1,4 @@
--- What is served: a mapped device as a run of bytes.
+-- An export: a mapped device as a range of bytes.
 use Rattle.std.specs.Prelude.{◌≡◌, ◌⊎◌, ◌<◌, ◌≤◌, ◌&&◌, ◌==◌, not, ℕ, ◌+◌, ◌*◌, ◌^◌, All, Bool, false, List, [], get_or, length, map, position, Option, Some, None, if◌then◌else◌}
 use Rattle.std.specs.List.{list_any}
 use Rattle.std.specs.Str.{bytes_eq}
@@ -6,8 +6,8 @@ use Rattle.stack_rules.specs.Names.{device_named, mapped, may_write, size}
 use Rattle.stack_rules.specs.Records.{Configuration, LeafRecord}
 use Rattle.nbd_protocol.specs.declared.export.Export.{Export}
 
--- its name, its place among the devices, how many bytes it has, whether it may be written, and whether several services can
--- open its leaves
+-- its name, its index among the devices, its size in bytes, whether it is writable, and whether several sessions can open its
+-- backing devices at the same time
 pub record ExportRecord : Type 0 where
   pub name : List ℕ
   pub device : ℕ
@@ -18,16 +18,16 @@ pub record ExportRecord : Type 0 where
 abbrev pub export_record : Export → ExportRecord
 export_record e = record { name = e.name.now; device = e.device.0; size = e.size; writable = e.writable; shared = e.shared }
 
--- a leaf is bound for writing, so that a service locks it
+-- a backing device is writable, so that a session locks it
 abbrev pub has_writable : List LeafRecord → Bool
 has_writable leaves = list_any (λ l. l.writable) leaves
 
--- the most bytes of a string of the protocol
+-- the longest string in bytes that the protocol allows
 abbrev pub most_name : ℕ
 most_name = 4096
 
--- It is the device of that name in the configuration, and may be written where the device may. What the protocol
--- tells of it fits: its size in 64 bits, and its name as a string.
+-- It is the device of that name in the configuration, and writable if the device is. Its size fits in 64 bits, and its name in
+-- a string of the protocol.
 pub record IsExport (c : Configuration) (e : ExportRecord) : Type 0 where
   pub found : device_named c e.name ≡ Some e.device
   pub size : e.size ≡ 512 * size c (mapped e.device)
@@ -36,25 +36,25 @@ pub record IsExport (c : Configuration) (e : ExportRecord) : Type 0 where
   pub fits : e.size < 2 ^ 64
   pub short : length e.name ≤ most_name
 
--- no device has that name, or the protocol can't tell its name or its size
+-- no device has that name, or its name or its size doesn't fit in the protocol
 abbrev pub HasNoExport : Configuration → List ℕ → Type 0
 HasNoExport c name =
     (device_named c name ≡ None) ⊎ ((most_name < length name) ⊎ ((d : ℕ) × (device_named c name ≡ Some d) × (2 ^ 64 ≤ 512 * size c (mapped d))))
 
 -- ---- the exports of a service, in the order of LIST
 
--- what stands past the end of them
+-- the value past the last export
 abbrev pub no_export : ExportRecord
 no_export = record { name = []; device = 0; size = 0; writable = false; shared = false }
 
 abbrev pub export_at : List ExportRecord → ℕ → ExportRecord
 export_at es place = get_or es place no_export
 
--- the place of the first export of that name
+-- the index of the first export with that name
 abbrev pub export_place : List ExportRecord → List ℕ → Option ℕ
 export_place es name = position (λ e. bytes_eq e.name name) es
 
--- the place of the export that a client asks for: the one of that name; the empty name is that of an only export
+-- the index of the export that a client requests by name; if there is only one export, the empty name means it too
 unfoldable pub asked : List ExportRecord → List ℕ → Option ℕ
 asked es name = if (length name == 0) && (length es == 1) then Some 0 else export_place es name
 
@@ -65,7 +65,7 @@ export_records exports = map export_record exports
 abbrev pub AreExports : Configuration → List Export → Type 0
 AreExports c exports = All (λ e. IsExport c (export_record e)) exports
 
--- the protocol can tell their names
+-- the name fits in a string of the protocol
 abbrev pub HasShortName : ExportRecord → Type 0
 HasShortName e = length e.name ≤ most_name
 
@@ -101,18 +101,18 @@ can_multi_conn = 256
 abbrev pub send_cache : ℕ
 send_cache = 1024
 
--- what any client is told of an export
+-- the flags of every export
 abbrev pub flags_of_each : ℕ
 flags_of_each = has_flags + send_flush + send_fua + send_cache
 
--- what only a client is told of it that asked for structured replies: it may ask for one chunk
+-- the client may request one chunk if it agreed on structured replies
 abbrev pub flag_of_chunks : Bool → ℕ
 flag_of_chunks structured = if structured then send_df else 0
 
--- Several connections see the same bytes if none of them writes, and can be served if no service locks a leaf.
+-- Several connections see the same bytes if none of them writes, and can be served if no session locks a backing device.
 abbrev pub flag_of_connections : Bool → ℕ
 flag_of_connections shared = if shared then can_multi_conn else 0
 
--- what a client is told of it
+-- the flags of an export
 abbrev pub transmission_flags : ExportRecord → Bool → ℕ
 transmission_flags e structured = flags_of_each + (if e.writable then send_trim + send_write_zeroes else read_only + flag_of_connections e.shared) + flag_of_chunks structured

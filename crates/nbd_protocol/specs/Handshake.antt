@@ -1,4 +1,4 @@
--- The handshake: the greeting, the client's flags, and the options that it haggles over.
+-- The handshake: the greeting, the client flags, and the options.
 use Rattle.std.specs.Prelude.{ℕ, ◌+◌, ◌*◌, ◌==◌, ◌&&◌, ◌||◌, not, nat_le, Bool, false, List, [], ◌∷◌, ◌++◌, flat_map, length, take, drop, replicate, codes, is_some, Option, Some, None, if◌then◌else◌}
 use Rattle.nbd_protocol.specs.Numbers.{big_endian16, big_endian32, bytes16, bytes32, bytes64}
 use Rattle.nbd_protocol.specs.OptionReplies.{acknowledged, refused, reply_head}
@@ -11,32 +11,32 @@ use Rattle.nbd_protocol.specs.declared.phase.Phase.{Phase}
 use Rattle.nbd_protocol.specs.declared.phase.Phase.TheVariants.{Haggling, Serving, Over}
 use Rattle.nbd_protocol.specs.declared.option_reply.Refusal.TheVariants.{Unsupported, Invalid, Unknown, TooBig}
 
--- "NBDMAGIC", "IHAVEOPT", and the flags for the fixed newstyle and for no zeros
+-- "NBDMAGIC", "IHAVEOPT", and the flags FIXED_NEWSTYLE and NO_ZEROES
 abbrev pub greeting : List ℕ
 greeting = codes "NBDMAGICIHAVEOPT" ++ 0 ∷ 3 ∷ []
 
--- ---- what an export is
+-- ---- the description of an export
 
 unfoldable pub many_zeros : List ℕ
 many_zeros = replicate 124 0
 
--- size and flags, and zeros unless the client wants none
+-- the reply to EXPORT_NAME: size and flags, then zeros unless the client declined them
 abbrev pub export_fields : ExportRecord → Terms → List ℕ
 export_fields e terms = bytes64 e.size ++ (bytes16 (transmission_flags e terms.structured) ++ (if terms.no_zeroes then [] else many_zeros))
 
--- the same as an answer to INFO and GO
+-- INFO_EXPORT: size and flags, as INFO and GO report them
 abbrev pub export_info : ExportRecord → Terms → List ℕ
 export_info e terms = bytes16 0 ++ (bytes64 e.size ++ bytes16 (transmission_flags e terms.structured))
 
--- the least, the best and the greatest block of a request: any byte may be read and written
+-- INFO_BLOCK_SIZE: the minimum, preferred and maximum size of a request; a request may begin and end at any byte
 abbrev pub size_info : List ℕ
 size_info = bytes16 3 ++ (bytes32 1 ++ (bytes32 4096 ++ bytes32 most_length))
 
--- the name of an export
+-- the length of an export's name, and the name
 abbrev pub name_field : ExportRecord → List ℕ
 name_field e = bytes32 (length e.name) ++ e.name
 
--- ---- INFO and GO: the length of a name, the name, how many facts are wanted, and two bytes for each
+-- ---- INFO and GO: the length of a name, the name, the number of information requests, and two bytes for each
 
 abbrev pub name_in : List ℕ → List ℕ
 name_in content = take (big_endian32 content 0) (drop 4 content)
@@ -44,41 +44,41 @@ name_in content = take (big_endian32 content 0) (drop 4 content)
 abbrev pub wanted_in : List ℕ → List ℕ
 wanted_in content = drop (6 + big_endian32 content 0) content
 
--- the data of such an option have the length that they say
+-- the lengths in the data of INFO or GO add up
 abbrev pub is_info : List ℕ → Bool
 is_info content = nat_le 6 (length content) && (nat_le (big_endian32 content 0 + 6) (length content) && (length content == big_endian32 content 0 + 6 + 2 * big_endian16 content (4 + big_endian32 content 0)))
 
--- the block sizes are among the facts
+-- the client requests the block sizes
 abbrev pub wants_sizes : List ℕ → Bool
 wants_sizes [] = false
 wants_sizes (a ∷ []) = false
 wants_sizes (a ∷ b ∷ more) = ((a == 0) && (b == 3)) || wants_sizes more
 
--- the block sizes, where they are wanted
+-- the block sizes, if the client requests them
 abbrev pub wanted_sizes : ℕ → List ℕ → List ℕ
 wanted_sizes option wanted = if wants_sizes wanted then reply_head option 3 14 ++ size_info else []
 
--- what is told of the export
+-- the replies to INFO and GO for an existing export
 abbrev pub told : ExportRecord → Terms → ℕ → List ℕ → List ℕ
 told e terms option wanted = reply_head option 3 12 ++ (export_info e terms ++ (wanted_sizes option wanted ++ acknowledged option))
 
--- what is told of the export that was asked for; another is unknown
+-- the replies for the export at an index; without an export the reply is ERR_UNKNOWN
 abbrev pub told_at : List ExportRecord → Terms → ℕ → Option ℕ → List ℕ → List ℕ
 told_at es terms option (Some place) wanted = told (export_at es place) terms option wanted
 told_at es terms option None wanted = refused Unknown option
 
--- the same by the data of the option
+-- the replies for the export that the data name
 abbrev pub told_in : List ExportRecord → Terms → ℕ → List ℕ → List ℕ
 told_in es terms option content = told_at es terms option (asked es (name_in content)) (wanted_in content)
 
 unfoldable pub info_reply : List ExportRecord → Terms → ℕ → List ℕ → List ℕ
 info_reply es terms option content = if not (is_info content) then refused Invalid option else told_in es terms option content
 
--- the reply to LIST that names an export
+-- the SERVER reply that names an export
 unfoldable pub server_reply : ExportRecord → List ℕ
 server_reply e = reply_head 3 2 (length e.name + 4) ++ name_field e
 
--- LIST has no data, and names each export
+-- LIST has no data, and its replies name each export
 abbrev pub list_reply : List ExportRecord → List ℕ → List ℕ
 list_reply es [] = flat_map server_reply es ++ acknowledged 3
 list_reply es content = refused Invalid 3
@@ -91,16 +91,16 @@ structured_reply content = refused Invalid 8
 -- ---- options: EXPORT_NAME is 1, ABORT 2, LIST 3, INFO 6, GO 7, STRUCTURED_REPLY 8, LIST_META_CONTEXT 9 and
 -- SET_META_CONTEXT 10
 
--- the most bytes of an option
+-- the most bytes of an option's data
 abbrev pub most_data : ℕ
 most_data = 65536
 
--- what is replied to EXPORT_NAME, if the export is there
+-- the reply to EXPORT_NAME; nothing if there is no such export
 abbrev pub fields_at : List ExportRecord → Terms → Option ℕ → List ℕ
 fields_at es terms (Some place) = export_fields (export_at es place) terms
 fields_at es terms None = []
 
--- what is replied to an option and its data
+-- the replies to an option
 unfoldable pub answer_to : List ExportRecord → Terms → ℕ → List ℕ → List ℕ
 answer_to es terms option content =
     if option == 1 then fields_at es terms (asked es content)
@@ -111,28 +111,28 @@ answer_to es terms option content =
     else if (option == list_context) || (option == set_context) then contexts_reply es terms option content
     else refused Unsupported option
 
--- what is replied where the data are longer than that, and what comes then
+-- the reply to an option whose data are longer than `most_data`
 abbrev pub answer_to_long : ℕ → List ℕ
 answer_to_long option = if option == 2 then acknowledged 2 else refused TooBig option
 
--- what an option that fails leaves of what was agreed on: a SET_META_CONTEXT unselects what was selected
+-- the terms after an option whose data are too long: SET_META_CONTEXT deselects the context
 abbrev pub terms_after_long : Terms → ℕ → Terms
 terms_after_long terms option = record terms { status = if option == set_context then None else terms.status }
 
 abbrev pub phase_after_long : Terms → ℕ → Phase
 phase_after_long terms option = if option == 2 then Over else Haggling (terms_after_long terms option)
 
--- the context was selected of that export
+-- the context is selected for the export at that index
 abbrev pub is_place : Option ℕ → ℕ → Bool
 is_place (Some selected) place = selected == place
 is_place None place = false
 
--- the transmission begins, if the export is there
+-- the transmission begins if the export exists
 abbrev pub serving_at : Terms → Option ℕ → Phase
 serving_at terms (Some place) = Serving (record { place = place; structured = terms.structured; status = is_place terms.status place })
 serving_at terms None = Haggling terms
 
--- What is agreed on behind an option that ends no haggling: STRUCTURED_REPLY agrees on chunks, SET_META_CONTEXT on the
+-- The terms after an option that doesn't end the handshake: STRUCTURED_REPLY agrees on chunks, SET_META_CONTEXT selects the
 -- context of an export.
 abbrev pub terms_after : List ExportRecord → Terms → ℕ → List ℕ → Terms
 terms_after es terms option content = record {
@@ -141,7 +141,7 @@ terms_after es terms option content = record {
   status = status_after es terms option content;
 }
 
--- GO that asks for an export begins its transmission, as EXPORT_NAME does, and ABORT ends all
+-- EXPORT_NAME and GO begin the transmission of an existing export, and ABORT ends the session
 unfoldable pub phase_after : List ExportRecord → Terms → ℕ → List ℕ → Phase
 phase_after es terms option content =
     if option == 1 then serving_at terms (asked es content)
@@ -149,11 +149,11 @@ phase_after es terms option content =
     else if (option == 7) && is_info content then serving_at terms (asked es (name_in content))
     else Haggling (terms_after es terms option content)
 
--- EXPORT_NAME has no reply but the export's: another name is no such message
+-- EXPORT_NAME can be answered only if it names an export
 abbrev pub names_export : List ExportRecord → ℕ → List ℕ → Bool
 names_export es option content = not (option == 1) || is_some (asked es content)
 
--- ---- the replies, by the exports as a call has them
+-- ---- the replies, for exports in memory
 
 abbrev pub told_by : Export → Terms → ℕ → List ℕ → List ℕ
 told_by export terms option wanted = told (export_record export) terms option wanted

@@ -11,14 +11,14 @@ use Rattle.nbd_protocol.specs.declared.header.Command.TheVariants.{Read, Write, 
 use Rattle.nbd_protocol.specs.declared.request_error.RequestError.{RequestError}
 use Rattle.nbd_protocol.specs.declared.request_error.RequestError.TheVariants.{NotPermitted, InputOutput, NoMemory, Invalid, NoSpace}
 
--- the most bytes that are read or written at once: 32 MiB
+-- the most bytes that one READ or WRITE transfers: 32 MiB
 abbrev pub most_length : ℕ
 most_length = 33554432
 
 abbrev pub request_magic : ℕ
 request_magic = 0x25609513
 
--- the fields behind the magic
+-- the fields after the magic
 abbrev pub header_of : List ℕ → Header
 header_of bytes = record {
   flags = big_endian16 bytes 4;
@@ -28,57 +28,57 @@ header_of bytes = record {
   length = big_endian32 bytes 24;
 }
 
--- The flag that a request may have beside FUA, which is 1: NO_HOLE of WRITE_ZEROES, DF of a READ that is answered by
--- chunks, and REQ_ONE of BLOCK_STATUS. FUA itself where it has no other.
+-- The flag that a request may set besides FUA, which is 1: NO_HOLE of WRITE_ZEROES, DF of a READ if its reply consists of
+-- chunks, and REQ_ONE of BLOCK_STATUS. For the other requests it is FUA itself.
 abbrev pub own_flag : Agreement → Header → ℕ
 own_flag a h = if h.kind == 6 then 2 else if (h.kind == 0) && a.structured then 4 else if (h.kind == 7) && a.status then 8 else 1
 
--- its flags are of these two
+-- the request sets no other flags than FUA and its own
 abbrev pub has_offered : Agreement → Header → Bool
 has_offered a h = nat_lt (h.flags % own_flag a h) 2 && nat_lt h.flags (2 * own_flag a h)
 
--- what it writes is to be on the media before its reply
+-- the data must be durable before the reply
 abbrev pub has_fua : Header → Bool
 has_fua h = h.flags % 2 == 1
 
--- a read of bytes that the export has
+-- a READ of bytes within the export
 abbrev pub read_command : ExportRecord → Header → Result Command RequestError
 read_command e h =
     if nat_lt most_length h.length then Err Invalid
     else if nat_lt e.size (h.offset + h.length) then Err Invalid
     else Ok (Read h.offset h.length)
 
--- a request that changes bytes of the export, if that may be written; past its end it has that error
+-- a request that changes bytes of a writable export; `past` is the error if the bytes end past the export
 abbrev pub changing : ExportRecord → Header → RequestError → Command → Result Command RequestError
 changing e h past command =
     if not e.writable then Err NotPermitted
     else if nat_lt e.size (h.offset + h.length) then Err past
     else Ok command
 
--- a write of bytes that the export has
+-- a WRITE of bytes within the export
 abbrev pub write_command : ExportRecord → Header → Result Command RequestError
 write_command e h = if nat_lt most_length h.length then Err Invalid else changing e h NoSpace (Write h.offset h.length (has_fua h))
 
--- a WRITE_ZEROES, which has no bytes behind it, and so no greatest length
+-- a WRITE_ZEROES, which has no payload and therefore no greatest length
 abbrev pub zero_command : ExportRecord → Header → Result Command RequestError
 zero_command e h = changing e h NoSpace (Zero h.offset h.length (has_fua h))
 
--- a TRIM: the bytes are wanted no more
+-- a TRIM: the client no longer needs the bytes
 abbrev pub trim_command : ExportRecord → Header → Result Command RequestError
 trim_command e h = changing e h Invalid Hint
 
--- a CACHE: the bytes are wanted soon
+-- a CACHE: the client will need the bytes soon
 abbrev pub cache_command : ExportRecord → Header → Result Command RequestError
 cache_command e h = if nat_lt e.size (h.offset + h.length) then Err Invalid else Ok Hint
 
--- a BLOCK_STATUS of some bytes that the export has; REQ_ONE asks for one extent
+-- a BLOCK_STATUS of at least one byte within the export; REQ_ONE requests one extent
 abbrev pub status_command : ExportRecord → Header → Result Command RequestError
 status_command e h =
     if h.length == 0 then Err Invalid
     else if nat_lt e.size (h.offset + h.length) then Err Invalid
     else Ok (Status h.offset h.length (nat_le 8 h.flags))
 
--- The bytes that are asked for end within the export, and those of a read are few; what changes them may be written.
+-- The bytes of the command are within the export. A read is of at most 32 MiB, and a write is to a writable export.
 abbrev pub IsWithin : ExportRecord → Command → Type 0
 IsWithin e (Read offset length) = (offset + length ≤ e.size) × (length ≤ most_length)
 IsWithin e (Write offset length fua) = (offset + length ≤ e.size) × IsTrue e.writable
@@ -87,11 +87,11 @@ IsWithin e Hint = Unit {0}
 IsWithin e Flush = Unit {0}
 IsWithin e (Status offset length one) = (offset + length ≤ e.size) × (0 < length)
 
--- a FLUSH, whose place and length are nothing
+-- a FLUSH, whose offset and length must be 0
 abbrev pub flush_command : Header → Result Command RequestError
 flush_command h = if (h.offset == 0) && (h.length == 0) then Ok Flush else Err Invalid
 
--- what a request asks for, or its first fault
+-- the command of a request, or its first fault
 unfoldable pub command_of : ExportRecord → Agreement → Header → Result Command RequestError
 command_of e a h =
     if not (has_offered a h) then Err Invalid
@@ -104,11 +104,11 @@ command_of e a h =
     else if (h.kind == 7) && a.status then status_command e h
     else Err Invalid
 
--- it is answered by chunks: a READ or a BLOCK_STATUS, where the client asked for structured replies
+-- the reply consists of chunks: structured replies are agreed on, and the request is a READ or a BLOCK_STATUS
 abbrev pub is_chunked : Agreement → Header → Bool
 is_chunked a h = a.structured && ((h.kind == 0) || (h.kind == 7))
 
--- how many bytes follow it: those of a write
+-- how many bytes of payload follow the request
 abbrev pub payload_len : Header → ℕ
 payload_len h = if h.kind == 1 then h.length else 0
 
@@ -120,7 +120,7 @@ error_number NoMemory = 12
 error_number Invalid = 22
 error_number NoSpace = 28
 
--- how a fault of the stack is told
+-- the error by which a fault of the stack is reported
 abbrev pub error_of : IoFault → RequestError
 error_of (io.Stack fault) = InputOutput
 error_of (io.Device leaf) = InputOutput

@@ -1,8 +1,8 @@
--- Numbers in network byte order: the highest byte first.
+-- Numbers in network byte order, the most significant byte first.
 use Rattle.std.specs.Prelude.{ℕ, ◌+◌, List, slice_range}
 use Rattle.std.specs.Int.{w16, w32, w64, from_be_bytes, to_be_bytes}
 
--- the number in 2, 4 or 8 bytes from a place on
+-- the number in the 2, 4 or 8 bytes from an offset on
 abbrev pub big_endian16 : List ℕ → ℕ → ℕ
 big_endian16 bytes at = from_be_bytes w16 (slice_range bytes at (at + 2))
 
@@ -12,7 +12,7 @@ big_endian32 bytes at = from_be_bytes w32 (slice_range bytes at (at + 4))
 abbrev pub big_endian64 : List ℕ → ℕ → ℕ
 big_endian64 bytes at = from_be_bytes w64 (slice_range bytes at (at + 8))
 
--- a number in 2, 4 or 8 bytes
+-- a number as 2, 4 or 8 bytes
 unfoldable pub bytes16 : ℕ → List ℕ
 bytes16 n = to_be_bytes w16 n
 

@@ -1,4 +1,4 @@
--- The devices of a stack, each as an export under its name.
+-- The mapped devices of a stack as exports.
 use Rattle.std.specs.Prelude.{◌≡◌, ◌⊎◌, ℕ, List, Vec, [], ◌∷◌, ◌++◌, map}
 use Rattle.std.specs.Global.{Global}
 use Rattle.stack_rules.specs.Records.{Configuration, DeviceRecord}
@@ -9,21 +9,21 @@ use Rattle.nbd_protocol.specs.declared.export.Export.{Export}
 abbrev pub longest_name : ℕ
 longest_name = 127
 
--- these are the devices' names, in their order
+-- these are the names of the devices, in the same order
 abbrev pub AreNames : List DeviceRecord → List (List ℕ) → Type 0
 AreNames devices names = names ≡ map (λ d. d.name) devices
 
--- the export of that name was added, or there is none
+-- the export of the device with that name was appended, or the device can't be exported
 abbrev pub AddsExport : Configuration → List ℕ → List ExportRecord → List ExportRecord → Type 0
 AddsExport c name es es' =
     ((e : ExportRecord) × IsExport c e × (e.name ≡ name) × (es' ≡ es ++ e ∷ [])) ⊎ (HasNoExport c name × (es' ≡ es))
 
--- The exports of these names, in their order: one whose name or size the protocol can't tell is left out.
+-- The exports of the devices with these names, in the same order. A device that can't be exported is left out.
 pub data Offers (c : Configuration) : List (List ℕ) → List ExportRecord → Type 0 where
   offers_none : Offers c [] []
   offers_more : {names : List (List ℕ)} {es es' : List ExportRecord} (name : List ℕ) → Offers c names es → AddsExport c name es es' → Offers c (names ++ name ∷ []) es'
 
--- ---- both of exports and names in memory
+-- ---- the same two relations for exports and names in memory
 
 abbrev pub AddsTo : Configuration → List ℕ → Vec Export Global → Vec Export Global → Type 0
 AddsTo c name old new = AddsExport c name (export_records old.items) (export_records new.items)

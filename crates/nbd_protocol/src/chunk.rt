@@ -10,13 +10,13 @@ use std::io::Write;
 
 const MAGIC: u32 = 0x668e_33ef;
 
-// The number of the only context.
+// The number of the only metadata context.
 const CONTEXT: u32 = 1;
 
-// The flag of the last chunk.
+// The flag of a reply's last chunk.
 const DONE: u16 = 1;
 
-// The types of chunks.
+// The chunk types.
 const NONE: u16 = 0;
 
 const OFFSET_DATA: u16 = 1;
@@ -29,14 +29,13 @@ const ERROR: u16 = 0x8001;
 
 const ERROR_OFFSET: u16 = 0x8002;
 
-// The flag of the last chunk.
 fn flag_of_last(done: bool) -> u16
     ensures { result ≡ flag_of_last done }
 {
     if done { DONE } else { 0 }
 }
 
-// A chunk of that type, before its payload.
+// Writes the header of a chunk with `count` bytes of payload.
 fn say_head<W: Write>(
     writer: &mut Counted<W>,
     done: bool,
@@ -53,14 +52,22 @@ fn say_head<W: Write>(
     put32(writer, count)
 }
 
-/// The last chunk of a reply, which says nothing else.
+/// Writes NONE, the last chunk of a reply.
+///
+/// # Errors
+///
+/// `WriteFault` if the writer failed.
 pub fn say_none<W: Write>(writer: &mut Counted<W>, cookie: u64) -> Result<(), WriteFault>
     ensures { Writes W.contents writer.old writer.new (none_chunk cookie) result }
 {
     say_head(writer, true, NONE, cookie, 0)
 }
 
-/// Bytes of the export from a place on, in the last chunk of a reply if it is `done`.
+/// Writes OFFSET_DATA: bytes of the export from `offset` on. The chunk is the reply's last if `done` is set.
+///
+/// # Errors
+///
+/// `WriteFault` if the writer failed.
 pub fn say_data<W: Write>(
     writer: &mut Counted<W>,
     done: bool,
@@ -76,7 +83,11 @@ pub fn say_data<W: Write>(
     writer.put(bytes)
 }
 
-/// So many bytes of the export from a place on that are zeros, in the last chunk of a reply if it is `done`.
+/// Writes OFFSET_HOLE: `count` bytes of the export from `offset` on are zeros. The chunk is the reply's last if `done` is set.
+///
+/// # Errors
+///
+/// `WriteFault` if the writer failed.
 pub fn say_hole<W: Write>(
     writer: &mut Counted<W>,
     done: bool,
@@ -91,7 +102,11 @@ pub fn say_hole<W: Write>(
     put32(writer, count)
 }
 
-/// Writes the extents of the only context, in the last chunk of a reply.
+/// Writes BLOCK_STATUS, the last chunk of a reply: the extent descriptors `told` of the only context.
+///
+/// # Errors
+///
+/// `WriteFault` if the writer failed.
 pub fn say_status<W: Write>(
     writer: &mut Counted<W>,
     cookie: u64,
@@ -105,7 +120,7 @@ pub fn say_status<W: Write>(
     writer.put(told)
 }
 
-// An error, with no text.
+// Writes an error number and an empty message.
 fn say_told<W: Write>(writer: &mut Counted<W>, error: RequestError) -> Result<(), WriteFault>
     ensures { Writes W.contents writer.old writer.new (error_told error) result }
 {
@@ -113,7 +128,11 @@ fn say_told<W: Write>(writer: &mut Counted<W>, error: RequestError) -> Result<()
     put16(writer, 0)
 }
 
-/// The last chunk of a reply, which says why the request fails.
+/// Writes ERROR, the last chunk of a reply.
+///
+/// # Errors
+///
+/// `WriteFault` if the writer failed.
 pub fn say_error<W: Write>(
     writer: &mut Counted<W>,
     cookie: u64,
@@ -125,7 +144,11 @@ pub fn say_error<W: Write>(
     say_told(writer, error)
 }
 
-/// The last chunk of a reply, which says why the request fails, and at which byte of the export.
+/// Writes ERROR_OFFSET, the last chunk of a reply: the error occurs at byte `offset` of the export.
+///
+/// # Errors
+///
+/// `WriteFault` if the writer failed.
 pub fn say_error_at<W: Write>(
     writer: &mut Counted<W>,
     cookie: u64,

@@ -1,4 +1,4 @@
-//! Metadata contexts: a client's queries, and their replies.
+//! Metadata contexts: queries of a client, and the replies.
 ghost use Rattle.std.specs.Prelude.{◌≡◌, ◌≤◌, ◌||◌, length, true, IfSome};
 ghost use Rattle.std.specs.Str.{bytes_eq};
 ghost use Rattle.program_io.specs.Counted.{Writes};
@@ -19,10 +19,10 @@ pub(crate) const LIST_META_CONTEXT: u32 = 9;
 /// The option that selects contexts.
 pub(crate) const SET_META_CONTEXT: u32 = 10;
 
-// The kind of the reply that names a context.
+// The type of the reply that names a context.
 const META_CONTEXT: u32 = 4;
 
-// Whether the bytes begin with a string's length and the string.
+// Whether the bytes begin with a string: its length in four bytes, then so many bytes.
 fn is_string(bytes: &[u8]) -> bool
     ensures { result ≡ is_string bytes.now }
 {
@@ -33,7 +33,7 @@ fn is_string(bytes: &[u8]) -> bool
     bytes.len() >= 4 + len
 }
 
-// The string at the front.
+// Returns the string at the beginning of the bytes.
 fn string_in(bytes: &[u8]) -> &[u8]
     requires { is_string bytes.now ≡ true }
     ensures { result.now ≡ string_in bytes.now }
@@ -42,7 +42,7 @@ fn string_in(bytes: &[u8]) -> &[u8]
     &bytes[4..4 + len]
 }
 
-// The bytes after it.
+// Returns the bytes after the string at the beginning.
 fn behind_string(bytes: &[u8]) -> &[u8]
     requires { is_string bytes.now ≡ true }
     ensures { result.now ≡ behind_string bytes.now }
@@ -65,28 +65,28 @@ fn is_namespace(query: &[u8]) -> bool
     query == b"base:".as_slice()
 }
 
-// Whether a query names the context.
+// Whether a query names the context. In a LIST its namespace does too.
 fn names_context(listing: bool, query: &[u8]) -> bool
     ensures { result ≡ names_context listing query.now }
 {
     is_name(query) || listing && is_namespace(query)
 }
 
-// Whether the context was named, or a query names it.
+// Whether an earlier query named the context, or this one does.
 fn is_named(listing: bool, named: bool, query: &[u8]) -> bool
     ensures { result ≡ (named || names_context listing query.now) }
 {
     named || names_context(listing, query)
 }
 
-// Whether the context was named, where nothing is left.
+// Returns whether the context was named. `None` if bytes are left after the last query.
 fn ended(named: bool, rest: &[u8]) -> Option<bool>
     ensures { result ≡ named_at_end named rest.now }
 {
     if rest.is_empty() { Some(named) } else { None }
 }
 
-// Whether the context was named, or one of so many queries names it. `None`: they don't have the length that they say.
+// Returns whether the context was named, or one of `count` queries names it. `None` if the lengths don't add up.
 fn queried(listing: bool, named: bool, count: u32, queries: &[u8]) -> Option<bool>
     ensures { result ≡ queried listing named count queries.now }
 {
@@ -104,14 +104,14 @@ fn queried(listing: bool, named: bool, count: u32, queries: &[u8]) -> Option<boo
     ended(found, rest)
 }
 
-// Whether a LIST of so many queries is of each context.
+// Whether a LIST names every context: it has no queries.
 fn is_of_all(listing: bool, count: u32) -> bool
     ensures { result ≡ is_of_all listing count }
 {
     listing && count == 0
 }
 
-// The same for queries after their number.
+// Returns whether queries name the context; the bytes begin with the number of queries. `None` if the lengths don't add up.
 fn wanted_of(listing: bool, bytes: &[u8]) -> Option<bool>
     requires { 4 ≤ length bytes.now }
     ensures { result ≡ wanted_of listing bytes.now }
@@ -120,7 +120,7 @@ fn wanted_of(listing: bool, bytes: &[u8]) -> Option<bool>
     queried(listing, is_of_all(listing, count), count, &bytes[4..])
 }
 
-// Whether the data of an option name the context. `None`: they don't have the length that they say.
+// Returns whether the data of an option name the context. `None` if the lengths in the data don't add up.
 fn wants_context(listing: bool, content: &[u8]) -> Option<bool>
     ensures value { result ≡ wants_context listing content.now }
     ensures string { IfSome result (λ _. is_string content.now ≡ true) }
@@ -142,14 +142,14 @@ fn put_name<W: Write>(writer: &mut Counted<W>) -> Result<(), WriteFault>
     writer.put(b"base:allocation")
 }
 
-// The context's number in a reply.
+// The number of the context in a reply: 1, and 0 in a LIST.
 fn context_number(listing: bool) -> u32
     ensures { result ≡ context_number listing }
 {
     if listing { 0 } else { 1 }
 }
 
-// The reply that names the context.
+// Writes the reply that names the context.
 fn say_context<W: Write>(
     writer: &mut Counted<W>,
     listing: bool,
@@ -162,7 +162,7 @@ fn say_context<W: Write>(
     put_name(writer)
 }
 
-// The context where it is named.
+// Writes the reply that names the context if `named` is set.
 fn say_named<W: Write>(
     writer: &mut Counted<W>,
     listing: bool,
@@ -177,7 +177,8 @@ fn say_named<W: Write>(
     say_context(writer, listing, option)
 }
 
-// The same of an export, if it is there.
+// Writes the replies about an export: the context if it was named, then the acknowledgment. The reply is an error if there is
+// no such export.
 fn say_context_of<W: Write>(
     writer: &mut Counted<W>,
     listing: bool,
@@ -196,7 +197,7 @@ fn say_context_of<W: Write>(
     }
 }
 
-// Replies to data that name the context or not, or have another length than they say.
+// Writes the replies to the data of a query. The reply is an error if the lengths in the data don't add up.
 fn say_wanted<W: Write>(
     writer: &mut Counted<W>,
     exports: &[Export<'_>],
@@ -215,7 +216,11 @@ fn say_wanted<W: Write>(
     }
 }
 
-/// Replies to LIST_META_CONTEXT and SET_META_CONTEXT.
+/// Writes the replies to LIST_META_CONTEXT and SET_META_CONTEXT.
+///
+/// # Errors
+///
+/// `WriteFault` if the writer failed.
 pub(crate) fn say_contexts<W: Write>(
     writer: &mut Counted<W>,
     exports: &[Export<'_>],
@@ -237,7 +242,7 @@ pub(crate) fn say_contexts<W: Write>(
     )
 }
 
-// The export of which a SET selects the context.
+// The index of the export for which a SET selects the context.
 fn selected(exports: &[Export<'_>], content: &[u8]) -> Option<usize>
     ensures { result ≡ selected_in (export_records exports.now) content.now }
 {
@@ -248,7 +253,7 @@ fn selected(exports: &[Export<'_>], content: &[u8]) -> Option<usize>
     }
 }
 
-/// Returns the index of the export for which block status is selected after an option.
+/// Returns the index of the export for which block status is selected after the option.
 pub(crate) fn status_after(
     exports: &[Export<'_>],
     terms: Terms,

@@ -1,11 +1,11 @@
-//! What is served: a mapped device as a run of bytes.
+//! An export: a mapped device as a range of bytes.
 ghost use Rattle.std.specs.Prelude.{◌≡◌, IfNone, IfSome};
 ghost use Rattle.nbd_protocol.specs.Exports.{HasNoExport, IsExport, export_record, has_writable, transmission_flags};
 
 use stack_config::{Config, DevId};
 use stack_rules::Leaf;
 
-// The most bytes of a string of the protocol.
+// The longest string in bytes that the protocol allows.
 const MOST_NAME: usize = 4096;
 
 // The transmission flags.
@@ -27,18 +27,18 @@ const CAN_MULTI_CONN: u16 = 256;
 
 const SEND_CACHE: u16 = 1024;
 
-/// A mapped device as a run of bytes.
+/// A mapped device as a range of bytes.
 #[derive(Clone, Copy, Debug, PartialEq, Eq)]
 pub struct Export<'a> {
     pub name: &'a [u8],
     pub device: DevId,
     pub size: u64,
     pub writable: bool,
-    /// Whether another service can open the same backing devices at the same time.
+    /// Whether several sessions can open the backing devices at the same time.
     pub shared: bool,
 }
 
-// Whether a leaf is bound for writing.
+// Whether a backing device is writable.
 fn has_writable(leaves: &[Leaf]) -> bool
     ensures { result ≡ has_writable leaves.now }
 {
@@ -46,7 +46,8 @@ fn has_writable(leaves: &[Leaf]) -> bool
 }
 
 impl<'a> Export<'a> {
-    /// The mapped device of that name.
+    /// Returns the export of the mapped device with that name. `None` if no device has the name, the name is longer than 4,096
+    /// bytes, or the device's size in bytes doesn't fit in 64 bits.
     pub fn of(config: &Config, name: &'a [u8]) -> Option<Export<'a>>
         ensures none { IfNone result (HasNoExport config.now name.now) }
         ensures some { IfSome result (λ e. IsExport config.now (export_record e) × (e.name ≡ name.entry)) }
@@ -65,8 +66,8 @@ impl<'a> Export<'a> {
         })
     }
 
-    /// Returns the transmission flags of the export. Each connection is a service of its own, with a cache of its own and its own
-    /// locks: several are offered only if none of them can write and each can open all leaves.
+    /// Returns the transmission flags of the export. Each connection is a session with its own cache and its own locks. The
+    /// service therefore offers several connections only if no session can write and each can open all backing devices.
     pub fn flags(&self, structured: bool) -> u16
         ensures { result ≡ transmission_flags (export_record self.now) structured }
     {

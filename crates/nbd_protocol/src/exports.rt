@@ -1,17 +1,18 @@
-//! The exports of a service, in the order in which they are listed.
+//! The exports of a service, in the order of LIST.
 ghost use Rattle.std.specs.Prelude.{◌≡◌, ◌<◌, length, IfSome};
 ghost use Rattle.nbd_protocol.specs.Exports.{asked, export_at, export_record, export_records, export_place};
 
 use crate::export::Export;
 
-// The place of the first export of that name.
+// The index of the first export with that name.
 fn place_of(exports: &[Export<'_>], name: &[u8]) -> Option<usize>
     ensures { result ≡ export_place (export_records exports.now) name.now }
 {
     exports.iter().position(|export| export.name == name)
 }
 
-/// Returns the index of the export with the requested name: the empty name is that of an only export.
+/// Returns the index of the export that a client requests by name. If there is only one export, the empty name means it too.
+/// `None` if no export has the name.
 #[tactic(auto, unfolding(crate::specs::Exports::asked))]
 pub fn asked(exports: &[Export<'_>], name: &[u8]) -> Option<usize>
     ensures value { result ≡ asked (export_records exports.now) name.now }
@@ -23,7 +24,7 @@ pub fn asked(exports: &[Export<'_>], name: &[u8]) -> Option<usize>
     place_of(exports, name)
 }
 
-/// The export at a place.
+/// Returns the export at an index.
 pub fn export_at<'a, 'e>(exports: &'e [Export<'a>], place: usize) -> &'e Export<'a>
     requires { place < length exports.now }
     ensures { export_record result.now ≡ export_at (export_records exports.now) place }

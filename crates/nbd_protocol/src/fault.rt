@@ -1,23 +1,23 @@
-//! Why the service of a client ends early.
+//! Why the session of a client ends early.
 ghost use Rattle.std.specs.Prelude.{◌≡◌};
 ghost use Rattle.nbd_protocol.specs.declared.fault.ServiceFault.TheVariants as service_fault;
 
 use program_io::WriteFault;
 use thiserror::Error;
 
-/// Why the service of a client ended early.
+/// Why the session of a client ended early.
 #[derive(Clone, Copy, Debug, PartialEq, Eq, Error)]
 pub enum ServiceFault {
-    /// The client went away inside a message.
+    /// The client disconnected in the middle of a message.
     #[error("the client went away inside a message")]
     Lost = 1,
     /// A message doesn't begin with its magic number.
     #[error("a message doesn't begin with its magic number")]
     Magic = 2,
-    /// The client's flags are none that were offered.
+    /// The client set flags that the service doesn't offer.
     #[error("the client asked for flags that aren't offered")]
     Flags = 3,
-    /// An export of that name isn't there.
+    /// The client requested an export that doesn't exist.
     #[error("the client asked for an export that isn't there")]
     NoSuchExport = 4,
     /// The reader failed, or was called 2^64 - 1 times.

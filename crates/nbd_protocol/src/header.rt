@@ -8,7 +8,7 @@ use crate::numbers::{number16, number32, number64};
 use crate::phase::Agreement;
 use crate::request_error::RequestError;
 
-/// The most bytes that are read or written at once.
+/// The most bytes that one READ or WRITE transfers: 32 MiB.
 pub const MOST_LENGTH: u32 = 33554432;
 
 const READ: u16 = 0;
@@ -23,10 +23,10 @@ const CACHE: u16 = 5;
 
 const WRITE_ZEROES: u16 = 6;
 
-/// The kind of the request for the status of bytes.
+/// The type of BLOCK_STATUS, the request for the status of a byte range.
 pub const BLOCK_STATUS: u16 = 7;
 
-// The flags of a request.
+// The command flags.
 const FUA: u16 = 1;
 
 const NO_HOLE: u16 = 2;
@@ -35,10 +35,10 @@ const DONT_FRAGMENT: u16 = 4;
 
 const REQUEST_ONE: u16 = 8;
 
-/// The kind of the request by which a client ends the service.
+/// The type of DISC, the request by which a client ends the session.
 pub const DISCONNECT: u16 = 2;
 
-/// The fields of a request.
+/// The fields of a request header.
 #[derive(Clone, Copy, Debug, PartialEq, Eq)]
 pub struct Header {
     pub flags: u16,
@@ -48,25 +48,25 @@ pub struct Header {
     pub length: u32,
 }
 
-/// The command of a request.
+/// What a request asks for.
 #[derive(Clone, Copy, Debug, PartialEq, Eq)]
 pub enum Command {
-    /// Bytes are read.
+    /// Reads `length` bytes from `offset` on.
     Read { offset: u64, length: u32 },
-    /// Bytes are written, and with `fua` are synced before the reply.
+    /// Writes bytes. If `fua` is set, they are synced before the reply.
     Write { offset: u64, length: u32, fua: bool },
-    /// The same of zeros.
+    /// Writes zeros. If `fua` is set, they are synced before the reply.
     Zero { offset: u64, length: u32, fua: bool },
-    /// Bytes are wanted no more, or soon: nothing is done.
+    /// A TRIM or a CACHE: the service does nothing.
     Hint,
-    /// All that was written is synced.
+    /// Syncs all that was written.
     Flush,
-    /// The status of bytes is reported, for one extent only if `one` is set.
+    /// Reports the status of bytes, for the first extent only if `one` is set.
     Status { offset: u64, length: u32, one: bool },
 }
 
 impl Header {
-    /// Returns the fields after the magic.
+    /// Parses a request of 28 bytes, of which the first four are the magic.
     pub fn of(bytes: &[u8]) -> Header
         requires { length bytes.now ≡ 28 }
         ensures { result ≡ header_of bytes.now }
@@ -80,21 +80,22 @@ impl Header {
         }
     }
 
-    /// How many bytes follow it.
+    /// Returns how many bytes of payload follow the request: those of a WRITE.
     pub fn payload_len(self) -> u32
         ensures { result ≡ payload_len self }
     {
         if self.kind == WRITE { self.length } else { 0 }
     }
 
-    /// Whether it is answered by chunks.
+    /// Returns whether the reply consists of chunks: structured replies are agreed on, and the request is a READ or a
+    /// BLOCK_STATUS.
     pub fn is_chunked(self, agreed: Agreement) -> bool
         ensures { result ≡ is_chunked agreed self }
     {
         agreed.structured && (self.kind == READ || self.kind == BLOCK_STATUS)
     }
 
-    // The flag that it may have beside FUA.
+    // The flag that the request may set besides FUA; FUA itself if there is no other.
     fn own_flag(self, agreed: Agreement) -> u16
         ensures value { result ≡ own_flag agreed self }
         ensures some { 0 < result }
@@ -108,7 +109,7 @@ impl Header {
         }
     }
 
-    // Whether its flags are of those that are offered.
+    // Whether the request sets no other flags than FUA and its own.
     fn has_offered(self, agreed: Agreement) -> bool
         ensures { result ≡ has_offered agreed self }
     {
@@ -116,14 +117,22 @@ impl Header {
         self.flags % own < 2 && self.flags < 2 * own
     }
 
-    // Whether what it writes is to be on the media before its reply.
+    // Whether the data must be durable before the reply.
     fn has_fua(self) -> bool
         ensures { result ≡ has_fua self }
     {
         self.flags % 2 == 1
     }
 
-    /// Returns its command, or its first fault.
+    /// Returns the command of the request.
+    ///
+    /// # Errors
+    ///
+    /// The first of the request's faults:
+    /// - `Invalid` if the request type isn't supported, a flag isn't allowed, a READ or a WRITE is too long, a FLUSH has an
+    ///   offset or a length, a BLOCK_STATUS has no length, or a READ, CACHE, TRIM or BLOCK_STATUS ends past the export.
+    /// - `NotPermitted` if a WRITE, WRITE_ZEROES or TRIM is for a read-only export.
+    /// - `NoSpace` if a WRITE or a WRITE_ZEROES ends past the export.
     #[tactic(auto, unfolding(crate::specs::Headers::command_of))]
     pub fn command(self, export: &Export<'_>, agreed: Agreement) -> Result<Command, RequestError>
         ensures value { result ≡ command_of (export_record export.now) agreed self }
@@ -144,7 +153,7 @@ impl Header {
         }
     }
 
-    // A read of bytes that the export has.
+    // A READ must be of at most `MOST_LENGTH` bytes within the export.
     fn read_command(self, export: &Export<'_>) -> Result<Command, RequestError>
         ensures value { result ≡ read_command (export_record export.now) self }
         ensures within { IfOk result (IsWithin (export_record export.now)) }
@@ -156,7 +165,7 @@ impl Header {
         Ok(Command::Read { offset, length })
     }
 
-    // A write of bytes that the export has.
+    // A WRITE must be of at most `MOST_LENGTH` bytes within the export, which must be writable.
     fn write_command(self, export: &Export<'_>) -> Result<Command, RequestError>
         ensures value { result ≡ write_command (export_record export.now) self }
         ensures within { IfOk result (IsWithin (export_record export.now)) }
@@ -174,7 +183,7 @@ impl Header {
         self.changing(export, RequestError::NoSpace, write)
     }
 
-    // A write of zeros to bytes that the export has.
+    // A WRITE_ZEROES must be within the export, which must be writable.
     fn zero_command(self, export: &Export<'_>) -> Result<Command, RequestError>
         ensures value { result ≡ zero_command (export_record export.now) self }
         ensures within { IfOk result (IsWithin (export_record export.now)) }
@@ -189,7 +198,7 @@ impl Header {
         self.changing(export, RequestError::NoSpace, zero)
     }
 
-    // A TRIM, which needn't be heeded.
+    // A TRIM is a hint: it is checked, and does nothing.
     fn trim_command(self, export: &Export<'_>) -> Result<Command, RequestError>
         ensures value { result ≡ trim_command (export_record export.now) self }
         ensures within { IfOk result (IsWithin (export_record export.now)) }
@@ -197,7 +206,7 @@ impl Header {
         self.changing(export, RequestError::Invalid, Command::Hint)
     }
 
-    // A CACHE, which needn't be heeded.
+    // A CACHE is a hint: it is checked, and does nothing.
     fn cache_command(self, export: &Export<'_>) -> Result<Command, RequestError>
         ensures value { result ≡ cache_command (export_record export.now) self }
         ensures within { IfOk result (IsWithin (export_record export.now)) }
@@ -208,7 +217,7 @@ impl Header {
         Ok(Command::Hint)
     }
 
-    // A BLOCK_STATUS of some bytes that the export has.
+    // A BLOCK_STATUS must be of at least one byte, within the export.
     fn status_command(self, export: &Export<'_>) -> Result<Command, RequestError>
         ensures value { result ≡ status_command (export_record export.now) self }
         ensures within { IfOk result (IsWithin (export_record export.now)) }
@@ -225,7 +234,7 @@ impl Header {
         })
     }
 
-    // A request that changes bytes of the export; past its end it has that error.
+    // Checks a request that changes bytes: the export must be writable. The error is `past` if the bytes end past the export.
     fn changing(
         self,
         export: &Export<'_>,
@@ -245,7 +254,7 @@ impl Header {
         Ok(command)
     }
 
-    // A FLUSH, whose place and length are nothing.
+    // A FLUSH must have offset 0 and length 0.
     fn flush_command(self) -> Result<Command, RequestError>
         ensures { result ≡ flush_command self }
     {
@@ -256,7 +265,7 @@ impl Header {
     }
 }
 
-// Whether bytes end past a size.
+// Whether the bytes end past `size`.
 fn ends_past(size: u64, offset: u64, length: u32) -> bool
     ensures { result ≡ nat_lt size (offset + length) }
 {

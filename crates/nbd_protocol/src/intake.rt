@@ -1,4 +1,4 @@
-//! Takes bytes from a client.
+//! Receives bytes from a client.
 ghost use Rattle.std.specs.Prelude.{◌≡◌, ℕ, ◌<◌, ◌≤◌, ◌+◌, ◌*◌, ◌^◌, length, OnOk, IfOk, IfErr};
 ghost use Rattle.nbd_protocol.specs.Streaming.{Fills, FillsPart, HasRead, HavePlace, IsShort, Takes, TakesSectors, result_fault};
 
@@ -10,7 +10,12 @@ use std::io::{ErrorKind, Read};
 
 const PIECE: usize = 4096;
 
-/// Fills a buffer. `false`: the input ended before its first byte.
+/// Fills a buffer from the reader. Returns `false` if the input ended before the first byte.
+///
+/// # Errors
+///
+/// - `Lost` if the input ended after some of the bytes.
+/// - `ReadFault` if the reader failed, or was called 2^64 - 1 times.
 pub fn fill<R: Read>(reader: &mut Counted<R>, buffer: &mut [u8]) -> Result<bool, ServiceFault>
     requires { 0 < length buffer.old }
     ensures filled { Fills (R.remaining reader.old.inner) (R.remaining reader.new.inner) buffer.new result }
@@ -37,7 +42,12 @@ pub fn fill<R: Read>(reader: &mut Counted<R>, buffer: &mut [u8]) -> Result<bool,
     Err(ServiceFault::ReadFault)
 }
 
-/// Takes bytes that nobody wants.
+/// Reads `count` bytes and discards them.
+///
+/// # Errors
+///
+/// - `Lost` if the input ended before all of them.
+/// - `ReadFault` if the reader failed, or was called 2^64 - 1 times.
 pub fn skip<R: Read>(reader: &mut Counted<R>, count: u32) -> Result<(), ServiceFault>
     ensures ok { OnOk result (Takes count (R.remaining reader.old.inner) (R.remaining reader.new.inner)) }
     ensures err { IfErr result (IsShort count (R.remaining reader.old.inner) (R.remaining reader.new.inner)) }
@@ -55,7 +65,12 @@ pub fn skip<R: Read>(reader: &mut Counted<R>, count: u32) -> Result<(), ServiceF
     Ok(())
 }
 
-/// Fills a part of a buffer. `false`: the input ended before its first byte.
+/// Fills `count` bytes of a buffer from `start` on. Returns `false` if the input ended before the first byte.
+///
+/// # Errors
+///
+/// - `Lost` if the input ended after some of the bytes.
+/// - `ReadFault` if the reader failed, or was called 2^64 - 1 times.
 pub fn fill_part<R: Read>(
     reader: &mut Counted<R>,
     buffer: &mut [u8],
@@ -70,8 +85,13 @@ pub fn fill_part<R: Read>(
     fill(reader, &mut buffer[start..start + count])
 }
 
-/// Takes so many bytes to their place in as many sectors. `None`: the allocator refused room for the sectors, and the bytes
-/// are gone.
+/// Reads `count` bytes to offset `start` of a new buffer of `sectors` sectors. Returns `None` if the allocator refused the
+/// buffer; the bytes are discarded then.
+///
+/// # Errors
+///
+/// - `Lost` if the input ended before all of the bytes.
+/// - `ReadFault` if the reader failed, or was called 2^64 - 1 times.
 pub fn take_sectors<R: Read>(
     alloc: Global,
     reader: &mut Counted<R>,

@@ -1,5 +1,5 @@
-//! The messages of the NBD protocol: exports, the options of the handshake with their replies, requests, and the chunks of
-//! structured replies.
+//! Messages of the NBD protocol: exports, options of the handshake and their replies, requests, and the chunks of structured
+//! replies.
 #![tactic(auto)]
 
 mod chunk;

@@ -6,7 +6,7 @@ ghost use Rattle.nbd_protocol.specs.Numbers.{bytes16, bytes32, bytes64, big_endi
 use program_io::{Counted, WriteFault};
 use std::io::Write;
 
-/// The number in two bytes from a place on.
+/// Returns the number in the two bytes from `at` on.
 pub fn number16(bytes: &[u8], at: usize) -> u16
     requires { at + 2 ≤ length bytes.now }
     ensures { result ≡ big_endian16 bytes.now at }
@@ -16,7 +16,7 @@ pub fn number16(bytes: &[u8], at: usize) -> u16
     u16::from_be_bytes(number)
 }
 
-/// The number in four bytes from a place on.
+/// Returns the number in the four bytes from `at` on.
 pub fn number32(bytes: &[u8], at: usize) -> u32
     requires { at + 4 ≤ length bytes.now }
     ensures { result ≡ big_endian32 bytes.now at }
@@ -26,7 +26,7 @@ pub fn number32(bytes: &[u8], at: usize) -> u32
     u32::from_be_bytes(number)
 }
 
-/// The number in eight bytes from a place on.
+/// Returns the number in the eight bytes from `at` on.
 pub fn number64(bytes: &[u8], at: usize) -> u64
     requires { at + 8 ≤ length bytes.now }
     ensures { result ≡ big_endian64 bytes.now at }
@@ -37,6 +37,10 @@ pub fn number64(bytes: &[u8], at: usize) -> u64
 }
 
 /// Writes a number in two bytes.
+///
+/// # Errors
+///
+/// `WriteFault` if the writer failed.
 #[tactic(auto, unfolding(crate::specs::Numbers::bytes16))]
 pub fn put16<W: Write>(writer: &mut Counted<W>, number: u16) -> Result<(), WriteFault>
     ensures { Writes W.contents writer.old writer.new (bytes16 number) result }
@@ -45,6 +49,10 @@ pub fn put16<W: Write>(writer: &mut Counted<W>, number: u16) -> Result<(), Write
 }
 
 /// Writes a number in four bytes.
+///
+/// # Errors
+///
+/// `WriteFault` if the writer failed.
 #[tactic(auto, unfolding(crate::specs::Numbers::bytes32))]
 pub fn put32<W: Write>(writer: &mut Counted<W>, number: u32) -> Result<(), WriteFault>
     ensures { Writes W.contents writer.old writer.new (bytes32 number) result }
@@ -53,6 +61,10 @@ pub fn put32<W: Write>(writer: &mut Counted<W>, number: u32) -> Result<(), Write
 }
 
 /// Writes a number in eight bytes.
+///
+/// # Errors
+///
+/// `WriteFault` if the writer failed.
 #[tactic(auto, unfolding(crate::specs::Numbers::bytes64))]
 pub fn put64<W: Write>(writer: &mut Counted<W>, number: u64) -> Result<(), WriteFault>
     ensures { Writes W.contents writer.old writer.new (bytes64 number) result }

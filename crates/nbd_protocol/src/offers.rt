@@ -1,4 +1,4 @@
-//! The devices of a stack, each as an export under its name.
+//! The mapped devices of a stack as exports.
 ghost use Rattle.std.specs.Prelude.{◌≡◌, map, IfOk, OnErr, OnOk};
 ghost use Rattle.allocation.specs.Refusal.{IsOutOfMemory};
 ghost use Rattle.nbd_protocol.specs.Offers.{AddsTo, AreNames, OffersBy, longest_name};
@@ -8,11 +8,11 @@ use allocation::{OutOfMemory, copied, push};
 use stack_config::Config;
 use std::alloc::Global;
 
-/// The names of all mapped devices, in their order.
+/// Returns the names of all mapped devices, in configuration order.
 ///
 /// # Errors
 ///
-/// `OutOfMemory` if the allocator refused room for a name.
+/// `OutOfMemory` if the allocator refused memory for a name.
 pub fn names_of(alloc: Global, config: &Config) -> Result<Vec<Vec<u8>>, OutOfMemory>
     ensures ok { IfOk result (λ names. AreNames config.now.devices (map (λ n. n.items) names.items)) }
     ensures err { OnErr result (IsOutOfMemory longest_name) }
@@ -24,7 +24,7 @@ pub fn names_of(alloc: Global, config: &Config) -> Result<Vec<Vec<u8>>, OutOfMem
     Ok(names)
 }
 
-// Adds the export of that name, if there is one.
+// Appends the export of the device with that name, if the device can be exported.
 fn add<'a>(
     exports: &mut Vec<Export<'a>>,
     config: &Config,
@@ -39,11 +39,12 @@ fn add<'a>(
     }
 }
 
-/// The exports of these names, in their order. What the protocol can't tell of is left out.
+/// Returns the exports of the devices with these names, in the same order. Names of which `Export::of` returns `None` are left
+/// out.
 ///
 /// # Errors
 ///
-/// `OutOfMemory` if the allocator refused room for one more export.
+/// `OutOfMemory` if the allocator refused memory for one more export.
 pub fn exports_of<'a>(
     alloc: Global,
     config: &Config,

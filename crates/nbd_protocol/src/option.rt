@@ -1,4 +1,4 @@
-//! Options that a client haggles over.
+//! The options of the handshake.
 ghost use Rattle.std.specs.Prelude.{◌≡◌, true};
 ghost use Rattle.program_io.specs.Counted.{Writes};
 ghost use Rattle.nbd_protocol.specs.Exports.{HaveShortNames, export_records};
@@ -13,10 +13,10 @@ use crate::phase::{Agreement, Phase, Terms};
 use program_io::{Counted, WriteFault};
 use std::io::Write;
 
-/// The option that ends the handshake and has no reply but the export's.
+/// The option that ends the handshake. Its reply has no header.
 pub const EXPORT_NAME: u32 = 1;
 
-/// The option by which a client ends the service.
+/// The option by which a client ends the session.
 pub const ABORT: u32 = 2;
 
 const INFO: u32 = 6;
@@ -25,7 +25,7 @@ const GO: u32 = 7;
 
 const STRUCTURED_REPLY: u32 = 8;
 
-// Whether the data of INFO or GO have the length that they say.
+// Whether the lengths in the data of INFO or GO add up.
 fn is_info(content: &[u8]) -> bool
     ensures { result ≡ is_info content.now }
 {
@@ -40,7 +40,7 @@ fn is_info(content: &[u8]) -> bool
     content.len() == name + 6 + 2 * wanted
 }
 
-// The name in the data of INFO or GO.
+// Returns the export's name in the data of INFO or GO.
 fn name_in(content: &[u8]) -> &[u8]
     requires { is_info content.now ≡ true }
     ensures { result.now ≡ name_in content.now }
@@ -49,7 +49,7 @@ fn name_in(content: &[u8]) -> &[u8]
     &content[4..4 + len]
 }
 
-// Which facts the data of INFO or GO want.
+// Returns the information requests in the data of INFO or GO, two bytes each.
 fn wanted_in(content: &[u8]) -> &[u8]
     requires { is_info content.now ≡ true }
     ensures { result.now ≡ wanted_in content.now }
@@ -58,7 +58,7 @@ fn wanted_in(content: &[u8]) -> &[u8]
     &content[6 + len..]
 }
 
-// Replies to INFO or GO.
+// Writes the reply to INFO or GO.
 #[tactic(auto, unfolding(crate::specs::Handshake::info_reply))]
 fn say_info<W: Write>(
     writer: &mut Counted<W>,
@@ -75,7 +75,7 @@ fn say_info<W: Write>(
     say_asked(writer, exports, terms, option, content)
 }
 
-// Replies to INFO or GO, of the right length.
+// Writes the reply to INFO or GO whose lengths add up.
 fn say_asked<W: Write>(
     writer: &mut Counted<W>,
     exports: &[Export<'_>],
@@ -98,7 +98,7 @@ fn say_asked<W: Write>(
     }
 }
 
-// Replies to EXPORT_NAME, if the export is there.
+// Writes the reply to EXPORT_NAME. If there is no such export, nothing is written.
 fn say_named<W: Write>(
     writer: &mut Counted<W>,
     exports: &[Export<'_>],
@@ -113,7 +113,7 @@ fn say_named<W: Write>(
     }
 }
 
-// Replies to STRUCTURED_REPLY, which has no data.
+// Writes the reply to STRUCTURED_REPLY, which must have no data.
 fn say_structured<W: Write>(writer: &mut Counted<W>, content: &[u8]) -> Result<(), WriteFault>
     ensures { Writes W.contents writer.old writer.new (structured_reply content.now) result }
 {
@@ -123,14 +123,18 @@ fn say_structured<W: Write>(writer: &mut Counted<W>, content: &[u8]) -> Result<(
     acknowledge(writer, STRUCTURED_REPLY)
 }
 
-/// Whether the option can be replied to: EXPORT_NAME only where it names an export.
+/// Returns whether the option can be answered: EXPORT_NAME must name an export.
 pub fn names_export(exports: &[Export<'_>], option: u32, content: &[u8]) -> bool
     ensures { result ≡ names_export (export_records exports.now) option content.now }
 {
     option != EXPORT_NAME || asked(exports, content).is_some()
 }
 
-/// Replies to an option and its content.
+/// Writes the reply to an option.
+///
+/// # Errors
+///
+/// `WriteFault` if the writer failed.
 #[tactic(auto, unfolding(crate::specs::Handshake::answer_to))]
 pub fn say_answer<W: Write>(
     writer: &mut Counted<W>,
@@ -155,7 +159,7 @@ pub fn say_answer<W: Write>(
     }
 }
 
-/// What the client may say after an option and its content.
+/// Returns the phase after an option.
 #[tactic(auto, unfolding(crate::specs::Handshake::phase_after))]
 pub fn phase_after(exports: &[Export<'_>], terms: Terms, option: u32, content: &[u8]) -> Phase
     ensures { result ≡ phase_after (export_records exports.now) terms option content.now }
@@ -170,7 +174,7 @@ pub fn phase_after(exports: &[Export<'_>], terms: Terms, option: u32, content: &
     }
 }
 
-// What is agreed on after an option that doesn't end the handshake.
+// The agreed terms after an option that doesn't end the handshake.
 fn terms_after(exports: &[Export<'_>], terms: Terms, option: u32, content: &[u8]) -> Terms
     ensures { result ≡ terms_after (export_records exports.now) terms option content.now }
 {
@@ -182,7 +186,7 @@ fn terms_after(exports: &[Export<'_>], terms: Terms, option: u32, content: &[u8]
     }
 }
 
-/// Returns what is agreed on after an option whose data are too long.
+/// Returns the agreed terms after an option whose data are too long. SET_META_CONTEXT deselects block status even then.
 pub fn terms_after_long(terms: Terms, option: u32) -> Terms
     ensures { result ≡ terms_after_long terms option }
 {
@@ -197,7 +201,7 @@ pub fn terms_after_long(terms: Terms, option: u32) -> Terms
     }
 }
 
-// Whether the context was selected of that export.
+// Whether the context is selected for the export at that index.
 fn is_place(selected: Option<usize>, place: usize) -> bool
     ensures { result ≡ is_place selected place }
 {
@@ -207,7 +211,7 @@ fn is_place(selected: Option<usize>, place: usize) -> bool
     }
 }
 
-// The transmission begins, if the export is there.
+// The transmission phase for the requested export. If there is no such export, the handshake goes on.
 fn serving_at(terms: Terms, asked: Option<usize>) -> Phase
     ensures { result ≡ serving_at terms asked }
 {

@@ -14,7 +14,7 @@ use std::io::Write;
 
 const MAGIC: [u8; 8] = [0, 3, 0xe8, 0x89, 4, 0x55, 0x65, 0xa9];
 
-/// The option that lists the names of all exports.
+/// The option that lists the exports.
 pub(crate) const LIST: u32 = 3;
 
 const ACKNOWLEDGED: u32 = 1;
@@ -39,7 +39,11 @@ fn put_magic<W: Write>(writer: &mut Counted<W>) -> Result<(), WriteFault>
     writer.put(&MAGIC)
 }
 
-/// A reply before its data.
+/// Writes the header of a reply, for `count` bytes of data.
+///
+/// # Errors
+///
+/// `WriteFault` if the writer failed.
 pub(crate) fn say_head<W: Write>(
     writer: &mut Counted<W>,
     option: u32,
@@ -54,14 +58,22 @@ pub(crate) fn say_head<W: Write>(
     put32(writer, count)
 }
 
-/// The option is done.
+/// Writes the ACK reply.
+///
+/// # Errors
+///
+/// `WriteFault` if the writer failed.
 pub fn acknowledge<W: Write>(writer: &mut Counted<W>, option: u32) -> Result<(), WriteFault>
     ensures { Writes W.contents writer.old writer.new (acknowledged option) result }
 {
     say_head(writer, option, ACKNOWLEDGED, 0)
 }
 
-/// The option isn't done.
+/// Writes an error reply, without data.
+///
+/// # Errors
+///
+/// `WriteFault` if the writer failed.
 pub fn refuse<W: Write>(
     writer: &mut Counted<W>,
     option: u32,
@@ -84,7 +96,11 @@ fn put_zeros<W: Write>(writer: &mut Counted<W>) -> Result<(), WriteFault>
     writer.put(&[0; 124])
 }
 
-/// Size and flags, and zeros unless the client wants none.
+/// Writes the reply to EXPORT_NAME: size and flags, then 124 zeros unless the client declined them.
+///
+/// # Errors
+///
+/// `WriteFault` if the writer failed.
 pub(crate) fn say_export<W: Write>(
     writer: &mut Counted<W>,
     export: &Export<'_>,
@@ -100,7 +116,7 @@ pub(crate) fn say_export<W: Write>(
     put_zeros(writer)
 }
 
-// The export's size and flags.
+// Writes the data of INFO_EXPORT: the export's size and flags.
 fn say_export_info<W: Write>(
     writer: &mut Counted<W>,
     export: &Export<'_>,
@@ -113,7 +129,7 @@ fn say_export_info<W: Write>(
     put16(writer, export.flags(terms.structured))
 }
 
-// The least, the best and the greatest block of a request.
+// Writes the data of INFO_BLOCK_SIZE: the minimum, preferred and maximum size of a request.
 fn say_sizes<W: Write>(writer: &mut Counted<W>) -> Result<(), WriteFault>
     ensures { Writes W.contents writer.old writer.new size_info result }
 {
@@ -123,7 +139,7 @@ fn say_sizes<W: Write>(writer: &mut Counted<W>) -> Result<(), WriteFault>
     put32(writer, MOST_LENGTH)
 }
 
-// The sizes, where they are wanted.
+// Writes the block sizes if the client requested them.
 fn say_wanted<W: Write>(
     writer: &mut Counted<W>,
     option: u32,
@@ -138,7 +154,11 @@ fn say_wanted<W: Write>(
     say_sizes(writer)
 }
 
-/// Writes the information about the export.
+/// Writes the replies to INFO and GO for an existing export: its size and flags, the block sizes if requested, and ACK.
+///
+/// # Errors
+///
+/// `WriteFault` if the writer failed.
 pub(crate) fn say_told<W: Write>(
     writer: &mut Counted<W>,
     export: &Export<'_>,
@@ -154,7 +174,7 @@ pub(crate) fn say_told<W: Write>(
     acknowledge(writer, option)
 }
 
-// Whether the block sizes are among the facts that are wanted.
+// Whether the client requested the block sizes.
 fn wants_sizes(wanted: &[u8]) -> bool
     ensures { result ≡ wants_sizes wanted.now }
 {
@@ -168,7 +188,11 @@ fn wants_sizes(wanted: &[u8]) -> bool
     false
 }
 
-/// The names of all exports, where the option has no data.
+/// Writes the replies to LIST: the name of each export, then ACK. If the option has data, the reply is an error.
+///
+/// # Errors
+///
+/// `WriteFault` if the writer failed.
 pub(crate) fn say_list<W: Write>(
     writer: &mut Counted<W>,
     exports: &[Export<'_>],
@@ -184,7 +208,7 @@ pub(crate) fn say_list<W: Write>(
     acknowledge(writer, LIST)
 }
 
-// A reply for each export.
+// Writes a SERVER reply for each export.
 fn say_servers<W: Write>(writer: &mut Counted<W>, exports: &[Export<'_>]) -> Result<(), WriteFault>
     requires { HaveShortNames exports.now }
     ensures { Writes W.contents writer.old writer.new (flat_map server_reply (export_records exports.now)) result }
@@ -195,7 +219,7 @@ fn say_servers<W: Write>(writer: &mut Counted<W>, exports: &[Export<'_>]) -> Res
     Ok(())
 }
 
-// The reply that names an export.
+// Writes the SERVER reply that names an export.
 #[tactic(auto, unfolding(crate::specs::Handshake::server_reply))]
 fn say_server<W: Write>(writer: &mut Counted<W>, export: &Export<'_>) -> Result<(), WriteFault>
     requires { HasShortName (export_record export.now) }
@@ -205,7 +229,7 @@ fn say_server<W: Write>(writer: &mut Counted<W>, export: &Export<'_>) -> Result<
     say_name(writer, export)
 }
 
-// The length of the export's name, and the name.
+// Writes the length of the export's name, then the name.
 fn say_name<W: Write>(writer: &mut Counted<W>, export: &Export<'_>) -> Result<(), WriteFault>
     requires { HasShortName (export_record export.now) }
     ensures { Writes W.contents writer.old writer.new (name_field (export_record export.now)) result }

@@ -1,36 +1,36 @@
-//! The phases of a client's service.
+//! The phases of a session.
 
-/// What a client and the service have agreed on while it haggles.
+/// What client and service have agreed on so far in the handshake.
 #[derive(Clone, Copy, Debug, PartialEq, Eq)]
 pub struct Terms {
     /// No zeros follow the reply to EXPORT_NAME.
     pub no_zeroes: bool,
-    /// A READ is answered by chunks.
+    /// The replies to READ are structured.
     pub structured: bool,
     /// The index of the export for which block status is selected.
     pub status: Option<usize>,
 }
 
-/// What they agreed on for the requests.
+/// What client and service have agreed on for the transmission phase.
 #[derive(Clone, Copy, Debug, PartialEq, Eq)]
 pub struct Agreement {
-    /// The place of the export that is served.
+    /// The index of the export.
     pub place: usize,
-    /// A READ is answered by chunks.
+    /// The replies to READ are structured.
     pub structured: bool,
     /// Block status is selected.
     pub status: bool,
 }
 
-/// What the client may say next.
+/// What the client may send next.
 #[derive(Clone, Copy, Debug, PartialEq, Eq)]
 pub enum Phase {
-    /// Its flags.
+    /// The client flags.
     Greeted,
     /// An option.
     Haggling { terms: Terms },
     /// A request.
     Serving { agreed: Agreement },
-    /// Nothing: it has ended the service.
+    /// Nothing: the session has ended.
     Over,
 }

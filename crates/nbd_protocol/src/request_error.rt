@@ -8,28 +8,28 @@ use allocation::OutOfMemory;
 use stack_meaning::IoFault;
 use thiserror::Error;
 
-/// Why a request fails, by the number that its reply has.
+/// Why a request fails. The values are the error numbers of the protocol.
 #[derive(Clone, Copy, Debug, PartialEq, Eq, Error)]
 pub enum RequestError {
-    /// A write to an export that may only be read.
+    /// A write to a read-only export.
     #[error("not permitted")]
     NotPermitted = 1,
-    /// The stack has no such bytes, or a device failed.
+    /// The stack refused the access, or a device failed.
     #[error("input or output failed")]
     InputOutput = 5,
-    /// Memory ran out, or the queue is full.
+    /// An allocation failed, or the queue is full.
     #[error("out of memory")]
     NoMemory = 12,
-    /// No request, too many bytes, or bytes past the end.
+    /// The request is malformed or too long, or reads past the end.
     #[error("invalid")]
     Invalid = 22,
-    /// A write past the end.
+    /// A write past the end of the export.
     #[error("no space")]
     NoSpace = 28,
 }
 
 impl RequestError {
-    /// Its number in a reply.
+    /// Returns the error's number in a reply.
     pub fn number(self) -> u32
         ensures { result ≡ error_number self }
     {

@@ -1,4 +1,4 @@
--- Why the service of a client ends early: the phase it was in, and what had come of the client's message.
+-- Why the session of a client ends early, by its phase and by the part of a message that was received.
 use Rattle.std.specs.Prelude.{◌≡◌, ◌≢◌, ◌⊎◌, ◌<◌, ◌≤◌, ℕ, List, [], ◌++◌, length, take, codes, Option, None}
 use Rattle.std.specs.Io.KnownBytes.{IsAtEnd}
 use Rattle.nbd_protocol.specs.Numbers.{big_endian32}
@@ -9,9 +9,9 @@ use Rattle.nbd_protocol.specs.declared.fault.ServiceFault.TheVariants.{Lost, Mag
 use Rattle.nbd_protocol.specs.declared.phase.Phase.{Phase}
 use Rattle.nbd_protocol.specs.declared.phase.Phase.TheVariants.{Greeted, Haggling, Serving, Over}
 
--- ---- messages that were cut
+-- ---- incomplete messages
 
--- the header of an option, and how many bytes of data it says
+-- the header of an option; `data_len` is the length of its data
 pub record IsOptionHeader (header : List ℕ) : Type 0 where
   pub size : length header ≡ 16
   pub magic : take 8 header ≡ codes "IHAVEOPT"
@@ -19,7 +19,7 @@ pub record IsOptionHeader (header : List ℕ) : Type 0 where
 abbrev pub data_len : List ℕ → ℕ
 data_len header = big_endian32 header 12
 
--- the header of a request, and how many bytes follow it
+-- the header of a request; its payload follows
 pub record IsRequestHeader (header : List ℕ) : Type 0 where
   pub size : length header ≡ 28
   pub magic : big_endian32 header 0 ≡ request_magic
@@ -27,11 +27,11 @@ pub record IsRequestHeader (header : List ℕ) : Type 0 where
 abbrev pub request_payload_len : List ℕ → ℕ
 request_payload_len header = payload_len (header_of header)
 
--- some bytes came, but not as many
+-- some bytes were received, but fewer than `size`
 abbrev pub IsCutWithin : ℕ → List ℕ → Type 0
 IsCutWithin size rest = (0 < length rest) × (length rest < size)
 
--- a whole header came, but not all that it says
+-- a whole header was received, but not all that follows it
 pub record IsCutBehind (IsHeader : List ℕ → Type 0) (count : List ℕ → ℕ) (rest : List ℕ) : Type 0 where
   pub header : List ℕ
   pub part : List ℕ
@@ -39,23 +39,23 @@ pub record IsCutBehind (IsHeader : List ℕ → Type 0) (count : List ℕ → �
   pub is_header : IsHeader header
   pub few : length part < count header
 
--- a message of the client began and didn't end
+-- the client's message is incomplete
 abbrev pub IsMessageCut : Phase → List ℕ → Type 0
 IsMessageCut Greeted rest = IsCutWithin 4 rest
 IsMessageCut (Haggling terms) rest = IsCutWithin 16 rest ⊎ IsCutBehind IsOptionHeader data_len rest
 IsMessageCut (Serving agreed) rest = IsCutWithin 28 rest ⊎ IsCutBehind IsRequestHeader request_payload_len rest
 IsMessageCut Over rest = ⊥
 
--- ---- messages that a service doesn't go on from
+-- ---- messages that end the session
 
--- a whole header, of another magic number
+-- a whole header with another magic number
 abbrev pub HasOtherMagic : Phase → List ℕ → Type 0
 HasOtherMagic Greeted rest = ⊥
 HasOtherMagic (Haggling terms) rest = (length rest ≡ 16) × (take 8 rest ≢ codes "IHAVEOPT")
 HasOtherMagic (Serving agreed) rest = (length rest ≡ 28) × (big_endian32 rest 0 ≢ request_magic)
 HasOtherMagic Over rest = ⊥
 
--- the client's flags, of others than the two that were offered
+-- client flags besides the two that the service offers
 abbrev pub HasOtherFlags : Phase → List ℕ → Type 0
 HasOtherFlags Greeted rest = (length rest ≡ 4) × (4 ≤ big_endian32 rest 0)
 HasOtherFlags phase rest = ⊥
@@ -68,13 +68,13 @@ pub record IsNaming (rest name : List ℕ) : Type 0 where
   pub option : big_endian32 header 8 ≡ 1
   pub count : length name ≡ data_len header
 
--- it names no export that is there
+-- the name is that of no export
 abbrev pub NamesOther : List ExportRecord → Phase → List ℕ → Type 0
 NamesOther es (Haggling terms) rest = (name : List ℕ) × IsNaming rest name × (asked es name ≡ None)
 NamesOther es phase rest = ⊥
 
--- Why the service ends in that phase, where this came of a message and that is left of the input. `HasRead` says of
--- ReadFault that the reader failed, and `HasWritten` of WriteFault that the writer did.
+-- Why the session ends in that phase: `rest` was received of a message, and `input` is left. The cause of ReadFault is in
+-- `HasRead`, and that of WriteFault in `HasWritten`.
 abbrev pub Breaks : List ExportRecord → Phase → List ℕ → Option (List ℕ) → ServiceFault → Type 0
 Breaks es phase rest input Lost = IsMessageCut phase rest × IsAtEnd input
 Breaks es phase rest input Magic = HasOtherMagic phase rest

@@ -1,16 +1,16 @@
--- Bytes that were read, told by at most three chunks: a hole, data and a hole.
+-- Bytes that were read, as at most three chunks: a hole, data, and a hole.
 use Rattle.std.specs.Prelude.{◌≡◌, ◌≢◌, ◌⊎◌, ◌<◌, ℕ, ◌+◌, ◌==◌, ◌&&◌, Bool, false, List, [], ◌++◌, length, replicate, if◌then◌else◌}
 use Rattle.nbd_protocol.specs.Chunks.{data_chunk, hole_chunk}
 
--- some of the bytes isn't zero
+-- some byte isn't zero
 abbrev pub HaveData : List ℕ → Type 0
 HaveData bytes = bytes ≢ replicate (length bytes) 0
 
--- a hole of so many bytes, if there are some
+-- a hole of n bytes, unless n is 0
 abbrev pub some_hole : Bool → ℕ → ℕ → ℕ → List ℕ
 some_hole last cookie at n = if n == 0 then [] else hole_chunk last cookie at n
 
--- data, never zeros alone, and a hole where zeros stand behind it
+-- data that aren't all zeros, then a hole for the zeros at their end
 pub record TellsData (cookie : ℕ) (last : Bool) (at : ℕ) (bytes chunks : List ℕ) : Type 0 where
   pub content : List ℕ
   pub behind : ℕ
@@ -18,7 +18,7 @@ pub record TellsData (cookie : ℕ) (last : Bool) (at : ℕ) (bytes chunks : Lis
   pub bytes_are : bytes ≡ content ++ replicate behind 0
   pub chunks_are : chunks ≡ data_chunk ((behind == 0) && last) cookie at content ++ some_hole last cookie (at + length content) behind
 
--- a hole where zeros stand before the data
+-- a hole for the zeros at the beginning, then the data
 pub record TellsSome (cookie : ℕ) (last : Bool) (at : ℕ) (bytes chunks : List ℕ) : Type 0 where
   pub before : ℕ
   pub rest : List ℕ
@@ -27,12 +27,12 @@ pub record TellsSome (cookie : ℕ) (last : Bool) (at : ℕ) (bytes chunks : Lis
   pub bytes_are : bytes ≡ replicate before 0 ++ rest
   pub chunks_are : chunks ≡ some_hole false cookie at before ++ more
 
--- a hole alone, of zeros alone
+-- all bytes are zeros: one hole
 pub record TellsZeros (cookie : ℕ) (last : Bool) (at : ℕ) (bytes chunks : List ℕ) : Type 0 where
   pub some : 0 < length bytes
   pub bytes_are : bytes ≡ replicate (length bytes) 0
   pub chunks_are : chunks ≡ hole_chunk last cookie at (length bytes)
 
--- These chunks tell these bytes, from a place on. The last one may be that of the reply.
+-- These chunks carry these bytes, from offset `at` on. If `last` is set, the last chunk is the last of the reply.
 abbrev pub TellsContent : ℕ → Bool → ℕ → List ℕ → List ℕ → Type 0
 TellsContent cookie last at bytes chunks = TellsSome cookie last at bytes chunks ⊎ TellsZeros cookie last at bytes chunks

@@ -1,4 +1,4 @@
--- A READ that is answered piece by piece, each by chunks as soon as it is read (in the protocol's document "Structured
+-- A READ whose reply is sent piece by piece: each piece is sent as soon as it is read (the protocol's document, "Structured
 -- reply types": OFFSET_DATA, OFFSET_HOLE and ERROR_OFFSET).
 use Rattle.std.specs.Prelude.{◌≡◌, ◌⊎◌, ◌<◌, ◌≤◌, ℕ, ◌+◌, ◌/◌, ◌%◌, ◌==◌, ◌&&◌, Bool, not, nat_lt, List, [], ◌++◌, Option, Some, None, Result, Ok, Err, if◌then◌else◌}
 use Rattle.std.specs.Io.KnownBytes.{Appends}
@@ -20,38 +20,38 @@ use Rattle.nbd_server.specs.Transmission.{ReadsExport}
 use Rattle.nbd_server.specs.declared.delivery.Delivery.{Delivery}
 use Rattle.nbd_server.specs.declared.delivery.Progress.{Progress}
 
--- ---- which requests
+-- ---- which requests are answered so
 
--- its flag DF: the bytes are to come in one chunk
+-- the flag DF: the client wants the bytes in one chunk
 abbrev pub has_df : Header → Bool
 has_df h = h.flags / 4 % 2 == 1
 
 abbrev pub delivery : ℕ → ℕ → ℕ → Delivery
 delivery cookie offset count = record { cookie = cookie; offset = offset; count = count }
 
--- the bytes of a READ that has some
+-- the byte range of a READ of at least one byte
 abbrev pub bytes_asked : ℕ → Result Command RequestError → Option Delivery
 bytes_asked cookie (Ok (Read offset count)) = if nat_lt 0 count then Some (delivery cookie offset count) else None
 bytes_asked cookie other = None
 
--- What is answered piece by piece: a READ of some bytes that the export has, where chunks were agreed on, without DF.
+-- A READ is answered piece by piece if it is valid and of at least one byte, has no DF, and structured replies are agreed on.
 abbrev pub delivery_of : ExportRecord → Agreement → Header → Option Delivery
 delivery_of e a h = if is_chunked a h && not (has_df h) then bytes_asked h.cookie (command_of e a h) else None
 
 -- ---- one piece
 
--- the most bytes of a piece: 256 KiB
+-- the most bytes in a piece: 256 KiB
 abbrev pub most_piece_bytes : ℕ
 most_piece_bytes = 262144
 
--- some of the bytes, behind those that are done; before `slow` they lie in one sector
+-- the next bytes after those that are answered; before `slow` a piece lies in one sector
 pub record IsDeliveryPiece (d : Delivery) (p : Progress) (size : ℕ) : Type 0 where
   pub some : 0 < size
   pub few : size ≤ most_piece_bytes
   pub inside : p.done + size ≤ d.count
   pub single : p.done < p.slow → touched (d.offset + p.done) size ≡ 1
 
--- they were read, and are told by a hole, data and a hole at most, the last of which says whether it is that of the reply
+-- The piece was read and is sent as a hole, data and a hole at most. The last chunk says whether it is the last of the reply.
 pub record IsSent (e : ExportRecord) (d : Delivery) (p : Progress) (w : World) (chunk : List ℕ) (next : Progress) (w' : World) : Type 0 where
   pub size : ℕ
   pub content : List ℕ
@@ -60,7 +60,7 @@ pub record IsSent (e : ExportRecord) (d : Delivery) (p : Progress) (w : World) (
   pub told : TellsContent d.cookie (p.done + size == d.count) (d.offset + p.done) content chunk
   pub next_is : next ≡ record { done = p.done + size; slow = p.slow }
 
--- They lie in several sectors and couldn't be read: nothing is said of them, and they are read again sector by sector.
+-- The piece lies in several sectors and couldn't be read. Nothing is sent, and its bytes are read again sector by sector.
 pub record IsPutOff (e : ExportRecord) (d : Delivery) (p : Progress) (w : World) (chunk : List ℕ) (next : Progress) (w' : World) : Type 0 where
   pub size : ℕ
   pub error : RequestError
@@ -70,7 +70,7 @@ pub record IsPutOff (e : ExportRecord) (d : Delivery) (p : Progress) (w : World)
   pub silent : chunk ≡ []
   pub next_is : next ≡ record { done = p.done; slow = p.done + size }
 
--- They lie in one sector that couldn't be read: the last chunk says so, and where they begin.
+-- The piece lies in one sector that couldn't be read. The last chunk reports the error and the piece's offset.
 pub record IsLost (e : ExportRecord) (d : Delivery) (p : Progress) (w : World) (chunk : List ℕ) (w' : World) : Type 0 where
   pub size : ℕ
   pub error : RequestError
@@ -79,7 +79,7 @@ pub record IsLost (e : ExportRecord) (d : Delivery) (p : Progress) (w : World) (
   pub reads : ReadsExport e w (d.offset + p.done) size (Err error) w'
   pub chunk_is : chunk ≡ error_at_chunk d.cookie (d.offset + p.done) error
 
--- They are zeros because of the lines, whatever the leaves hold: nothing is read, and a chunk says so.
+-- The lines make the piece zeros, whatever the backing devices hold. Nothing is read, and a hole is sent.
 pub record IsHole (e : ExportRecord) (d : Delivery) (p : Progress) (w : World) (chunk : List ℕ) (next : Progress) (w' : World) : Type 0 where
   pub size : ℕ
   pub piece : IsDeliveryPiece d p size
@@ -88,20 +88,20 @@ pub record IsHole (e : ExportRecord) (d : Delivery) (p : Progress) (w : World) (
   pub next_is : next ≡ record { done = p.done + size; slow = p.slow }
   pub same : w' ≡ w
 
--- a piece behind which the reply goes on
+-- a piece after which the reply goes on
 abbrev pub GoesOnReplying : ExportRecord → Delivery → Progress → World → List ℕ → Progress → World → Type 0
 GoesOnReplying e d p w chunk next w' = IsSent e d p w chunk next w' ⊎ (IsPutOff e d p w chunk next w' ⊎ IsHole e d p w chunk next w')
 
--- what came of a piece whose chunk was written: how far the reply is then, or it ended at a sector that is lost
+-- The result of a piece whose chunks were written: the progress of the reply, or none if it ended at a lost sector.
 abbrev pub AnswersPiece : ExportRecord → Delivery → Progress → World → World → Option (List ℕ) → Option (List ℕ) → Option Progress → Type 0
 AnswersPiece e d p w w' old new (Some next) = (chunk : List ℕ) × GoesOnReplying e d p w chunk next w' × Appends old new chunk
 AnswersPiece e d p w w' old new None = (chunk : List ℕ) × IsLost e d p w chunk w' × Appends old new chunk
 
--- the same of an export that is served to a writer
+-- the result of a piece of an export whose chunks were written to a writer
 abbrev pub WritesPiece : {W : Type 0} → (W → Option (List ℕ)) → CountedRecord W → CountedRecord W → Export → Delivery → Progress → World → World → Option Progress → Type 0
 WritesPiece contents old new export d p w w' next = AnswersPiece (export_record export) d p w w' (contents old.inner) (contents new.inner) next
 
--- and of one in whose chunk the writer failed
+-- what a piece did if the writer failed in its chunks
 abbrev pub SendsPiece : ExportRecord → Delivery → Progress → World → World → Type 0
 SendsPiece e d p w w' = ((chunk : List ℕ) × (next : Progress) × GoesOnReplying e d p w chunk next w') ⊎ ((chunk : List ℕ) × IsLost e d p w chunk w')
 
@@ -110,19 +110,19 @@ SendsPiece e d p w w' = ((chunk : List ℕ) × (next : Progress) × GoesOnReplyi
 abbrev pub at_first : Progress
 at_first = record { done = 0; slow = 0 }
 
--- pieces one after another, from the first byte on, and their chunks
+-- a sequence of pieces from the first byte on, and their chunks
 pub data Delivers (e : ExportRecord) (d : Delivery) (first : World) : Progress → World → List ℕ → Type 0 where
   delivers_none : Delivers e d first at_first first []
   delivers_more : {p next : Progress} {w w' : World} {written : List ℕ} (chunk : List ℕ) → Delivers e d first p w written → GoesOnReplying e d p w chunk next w'
       → Delivers e d first next w' (written ++ chunk)
 
--- all of the bytes
+-- the reply carries all of the bytes
 pub record DeliversAll (e : ExportRecord) (d : Delivery) (w : World) (reply : List ℕ) (w' : World) : Type 0 where
   pub last : Progress
   pub pieces : Delivers e d w last w' reply
   pub all : last.done ≡ d.count
 
--- those before the first sector that can't be read, and its error: no byte of it goes out
+-- the reply carries the bytes before the first sector that can't be read, then the error; no byte of that sector is sent
 pub record DeliversPart (e : ExportRecord) (d : Delivery) (w : World) (reply : List ℕ) (w' : World) : Type 0 where
   pub last : Progress
   pub mid : World
@@ -139,12 +139,12 @@ IsDelivered e d w reply w' = DeliversAll e d w reply w' ⊎ DeliversPart e d w r
 abbrev pub WritesDelivery : {W : Type 0} → (W → Option (List ℕ)) → CountedRecord W → CountedRecord W → Export → Delivery → World → World → Result Unit WriteFault → Type 0
 WritesDelivery contents old new export d w w' result = WritesSome contents old new (λ reply. IsDelivered (export_record export) d w reply w') result
 
--- the reply was begun: some pieces were read
+-- the reply began: some pieces were read
 pub record IsBegun (e : ExportRecord) (d : Delivery) (w w' : World) : Type 0 where
   pub last : Progress
   pub written : List ℕ
   pub pieces : Delivers e d w last w' written
 
--- what was done where the writer failed in the reply: a part of it, or all
+-- what was read if the writer failed in the reply: a part of the pieces, or all
 abbrev pub IsStuck : ExportRecord → Delivery → World → World → Type 0
 IsStuck e d w w' = IsBegun e d w w' ⊎ ((reply : List ℕ) × IsDelivered e d w reply w')

@@ -1,4 +1,4 @@
--- Sectors of the export, read and written at once.
+-- Ranges of sectors of the export, read and written as a whole.
 use Rattle.std.specs.Prelude.{◌≡◌, ◌⊎◌, ◌<◌, ℕ, ◌*◌, ◌/◌, All, List, length, take, Ok, Err}
 use Rattle.allocation.specs.Refusal.{IsOutOfMemory}
 use Rattle.stack_rules.specs.Names.{mapped}
@@ -19,68 +19,69 @@ use Rattle.nbd_protocol.specs.Headers.{error_of}
 use Rattle.nbd_protocol.specs.declared.request_error.RequestError.{RequestError}
 use Rattle.nbd_protocol.specs.declared.request_error.RequestError.TheVariants.{NoMemory, InputOutput}
 
--- The sectors of a mapped device were read, as one read of them all: such bytes as its lines allow with some chains, each
--- good for its line, and over steady leaves those that the stack means.
+-- Sectors of a mapped device were read, as one read of them all. The bytes are what the lines allow with some hash chains, each
+-- of which verifies for its line; over steady backing devices they are what the stack means.
 pub record IsFetched (w : World) (d first count : ℕ) (bytes : List ℕ) (w' : World) : Type 0 where
   pub chains : List FoundRecord
   pub read : ReadsWhole w.stack (range_at d first count) (Ok (record { bytes = bytes; chains = chains })) w'.stack
   pub good : All (IsGoodChain w.stack.config) chains
   pub led : IsLed EachPart w w'
 
--- memory runs out in a read where a verity line is on its way alone
+-- a read runs out of memory only if it meets a verity line
 abbrev pub HasCause : World → ℕ → ℕ → ℕ → IoFault → Type 0
 HasCause w d first count fault = fault ≡ io.NoMemory → MeetVerity (said_at w.stack.config (mapped d)) first count
 
--- they ended in that fault, as one read of them all
+-- the read of them all ended in that fault
 pub record EndsIn (w : World) (d first count : ℕ) (error : RequestError) (w' : World) : Type 0 where
   pub fault : IoFault
   pub told : error ≡ error_of fault
   pub cause : HasCause w d first count fault
   pub read : ReadsWhole w.stack (range_at d first count) (Err fault) w'.stack
 
--- an allocation of their bytes was refused, and nothing was read
+-- the allocation of the buffer was refused, and nothing was read
 abbrev pub HasNoBuffer : World → ℕ → RequestError → World → Type 0
 HasNoBuffer w count error w' = (error ≡ NoMemory) × (w' ≡ w) × IsOutOfMemory (512 * count)
 
--- they couldn't be read
+-- the sectors couldn't be read
 pub record FailsToFetch (w : World) (d first count : ℕ) (error : RequestError) (w' : World) : Type 0 where
   pub cause : EndsIn w d first count error w' ⊎ HasNoBuffer w count error w'
   pub led : IsLed EachPart w w'
 
--- The sectors of a mapped device from the first on were put: these bytes, as one write of them all.
+-- These bytes were written to the sectors of a mapped device from the first on, as one write of them all.
 pub record IsStored (w : World) (d first : ℕ) (bytes : List ℕ) (w' : World) : Type 0 where
   pub put : WritesInPieces w.stack d first bytes (Ok tt) w'.stack
   pub led : IsLed EachPart w w'
 
--- the write of them all ended in that fault, and the bytes behind the piece that met it weren't put
+-- the write of them all ended in that fault; the pieces after the one that failed weren't written
 abbrev pub EndsPut : World → ℕ → ℕ → List ℕ → RequestError → World → Type 0
 EndsPut w d first bytes error w' =
     (error ≡ InputOutput) × (fault : IoFault) × (error_of fault ≡ InputOutput) × WritesInPieces w.stack d first bytes (Err fault) w'.stack
 
--- the first of them were put, and no others
+-- the first of the sectors were written, and no others
 pub record IsPartPut (w : World) (d first : ℕ) (bytes : List ℕ) (w' : World) : Type 0 where
   pub count : ℕ
   pub few : 512 * count < length bytes
   pub put : IsStored w d first (take (512 * count) bytes) w'
 
--- memory ran out behind the first of them, which is where some of them are encrypted
+-- an allocation was refused after the first sectors were written; this happens only if some of the sectors are encrypted
 abbrev pub StopsPut : World → ℕ → ℕ → List ℕ → RequestError → World → Type 0
 StopsPut w d first bytes error w' =
     (error ≡ NoMemory) × SomeEncrypt (said_at w.stack.config (mapped d)) first (length bytes / 512) × IsPartPut w d first bytes w'
 
--- not all of them were put
+-- not all of the sectors were written
 pub record FailsToPutAll (w : World) (d first : ℕ) (bytes : List ℕ) (error : RequestError) (w' : World) : Type 0 where
   pub cause : EndsPut w d first bytes error w' ⊎ StopsPut w d first bytes error w'
   pub led : IsLed EachPart w w'
 
--- the most bytes of a run of zeros: 1 MiB
+-- the most bytes in a run of zeros: 1 MiB
 abbrev pub most_run_bytes : ℕ
 most_run_bytes = 1048576
 
--- zeros and what stands around them, put run by run: an allocation of a run was refused, and those before it were put
+-- zeros with the rest of their first and last sector, written run by run: the allocation of a run was refused after earlier
+-- runs were written
 abbrev pub LacksRun : World → ℕ → ℕ → List ℕ → RequestError → World → Type 0
 LacksRun w d first bytes error w' = (error ≡ NoMemory) × IsPartPut w d first bytes w' × IsOutOfMemory most_run_bytes
 
--- not all of these were put
+-- not all of these were written
 abbrev pub FailsToZero : World → ℕ → ℕ → List ℕ → RequestError → World → Type 0
 FailsToZero w d first bytes error w' = FailsToPutAll w d first bytes error w' ⊎ LacksRun w d first bytes error w'

@@ -1,4 +1,4 @@
--- The service of a client: its messages one after another, and what is replied to each.
+-- The session of a client: its messages in order, and the reply to each.
 use Rattle.std.specs.Prelude.{◌≡◌, ◌≢◌, ◌⊎◌, ℕ, ◌<◌, ◌≤◌, nat_le, true, false, List, [], ◌++◌, length, take, codes, Bool, Option, Some, None, Result, Ok, Err}
 use Rattle.std.specs.Io.KnownBytes.{Appends, Consumes, IsAtEnd, Keeps}
 use Rattle.request_queue.specs.Parts.{EachPart}
@@ -25,21 +25,21 @@ use Rattle.nbd_protocol.specs.declared.phase.Agreement.{Agreement}
 use Rattle.nbd_protocol.specs.declared.phase.Phase.{Phase}
 use Rattle.nbd_protocol.specs.declared.phase.Phase.TheVariants.{Greeted, Haggling, Serving, Over}
 
--- The client's flags: four bytes, of the two flags that were offered. They have no reply.
+-- The client flags: four bytes, with no flags but the two that the service offers. There is no reply.
 pub record TakesFlags (message reply : List ℕ) (next : Phase) : Type 0 where
   pub size : length message ≡ 4
   pub offered : big_endian32 message 0 < 4
   pub next_is : next ≡ Haggling (record { no_zeroes = nat_le 2 (big_endian32 message 0); structured = false; status = None })
   pub silent : reply ≡ []
 
--- an option that is answered by its number and its data
+-- an option whose data are short enough; its reply depends on its number and its data
 pub record IsAnswered (es : List ExportRecord) (terms : Terms) (option : ℕ) (content reply : List ℕ) (next : Phase) : Type 0 where
   pub short : length content ≤ most_data
   pub named : names_export es option content ≡ true
   pub reply_is : reply ≡ answer_to es terms option content
   pub next_is : next ≡ phase_after es terms option content
 
--- an option whose data, so many bytes, are too long
+-- an option whose `count` bytes of data are too long
 pub record IsTooLong (terms : Terms) (option count : ℕ) (reply : List ℕ) (next : Phase) : Type 0 where
   pub long : most_data < count
   pub other : option ≢ 1
@@ -59,24 +59,24 @@ pub record TakesOption (es : List ExportRecord) (terms : Terms) (message reply :
   pub count : length content ≡ big_endian32 header 12
   pub answered : AnswersOption es terms (big_endian32 header 8) content reply next
 
--- what is replied to a request that is answered piece by piece, and to any other: what it gives, as was agreed on
+-- the reply to a request: piece by piece for a READ that is answered so, otherwise the result in the form that is agreed on
 abbrev pub GivesReply : ExportRecord → Agreement → World → Header → List ℕ → Option Delivery → List ℕ → World → Type 0
 GivesReply e a w h payload (Some d) reply w' = IsDelivered e d w reply w'
 GivesReply e a w h payload None reply w' = (outcome : RequestOutcome) × ServesRequest e a w h payload outcome w' × (reply ≡ agreed_reply a h outcome)
 
--- a request that isn't the last
+-- a request after which the session goes on
 pub record IsServedRequest (e : ExportRecord) (agreed : Agreement) (w : World) (header payload reply : List ℕ) (next : Phase) (w' : World) : Type 0 where
   pub replies : GivesReply e agreed w (header_of header) payload (delivery_of e agreed (header_of header)) reply w'
   pub next_is : next ≡ Serving agreed
 
--- the request by which the client ends the service: it has no reply
+-- the request by which the client ends the session; it has no reply
 pub record IsLastRequest (w : World) (header reply : List ℕ) (next : Phase) (w' : World) : Type 0 where
   pub kind : (header_of header).kind ≡ 2
   pub silent : reply ≡ []
   pub next_is : next ≡ Over
   pub same : w' ≡ w
 
--- A request: 28 bytes, and those of a write.
+-- A request: a header of 28 bytes, and the payload of a WRITE.
 pub record TakesRequest (e : ExportRecord) (agreed : Agreement) (w : World) (message reply : List ℕ) (next : Phase) (w' : World) : Type 0 where
   pub header : List ℕ
   pub payload : List ℕ
@@ -86,34 +86,35 @@ pub record TakesRequest (e : ExportRecord) (agreed : Agreement) (w : World) (mes
   pub count : length payload ≡ payload_len (header_of header)
   pub answered : IsLastRequest w header reply next w' ⊎ ((header_of header).kind ≢ 2) × IsServedRequest e agreed w header payload reply next w'
 
--- One message of the client, by what it may say: from one world of the queue to the next.
+-- One message that the client may send in this phase, from one state of the queue to the next.
 abbrev pub TakesMessage : List ExportRecord → Phase → World → List ℕ → List ℕ → Phase → World → Type 0
 TakesMessage es Greeted w message reply next w' = TakesFlags message reply next × (w' ≡ w)
 TakesMessage es (Haggling terms) w message reply next w' = TakesOption es terms message reply next × (w' ≡ w)
 TakesMessage es (Serving agreed) w message reply next w' = TakesRequest (export_at es agreed.place) agreed w message reply next w'
 TakesMessage es Over w message reply next w' = ⊥
 
--- Messages one after another, what they are in all, and all that is replied.
+-- A sequence of messages, all bytes of these messages, and all bytes of the replies.
 pub data Conversation (es : List ExportRecord) (first : World) : Phase → World → List ℕ → List ℕ → Type 0 where
   begins : Conversation es first Greeted first [] []
   goes_on : {phase next : Phase} {w w' : World} {taken written : List ℕ} (message reply : List ℕ) → Conversation es first phase w taken written → TakesMessage es phase w message reply next w'
       → Conversation es first next w' (taken ++ message) (written ++ reply)
 
--- an option that has no reply: EXPORT_NAME, whose name is no export's
+-- an option without a reply: EXPORT_NAME whose name is that of no export
 abbrev pub IsExportUnnamed : List ExportRecord → ℕ → List ℕ → ServiceFault → Type 0
 IsExportUnnamed es option content fault = (fault ≡ NoSuchExport) × (option ≡ 1) × (asked es content ≡ None)
 
--- the same whose name is too long for an export's
+-- EXPORT_NAME with a name that is too long to be an export's
 abbrev pub IsNameUnread : ℕ → ℕ → ServiceFault → Type 0
 IsNameUnread option count fault = (fault ≡ NoSuchExport) × (option ≡ 1) × (most_data < count)
 
--- how a reply ends: it was written and leads to a phase, or the writer failed in it, or there is none, for such a fault
+-- how a reply ends: it was written, and a phase follows; or the writer failed in it; or there is no reply, and the fault says
+-- why
 abbrev pub EndsReply : (List ℕ → Phase → Type 0) → (ServiceFault → Type 0) → Option (List ℕ) → Option (List ℕ) → Result Phase ServiceFault → Type 0
 EndsReply Is Ends old new (Ok next) = (reply : List ℕ) × Is reply next × Appends old new reply
 EndsReply Is Ends old new (Err WriteFault) = (reply : List ℕ) × (next : Phase) × Is reply next
 EndsReply Is Ends old new (Err fault) = Keeps old new × Ends fault
 
--- the same of an option of these exports' client, and of one whose data are too long
+-- how the reply to an option ends, and to an option whose data are too long
 abbrev pub EndsOption : {W : Type 0} → (W → Option (List ℕ)) → CountedRecord W → CountedRecord W → List Export → Terms → ℕ → List ℕ → Result Phase ServiceFault → Type 0
 EndsOption contents old new exports terms option content result =
     EndsReply (IsAnswered (export_records exports) terms option content) (IsExportUnnamed (export_records exports) option content) (contents old.inner) (contents new.inner) result
@@ -121,11 +122,11 @@ EndsOption contents old new exports terms option content result =
 abbrev pub EndsLongOption : {W : Type 0} → (W → Option (List ℕ)) → CountedRecord W → CountedRecord W → Terms → ℕ → ℕ → Result Phase ServiceFault → Type 0
 EndsLongOption contents old new terms option count result = EndsReply (IsTooLong terms option count) (IsNameUnread option count) (contents old.inner) (contents new.inner) result
 
--- the data of an option were taken to the front of a buffer, if they fit in
+-- the data of an option were received, and are at the beginning of the buffer if they fit
 abbrev pub TakesContent : {R : Type 0} → (R → Option (List ℕ)) → CountedRecord R → CountedRecord R → ℕ → List ℕ → Bool → Type 0
 TakesContent remaining old new count room fits = TakesInto (content_in fits count room) count (remaining old.inner) (remaining new.inner)
 
--- a message was taken and done, and the writer failed in its reply
+-- a message was received and handled, and the writer failed in its reply
 pub record IsUnanswered (es : List ExportRecord) (phase : Phase) (w w' : World) (old new : Option (List ℕ)) : Type 0 where
   pub message : List ℕ
   pub reply : List ℕ
@@ -133,7 +134,7 @@ pub record IsUnanswered (es : List ExportRecord) (phase : Phase) (w w' : World) 
   pub consumed : Consumes old new message
   pub takes : TakesMessage es phase w message reply next w'
 
--- a request that is answered piece by piece, whose reply was begun
+-- a request that is answered piece by piece, whose reply began
 pub record BeginsRequest (e : ExportRecord) (agreed : Agreement) (w : World) (message : List ℕ) (w' : World) : Type 0 where
   pub delivery : Delivery
   pub size : length message ≡ 28
@@ -141,36 +142,37 @@ pub record BeginsRequest (e : ExportRecord) (agreed : Agreement) (w : World) (me
   pub asks : delivery_of e agreed (header_of message) ≡ Some delivery
   pub begun : IsBegun e delivery w w'
 
--- a message of the client whose reply was begun
+-- a message whose reply began
 abbrev pub BeginsMessage : List ExportRecord → Phase → World → List ℕ → World → Type 0
 BeginsMessage es (Serving agreed) w message w' = BeginsRequest (export_at es agreed.place) agreed w message w'
 BeginsMessage es phase w message w' = ⊥
 
--- such a message was taken, and the writer failed in its reply
+-- a message was received, its reply began, and the writer failed in it
 pub record IsInterrupted (es : List ExportRecord) (phase : Phase) (w w' : World) (old new : Option (List ℕ)) : Type 0 where
   pub message : List ℕ
   pub consumed : Consumes old new message
   pub begins : BeginsMessage es phase w message w'
 
--- how a message ends: it was taken, the input ended before it, the writer failed in its reply, or the service ends in it
--- for its cause; then nothing happened
+-- How a message ends: it was handled; the input ended before it; the writer failed in its reply; or the session ends because of
+-- the message, and nothing was done.
 abbrev pub EndsMessage : List ExportRecord → Phase → World → World → Streams → Streams → Result (Option Phase) ServiceFault → Type 0
 EndsMessage es phase w w' old new (Ok (Some next)) = Spoken old new (λ message reply. TakesMessage es phase w message reply next w')
 EndsMessage es phase w w' old new (Ok None) = Spoken old new (λ taken written. (taken ≡ []) × (written ≡ []) × (w' ≡ w)) × IsAtEnd new.input
 EndsMessage es phase w w' old new (Err WriteFault) = IsUnanswered es phase w w' old.input new.input ⊎ IsInterrupted es phase w w' old.input new.input
 EndsMessage es phase w w' old new (Err fault) = Spoken old new (λ taken written. (written ≡ []) × (w' ≡ w) × Breaks es phase taken new.input fault)
 
--- how the message of the client's flags ends, whatever the exports, the world and what was written
+-- how the message of the client flags ends, for any exports, queue and output
 abbrev pub EndsFlags : {R : Type 0} → (R → Option (List ℕ)) → CountedRecord R → CountedRecord R → Result (Option Phase) ServiceFault → Type 0
 EndsFlags remaining old new result =
     (es : List ExportRecord) (w : World) (written : Option (List ℕ)) → EndsMessage es Greeted w w (streams (remaining old.inner) written) (streams (remaining new.inner) written) result
 
--- how the service ends after those messages: the client ended it or went away, or the fault has its cause in the rest
+-- how the session ends after some messages: the client ended it or disconnected, or the rest of the input has the cause of the
+-- fault
 abbrev pub EndsSo : List ExportRecord → Phase → List ℕ → Option (List ℕ) → Result Unit ServiceFault → Type 0
 EndsSo es phase rest input (Ok done) = (rest ≡ []) × ((phase ≡ Over) ⊎ IsAtEnd input)
 EndsSo es phase rest input (Err fault) = Breaks es phase rest input fault
 
--- what was taken is whole messages and a rest, and what was written is the greeting and the replies to them
+-- the input was whole messages and a rest, and the output the greeting and the replies to these messages
 pub record IsHeld (es : List ExportRecord) (first last : World) (input : Option (List ℕ)) (result : Result Unit ServiceFault) (taken written : List ℕ) : Type 0 where
   pub phase : Phase
   pub whole : List ℕ
@@ -181,8 +183,8 @@ pub record IsHeld (es : List ExportRecord) (first last : World) (input : Option 
   pub written_is : written ≡ greeting ++ replies
   pub ends : EndsSo es phase rest input result
 
--- What was taken is whole messages, and these were done; their replies may not all be written. Of the last message, if it
--- is answered piece by piece, maybe only some pieces were read.
+-- The input was whole messages, which were handled; their replies may be incomplete. If the last message is answered piece by
+-- piece, perhaps only some of its pieces were read.
 pub record IsServiceDone (es : List ExportRecord) (first last : World) (old new : Option (List ℕ)) : Type 0 where
   pub phase : Phase
   pub whole : List ℕ
@@ -193,11 +195,11 @@ pub record IsServiceDone (es : List ExportRecord) (first last : World) (old new 
   pub talk : Conversation es first phase mid whole replies
   pub ends : ((rest ≡ []) × (last ≡ mid)) ⊎ BeginsMessage es phase mid rest last
 
--- What a service read and wrote, from the first world of its queue to the last.
+-- What a session read and wrote, from the first state of its queue to the last.
 pub record IsService (es : List ExportRecord) (first last : World) (old new : Streams) (result : Result Unit ServiceFault) : Type 0 where
-  -- unless the writer failed
+  -- if the writer didn't fail
   pub held : result ≢ Err WriteFault → Spoken old new (IsHeld es first last new.input result)
-  -- where it failed
+  -- if the writer failed
   pub done : result ≡ Err WriteFault → IsServiceDone es first last old.input new.input
-  -- however it ended, its messages are a run of the queue, of which the queue's law speaks
+  -- in each case the messages are a run of the queue, to which the queue's law applies
   pub led : IsLed EachPart first last

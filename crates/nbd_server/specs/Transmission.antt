@@ -1,4 +1,4 @@
--- The transmission phase: what a request is answered.
+-- The transmission phase: the effect and the result of each request.
 use Rattle.std.specs.Prelude.{◌≡◌, ◌⊎◌, ◌≤◌, ℕ, ◌+◌, ◌-◌, ◌*◌, ◌/◌, ◌%◌, Bool, true, false, List, Vec, [], ◌∷◌, ◌++◌, length, take, drop, replicate, Result, Ok, Err, IfOk, Option}
 use Rattle.std.specs.Global.{Global}
 use Rattle.std.specs.Io.KnownBytes.{Consumes}
@@ -24,26 +24,26 @@ use Rattle.nbd_server.specs.declared.reply.Data.{Data}
 use Rattle.nbd_protocol.specs.declared.request_error.RequestError.{RequestError}
 use Rattle.nbd_protocol.specs.declared.request_error.RequestError.TheVariants.{NoMemory, InputOutput}
 
--- answered, and nothing happened
+-- success without effect
 abbrev pub Stays : World → RequestOutcome → World → Type 0
 Stays w outcome w' = (outcome ≡ Ok []) × (w' ≡ w)
 
--- bytes of the export were read: a part of the sectors that they touch
+-- a byte range of the export was read: the sectors that it touches were read, and the range taken from them
 abbrev pub ReadsExport : ExportRecord → World → ℕ → ℕ → RequestOutcome → World → Type 0
 ReadsExport e w offset length (Ok content) w' = (bytes : List ℕ) × IsFetched w e.device (offset / 512) (touched offset length) bytes w' × (content ≡ take length (drop (offset % 512) bytes))
 ReadsExport e w offset length (Err error) w' = FailsToFetch w e.device (offset / 512) (touched offset length) error w'
 
--- they couldn't be read
+-- the byte range couldn't be read
 abbrev pub FailsToReadBytes : ExportRecord → World → ℕ → ℕ → World → RequestError → Type 0
 FailsToReadBytes e w offset length w' error = ReadsExport e w offset length (Err error) w'
 
 -- ---- writes
 
--- how many bytes stand behind some bytes in the last sector that they touch
+-- how many bytes follow a byte range in the last sector that it touches
 abbrev pub room_behind : ℕ → ℕ → ℕ
 room_behind offset length = 512 * touched offset length - (offset % 512 + length)
 
--- what stands before some bytes in the first sector that they touch was read, and what stands behind them in the last
+-- the bytes before a byte range in its first sector and after it in its last sector were read
 pub record ReadsEnds (e : ExportRecord) (w : World) (offset length : ℕ) (before behind : List ℕ) (w' : World) : Type 0 where
   pub mid : World
   pub first : ReadsExport e w (offset - offset % 512) (offset % 512) (Ok before) mid
@@ -56,14 +56,14 @@ FailsToReadEnds e w offset length w' error =
     ⊎ ((before : List ℕ) × (mid : World) × ReadsExport e w (offset - offset % 512) (offset % 512) (Ok before) mid
     × ReadsExport e mid (offset + length) (room_behind offset length) (Err error) w')
 
--- the sectors that some bytes touch, with these bytes in them and around them what was read there
+-- the sectors that a byte range touches: the new bytes, with what was read before and after them
 pub record IsFramed (e : ExportRecord) (w : World) (offset : ℕ) (bytes sectors : List ℕ) (w' : World) : Type 0 where
   pub before : List ℕ
   pub behind : List ℕ
   pub ends : ReadsEnds e w offset (length bytes) before behind w'
   pub sectors_are : sectors ≡ before ++ (bytes ++ behind)
 
--- bytes of the export were written: the sectors that they touch were put
+-- bytes of the export were written, by whole sectors
 abbrev pub WritesExport : ExportRecord → World → ℕ → List ℕ → RequestOutcome → World → Type 0
 WritesExport e w offset bytes (Ok content) w' =
     (content ≡ []) × (sectors : List ℕ) × (mid : World) × IsFramed e w offset bytes sectors mid × IsStored mid e.device (offset / 512) sectors w'
@@ -76,86 +76,87 @@ abbrev pub WritesPayload : ExportRecord → World → ℕ → List ℕ → Reque
 WritesPayload e w offset [] outcome w' = Stays w outcome w'
 WritesPayload e w offset (byte ∷ more) outcome w' = WritesExport e w offset (byte ∷ more) outcome w'
 
--- an allocation of a run of them was refused, and those before it were put
+-- an allocation of a run was refused, and the runs before it were written
 abbrev pub WritesPart : ExportRecord → World → ℕ → List ℕ → RequestOutcome → World → Type 0
 WritesPart e w offset bytes outcome w' =
     (outcome ≡ Err NoMemory) × (sectors : List ℕ) × (mid : World) × IsFramed e w offset bytes sectors mid
     × IsPartPut mid e.device (offset / 512) sectors w' × IsOutOfMemory most_run_bytes
 
--- the same of bytes that are put run by run
+-- a write of bytes that are written run by run
 abbrev pub WritesAny : ExportRecord → World → ℕ → List ℕ → RequestOutcome → World → Type 0
 WritesAny e w offset [] outcome w' = Stays w outcome w'
 WritesAny e w offset (byte ∷ more) outcome w' = WritesExport e w offset (byte ∷ more) outcome w' ⊎ WritesPart e w offset (byte ∷ more) outcome w'
 
 -- ---- flushes
 
--- all that was written so far is on the leaves' media, or of a leaf that failed
+-- all that was written so far is synced, or a backing device failed to sync
 abbrev pub Flushes : World → RequestOutcome → World → Type 0
 Flushes w (Ok content) w' = (content ≡ []) × Step EachPart w (sync (Ok tt)) w'
 Flushes w (Err error) w' = (error ≡ InputOutput) × (fault : IoFault) × Step EachPart w (sync (Err fault)) w'
 
--- with FUA, what was done is followed by such a sync
+-- with FUA a sync follows
 abbrev pub Settles : Bool → (RequestOutcome → World → Type 0) → RequestOutcome → World → Type 0
 Settles false Does outcome w' = Does outcome w'
 Settles true Does (Ok content) w' = (mid : World) × Does (Ok []) mid × Flushes mid (Ok content) w'
 Settles true Does (Err error) w' = Does (Err error) w' ⊎ ((mid : World) × Does (Ok []) mid × Flushes mid (Err error) w')
 
--- a WRITE_ZEROES: a write of as many zeros, run by run
+-- a WRITE_ZEROES: a write of zeros, run by run
 abbrev pub ServesZero : ExportRecord → World → ℕ → ℕ → Bool → RequestOutcome → World → Type 0
 ServesZero e w offset length fua outcome w' = Settles fua (WritesAny e w offset (replicate length 0)) outcome w'
 
 -- ---- block status
 
--- Of some bytes the first ones, at most 256 KiB, were read with that outcome: they lie on verity lines that ignore blocks
--- of zeros.
+-- The first bytes of a range, at most 256 KiB, were read with that outcome. They are on verity lines that ignore blocks of
+-- zeros.
 pub record ReadsIgnoring (e : ExportRecord) (w : World) (offset count size : ℕ) (outcome : RequestOutcome) (w' : World) : Type 0 where
   pub few : size ≤ count
   pub small : size ≤ 262144
   pub ignoring : TouchIgnoring w.stack.config e offset size
   pub reads : ReadsExport e w offset size outcome w'
 
--- their status is told: zeros are those that were read so, and all are data where they couldn't be read
+-- the status of bytes that were read: zeros are reported for bytes that were read as zeros, and data for bytes that couldn't be
+-- read
 pub record ReadsStatus (e : ExportRecord) (w : World) (offset count : ℕ) (one : Bool) (told : List ℕ) (w' : World) : Type 0 where
   pub size : ℕ
   pub outcome : RequestOutcome
   pub reads : ReadsIgnoring e w offset count size outcome w'
   pub status : HasStatus (AreReadAsZeros offset outcome) offset size one told
 
--- the status of bytes is told: of their lines alone, and then nothing is read, or of those that were read
+-- the status of a byte range: by the lines alone, and then nothing is read, or by the bytes that were read
 abbrev pub TellsExtents : ExportRecord → World → ℕ → ℕ → Bool → List ℕ → World → Type 0
 TellsExtents e w offset count one told w' = (HasStatus (TouchZeros w.stack.config e) offset count one told × (w' ≡ w)) ⊎ ReadsStatus e w offset count one told w'
 
--- as it was told
+-- the status of a byte range, in memory
 abbrev pub AreExtentsTold : ExportRecord → World → ℕ → ℕ → Bool → World → Vec ℕ Global → Type 0
 AreExtentsTold e w offset count one w' told = TellsExtents e w offset count one told.items w'
 
 abbrev pub IsStatusRead : ExportRecord → World → ℕ → ℕ → Bool → World → Vec ℕ Global → Type 0
 IsStatusRead e w offset count one w' told = ReadsStatus e w offset count one told.items w'
 
--- nothing was read, or such bytes were
+-- nothing was read, or such bytes were read
 abbrev pub StaysOrReads : ExportRecord → World → ℕ → ℕ → World → Type 0
 StaysOrReads e w offset count w' = (w' ≡ w) ⊎ ((size : ℕ) × (outcome : RequestOutcome) × ReadsIgnoring e w offset count size outcome w')
 
--- the status of bytes is told, or an allocation of the four bytes of a number in it was refused
+-- a BLOCK_STATUS: the status, or an allocation of the four bytes of a number was refused
 abbrev pub TellsStatus : ExportRecord → World → ℕ → ℕ → Bool → RequestOutcome → World → Type 0
 TellsStatus e w offset count one (Ok told) w' = TellsExtents e w offset count one told w'
 TellsStatus e w offset count one (Err error) w' = (error ≡ NoMemory) × StaysOrReads e w offset count w' × IsOutOfMemory 4
 
 -- ---- requests
 
--- this outcome, and nothing happened
+-- an error without effect
 abbrev pub RefusesRequest : World → RequestError → RequestOutcome → World → Type 0
 RefusesRequest w error outcome w' = (outcome ≡ Err error) × (w' ≡ w)
 
--- an allocation of the sectors that these bytes touch was refused, and nothing happened
+-- the allocation of the sectors that a byte range touches was refused, and nothing was done
 abbrev pub LacksSectors : World → ℕ → List ℕ → RequestOutcome → World → Type 0
 LacksSectors w offset bytes outcome w' = (outcome ≡ Err NoMemory) × (w' ≡ w) × IsOutOfMemory (512 * touched offset (length bytes))
 
--- a write of bytes that follow the request
+-- a WRITE of the payload that follows the request
 abbrev pub WritesGiven : ExportRecord → World → ℕ → List ℕ → RequestOutcome → World → Type 0
 WritesGiven e w offset bytes outcome w' = LacksSectors w offset bytes outcome w' ⊎ WritesPayload e w offset bytes outcome w'
 
--- How a request ends that asks for this, or has that fault.
+-- The effect and the result of a command. A request with a fault has no effect.
 abbrev pub ServesCommand : ExportRecord → World → Result Command RequestError → List ℕ → RequestOutcome → World → Type 0
 ServesCommand e w (Err error) payload outcome w' = RefusesRequest w error outcome w'
 ServesCommand e w (Ok (Read offset length)) payload outcome w' = ReadsExport e w offset length outcome w'
@@ -165,15 +166,15 @@ ServesCommand e w (Ok Hint) payload outcome w' = Stays w outcome w'
 ServesCommand e w (Ok Flush) payload outcome w' = Flushes w outcome w'
 ServesCommand e w (Ok (Status offset length one)) payload outcome w' = TellsStatus e w offset length one outcome w'
 
--- how a request ends
+-- the effect and the result of a request
 abbrev pub ServesRequest : ExportRecord → Agreement → World → Header → List ℕ → RequestOutcome → World → Type 0
 ServesRequest e a w h payload outcome w' = ServesCommand e w (command_of e a h) payload outcome w'
 
--- the part of the bytes that is meant
+-- the part of a buffer that is the payload
 abbrev pub reply_data : Data → List ℕ
 reply_data d = take d.length (drop d.start d.bytes.items)
 
--- what stands around some bytes was read: these parts
+-- the bytes before and after a byte range were read, as parts of buffers
 abbrev pub AreEndsRead : ExportRecord → World → ℕ → ℕ → World → Ends → Type 0
 AreEndsRead e w offset length w' ends = ReadsEnds e w offset length (reply_data ends.before) (reply_data ends.behind) w'
 
@@ -181,16 +182,16 @@ abbrev pub data_outcome : Result Data RequestError → RequestOutcome
 data_outcome (Ok d) = Ok (reply_data d)
 data_outcome (Err error) = Err error
 
--- a write gives no bytes
+-- a write returns no bytes
 abbrev pub no_bytes : Result Unit RequestError → RequestOutcome
 no_bytes (Ok done) = Ok []
 no_bytes (Err error) = Err error
 
--- the part lies within the bytes
+-- the part is within the buffer
 abbrev pub IsPartInside : Result Data RequestError → Type 0
 IsPartInside outcome = IfOk outcome (λ d. d.start + d.length ≤ length d.bytes.items)
 
--- it does, and is at most what a request may ask for
+-- the part is within the buffer, and no longer than a request allows
 pub record IsPart (d : Data) : Type 0 where
   pub inside : d.start + d.length ≤ length d.bytes.items
   pub few : d.length ≤ most_length
@@ -198,7 +199,7 @@ pub record IsPart (d : Data) : Type 0 where
 abbrev pub IsSendable : Result Data RequestError → Type 0
 IsSendable outcome = IfOk outcome IsPart
 
--- the bytes that follow a request were taken, and it was served
+-- the payload of a request was received, and the request was served
 pub record IsTakenAndServed (e : ExportRecord) (a : Agreement) (w : World) (h : Header) (old new : Option (List ℕ)) (outcome : Result Data RequestError) (w' : World) : Type 0 where
   pub payload : List ℕ
   pub size : length payload ≡ payload_len h
@@ -206,10 +207,10 @@ pub record IsTakenAndServed (e : ExportRecord) (a : Agreement) (w : World) (h : 
   pub serves : ServesRequest e a w h payload (data_outcome outcome) w'
   pub inside : IsSendable outcome
 
--- the bytes that follow a request were taken from a reader, and it was served
+-- the payload of a request was received from a reader, and the request was served
 abbrev pub Handles : {R : Type 0} → (R → Option (List ℕ)) → CountedRecord R → CountedRecord R → Export → Agreement → Header → World → World → Result Data RequestError → Type 0
 Handles remaining old new export a h w w' outcome = IsTakenAndServed (export_record export) a w h (remaining old.inner) (remaining new.inner) outcome w'
 
--- so many bytes were to follow it, but fewer came, and nothing was done
+-- fewer bytes than the payload were received, and nothing was done
 abbrev pub FallsShort : {R : Type 0} → (R → Option (List ℕ)) → CountedRecord R → CountedRecord R → ℕ → World → World → ServiceFault → Type 0
 FallsShort remaining old new count w w' fault = IsShort count (remaining old.inner) (remaining new.inner) fault × (w' ≡ w)

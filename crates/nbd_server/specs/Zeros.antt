@@ -1,4 +1,4 @@
--- Zeros, and what stands around them in the sectors that they touch.
+-- Zeros, with the rest of the first and last sector that they touch.
 use Rattle.std.specs.Prelude.{◌≡◌, ◌≤◌, ℕ, ◌*◌, ◌/◌, ◌%◌, List, ◌++◌, replicate}
 use Rattle.alignment.specs.Lengths.{aligned_len}
 use Rattle.stack_rules.specs.Records.{Configuration}
@@ -7,11 +7,11 @@ use Rattle.nbd_protocol.specs.declared.request_error.RequestError.{RequestError}
 use Rattle.nbd_server.specs.Sectors.{FailsToZero}
 use Rattle.nbd_server.specs.declared.zeros.Zeros.{Zeros}
 
--- all of them
+-- the bytes of these sectors
 abbrev pub zeros_of : Zeros → List ℕ
 zeros_of z = z.before.now ++ (replicate z.count 0 ++ z.behind.now)
 
--- how many bytes the next run of them has, of so many that are left of sectors of device d, from the first on
+-- the size of the next run, of `left` bytes of device d from sector `first` on
 pub record IsRunLen (c : Configuration) (d first left n : ℕ) : Type 0 where
   pub value : n ≡ 512 * aligned_len c d first (left / 512) 2048
   pub whole : n % 512 ≡ 0
@@ -19,6 +19,6 @@ pub record IsRunLen (c : Configuration) (d first left n : ℕ) : Type 0 where
   pub few : n ≤ 1048576
   pub inside : n ≤ left
 
--- not all of them were put
+-- not all of the sectors were written
 abbrev pub FailsToPutZeros : World → ℕ → ℕ → Zeros → World → RequestError → Type 0
 FailsToPutZeros w d first z w' error = FailsToZero w d first (zeros_of z) error w'

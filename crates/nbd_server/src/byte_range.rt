@@ -1,4 +1,4 @@
-//! Bytes of the export, read and written by the sectors that they touch.
+//! Reads and writes byte ranges of the export by whole sectors.
 ghost use Rattle.std.specs.Prelude.{◌≡◌, ◌<◌, ◌≤◌, ◌+◌, ◌*◌, ◌%◌, ◌^◌, length, replicate, Ok, IfErr, IfOk, IsTrue};
 ghost use Rattle.nbd_protocol.specs.Exports.{export_record};
 ghost use Rattle.nbd_server.specs.Premises.{AreBytesOf, HaveSizes, WritesFrom};
@@ -14,14 +14,19 @@ use nbd_protocol::{Export, RequestError};
 use request_queue::Queue;
 use std::alloc::Global;
 
-/// How many sectors some bytes touch.
+/// Returns how many sectors a byte range touches.
 pub(crate) fn touched(offset: u64, len: u32) -> usize
     ensures { result ≡ touched offset len }
 {
     ((offset % 512) as usize + len as usize + 511) / 512
 }
 
-/// Reads bytes of the export: a part of the sectors that they touch.
+/// Reads the sectors that a byte range touches, and returns the range in them.
+///
+/// # Errors
+///
+/// - `InputOutput` if the stack refused the access or a device failed.
+/// - `NoMemory` if an allocation was refused.
 pub(crate) fn read_bytes<D: BlockDev>(
     alloc: Global,
     queue: &mut Queue<D>,
@@ -43,14 +48,14 @@ pub(crate) fn read_bytes<D: BlockDev>(
     })
 }
 
-// The bytes before some bytes in their first sector, and after them in their last.
+// The bytes before the range in its first sector, and after the range in its last sector.
 #[derive(Drop)]
 struct Ends {
     before: Data,
     behind: Data,
 }
 
-// Reads the rest of the first and last sector of some bytes.
+// Reads what the first and the last sector of a byte range hold outside the range.
 fn read_ends<D: BlockDev>(
     alloc: Global,
     queue: &mut Queue<D>,
@@ -71,7 +76,8 @@ fn read_ends<D: BlockDev>(
     Ok(Ends { before, behind })
 }
 
-/// Writes bytes of the export: `bytes` has them at their place in the sectors that they touch.
+/// Writes `len` bytes of the export. `bytes` holds them at their offset in the sectors that they touch; the rest of the first
+/// and last sector is read first.
 pub(crate) fn write_bytes<D: BlockDev>(
     alloc: Global,
     queue: &mut Queue<D>,
@@ -93,7 +99,7 @@ pub(crate) fn write_bytes<D: BlockDev>(
     store(queue, export, offset / 512, bytes)
 }
 
-/// Writes as many zeros to bytes of the export.
+/// Writes `len` zeros to the export. The rest of the first and last sector is read first.
 pub(crate) fn write_zeros<D: BlockDev>(
     alloc: Global,
     queue: &mut Queue<D>,

@@ -1,4 +1,4 @@
-//! Bytes that were read, told as data and as holes.
+//! Writes bytes that were read as chunks of data and holes.
 ghost use Rattle.std.specs.Prelude.{◌≡◌, ◌≤◌, ◌<◌, ◌+◌, ◌-◌, ◌^◌, drop, length, replicate, take};
 ghost use Rattle.std.specs.Str.{bytes_eq};
 ghost use Rattle.program_io.specs.Counted.{WritesSome};
@@ -8,12 +8,12 @@ use nbd_protocol::{say_data, say_hole};
 use program_io::{Counted, WriteFault};
 use std::io::Write;
 
-/// Zeros are looked for by blocks of so many bytes.
+/// The block size in bytes by which zeros are found.
 pub(crate) const BLOCK: usize = 4096;
 
 static ZEROS: [u8; 4096] = [0; 4096];
 
-/// Whether the bytes of a block are zeros.
+/// Returns whether all bytes of a block are zeros.
 pub(crate) fn are_zeros(block: &[u8]) -> bool
     requires { length block.now ≤ 4096 }
     ensures { result ≡ bytes_eq block.now (replicate (length block.now) 0) }
@@ -21,7 +21,7 @@ pub(crate) fn are_zeros(block: &[u8]) -> bool
     block == &ZEROS[..block.len()]
 }
 
-// With how many zeros the bytes begin, by whole blocks but where all are zeros.
+// How many zeros the bytes begin with, by whole blocks unless all bytes are zeros.
 fn zeros_before(bytes: &[u8]) -> usize
     ensures inside { result ≤ length bytes.now }
     ensures zeros { take result bytes.now ≡ replicate result 0 }
@@ -38,7 +38,7 @@ fn zeros_before(bytes: &[u8]) -> usize
     done
 }
 
-// With how many zeros they end, by whole blocks.
+// How many zeros the bytes end with, by whole blocks.
 fn zeros_behind(bytes: &[u8]) -> usize
     ensures inside { result ≤ length bytes.now }
     ensures zeros { drop (length bytes.now - result) bytes.now ≡ replicate result 0 }
@@ -53,7 +53,7 @@ fn zeros_behind(bytes: &[u8]) -> usize
     bytes.len() - rest
 }
 
-// Writes bytes that begin with data.
+// Writes bytes that begin with data: a data chunk, then a hole for the zeros at the end.
 fn say_from_data<W: Write>(
     writer: &mut Counted<W>,
     last: bool,
@@ -75,8 +75,12 @@ fn say_from_data<W: Write>(
     say_hole(writer, last, cookie, at + size as u64, behind as u32)
 }
 
-/// Writes some bytes from an offset on. The whole blocks of 4,096 zeros at their beginning and end are holes, or all of
-/// them if they are all zeros.
+/// Writes the bytes of the export from `at` on. The whole blocks of 4,096 zeros at the beginning and at the end become holes;
+/// if all bytes are zeros, they become one hole.
+///
+/// # Errors
+///
+/// `WriteFault` if the writer failed.
 pub(crate) fn say_content<W: Write>(
     writer: &mut Counted<W>,
     last: bool,

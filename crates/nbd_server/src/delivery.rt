@@ -1,4 +1,4 @@
-//! A READ that is answered piece by piece.
+//! A READ whose reply is sent piece by piece.
 ghost use Rattle.std.specs.Prelude.{◌≡◌, ◌<◌, ◌≤◌, ◌+◌, ◌*◌, ◌%◌, ◌^◌, ◌==◌, length, true, IsTrue, IfErr, IfOk, IfSome, OnErr, OnOk};
 ghost use Rattle.program_io.specs.Counted.{Writes, WritesSome};
 ghost use Rattle.nbd_protocol.specs.Exports.{export_record};
@@ -20,15 +20,15 @@ use program_io::{Counted, WriteFault};
 use request_queue::Queue;
 use std::io::Write;
 
-// A piece ends where a multiple of so many bytes does.
+// A piece ends at a multiple of this number of bytes.
 const LARGE: u64 = 262_144;
 
 const SECTOR: u64 = 512;
 
-// The flag of a READ whose bytes are to come in one chunk.
+// The flag of a READ that wants its bytes in one chunk.
 const DONT_FRAGMENT: u16 = 4;
 
-/// The bytes of a READ that is answered piece by piece, and its cookie.
+/// The byte range and the cookie of a READ whose reply is sent piece by piece.
 #[derive(Clone, Copy, Debug, PartialEq, Eq)]
 pub(crate) struct Delivery {
     pub(crate) cookie: u64,
@@ -36,14 +36,14 @@ pub(crate) struct Delivery {
     pub(crate) count: u32,
 }
 
-/// How many of its bytes were answered, and before which one they are read sector by sector.
+/// How many bytes are answered, and the byte before which the rest is read sector by sector.
 #[derive(Clone, Copy, Debug, PartialEq, Eq)]
 pub(crate) struct Progress {
     pub(crate) done: u32,
     pub(crate) slow: u32,
 }
 
-// Whether the bytes are to come in one chunk.
+// Whether the client wants the bytes in one chunk.
 fn has_df(header: Header) -> bool
     ensures { result ≡ has_df header }
 {
@@ -51,7 +51,8 @@ fn has_df(header: Header) -> bool
 }
 
 impl Delivery {
-    /// What is answered piece by piece: a READ of some bytes of the export, where chunks were agreed on.
+    /// Returns the READ that is answered piece by piece: a valid one of at least one byte, without DF, if structured replies
+    /// are agreed on.
     pub(crate) fn of(export: &Export<'_>, agreed: Agreement, header: Header) -> Option<Delivery>
         ensures value { result ≡ delivery_of (export_record export.now) agreed header }
         ensures within { IfSome result (λ d. d.offset + d.count ≤ export.now.size) }
@@ -74,7 +75,7 @@ impl Delivery {
         }
     }
 
-    // The place of the next byte.
+    // The offset of the next byte in the export.
     fn at(self, progress: Progress) -> u64
         requires { IsDeliveryRest self progress }
         ensures { result ≡ self.offset + progress.done }
@@ -82,7 +83,7 @@ impl Delivery {
         self.offset + u64::from(progress.done)
     }
 
-    // How many bytes the next piece has.
+    // The size of the next piece.
     fn piece_len(self, progress: Progress) -> u32
         requires rest { IsDeliveryRest self progress }
         requires some { progress.done < self.count }
@@ -93,7 +94,7 @@ impl Delivery {
     }
 }
 
-// How many bytes there are from a place on up to the end of its piece, or of its sector alone.
+// How many bytes follow `at` in its piece, or in its sector if `single` is set.
 fn room_at(at: u64, single: bool) -> u64
     ensures some { 0 < result }
     ensures few { result ≤ most_piece_bytes }
@@ -105,7 +106,7 @@ fn room_at(at: u64, single: bool) -> u64
     LARGE - at % LARGE
 }
 
-// Writes the bytes of a piece, and flushes them.
+// Writes the chunks of a piece, and flushes the writer.
 fn say_piece<W: Write>(
     writer: &mut Counted<W>,
     delivery: Delivery,
@@ -124,7 +125,7 @@ fn say_piece<W: Write>(
     writer.flush()
 }
 
-// Writes so many bytes as zeros, and flushes them.
+// Writes a hole of `size` bytes, and flushes the writer.
 fn say_zeros<W: Write>(
     writer: &mut Counted<W>,
     delivery: Delivery,
@@ -142,7 +143,7 @@ fn say_zeros<W: Write>(
     writer.flush()
 }
 
-// Reads the sectors that some bytes touch to the beginning of a buffer.
+// Reads the sectors that a byte range touches into the beginning of a buffer.
 fn read_to<D: BlockDev>(
     queue: &mut Queue<D>,
     export: &Export<'_>,
@@ -165,7 +166,7 @@ fn read_to<D: BlockDev>(
     )
 }
 
-// The same to the beginning of a buffer that grows where it is too short.
+// Reads the sectors that a byte range touches into the beginning of the buffer, which grows if it is too short.
 fn read_piece<D: BlockDev>(
     room: &mut Room,
     queue: &mut Queue<D>,
@@ -182,7 +183,8 @@ fn read_piece<D: BlockDev>(
     read_to(queue, export, at, size, room.bytes.as_mut_slice())
 }
 
-// Reads a piece, and answers it. `None`: it lies in a sector that can't be read, and the reply has ended.
+// Reads the next piece and answers it. Returns `None` if the piece lies in one sector that can't be read; the reply has ended
+// then.
 fn deliver_piece<D: BlockDev, W: Write>(
     room: &mut Room,
     queue: &mut Queue<D>,
@@ -222,7 +224,7 @@ fn deliver_piece<D: BlockDev, W: Write>(
     }
 }
 
-// Answers the next piece: its beginning unread, where the lines alone make that zeros.
+// Answers the next piece. If it begins with zeros of the lines, these are sent as a hole, and nothing is read.
 fn deliver_next<D: BlockDev, W: Write>(
     room: &mut Room,
     queue: &mut Queue<D>,
@@ -251,10 +253,14 @@ fn deliver_next<D: BlockDev, W: Write>(
     deliver_piece(room, queue, export, delivery, progress, writer)
 }
 
-/// Answers a READ piece by piece, each as soon as it is read, up to the first sector that can't be read.
+/// Answers a READ piece by piece, up to the first sector that can't be read. Each piece is sent as soon as it is read.
 ///
-/// A piece that fails is read again sector by sector. Zeros are told as holes; those of `zero` lines with which a piece
-/// begins aren't read. The buffer is kept, and as long as the longest piece so far.
+/// A piece that can't be read is read again sector by sector. Zeros are sent as holes. If a piece begins with zeros of `zero`
+/// lines, these aren't read. The buffer is kept between calls; it is as long as the longest piece so far.
+///
+/// # Errors
+///
+/// `WriteFault` if the writer failed.
 pub(crate) fn deliver<D: BlockDev, W: Write>(
     room: &mut Room,
     queue: &mut Queue<D>,

@@ -1,4 +1,4 @@
-//! A run of sectors, and what its lines alone say of them.
+//! Extents of sectors by what the lines say of them before anything is read.
 ghost use Rattle.std.specs.Prelude.{◌≡◌, ◌<◌, ◌≤◌, ◌+◌};
 ghost use Rattle.stack_rules.specs.Names.{mapped, size};
 ghost use Rattle.stack_rules.specs.Rules.{IsLoaded};
@@ -10,28 +10,29 @@ ghost use Rattle.nbd_server.specs.Extents.{IgnoresZeros, IsToldExtent, SourceIgn
 use stack_config::{Config, DevId, Lower};
 use stack_lines::{Source, VerityPart, run_at};
 
-// The most runs that are joined in one extent.
+// The most runs that are joined to one extent.
 const MOST_RUNS: u32 = 4096;
 
-/// What is known of sectors while nothing is read.
+/// What is known of sectors before they are read.
 #[derive(Clone, Copy, Debug, PartialEq, Eq)]
 pub enum ExtentKind {
-    /// They are zeros because of the lines alone.
+    /// The lines make them zeros.
     Zeros,
-    /// They lie on `verity` lines that ignore blocks of zeros: a read tells these, and asks for the data of the others alone.
+    /// They are on `verity` lines that ignore blocks of zeros. A read of such a block reports zeros, and reads the data device
+    /// for the other blocks only.
     IgnoresZeros,
     /// Nothing.
     Unknown,
 }
 
-/// So many sectors, of all of which the same is known.
+/// A number of sectors that are all of one kind.
 #[derive(Clone, Copy, Debug, PartialEq, Eq)]
 pub struct Extent {
     pub count: u64,
     pub kind: ExtentKind,
 }
 
-/// Whether the same is known.
+/// Whether the two kinds are equal.
 fn is_same_kind(a: ExtentKind, b: ExtentKind) -> bool
     ensures { result ≡ is_same_kind a b }
 {
@@ -43,7 +44,7 @@ fn is_same_kind(a: ExtentKind, b: ExtentKind) -> bool
     }
 }
 
-/// The extent of so many sectors of a `verity` line.
+/// Returns the extent of at most `most` sectors of a `verity` line.
 fn verity_extent(config: &Config, part: VerityPart<'_>, most: u64) -> Extent
     requires { 0 < most }
     ensures { IsToldExtent (source_said config.now (Block part.entry)) (SourceIgnores config.now (Block part.entry)) 0 most result }
@@ -61,7 +62,7 @@ fn verity_extent(config: &Config, part: VerityPart<'_>, most: u64) -> Extent
     }
 }
 
-/// The extent of so many sectors of a source at most, from its first on.
+/// Returns the extent of at most `most` sectors of a source, from its first sector on.
 #[cycle(extent)]
 fn source_extent(config: &Config, source: Source<'_>, most: u64) -> Extent
     requires loaded { IsLoaded config.now }
@@ -84,7 +85,7 @@ fn source_extent(config: &Config, source: Source<'_>, most: u64) -> Extent
     }
 }
 
-/// The extent of so many sectors of a leaf or a mapped device at most, from that one on.
+/// Returns the extent of at most `most` sectors of a backing device or a mapped device, from sector `first` on.
 #[cycle(extent)]
 fn lower_extent(config: &Config, lower: Lower, first: u64, most: u64) -> Extent
     requires loaded { IsLoaded config.now }
@@ -101,7 +102,7 @@ fn lower_extent(config: &Config, lower: Lower, first: u64, most: u64) -> Extent
     }
 }
 
-/// The extent of so many sectors of a mapped device at most, from that one on.
+/// Returns the extent of at most `most` sectors of a mapped device, from sector `first` on.
 #[cycle(extent)]
 fn device_extent(config: &Config, d: DevId, first: u64, most: u64) -> Extent
     requires loaded { IsLoaded config.now }
@@ -113,8 +114,8 @@ fn device_extent(config: &Config, d: DevId, first: u64, most: u64) -> Extent
     source_extent(config, run.source, run.count)
 }
 
-/// Sectors of a mapped device from that one on, at most so many, of which the same is known: as many as are found in some
-/// runs.
+/// Returns an extent of at most `most` sectors of a mapped device, from sector `first` on. It joins up to 4,096 runs and may
+/// therefore end before the kind changes.
 pub fn extent_at(config: &Config, d: DevId, first: u64, most: u64) -> Extent
     requires loaded { IsLoaded config.now }
     requires some { 0 < most }

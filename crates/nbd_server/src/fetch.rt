@@ -10,7 +10,7 @@ use nbd_protocol::{Export, RequestError};
 use request_queue::{BytesFault, Queue};
 use std::alloc::Global;
 
-/// Reads the sectors from `first` on into a buffer that they fill.
+/// Reads `count` sectors from `first` on into a buffer of this size.
 pub(crate) fn read_into<D: BlockDev>(
     queue: &mut Queue<D>,
     export: &Export<'_>,
@@ -30,7 +30,12 @@ pub(crate) fn read_into<D: BlockDev>(
     }
 }
 
-/// Reads the sectors from `first` on at once into a buffer that is allocated once.
+/// Reads `count` sectors from `first` on into a new buffer.
+///
+/// # Errors
+///
+/// - `InputOutput` if the stack refused the access or a device failed.
+/// - `NoMemory` if an allocation was refused.
 pub(crate) fn fetch<D: BlockDev>(
     alloc: Global,
     queue: &mut Queue<D>,

@@ -1,4 +1,4 @@
-//! The handshake's messages: the client's flags, and the options that it haggles over.
+//! The messages of the handshake: the client flags and the options.
 ghost use Rattle.std.specs.Prelude.{◌≡◌, ◌≢◌, ◌<◌, ◌≤◌, ◌^◌, length, nat_le, IfOk, IfErr};
 ghost use Rattle.program_io.specs.Streams.{streams};
 ghost use Rattle.request_queue.specs.World.{World};
@@ -17,7 +17,7 @@ use std::io::{Read, Write};
 // The most bytes of an option's data.
 const MOST_DATA: usize = 65536;
 
-/// Takes the client's flags.
+/// Receives the client flags. Returns `None` if the input ended before them.
 pub(crate) fn take_flags<R: Read>(reader: &mut Counted<R>) -> Result<Option<Phase>, ServiceFault>
     ensures turn { EndsFlags R.remaining reader.old reader.new result }
     ensures reader { HasRead 1 reader.old reader.new (result_fault result) }
@@ -40,7 +40,7 @@ pub(crate) fn take_flags<R: Read>(reader: &mut Counted<R>) -> Result<Option<Phas
     }))
 }
 
-// Takes the data of an option into the front of a buffer. `false`: they are too long for it, and are gone.
+// Receives the data of an option into the beginning of a buffer. Returns `false` if they don't fit; they are discarded then.
 fn take_content<R: Read>(
     reader: &mut Counted<R>,
     room: &mut [u8],
@@ -65,7 +65,8 @@ fn take_content<R: Read>(
     Ok(true)
 }
 
-// Answers an option whose data are too long.
+// Writes the reply to an option whose data are too long: ABORT is acknowledged, and other options get an error. EXPORT_NAME has
+// no reply.
 fn refuse_content<W: Write>(
     terms: Terms,
     option: u32,
@@ -89,7 +90,7 @@ fn refuse_content<W: Write>(
     })
 }
 
-// Replies to an option. `NoSuchExport`: it has no reply.
+// Writes the reply to an option. The error `NoSuchExport` means that the option has no reply: EXPORT_NAME names no export.
 fn answer_option<W: Write>(
     exports: &[Export<'_>],
     terms: Terms,
@@ -109,7 +110,7 @@ fn answer_option<W: Write>(
     Ok(phase_after(exports, terms, option, content))
 }
 
-/// Takes an option, and replies to it.
+/// Receives an option and writes the reply. Returns `None` if the input ended before the option.
 pub(crate) fn take_option<R: Read, W: Write>(
     exports: &[Export<'_>],
     terms: Terms,

@@ -1,4 +1,4 @@
-//! Serves a mapped device to a client of the NBD protocol, and tells which of its runs are zeros.
+//! Serves a mapped device to a client of the NBD protocol, and reports which of its sectors are zeros.
 #![tactic(auto)]
 
 mod byte_range;

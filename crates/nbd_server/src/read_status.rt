@@ -1,4 +1,4 @@
-//! The status of bytes that are read for it: those of `verity` lines that ignore blocks of zeros.
+//! Block status of bytes that must be read for it: `verity` lines that ignore blocks of zeros.
 ghost use Rattle.std.specs.Prelude.{◌≡◌, ◌<◌, ◌≤◌, ◌+◌, ◌^◌, length, replicate, take, IfOk, IsTrue, OnErr};
 ghost use Rattle.allocation.specs.Refusal.{IsOutOfMemory};
 ghost use Rattle.nbd_protocol.specs.Exports.{export_record};
@@ -15,13 +15,13 @@ use nbd_protocol::Export;
 use request_queue::Queue;
 use std::alloc::Global;
 
-// The bytes that are read end at a multiple of LARGE; if one extent is requested at a multiple of SMALL, since the other
-// bytes would be read for nothing.
+// One read ends at a multiple of LARGE. If the client requests one extent, it ends at a multiple of SMALL, because the bytes
+// after the first extent would be read for nothing.
 const LARGE: u64 = 262_144;
 
 const SMALL: u64 = 65_536;
 
-// How many bytes there are from a place on up to the end of what is read.
+// How many bytes from `at` on one read covers at most.
 fn room_at(at: u64, one: bool) -> u64
     ensures some { 0 < result }
     ensures few { result ≤ 262144 }
@@ -32,7 +32,7 @@ fn room_at(at: u64, one: bool) -> u64
     LARGE - at % LARGE
 }
 
-// The first of these bytes that are all zeros or have no block of zeros, by blocks that end at multiples of their size.
+// The first extent of the bytes: all zeros, or no block of zeros. Blocks end at multiples of their size.
 fn first_run(at: u64, bytes: &[u8]) -> BlockStatus
     requires some { 0 < length bytes.now }
     requires few { length bytes.now ≤ 262144 }
@@ -59,7 +59,7 @@ fn first_run(at: u64, bytes: &[u8]) -> BlockStatus
     }
 }
 
-// The status of bytes that were read, from an offset on: only of the first run if `one` is set.
+// Returns the status of bytes that were read from offset `at` on. If `one` is set, only the first extent is reported.
 fn tell_runs(alloc: Global, at: u64, bytes: &[u8], one: bool) -> Result<Vec<u8>, OutOfMemory>
     requires some { 0 < length bytes.now }
     requires few { length bytes.now ≤ 262144 }
@@ -84,9 +84,13 @@ fn tell_runs(alloc: Global, at: u64, bytes: &[u8], one: bool) -> Result<Vec<u8>,
     Ok(told)
 }
 
-/// Reads bytes of lines that ignore blocks of zeros, the first of so many, and reports which of them were read as zeros.
+/// Reads the first bytes of a range on lines that ignore blocks of zeros, and returns their status: which of them are zeros.
 ///
-/// Bytes that can't be read are reported as data: a READ of them returns the error, and a client that doesn't read them goes on.
+/// Bytes that can't be read are reported as data. A client that reads them gets the error; a client that doesn't can go on.
+///
+/// # Errors
+///
+/// `OutOfMemory` if the allocator refused memory for the status.
 pub(crate) fn read_status<D: BlockDev>(
     alloc: Global,
     queue: &mut Queue<D>,

@@ -15,7 +15,7 @@ use std::io::Write;
 
 const MAGIC: u32 = 0x6744_6698;
 
-/// What a request gave: a part of these bytes.
+/// The payload of a reply: a part of a buffer.
 #[derive(Drop)]
 pub(crate) struct Data {
     pub(crate) bytes: Vec<u8>,
@@ -24,7 +24,7 @@ pub(crate) struct Data {
 }
 
 impl Data {
-    /// No bytes.
+    /// Returns an empty payload.
     pub(crate) fn none(alloc: Global) -> Data
         ensures value { reply_data result ≡ [] }
         ensures inside { IsPart result }
@@ -36,7 +36,7 @@ impl Data {
         }
     }
 
-    /// All of these bytes.
+    /// Returns a payload of all these bytes.
     pub(crate) fn all(bytes: Vec<u8>) -> Data
         requires { length bytes.items ≤ most_length }
         ensures value { reply_data result ≡ bytes.items }
@@ -50,7 +50,7 @@ impl Data {
         }
     }
 
-    /// The bytes that are meant.
+    /// Returns the bytes of the payload.
     pub(crate) fn part(&self) -> &[u8]
         requires { self.now.start + self.now.length ≤ length self.now.bytes.items }
         ensures { result.now ≡ reply_data self.now }
@@ -59,7 +59,7 @@ impl Data {
     }
 }
 
-// A reply, but for its data.
+// Writes the header of a simple reply.
 fn say_head<W: Write>(writer: &mut Counted<W>, error: u32, cookie: u64) -> Result<(), WriteFault>
     ensures { Writes W.contents writer.old writer.new (simple_head error cookie) result }
 {
@@ -68,7 +68,7 @@ fn say_head<W: Write>(writer: &mut Counted<W>, error: u32, cookie: u64) -> Resul
     put64(writer, cookie)
 }
 
-// Writes the simple reply to the request with that cookie.
+// Writes a simple reply.
 fn say_simple<W: Write>(
     writer: &mut Counted<W>,
     cookie: u64,
@@ -86,7 +86,7 @@ fn say_simple<W: Write>(
     }
 }
 
-// The bytes of a READ.
+// Writes the chunk that answers a READ.
 fn say_read<W: Write>(
     writer: &mut Counted<W>,
     header: Header,
@@ -101,7 +101,7 @@ fn say_read<W: Write>(
     say_data(writer, true, header.cookie, header.offset, bytes)
 }
 
-// What a READ or a BLOCK_STATUS gives.
+// Writes the chunk that answers a READ or a BLOCK_STATUS.
 fn say_content<W: Write>(
     writer: &mut Counted<W>,
     header: Header,
@@ -116,7 +116,7 @@ fn say_content<W: Write>(
     say_read(writer, header, bytes)
 }
 
-// A reply in chunks.
+// Writes the last chunk of a structured reply: the result or the error.
 fn say_chunks<W: Write>(
     writer: &mut Counted<W>,
     header: Header,
@@ -131,7 +131,11 @@ fn say_chunks<W: Write>(
     }
 }
 
-/// Writes the reply to a request that was agreed on.
+/// Writes the reply to a request: simple or structured, as agreed on.
+///
+/// # Errors
+///
+/// `WriteFault` if the writer failed.
 pub(crate) fn say_reply<W: Write>(
     writer: &mut Counted<W>,
     agreed: Agreement,

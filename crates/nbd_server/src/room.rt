@@ -1,11 +1,11 @@
-//! Where the pieces of a reply are read.
+//! The buffer into which the pieces of a reply are read.
 ghost use Rattle.std.specs.Prelude.{◌≡◌, ◌≤◌, ◌+◌, drop, length, max, take, OnErr, OnOk};
 ghost use Rattle.allocation.specs.Refusal.{IsOutOfMemory};
 
 use allocation::{OutOfMemory, zeros};
 use std::alloc::Global;
 
-/// Memory, and a buffer of it that is kept from one piece to the next.
+/// An allocator, and a buffer that is kept from one piece to the next.
 #[derive(Drop)]
 pub(crate) struct Room {
     pub(crate) alloc: Global,
@@ -13,7 +13,7 @@ pub(crate) struct Room {
 }
 
 impl Room {
-    /// A buffer of no bytes.
+    /// Returns an empty buffer.
     pub(crate) fn new(alloc: Global) -> Room {
         Room {
             alloc,
@@ -21,7 +21,11 @@ impl Room {
         }
     }
 
-    /// Grows the buffer to so many bytes if it has fewer. Its content isn't kept then.
+    /// Grows the buffer to at least `count` bytes. If it grows, its content is lost.
+    ///
+    /// # Errors
+    ///
+    /// `OutOfMemory` if the allocator refused `count` bytes.
     pub(crate) fn grow(&mut self, count: usize) -> Result<(), OutOfMemory>
         ensures ok { OnOk result (count ≤ length self.new.bytes.items) }
         ensures few { length self.new.bytes.items ≤ max count (length self.old.bytes.items) }
@@ -34,7 +38,7 @@ impl Room {
         Ok(())
     }
 
-    /// Some bytes of the buffer.
+    /// Returns `count` bytes of the buffer, from `start` on.
     pub(crate) fn part(&self, start: usize, count: usize) -> &[u8]
         requires { start + count ≤ length self.now.bytes.items }
         ensures { result.now ≡ take count (drop start self.now.bytes.items) }

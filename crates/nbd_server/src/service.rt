@@ -1,4 +1,4 @@
-//! The service of a client: its messages one after another, and what is replied to each.
+//! The session of a client: its messages in order, and the reply to each.
 ghost use Rattle.std.specs.Prelude.{◌≢◌};
 ghost use Rattle.program_io.specs.Streams.{streams};
 ghost use Rattle.nbd_protocol.specs.Exports.{AreExports, export_records};
@@ -19,7 +19,7 @@ use std::io::{Read, Write};
 
 const GREETING: [u8; 18] = *b"NBDMAGICIHAVEOPT\0\x03";
 
-// Takes one message, and replies to it.
+// Receives one message and writes the reply.
 fn take_message<D: SyncDev, R: Read, W: Write>(
     room: &mut Room,
     queue: &mut Queue<D>,
@@ -45,9 +45,18 @@ fn take_message<D: SyncDev, R: Read, W: Write>(
     }
 }
 
-/// Serves a client the export that it names of these, until it ends the service or goes away between two messages.
+/// Serves one of the exports to a client, until the client ends the session or disconnects between two messages.
 ///
-/// Replies are flushed before the reader is called again.
+/// Each reply is flushed before the next call of the reader.
+///
+/// # Errors
+///
+/// - `Lost` if the client disconnected in the middle of a message.
+/// - `Magic` if a message begins with another magic number.
+/// - `Flags` if the client set flags that the service doesn't offer.
+/// - `NoSuchExport` if EXPORT_NAME names no export.
+/// - `ReadFault` if the reader failed, or was called 2^64 - 1 times.
+/// - `WriteFault` if the writer failed.
 pub fn serve<D: SyncDev, R: Read, W: Write>(
     alloc: Global,
     queue: &mut Queue<D>,

@@ -1,4 +1,4 @@
-//! Block status: which bytes of the export are zeros because of its lines, and which may be ignored.
+//! Block status: which bytes of the export the lines make zeros, and which must be read for it.
 ghost use Rattle.std.specs.Prelude.{◌≡◌, ◌<◌, ◌≤◌, ◌++◌, length, IfOk, IsTrue, OnErr, OnOk};
 ghost use Rattle.allocation.specs.Refusal.{IsOutOfMemory};
 ghost use Rattle.nbd_protocol.specs.Exports.{export_record};
@@ -15,7 +15,7 @@ use nbd_protocol::Export;
 use stack_config::Config;
 use std::alloc::Global;
 
-/// The most extents of one reply.
+/// The most extents in one reply.
 pub(crate) const MOST_EXTENTS: usize = 1024;
 
 // The flags of an extent.
@@ -23,7 +23,7 @@ const HOLE: u32 = 1;
 
 const ZERO: u32 = 2;
 
-/// So many bytes, all of which are zeros, or not known to be.
+/// A number of bytes, all of which are zeros, or of which this isn't known.
 #[derive(Clone, Copy, Debug, PartialEq, Eq)]
 pub(crate) struct BlockStatus {
     pub(crate) count: u32,
@@ -38,7 +38,7 @@ impl BlockStatus {
     }
 }
 
-/// So many bytes, and what is known of all of them while nothing is read.
+/// A number of bytes of one kind, by what is known before they are read.
 #[derive(Clone, Copy, Debug, PartialEq, Eq)]
 pub(crate) struct ByteExtent {
     pub(crate) count: u32,
@@ -46,7 +46,7 @@ pub(crate) struct ByteExtent {
 }
 
 impl ByteExtent {
-    // Their status: only zeros of the lines count as zeros.
+    // The status of the bytes: only zeros of the lines are reported as zeros.
     fn status(self) -> BlockStatus
         ensures count { result.count ≡ self.count }
         ensures zeros { IsTrue result.zeros → self.kind ≡ known.Zeros }
@@ -62,7 +62,7 @@ impl ByteExtent {
     }
 }
 
-/// What is known of bytes from a place on, of so many at most.
+/// Returns the extent of at most `left` bytes of the export, from `at` on.
 pub(crate) fn bytes_at(config: &Config, export: &Export<'_>, at: u64, left: u32) -> ByteExtent
     requires loaded { IsLoaded config.now }
     requires bytes { AreBytesOf config.now (export_record export.now) at left }
@@ -78,7 +78,7 @@ pub(crate) fn bytes_at(config: &Config, export: &Export<'_>, at: u64, left: u32)
     }
 }
 
-/// The status of bytes from a place on, of so many at most, of which nothing is read.
+/// Returns the status of at most `left` bytes of the export, from `at` on. Nothing is read.
 pub(crate) fn status_at(config: &Config, export: &Export<'_>, at: u64, left: u32) -> BlockStatus
     requires loaded { IsLoaded config.now }
     requires bytes { AreBytesOf config.now (export_record export.now) at left }
@@ -88,7 +88,7 @@ pub(crate) fn status_at(config: &Config, export: &Export<'_>, at: u64, left: u32
     bytes_at(config, export, at, left).status()
 }
 
-// A number in network byte order.
+// Returns a number in network byte order.
 #[tactic(auto, unfolding(nbd_protocol::specs::Numbers::bytes32))]
 fn bytes_of(number: u32) -> [u8; 4]
     ensures { result ≡ bytes32 number }
@@ -96,7 +96,11 @@ fn bytes_of(number: u32) -> [u8; 4]
     number.to_be_bytes()
 }
 
-/// Appends the status of an extent.
+/// Appends the descriptor of an extent.
+///
+/// # Errors
+///
+/// `OutOfMemory` if the allocator refused memory for the descriptor.
 pub(crate) fn push_status(told: &mut Vec<u8>, status: BlockStatus) -> Result<(), OutOfMemory>
     ensures ok { OnOk result (told.new.items ≡ told.old.items ++ descriptor status) }
     ensures err { OnErr result (IsOutOfMemory 4) }
@@ -105,7 +109,11 @@ pub(crate) fn push_status(told: &mut Vec<u8>, status: BlockStatus) -> Result<(),
     append(told, &bytes_of(status.flags()))
 }
 
-/// Returns the status of the first extent.
+/// Returns the descriptor of the first extent.
+///
+/// # Errors
+///
+/// `OutOfMemory` if the allocator refused memory for the descriptor.
 pub(crate) fn first_status(alloc: Global, status: BlockStatus) -> Result<Vec<u8>, OutOfMemory>
     ensures ok { IfOk result (λ told. told.items ≡ descriptor status) }
     ensures err { OnErr result (IsOutOfMemory 4) }
@@ -115,9 +123,14 @@ pub(crate) fn first_status(alloc: Global, status: BlockStatus) -> Result<Vec<u8>
     Ok(told)
 }
 
-/// Returns the status of some bytes without reading them: extent by extent, only of the first if `one` is set.
+/// Returns the status of a byte range without reading it, in at most 1,024 extents. If `one` is set, only the first extent is
+/// reported.
 ///
 /// Extents after the first end before `verity` lines that ignore blocks of zeros.
+///
+/// # Errors
+///
+/// `OutOfMemory` if the allocator refused memory for a descriptor.
 pub(crate) fn status_of(
     alloc: Global,
     config: &Config,

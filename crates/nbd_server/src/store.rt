@@ -1,4 +1,4 @@
-//! Puts sectors of the export.
+//! Writes sectors of the export.
 ghost use Rattle.std.specs.Prelude.{◌≡◌, ◌<◌, ◌≤◌, ◌+◌, ◌*◌, ◌/◌, ◌%◌, ◌^◌, length, IfErr, OnOk};
 ghost use Rattle.nbd_server.specs.Sectors.{FailsToPutAll, IsStored};
 ghost use Rattle.nbd_protocol.specs.Exports.{IsExport, export_record};
@@ -12,12 +12,17 @@ use nbd_protocol::{Export, RequestError};
 use request_queue::{BytesFault, Queue};
 use std::alloc::Global;
 
-// The most sectors of one run of zeros, and their bytes.
+// The most sectors of one run of zeros, and their size in bytes.
 const MOST_SECTORS: u64 = 2048;
 
 const MOST_BYTES: usize = 1048576;
 
-/// Puts the bytes of sectors from `first` on, up to the first piece that fails.
+/// Writes the sectors from `first` on, up to the first piece that fails.
+///
+/// # Errors
+///
+/// - `InputOutput` if the stack refused the write or a device failed.
+/// - `NoMemory` if an allocation was refused; some of the sectors are encrypted then.
 pub(crate) fn store<D: BlockDev>(
     queue: &mut Queue<D>,
     export: &Export<'_>,
@@ -36,7 +41,7 @@ pub(crate) fn store<D: BlockDev>(
     }
 }
 
-// Writes one run of zeros with the rest of its first and last sector.
+// Writes one run of zeros together with the rest of its first and last sector.
 fn zero_run<D: BlockDev>(
     alloc: Global,
     queue: &mut Queue<D>,
@@ -54,8 +59,8 @@ fn zero_run<D: BlockDev>(
     store(queue, export, first, bytes.as_slice())
 }
 
-// How many bytes the next run of zeros has, of so many that are left from sector `first` on: it splits no unit and no data
-// block that can be written in one run.
+// The size of the next run of zeros, of `left` bytes from sector `first` on. A run splits no unit and no data block that fits
+// in one run.
 fn run_bytes<D: BlockDev>(queue: &Queue<D>, export: &Export<'_>, first: u64, left: usize) -> usize
     requires export { IsExport queue.now.stack.config (export_record export.now) }
     requires some { 512 ≤ left }
@@ -67,7 +72,13 @@ fn run_bytes<D: BlockDev>(queue: &Queue<D>, export: &Export<'_>, first: u64, lef
     aligned_len(config, export.device, first, sectors, MOST_SECTORS) as usize * 512
 }
 
-/// Writes zeros with the rest of their first and last sector, as `store` writes bytes, with one run in memory at a time.
+/// Writes zeros together with the rest of their first and last sector. It writes them as `store` does, and holds one run in
+/// memory at a time.
+///
+/// # Errors
+///
+/// - `InputOutput` if the stack refused the write or a device failed.
+/// - `NoMemory` if an allocation was refused.
 pub(crate) fn store_zeros<D: BlockDev>(
     alloc: Global,
     queue: &mut Queue<D>,

@@ -31,7 +31,7 @@ use std::io::{Read, Write};
 
 const MAGIC: u32 = 0x2560_9513;
 
-// Reads bytes, as many as one reply may have.
+// Reads at most as many bytes as one reply can hold.
 fn read<D: BlockDev>(
     alloc: Global,
     queue: &mut Queue<D>,
@@ -47,7 +47,7 @@ fn read<D: BlockDev>(
     read_bytes(alloc, queue, export, offset, len)
 }
 
-// Takes the bytes of a write, and writes them.
+// Receives the payload of a WRITE, and writes it.
 fn take_write<D: BlockDev, R: Read>(
     alloc: Global,
     queue: &mut Queue<D>,
@@ -74,7 +74,7 @@ fn take_write<D: BlockDev, R: Read>(
     Ok(write_bytes(alloc, queue, export, offset, len, bytes.as_mut_slice()))
 }
 
-// Has all that was written put on the media.
+// Syncs all that was written.
 fn flush<D: SyncDev>(alloc: Global, queue: &mut Queue<D>) -> Result<Data, RequestError>
     ensures value { Flushes queue.old (data_outcome result) queue.new }
     ensures inside { IsSendable result }
@@ -85,7 +85,7 @@ fn flush<D: SyncDev>(alloc: Global, queue: &mut Queue<D>) -> Result<Data, Reques
     }
 }
 
-// Ends what was done: with FUA by having it put on the media.
+// Ends a write: with FUA it is synced.
 fn settle<D: SyncDev>(alloc: Global, queue: &mut Queue<D>, fua: bool) -> Result<Data, RequestError>
     ensures value { Settles fua (Stays queue.old) (data_outcome result) queue.new }
     ensures inside { IsSendable result }
@@ -96,7 +96,7 @@ fn settle<D: SyncDev>(alloc: Global, queue: &mut Queue<D>, fua: bool) -> Result<
     Ok(Data::none(alloc))
 }
 
-// Writes zeros.
+// Serves a WRITE_ZEROES.
 fn zero<D: SyncDev>(
     alloc: Global,
     queue: &mut Queue<D>,
@@ -114,8 +114,8 @@ fn zero<D: SyncDev>(
     settle(alloc, queue, fua)
 }
 
-// The status of extents, only of the first if `one` is set. If the bytes begin on `verity` lines that ignore blocks of
-// zeros, the first of them are read.
+// Returns the status of a byte range. If the range begins on `verity` lines that ignore blocks of zeros, its first bytes are
+// read. If `one` is set, only the first extent is reported.
 fn told_of<D: BlockDev>(
     alloc: Global,
     queue: &mut Queue<D>,
@@ -137,7 +137,7 @@ fn told_of<D: BlockDev>(
     }
 }
 
-// Writes the status of bytes.
+// Serves a BLOCK_STATUS.
 fn tell_status<D: BlockDev>(
     alloc: Global,
     queue: &mut Queue<D>,
@@ -157,7 +157,7 @@ fn tell_status<D: BlockDev>(
     }
 }
 
-// Serves a command that no bytes follow.
+// Serves a command without payload.
 fn serve_bare<D: SyncDev>(
     alloc: Global,
     queue: &mut Queue<D>,
@@ -188,7 +188,7 @@ fn serve_bare<D: SyncDev>(
     }
 }
 
-// Serves a request, of which the bytes of a write are still to come.
+// Serves a request. The payload of a WRITE hasn't been received yet.
 fn serve_request<D: SyncDev, R: Read>(
     alloc: Global,
     queue: &mut Queue<D>,
@@ -225,7 +225,7 @@ fn serve_request<D: SyncDev, R: Read>(
     }
 }
 
-/// Takes a request, and replies to it.
+/// Receives a request and writes the reply. Returns `None` if the input ended before the request.
 pub(crate) fn take_request<D: SyncDev, R: Read, W: Write>(
     room: &mut Room,
     queue: &mut Queue<D>,

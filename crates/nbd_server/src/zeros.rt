@@ -1,4 +1,4 @@
-//! Zeros, and the rest of their first and last sector.
+//! Zeros, and the rest of the first and last sector that they touch.
 ghost use Rattle.std.specs.Prelude.{◌≡◌, ◌+◌, length, IfOk, OnErr};
 ghost use Rattle.allocation.specs.Refusal.{IsOutOfMemory};
 ghost use Rattle.nbd_server.specs.Premises.{HaveEnds};
@@ -7,7 +7,7 @@ ghost use Rattle.nbd_server.specs.Zeros.{zeros_of};
 use allocation::{OutOfMemory, append, resize, with_capacity};
 use std::alloc::Global;
 
-/// So many zeros, and the bytes before and after them in their first and last sector.
+/// A number of zeros, and the bytes before and after them in their first and last sector.
 #[derive(Clone, Copy, Debug)]
 pub(crate) struct Zeros<'a> {
     pub(crate) before: &'a [u8],
@@ -16,7 +16,7 @@ pub(crate) struct Zeros<'a> {
 }
 
 impl Zeros<'_> {
-    /// How many bytes they are in all.
+    /// Returns the size of the sectors in bytes.
     pub(crate) fn len(&self) -> usize
         requires { HaveEnds self.now }
         ensures value { result ≡ length (zeros_of self.now) }
@@ -25,7 +25,11 @@ impl Zeros<'_> {
         self.before.len() + self.count + self.behind.len()
     }
 
-    /// All of them.
+    /// Returns the bytes of the sectors.
+    ///
+    /// # Errors
+    ///
+    /// `OutOfMemory` if the allocator refused memory for them.
     pub(crate) fn bytes(&self, alloc: Global) -> Result<Vec<u8>, OutOfMemory>
         requires { HaveEnds self.now }
         ensures ok { IfOk result (λ bytes. bytes.items ≡ zeros_of self.now) }

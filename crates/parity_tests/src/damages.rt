@@ -1,25 +1,25 @@
-//! Damage of images that have veritysetup's parity, and what a repair makes of it.
+//! Damage of images with veritysetup's parity, and what a repair does about it.
 
-/// Blocks of an image that are overwritten, those of them that are whole in a copy, and what comes of it.
+/// Blocks of an image that are overwritten, those of them that a copy has, and the result.
 pub(crate) struct Damage {
     pub(crate) case: usize,
     pub(crate) lost: &'static [u64],
     pub(crate) copied: &'static [u64],
-    /// The bytes of parity that are overwritten.
+    /// The offsets of the overwritten bytes of parity.
     pub(crate) spoiled: &'static [usize],
     pub(crate) write: bool,
     /// What the repair prints.
     pub(crate) lines: &'static str,
-    /// The blocks that are as they were overwritten still, and what is told of the image then.
+    /// The blocks that are still overwritten, and what a scan reports then.
     pub(crate) still: &'static [u64],
     pub(crate) told: &'static str,
 }
 
-// Case 0 has 300 data blocks, case 3 has 232, case 8 has 500, case 12 has 216 and case 13 has 217; then follow the hash blocks,
-// from the top one on. Two rounds cover them, of the blocks with even and with odd numbers, three in case 8, and one in case 12.
-// A codeword has two bytes of parity, eight in case 3, and 24 in cases 12 and 13.
+// Case 0 has 300 data blocks, case 3 has 232, case 8 has 500, case 12 has 216 and case 13 has 217; the hash blocks follow, from
+// the top one on. There are two rounds, of the blocks with even and with odd numbers; three in case 8, and one in case 12. A
+// codeword has two bytes of parity, eight in case 3, and 24 in cases 12 and 13.
 pub(crate) static DAMAGES: [Damage; 18] = [
-    // a whole image, and data blocks
+    // an intact image, and data blocks
     Damage {
         case: 0,
         lost: &[],
@@ -51,7 +51,7 @@ pub(crate) static DAMAGES: [Damage; 18] = [
         still: &[],
         told: "",
     },
-    // one that isn't, and a hash block and a data block beneath it that are met in the next pass
+    // a hash block that can't be reconstructed, and a hash block and a data block below it, which the next pass finds
     Damage {
         case: 3,
         lost: &[232, 233, 17],
@@ -62,7 +62,7 @@ pub(crate) static DAMAGES: [Damage; 18] = [
         still: &[],
         told: "",
     },
-    // the same with three levels, in three passes
+    // such damage in a tree of three levels, repaired in three passes
     Damage {
         case: 8,
         lost: &[500, 501, 505, 1],
@@ -73,7 +73,7 @@ pub(crate) static DAMAGES: [Damage; 18] = [
         still: &[],
         told: "",
     },
-    // eight of a round, of which one is in the tree above two of the other
+    // eight blocks of a round, one of which is in the tree above two of the other round
     Damage {
         case: 3,
         lost: &[234, 0, 2, 4, 6, 8, 10, 12, 17, 19],
@@ -88,7 +88,7 @@ pub(crate) static DAMAGES: [Damage; 18] = [
         still: &[],
         told: "",
     },
-    // and 24, of which two are
+    // 24 blocks, two of which are in the tree
     Damage {
         case: 13,
         lost: &[
@@ -110,7 +110,7 @@ pub(crate) static DAMAGES: [Damage; 18] = [
         still: &[],
         told: "",
     },
-    // one more than parity brings back, beside one that it does, and where a copy has one
+    // one block more than parity restores, next to one that it restores, and with a copy that has one
     Damage {
         case: 0,
         lost: &[0, 4, 298],
@@ -141,7 +141,7 @@ pub(crate) static DAMAGES: [Damage; 18] = [
         still: &[],
         told: "",
     },
-    // nine of a round, and 25, of data; and of the tree above one that isn't known as lost
+    // nine data blocks of a round, and 25; and a hash block above one that isn't known to be lost
     Damage {
         case: 3,
         lost: &[234, 0, 2, 4, 6, 8, 10, 12, 14, 17],
@@ -187,7 +187,7 @@ pub(crate) static DAMAGES: [Damage; 18] = [
         ],
         told: "unknown 16 16\nchanged 32 23\nhash 0 1\n",
     },
-    // parity that is overwritten too, and that of one of two rounds
+    // overwritten parity, and overwritten parity of one of two rounds
     Damage {
         case: 0,
         lost: &[4],
@@ -218,7 +218,7 @@ pub(crate) static DAMAGES: [Damage; 18] = [
         still: &[7],
         told: "changed 7 1\n",
     },
-    // nothing may be written
+    // the repair may not write
     Damage {
         case: 0,
         lost: &[4, 7],

@@ -1,4 +1,4 @@
-//! Tests of `fec_area` beside files of veritysetup, and of `tree_repair` over images in memory and by their parity.
+//! Tests of `fec_area` with files of veritysetup, and of `tree_repair` over images in memory and their parity.
 #![tactic(auto)]
 
 #[cfg(test)]

@@ -1,9 +1,9 @@
-//! Blocks of an image that are overwritten.
+//! Overwrites blocks of an image.
 use fec_area::Layout;
 use std::alloc::Global;
 use std::test::Fail;
 
-/// Where a covered block stands: on the hash device or not, and from which byte on.
+/// Returns where a covered block is: whether on the hash device, and the offset of its first byte.
 pub(crate) fn place_of(layout: &Layout, index: u64) -> (bool, usize) {
     let size = layout.block as usize;
     let data_blocks = layout.data_blocks;
@@ -15,7 +15,7 @@ pub(crate) fn place_of(layout: &Layout, index: u64) -> (bool, usize) {
     (true, (number as usize).saturating_mul(size))
 }
 
-/// Fills a block with bytes that it hadn't before.
+/// Fills a block with bytes that differ from its old ones.
 pub(crate) fn overwrite(bytes: &mut [u8], first: usize, size: usize) -> Result<(), Fail> {
     let end = first.saturating_add(size);
     let block = bytes.get_mut(first..end).ok_or("no block")?;
@@ -25,7 +25,7 @@ pub(crate) fn overwrite(bytes: &mut [u8], first: usize, size: usize) -> Result<(
     Ok(())
 }
 
-/// Overwrites bytes of parity.
+/// Overwrites bytes of the parity.
 pub(crate) fn spoil(parity: &mut [u8], places: &[usize]) -> Result<(), Fail> {
     for place in places {
         overwrite(parity, *place, 1)?;
@@ -33,7 +33,7 @@ pub(crate) fn spoil(parity: &mut [u8], places: &[usize]) -> Result<(), Fail> {
     Ok(())
 }
 
-/// The bytes of a covered block.
+/// Returns the bytes of a covered block.
 pub(crate) fn block_of(
     alloc: Global,
     layout: &Layout,

@@ -1,4 +1,4 @@
-//! Parity beside that of veritysetup 2.6.1.
+//! Parity compared with that of veritysetup 2.6.1.
 ghost use Rattle.std.specs.Prelude.{IfOk};
 ghost use Rattle.fec_area.specs.Layouts.{IsLayout};
 
@@ -11,13 +11,13 @@ use std::test::Fail;
 use tree_shape::{Algorithm, Digest as TreeDigest, Salt};
 use verity_format::{Superblock, format};
 
-/// An image over a ramp, and the digest of veritysetup's parity of it.
+/// An image over a ramp, and the digest of veritysetup's parity for it.
 pub(crate) struct Case {
-    /// A block's bytes, how many data blocks, and how many bytes of parity in a codeword.
+    /// The size of a block in bytes, the number of data blocks, and the bytes of parity in a codeword.
     pub(crate) block: u32,
     pub(crate) blocks: u64,
     pub(crate) roots: usize,
-    /// The sectors of the data, the hash device and the parity.
+    /// The sectors of the data device, the hash device and the parity.
     pub(crate) data: u32,
     pub(crate) hash: u32,
     pub(crate) parity: u32,
@@ -53,7 +53,7 @@ pub(crate) static CASES: [Case; 15] = [
         parity: 8,
         digest: "82236a054fbdf5ee494842dff29b42cb6d5806cbac57531638cc9a4ee1ee1b25",
     },
-    // and 248 are two, by one data block more, or by one behind the tree
+    // 248 are two rounds, by one more data block, or by one more block after the tree
     Case {
         block: 512,
         blocks: 232,
@@ -109,7 +109,7 @@ pub(crate) static CASES: [Case; 15] = [
         parity: 6,
         digest: "b0d0f0348e1ed2fa5b3df03199a7d9244388ca19436f71bf8da495dafb282b14",
     },
-    // 253 covered blocks are one round of codewords with two bytes of parity, and 254 are two
+    // 253 covered blocks are one round for two bytes of parity in a codeword, and 254 are two
     Case {
         block: 512,
         blocks: 237,
@@ -137,7 +137,7 @@ pub(crate) static CASES: [Case; 15] = [
         parity: 4,
         digest: "8f638a17c8225e1b98ac7164dca467c7248a47d29d446335713ff6f4db56c82d",
     },
-    // 231 with 24 bytes, and 232
+    // 231 covered blocks are one round for 24 bytes of parity, and 232 are two
     Case {
         block: 512,
         blocks: 216,
@@ -173,7 +173,7 @@ fn has_digits(digest: &[u8], wanted: &str) -> bool {
     hex::encode_to_slice(digest, &mut digits).is_ok() && digits.as_slice() == wanted.as_bytes()
 }
 
-/// An image, its parity and how that lies across it.
+/// An image, its parity and the layout of the parity.
 #[derive(Drop)]
 pub(crate) struct Protected {
     pub(crate) data: MemoryDev,
@@ -183,7 +183,7 @@ pub(crate) struct Protected {
     pub(crate) root: TreeDigest,
 }
 
-/// The image, formatted, whose parity is written and compared.
+/// Formats the image, and writes and checks its parity.
 pub(crate) fn protect<R: Abort>(rt: &R, alloc: Global, case: &Case) -> Result<Protected, Fail>
     ensures { IfOk result (λ image. IsLayout image.layout) }
 {

@@ -1,4 +1,4 @@
-//! Lost hash blocks, reconstructed from the blocks beneath them.
+//! Lost hash blocks, reconstructed from the blocks below them.
 use block_device::{BlockDev, MemoryDev};
 use program_io::Counted;
 use std::alloc::Global;
@@ -8,27 +8,28 @@ use tree_repair::{DamagedImage, Plan, repair_image};
 use tree_shape::{Algorithm, Salt};
 use verity_format::{Superblock, format};
 
-/// An image over a ramp, of which some sectors are written over, and what a repair without copies prints.
+/// An image over a ramp with some sectors overwritten, and what a repair without copies prints.
 struct Case {
-    /// The bytes of a data block and of a hash block, and how many data blocks there are.
+    /// The sizes of a data block and of a hash block in bytes, and the number of data blocks.
     data_block: u32,
     hash_block: u32,
     blocks: u64,
-    /// The sectors of the data and of the hash device.
+    /// The sectors of the data device and the hash device.
     data: u32,
     hash: u32,
-    /// The sectors that are lost: of the hash device, and of the data.
+    /// The sectors that are lost: of the hash device, and of the data device.
     lost: &'static [u64],
     changed: &'static [u64],
     write: bool,
     lines: &'static str,
-    /// The sectors of the hash device that are lost still.
+    /// The sectors of the hash device that are still lost.
     still: &'static [u64],
 }
 
-// Of 300 blocks the top level stands at sector 1, the two of the next one at 2 and 3, the 19 of the lowest from 4 on.
+// For 300 blocks the top level is at sector 1, the two blocks of the next level at 2 and 3, and the 19 blocks of the lowest
+// from 4 on.
 static CASES: [Case; 8] = [
-    // the top one, one in the middle, and the last one
+    // the top block, one in the middle, and the last one
     Case {
         data_block: 512,
         hash_block: 512,
@@ -41,7 +42,7 @@ static CASES: [Case; 8] = [
         lines: "repaired hash 2 0 remade\nrepaired hash 1 0 remade\nrepaired hash 0 18 remade\n",
         still: &[],
     },
-    // nothing may be written
+    // the repair may not write
     Case {
         data_block: 512,
         hash_block: 512,
@@ -54,7 +55,7 @@ static CASES: [Case; 8] = [
         lines: "repairable hash 2 0 remade\n",
         still: &[1, 2, 22],
     },
-    // a data block is changed too: all above the lowest level is made of hash blocks
+    // a data block is changed too: all blocks above the lowest level are made from hash blocks
     Case {
         data_block: 512,
         hash_block: 512,
@@ -67,7 +68,7 @@ static CASES: [Case; 8] = [
         lines: "repaired hash 2 0 remade\nrepaired hash 1 1 remade\n",
         still: &[],
     },
-    // one above it
+    // a hash block above the changed data block is lost
     Case {
         data_block: 512,
         hash_block: 512,
@@ -80,7 +81,7 @@ static CASES: [Case; 8] = [
         lines: "repaired hash 0 1 remade\n",
         still: &[4],
     },
-    // no height is whole
+    // no height is intact
     Case {
         data_block: 512,
         hash_block: 512,
@@ -93,7 +94,7 @@ static CASES: [Case; 8] = [
         lines: "",
         still: &[1, 2, 5],
     },
-    // one data block is left beneath the last hash block of each level
+    // there is only one data block below the last hash block of each level
     Case {
         data_block: 512,
         hash_block: 512,
@@ -106,7 +107,7 @@ static CASES: [Case; 8] = [
         lines: "repaired hash 2 0 remade\nrepaired hash 1 0 remade\nrepaired hash 1 1 remade\nrepaired hash 0 16 remade\n",
         still: &[],
     },
-    // data blocks that are greater, and smaller, than hash blocks
+    // data blocks that are larger, and smaller, than hash blocks
     Case {
         data_block: 4096,
         hash_block: 512,
@@ -133,7 +134,7 @@ static CASES: [Case; 8] = [
     },
 ];
 
-// Writes over these sectors.
+// Overwrites these sectors.
 fn lose<R: Abort>(rt: &R, device: &mut MemoryDev, sectors: &[u64]) -> Result<(), Fail> {
     for sector in sectors {
         assert!(rt; *sector < device.sectors());
@@ -143,7 +144,7 @@ fn lose<R: Abort>(rt: &R, device: &mut MemoryDev, sectors: &[u64]) -> Result<(),
     Ok(())
 }
 
-// The image before it was damaged, and its root.
+// The image before it was damaged, and its root hash.
 fn formatted(
     alloc: Global,
     case: &Case,

@@ -1,4 +1,4 @@
-//! Images repaired by the parity that is veritysetup's.
+//! Images repaired by veritysetup's parity.
 ghost use Rattle.std.specs.Prelude.{◌≤◌, ◌^◌};
 ghost use Rattle.fec_area.specs.Layouts.{IsLayout};
 
@@ -24,7 +24,7 @@ struct Image {
 }
 
 impl Image {
-    /// The same with these blocks overwritten.
+    /// Returns the image with these blocks overwritten.
     fn overwritten(&self, alloc: Global, layout: &Layout, blocks: &[u64]) -> Result<Image, Fail> {
         let mut data = copy_of(alloc, &self.data)?;
         let mut hash = copy_of(alloc, &self.hash)?;
@@ -40,7 +40,7 @@ impl Image {
         Ok(Image { data, hash })
     }
 
-    /// Its devices.
+    /// Returns the devices of the image.
     fn into_devices(self, writable: bool) -> (MemoryDev, MemoryDev) {
         let Image { data, hash } = self;
         (
@@ -49,7 +49,7 @@ impl Image {
         )
     }
 
-    /// Whether the devices have these bytes.
+    /// Whether the devices hold these bytes.
     fn is_on(&self, data: MemoryDev, hash: MemoryDev) -> bool {
         let same = data.into_bytes().as_slice() == self.data.as_slice();
         same && hash.into_bytes().as_slice() == self.hash.as_slice()
@@ -62,7 +62,7 @@ fn copy_of(alloc: Global, bytes: &[u8]) -> Result<Vec<u8>, AllocError> {
     Ok(copy)
 }
 
-/// What is told of an image: its blocks that aren't good.
+/// Returns what a scan of an image reports.
 fn told_of(
     alloc: Global,
     data: &mut MemoryDev,
@@ -75,7 +75,7 @@ fn told_of(
     Ok(writer.into_inner())
 }
 
-/// Repairs the image that is damaged, and compares what was printed, what is told of it then, and what stands there.
+/// Repairs the damaged image, and checks what was printed, what a scan reports then, and what the devices hold.
 fn repairs<R: Abort>(rt: &R, alloc: Global, row: &Damage) -> Result<(), Fail> {
     let case = CASES.get(row.case).ok_or("no case")?;
     let Protected {
@@ -91,7 +91,7 @@ fn repairs<R: Abort>(rt: &R, alloc: Global, row: &Damage) -> Result<(), Fail> {
     };
     let damaged = whole.overwritten(alloc, &layout, row.lost)?;
     let wanted = whole.overwritten(alloc, &layout, row.still)?;
-    // the copy has what isn't damaged once more
+    // overwriting them again gives the blocks of `copied` their original bytes
     let copy = damaged.overwritten(alloc, &layout, row.copied)?;
     let mut parity_bytes = parity.into_bytes();
     spoil(&mut parity_bytes, row.spoiled)?;
@@ -124,7 +124,7 @@ fn repairs<R: Abort>(rt: &R, alloc: Global, row: &Damage) -> Result<(), Fail> {
     Ok(())
 }
 
-/// Repairs an image by its copies and its parity, and gives what was printed.
+/// Repairs an image by its copies and its parity, and returns what was printed.
 fn mend<R: Abort>(
     rt: &R,
     alloc: Global,

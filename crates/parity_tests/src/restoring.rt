@@ -7,17 +7,17 @@ use std::alloc::Global;
 use std::process::Abort;
 use std::test::Fail;
 
-/// What comes of a block that is sought.
+/// The result of restoring a block.
 enum Wanted {
-    /// The block that was there.
+    /// The original block.
     Back,
     /// Other bytes.
     Other,
     Fault(RestoreFault),
 }
 
-/// Blocks of an image that are overwritten, those of them that are known, bytes of its parity that are overwritten too, and
-/// what comes of the first of these blocks.
+/// Blocks of an image that are overwritten, those of them that are known to be lost, bytes of its parity that are overwritten
+/// too, and the result for the first of these blocks.
 struct Loss {
     case: usize,
     lost: &'static [u64],
@@ -26,10 +26,10 @@ struct Loss {
     wanted: Wanted,
 }
 
-// Case 0 has 322 covered blocks, from 300 on in the tree, of which the top one is 300, and two rounds. The tree begins at 231
-// in case 2, at 232 in case 3, at 216 in case 12 and at 217 in case 13; cases 2 and 12 have one round, the others two.
+// Case 0 has 322 covered blocks, those of the tree from 300 (its top block) on, and two rounds. The tree begins at 231 in case
+// 2, at 232 in case 3, at 216 in case 12 and at 217 in case 13. Cases 2 and 12 have one round, the others two.
 static LOSSES: [Loss; 18] = [
-    // a data block, and two of a round
+    // a data block, and two blocks of a round
     Loss {
         case: 0,
         lost: &[7],
@@ -44,7 +44,7 @@ static LOSSES: [Loss; 18] = [
         spoiled: &[],
         wanted: Wanted::Back,
     },
-    // the top block and a data block, beside two lost ones of the other round
+    // the top block and a data block, with two lost blocks in the other round
     Loss {
         case: 0,
         lost: &[300, 4, 5, 321],
@@ -52,7 +52,7 @@ static LOSSES: [Loss; 18] = [
         spoiled: &[],
         wanted: Wanted::Back,
     },
-    // a block that isn't known as lost
+    // a block that isn't known to be lost
     Loss {
         case: 0,
         lost: &[300, 4],
@@ -60,7 +60,7 @@ static LOSSES: [Loss; 18] = [
         spoiled: &[],
         wanted: Wanted::Other,
     },
-    // more than there is parity for
+    // more blocks than the parity can restore
     Loss {
         case: 0,
         lost: &[0, 4, 298],
@@ -68,7 +68,7 @@ static LOSSES: [Loss; 18] = [
         spoiled: &[],
         wanted: Wanted::Fault(RestoreFault::TooManyLost { count: 3 }),
     },
-    // parity that was overwritten
+    // overwritten parity
     Loss {
         case: 0,
         lost: &[4],
@@ -76,7 +76,7 @@ static LOSSES: [Loss; 18] = [
         spoiled: &[0],
         wanted: Wanted::Other,
     },
-    // that of the other round: a round's parity has 1,024 bytes
+    // overwritten parity of the other round; a round's parity has 1,024 bytes
     Loss {
         case: 0,
         lost: &[7],
@@ -113,7 +113,7 @@ static LOSSES: [Loss; 18] = [
         spoiled: &[],
         wanted: Wanted::Fault(RestoreFault::TooManyLost { count: 9 }),
     },
-    // of two rounds, a data block, beside lost blocks and parity of the other one
+    // two rounds: a data block, with lost blocks and overwritten parity in the other round
     Loss {
         case: 3,
         lost: &[17, 1, 3, 5, 7, 233, 247, 101, 0, 232],
@@ -121,7 +121,7 @@ static LOSSES: [Loss; 18] = [
         spoiled: &[0],
         wanted: Wanted::Back,
     },
-    // 24, the top block first
+    // 24 blocks, the top block first
     Loss {
         case: 12,
         lost: &[
@@ -148,7 +148,7 @@ static LOSSES: [Loss; 18] = [
         spoiled: &[],
         wanted: Wanted::Fault(RestoreFault::TooManyLost { count: 25 }),
     },
-    // of two rounds, a hash block and a data block, beside parity of the other one
+    // two rounds: a hash block and a data block, with overwritten parity in the other round
     Loss {
         case: 13,
         lost: &[
@@ -198,7 +198,7 @@ static LOSSES: [Loss; 18] = [
     },
 ];
 
-/// Overwrites what is lost, and brings the first of it back.
+/// Overwrites the lost blocks, and restores the first.
 fn loses<R: Abort>(rt: &R, alloc: Global, loss: &Loss) -> Result<(), Fail> {
     let case = CASES.get(loss.case).ok_or("no case")?;
     let Protected {

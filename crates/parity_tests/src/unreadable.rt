@@ -1,4 +1,4 @@
-//! Lost blocks that can't be read, restored by veritysetup's parity.
+//! Lost blocks of which others of the round can't be read, restored by veritysetup's parity.
 use crate::losing::{block_of, lose};
 use crate::parity::{CASES, Protected, protect};
 use block_device::{FailAt, MemoryDev};
@@ -7,8 +7,8 @@ use std::alloc::Global;
 use std::process::Abort;
 use std::test::Fail;
 
-/// Lost blocks of an image, all of one round, of which the first is sought; which call of its data and of its hash
-/// device fails, 0 where none does; and whether the block comes back.
+/// Lost blocks of an image, all in one round, the first of which is to be restored; the call of the data device and of the hash
+/// device that fails (0: none); and whether the block is restored.
 struct Unreadable {
     case: usize,
     lost: &'static [u64],
@@ -17,9 +17,9 @@ struct Unreadable {
     back: bool,
 }
 
-// A call reads one block. Of the round with block 299 of case 0 the data device has 150 blocks, of which that is the last,
-// and the hash device 11, of which 321 is the last; of the other round's 298 and 320 are. Case 2 has one round, of 231 data
-// blocks and 16 in the tree.
+// A call reads one block. The round of block 299 in case 0 has 150 blocks on the data device, the last of which is 299, and 11
+// on the hash device, the last of which is 321; the other round's last blocks are 298 and 320. Case 2 has one round, of 231
+// data blocks and 16 hash blocks.
 static ROWS: [Unreadable; 6] = [
     Unreadable {
         case: 0,
@@ -66,7 +66,7 @@ static ROWS: [Unreadable; 6] = [
     },
 ];
 
-/// Overwrites what is lost, and seeks the first of it.
+/// Overwrites the lost blocks, and restores the first.
 fn restores<R: Abort>(rt: &R, alloc: Global, row: &Unreadable) -> Result<(), Fail> {
     let case = CASES.get(row.case).ok_or("no case")?;
     let Protected {

@@ -1,4 +1,4 @@
--- What `repair --fec FILE` did to files, and how it ended.
+-- What `repair --fec FILE` does to files, and how it ends.
 use Rattle.std.specs.Prelude.{◌≡◌, ◌⊎◌, ℕ, Bool, true, List, Option, map}
 use Rattle.block_device.specs.Device.{Device}
 use Rattle.program_io.specs.Counted.{CountedRecord}
@@ -29,9 +29,10 @@ use Rattle.repair_commands.specs.Rest.{IsRestEnd, TellsRest, known_by}
 use Rattle.repair_commands.specs.Standing.{CanStand}
 use Rattle.repair_commands.specs.Parity.{FailsToOpenParity, IsUnlaid, LaysOutParity, OpensParity}
 
--- ---- of devices
+-- ---- on devices
 
--- The parity was laid out, and the image gone over by it too; of the passes more is said, from behind the reading for the layout.
+-- The layout of the parity was determined, and the image repaired with it. `RepairsInPasses` states more of the passes, from
+-- the state after the layout's read.
 pub record MendsByParity (plan : Plan) (parity_dev : Device) (roots : ℕ) (w w' : RepairWorld) (old new : Option (List ℕ)) (outcome : Outcome) : Type 0 where
   pub layout : Layout
   pub read_dev : Device
@@ -40,14 +41,14 @@ pub record MendsByParity (plan : Plan) (parity_dev : Device) (roots : ℕ) (w w'
   pub parity_dev' : Device
   pub passes : MendsInPasses plan layout parity_dev parity_dev' (record w { hash_dev = read_dev }) w' old new outcome
 
--- it isn't gone over to its end, not all lines were printed, or not all is synced: good blocks alone were written all the same
+-- the image wasn't repaired to its end, not all lines were printed, or not all is synced; only verified blocks were written
 pub record EndsHalf (plan : Plan) (w w' : RepairWorld) (old new : Option (List ℕ)) (fault : ParityRepairFault) : Type 0 where
   pub stands : CanStand w.hash_dev plan.copy_first
   pub cause : RepairFault
   pub half : HalfMends plan true w w' old new cause
   pub is : fault ≡ Tree (ending_fault cause)
 
--- the parity isn't laid out: the hash device alone was asked, and only read, and nothing printed
+-- there is no layout of the parity: only the hash device was accessed, by reads, and nothing was printed
 pub record IsUnlaidEnd (parity_dev : Device) (first roots : ℕ) (w w' : RepairWorld) (old new : Option (List ℕ)) (fault : ParityRepairFault) : Type 0 where
   pub unlaid : IsUnlaid w.data_dev w.hash_dev parity_dev first roots w'.hash_dev fault
   pub read : IsHashReadAlone w w'
@@ -56,7 +57,7 @@ pub record IsUnlaidEnd (parity_dev : Device) (first roots : ℕ) (w w' : RepairW
 abbrev pub HalfMendsByParity : Plan → Device → ℕ → RepairWorld → RepairWorld → Option (List ℕ) → Option (List ℕ) → ParityRepairFault → Type 0
 HalfMendsByParity plan parity_dev roots w w' old new fault = IsUnlaidEnd parity_dev plan.copy_first roots w w' old new fault ⊎ EndsHalf plan w w' old new fault
 
--- the same by the open parity, and a writer before and behind
+-- a repair of devices with parity, by the open parity and the writer before and after
 abbrev pub IsMendedByFec : {P W : Type 0} → (P → Device) → (W → Option (List ℕ)) → Plan → Parity P → RepairWorld → RepairWorld → CountedRecord W → CountedRecord W → Outcome → Type 0
 IsMendedByFec state contents plan parity w w' old new outcome =
     MendsByParity plan (state parity.device) parity.roots w w' (contents old.inner) (contents new.inner) outcome
@@ -65,9 +66,9 @@ abbrev pub IsHalfByFec : {P W : Type 0} → (P → Device) → (W → Option (Li
 IsHalfByFec state contents plan parity w w' old new fault =
     HalfMendsByParity plan (state parity.device) parity.roots w w' (contents old.inner) (contents new.inner) fault
 
--- ---- of files
+-- ---- on files
 
--- what is open was repaired, and both parts given back
+-- the open images were repaired, and both parts closed
 pub record MendsOpenedByParity {S D : Type 0} (w : Calls S D) (p : Places) (o : Opened D) (parity : Parity D) (root : List ℕ) (old new : Option (List ℕ)) (outcome : Outcome) : Type 0 where
   pub data_dev : D
   pub hash_dev : D
@@ -76,7 +77,7 @@ pub record MendsOpenedByParity {S D : Type 0} (w : Calls S D) (p : Places) (o : 
   pub mends : MendsByParity (plan_of p root) (w.state parity.device) parity.roots (world_of w o) (repair_world (w.state data_dev) (w.state hash_dev) (map w.state data_copies) (map w.state hash_copies)) old new outcome
   pub back : GivesBackImages p.write w p o.parts data_dev hash_dev
 
--- or not to the end
+-- the open images weren't repaired to the end, and both parts were closed
 pub record HalfMendsOpenedByParity {S D : Type 0} (w : Calls S D) (p : Places) (o : Opened D) (parity : Parity D) (root : List ℕ) (old new : Option (List ℕ)) (fault : ParityRepairFault) : Type 0 where
   pub data_dev : D
   pub hash_dev : D
@@ -85,13 +86,13 @@ pub record HalfMendsOpenedByParity {S D : Type 0} (w : Calls S D) (p : Places) (
   pub half : HalfMendsByParity (plan_of p root) (w.state parity.device) parity.roots (world_of w o) (repair_world (w.state data_dev) (w.state hash_dev) (map w.state data_copies) (map w.state hash_copies)) old new fault
   pub back : GivesBackImages p.write w p o.parts data_dev hash_dev
 
--- the images and the copies were opened, and then the file of the parity
+-- the images and the copies were opened, and then the parity file
 pub record OpensAllWithParity {S D : Type 0} (w : Calls S D) (p : Places) (fec : FecRecord) (copies : List ImageCopy) (o : Opened D) (parity : Parity D) : Type 0 where
   pub between : S
   pub opens : OpensAll (record w { new = between }) p copies o
   pub parity_opens : OpensParity (record w { old = between }) p.write o fec parity
 
--- all is open, the hash image's last hash blocks were looked at, and it was repaired and given back
+-- all files were opened, the last hash blocks of the levels were checked, and the image was repaired and closed
 pub record MendsFilesByParity {S D : Type 0} (w : Calls S D) (p : Places) (fec : FecRecord) (copies : List ImageCopy) (trusted : TrustedRoot) (old new : Option (List ℕ)) (outcome : Outcome) : Type 0 where
   pub ready : S
   pub before : Opened D
@@ -104,7 +105,7 @@ pub record MendsFilesByParity {S D : Type 0} (w : Calls S D) (p : Places) (fec :
   pub mends : MendsOpenedByParity (record w { old = ready }) p opened parity trusted.root old new found
   pub known : outcome ≡ known_by whole found
 
--- and then it was told what is still lost, and that is nothing
+-- and then what is still lost was reported: nothing
 pub record RepairsByParity {S D : Type 0} (w : Calls S D) (p : Places) (fec : FecRecord) (copies : List ImageCopy) (trusted : TrustedRoot) (old new : Option (List ℕ)) : Type 0 where
   pub mended : S
   pub between : Option (List ℕ)
@@ -112,16 +113,16 @@ pub record RepairsByParity {S D : Type 0} (w : Calls S D) (p : Places) (fec : Fe
   pub mends : MendsFilesByParity (record w { new = mended }) p fec copies trusted old between outcome
   pub tells : TellsRest outcome (record w { old = mended }) p trusted between new
 
--- ---- how it ends early
+-- ---- how the command ends early
 
--- an image or a copy isn't opened, and nothing was written or printed
+-- an image or a copy can't be opened, and nothing was written or printed
 pub record EndsUnopenedByParity {S D : Type 0} (w : Calls S D) (p : Places) (copies : List ImageCopy) (old new : Option (List ℕ)) (fault : ParityRepairFault) : Type 0 where
   pub cause : TreeFault
   pub fails : FailsToOpenCopies w p copies cause
   pub quiet : new ≡ old
   pub is : fault ≡ Tree cause
 
--- the parity's file isn't
+-- the parity file can't be opened
 pub record EndsWithoutParity {S D : Type 0} (w : Calls S D) (p : Places) (fec : FecRecord) (copies : List ImageCopy) (old new : Option (List ℕ)) (fault : ParityRepairFault) : Type 0 where
   pub between : S
   pub opened : Opened D
@@ -131,7 +132,7 @@ pub record EndsWithoutParity {S D : Type 0} (w : Calls S D) (p : Places) (fec : 
   pub quiet : new ≡ old
   pub is : fault ≡ Tree (Open file)
 
--- all is open, and the image is refused before anything is written or printed
+-- all files are open, and the image is refused before anything is written or printed
 pub record EndsRefusedByParity {S D : Type 0} (w : Calls S D) (p : Places) (fec : FecRecord) (copies : List ImageCopy) (trusted : TrustedRoot) (old new : Option (List ℕ)) (fault : ParityRepairFault) : Type 0 where
   pub before : Opened D
   pub opened : Opened D
@@ -142,7 +143,7 @@ pub record EndsRefusedByParity {S D : Type 0} (w : Calls S D) (p : Places) (fec 
   pub quiet : new ≡ old
   pub is : fault ≡ Tree cause
 
--- it isn't, and not repaired to the end
+-- the image isn't refused, and wasn't repaired to the end
 pub record EndsUnmendedByParity {S D : Type 0} (w : Calls S D) (p : Places) (fec : FecRecord) (copies : List ImageCopy) (trusted : TrustedRoot) (old new : Option (List ℕ)) (fault : ParityRepairFault) : Type 0 where
   pub ready : S
   pub before : Opened D
@@ -153,7 +154,7 @@ pub record EndsUnmendedByParity {S D : Type 0} (w : Calls S D) (p : Places) (fec
   pub passes : PassesOpened w.state trusted before opened whole
   pub half : HalfMendsOpenedByParity (record w { old = ready }) p opened parity trusted.root old new fault
 
--- it is, and then that isn't told to its end, or not all of it is good
+-- the image was repaired, and the report wasn't completed, or not all blocks are valid
 pub record EndsBehindByParity {S D : Type 0} (w : Calls S D) (p : Places) (fec : FecRecord) (copies : List ImageCopy) (trusted : TrustedRoot) (old new : Option (List ℕ)) (failed : Bool) (fault : ParityRepairFault) : Type 0 where
   pub mended : S
   pub between : Option (List ℕ)
@@ -168,7 +169,7 @@ IsParityRepairEnd w p fec copies trusted old new failed fault =
     EndsUnopenedByParity w p copies old new fault ⊎ (EndsWithoutParity w p fec copies old new fault ⊎ (EndsRefusedByParity w p fec copies trusted old new fault
     ⊎ (EndsUnmendedByParity w p fec copies trusted old new fault ⊎ EndsBehindByParity w p fec copies trusted old new failed fault)))
 
--- ---- the same by what an opener does, a writer before and behind, and the words
+-- ---- in terms of an opener, a writer before and after, and the arguments
 
 abbrev pub IsPairMendedByFec : {S D W : Type 0} → Opener S D → (D → Device) → S → S → RepairPlaces → Opened D → Parity D → List ℕ
     → (W → Option (List ℕ)) → CountedRecord W → CountedRecord W → Outcome → Type 0

@@ -1,4 +1,4 @@
--- The copies in which blocks are sought, as they are opened.
+-- The copies that blocks are sought in, as they are opened.
 use Rattle.std.specs.Prelude.{◌≡◌, ◌⊎◌, ℕ, Bool, true, false, List, [], ◌∷◌, Option, Vec, map}
 use Rattle.std.specs.Global.{Global}
 use Rattle.allocation.specs.Refusal.{IsOutOfMemory}
@@ -18,18 +18,18 @@ abbrev pub path_in : Bool → ImageCopy → List ℕ
 path_in true copy = copy.hash_path.now
 path_in false copy = copy.data_path.now
 
--- an image was opened for reading, as this device; it is none of these files where that one may be written
+-- an image was opened for reading, as this device; it is none of these files that is writable
 pub record OpensImageCopy {S D : Type 0} (w : Calls S D) (files : List FileUse) (path : List ℕ) (device : D) : Type 0 where
   pub id : Option FileId
   pub opened : OpensApart w files path false (record { device = device; id = id })
 
--- it isn't opened, or it was, and room for one device more was refused
+-- the image can't be opened, or memory for one more device was refused
 abbrev pub IsCopyUnopened : {S D : Type 0} → Calls S D → List FileUse → List ℕ → TreeFault → Type 0
 IsCopyUnopened w files path (Open file) = RefusesApart w files path false file
 IsCopyUnopened {S} {D} w files path (Survey (Image NoMemory)) = ((device : D) × OpensImageCopy w files path device) × IsOutOfMemory 1
 IsCopyUnopened w files path fault = ⊥
 
--- each was opened, in their order
+-- each was opened, in order
 abbrev pub OpensEachCopy : {S D : Type 0} → Calls S D → List FileUse → List (List ℕ) → List D → Type 0
 OpensEachCopy w files [] [] = w.new ≡ w.old
 OpensEachCopy w files [] (d ∷ ds) = ⊥
@@ -37,14 +37,14 @@ OpensEachCopy w files (p ∷ ps) [] = ⊥
 OpensEachCopy {S} w files (p ∷ ps) (d ∷ ds) =
     (between : S) × (OpensImageCopy (record w { new = between }) files p d × OpensEachCopy (record w { old = between }) files ps ds)
 
--- one of them isn't, the first that is refused
+-- the first of them that is refused
 abbrev pub RefusesEach : {S D : Type 0} → Calls S D → List FileUse → List (List ℕ) → TreeFault → Type 0
 RefusesEach w files [] fault = ⊥
 RefusesEach {S} {D} w files (p ∷ ps) fault =
     IsCopyUnopened w files p fault
     ⊎ ((between : S) × ((d : D) × (OpensImageCopy (record w { new = between }) files p d × RefusesEach (record w { old = between }) files ps fault)))
 
--- ---- the same by what an opener does, before and behind, of the hashes of copies, or of their data
+-- ---- in terms of an opener before and after, and the hashes or the data of copies
 
 abbrev pub EachIsOpen : {S D : Type 0} → Opener S D → (D → Device) → S → S → List FileUse → Bool → List ImageCopy → Vec D Global → Type 0
 EachIsOpen relations state old new files hashes copies devices = OpensEachCopy (calls relations state old new) files (map (path_in hashes) copies) devices.items

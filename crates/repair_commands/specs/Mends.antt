@@ -1,4 +1,4 @@
--- What a repair of two devices did, up to their media.
+-- A repair of two devices, with the sync after it.
 use Rattle.std.specs.Prelude.{◌≡◌, ◌≤◌, ◌⊎◌, ℕ, Bool, true, false, IsTrue, List, Option, None, Some, Result, Ok, Err}
 use Rattle.block_device.specs.Device.{Device, HasFailed}
 use Rattle.program_io.specs.Counted.{CountedRecord}
@@ -18,7 +18,7 @@ use Rattle.verity_format.specs.declared.verifying.VerifyFault.TheVariants.{Devic
 use Rattle.repair_commands.specs.Endings.{ending_fault}
 use Rattle.repair_commands.specs.Standing.{IsMisplaced, IsPlaced}
 
--- both devices hold what they held, neither takes a failure back, and the copies stay
+-- both devices store the same as before, their failure counters didn't decrease, and the copies are unchanged
 pub record KeepsBothImages (w w' : RepairWorld) : Type 0 where
   pub data_image : w'.data_dev.image ≡ w.data_dev.image
   pub hash_image : w'.hash_dev.image ≡ w.hash_dev.image
@@ -27,61 +27,63 @@ pub record KeepsBothImages (w w' : RepairWorld) : Type 0 where
   pub data_copies_are : w'.data_copies ≡ w.data_copies
   pub hash_copies_are : w'.hash_copies ≡ w.hash_copies
 
--- where anything may be written, all of it is on their media
+-- if the repair may write, all is synced
 pub record IsOnMedium (write : Bool) (data_dev hash_dev : Device) : Type 0 where
   pub data_clean : IsTrue write → data_dev.dirty ≡ false
   pub hash_clean : IsTrue write → hash_dev.dirty ≡ false
 
--- the image was gone over, with parity or without, and what was written is on the media
+-- the image was repaired, with parity or without, and what was written is synced
 pub record MendsWhole (plan : Plan) (parity : Bool) (w w' : RepairWorld) (old new : Option (List ℕ)) : Type 0 where
   pub mid : RepairWorld
   pub repair : Repairs plan parity w mid old new None
   pub kept : KeepsBothImages mid w'
   pub on_medium : IsOnMedium plan.write w'.data_dev w'.hash_dev
 
--- So by copies and what is beneath hash blocks alone: each block was looked at, in one pass, and this is known of the image.
+-- The image was repaired in one pass, from copies and from the blocks below hash blocks. Each block was visited, and this is
+-- known of the image.
 pub record MendsInOnePass (plan : Plan) (w w' : RepairWorld) (old new : Option (List ℕ)) (outcome : Outcome) : Type 0 where
   pub mends : MendsWhole plan false w w' old new
   pub all : LooksAtAll plan w mends.mid old new
   pub within : RepairsInOnePass plan w mends.mid old new None
   pub whole : IsOutcomeOf plan w mends.mid outcome
 
--- so with parity: in passes, in each of which what was found nowhere was sought by it, and this is known of the image
+-- the image was repaired with parity, in passes; in each pass the blocks that were found nowhere were sought by parity; this is
+-- known of the image
 pub record MendsInPasses (plan : Plan) (l : Layout) (p p' : Device) (w w' : RepairWorld) (old new : Option (List ℕ)) (outcome : Outcome) : Type 0 where
   pub mends : MendsWhole plan true w w' old new
   pub within : RepairsInPasses plan l w mends.mid p p' old new None
   pub sought : SeeksByParity plan l w mends.mid p p'
   pub whole : IsParityOutcome plan w mends.mid outcome
 
--- what was written isn't all on the media, since a device failed in a sync
+-- what was written isn't all synced, because a device failed in a sync
 abbrev pub HasFailedInSync : Bool → Device → Device → Device → Device → Type 0
 HasFailedInSync write data_dev hash_dev data_dev' hash_dev' = IsTrue write × (HasFailed data_dev data_dev' ⊎ HasFailed hash_dev hash_dev')
 
 abbrev pub IsUnsyncedCause : Bool → RepairWorld → RepairWorld → RepairFault → Type 0
 IsUnsyncedCause write w w' fault = (fault ≡ Image DeviceFailed) × HasFailedInSync write w.data_dev w.hash_dev w'.data_dev w'.hash_dev
 
--- what is reported of a repair and of the sync after it: a fault that ended the repair comes first, but not a failed writer, which
--- doesn't end it
+-- what is reported of a repair and the sync after it: first a fault that ended the repair, then a failed sync, then a failed
+-- writer, which doesn't end the repair
 abbrev pub end_of : Result Outcome RepairFault → Result (Unit {0}) RepairFault → Result Outcome RepairFault
 end_of ended (Ok done) = ended
 end_of (Ok outcome) (Err fault) = Err fault
 end_of (Err Write) (Err fault) = Err fault
 end_of (Err (Image cause)) (Err fault) = Err (Image cause)
 
--- a device failed in the sync, and that is reported, unless another fault ended the repair
+-- a device failed in the sync, and this is reported unless another fault ended the repair
 abbrev pub IsUnsyncedEnd : Bool → RepairWorld → RepairWorld → Option RepairFault → RepairFault → Type 0
 IsUnsyncedEnd write w w' None fault = IsUnsyncedCause write w w' fault
 IsUnsyncedEnd write w w' (Some Write) fault = IsUnsyncedCause write w w' fault
 IsUnsyncedEnd write w w' (Some (Image cause)) fault = (fault ≡ Image cause) × HasFailedInSync write w.data_dev w.hash_dev w'.data_dev w'.hash_dev
 
--- ---- a run that doesn't come to its end
+-- ---- a run that ends early
 
 -- a run to its end, or up to a fault
 abbrev pub IsRunTo : Plan → Bool → RepairWorld → RepairWorld → Option (List ℕ) → Option (List ℕ) → Option RepairFault → Type 0
 IsRunTo plan parity w w' old new None = Repairs plan parity w w' old new None
 IsRunTo plan parity w w' old new (Some fault) = IsUnrepairedBy plan parity w w' old new fault
 
--- the image was gone over without a writer, and `Write` says that this came to its end
+-- the image was repaired without a writer; the fault `Write` means that this completed
 abbrev pub unheard_end : Option RepairFault → RepairFault
 unheard_end None = Write
 unheard_end (Some fault) = fault
@@ -91,28 +93,29 @@ pub record IsUnheard (plan : Plan) (parity : Bool) (w w' : RepairWorld) (fault :
   pub run : IsRunTo plan parity w w' None None ended
   pub is : fault ≡ unheard_end ended
 
--- what ended a repair; behind a failed writer the image was gone over anew without one
+-- what ended a repair; after a failed writer the image was repaired again without a writer
 abbrev pub IsEndBehind : Plan → Bool → RepairFault → RepairWorld → RepairWorld → RepairFault → Type 0
 IsEndBehind plan parity (Image cause) w w' fault = (fault ≡ Image cause) × (w' ≡ w)
 IsEndBehind plan parity Write w w' fault = IsUnheard plan parity w w' fault
 
--- the writer failed, and the image was gone over anew without one
+-- the writer failed, and the image was repaired again without a writer
 pub record GoesOnUnheard (plan : Plan) (parity : Bool) (w w' : RepairWorld) (old new : Option (List ℕ)) (fault : RepairFault) : Type 0 where
   pub between : RepairWorld
   pub cut : IsUnrepairedBy plan parity w between old new Write
   pub unheard : IsUnheard plan parity between w' fault
 
--- So the fault `Write` says that the image was repaired to its end all the same.
+-- The fault `Write` therefore means that the image was repaired to its end nevertheless.
 abbrev pub IsCutBy : Plan → Bool → RepairWorld → RepairWorld → Option (List ℕ) → Option (List ℕ) → RepairFault → Type 0
 IsCutBy plan parity w w' old new fault =
     ((cause : VerifyFault) × ((fault ≡ Image cause) × IsUnrepairedBy plan parity w w' old new (Image cause))) ⊎ GoesOnUnheard plan parity w w' old new fault
 
--- a run to its end, or one that a fault ended, with the writer or behind its failure
+-- a run to its end, or up to a fault, with the writer or after its failure
 abbrev pub IsWholeOrCut : Plan → Bool → RepairWorld → RepairWorld → Option (List ℕ) → Option (List ℕ) → Option RepairFault → Type 0
 IsWholeOrCut plan parity w w' old new None = Repairs plan parity w w' old new None
 IsWholeOrCut plan parity w w' old new (Some fault) = IsCutBy plan parity w w' old new fault
 
--- The repair ended by that fault, and both devices were synced; or a device failed in the sync. Good blocks alone were written.
+-- The repair ended in that fault, and both devices were synced; or a device failed in the sync. Only verified blocks were
+-- written.
 pub record HalfMends (plan : Plan) (parity : Bool) (w w' : RepairWorld) (old new : Option (List ℕ)) (fault : RepairFault) : Type 0 where
   pub mid : RepairWorld
   pub ended : Option RepairFault
@@ -122,20 +125,20 @@ pub record HalfMends (plan : Plan) (parity : Bool) (w w' : RepairWorld) (old new
 
 -- ---- by copies, from the superblock on
 
--- the hash image stands where one may, and was repaired; of the pass more is said, from behind that reading of the superblock
+-- The hash image begins where it may, and was repaired. More is stated of the pass, from the state after the superblock's read.
 pub record MendsByCopies (plan : Plan) (w w' : RepairWorld) (old new : Option (List ℕ)) (outcome : Outcome) : Type 0 where
   pub read_dev : Device
   pub placed : IsPlaced w.hash_dev plan.copy_first read_dev
   pub mends : MendsWhole plan false w w' old new
   pub pass : MendsInOnePass plan (record w { hash_dev = read_dev }) w' old new outcome
 
--- it can't stand there, or there is none: the hash device alone was asked, and only read, and nothing printed
+-- the hash image mustn't begin there, or there is none: only the hash device was accessed, by reads, and nothing was printed
 pub record IsRefusedPlace (plan : Plan) (w w' : RepairWorld) (old new : Option (List ℕ)) (fault : TreeFault) : Type 0 where
   pub misplaced : IsMisplaced w.hash_dev plan.copy_first w'.hash_dev fault
   pub read : IsHashReadAlone w w'
   pub quiet : new ≡ old
 
--- it does, and wasn't repaired to its end with all lines printed and all synced
+-- the hash image begins where it may, and wasn't repaired to its end with all lines printed and all synced
 pub record HalfMendsPlaced (plan : Plan) (parity : Bool) (w w' : RepairWorld) (old new : Option (List ℕ)) (fault : TreeFault) : Type 0 where
   pub read_dev : Device
   pub placed : IsPlaced w.hash_dev plan.copy_first read_dev
@@ -146,7 +149,7 @@ pub record HalfMendsPlaced (plan : Plan) (parity : Bool) (w w' : RepairWorld) (o
 abbrev pub HalfMendsByCopies : Plan → RepairWorld → RepairWorld → Option (List ℕ) → Option (List ℕ) → TreeFault → Type 0
 HalfMendsByCopies plan w w' old new fault = IsRefusedPlace plan w w' old new fault ⊎ HalfMendsPlaced plan false w w' old new fault
 
--- ---- the same by a writer before and behind
+-- ---- in terms of a writer before and after
 
 abbrev pub IsMendedByCopies : {W : Type 0} → (W → Option (List ℕ)) → Plan → RepairWorld → RepairWorld → CountedRecord W → CountedRecord W → Outcome → Type 0
 IsMendedByCopies contents plan w w' old new outcome = MendsByCopies plan w w' (contents old.inner) (contents new.inner) outcome
@@ -163,7 +166,7 @@ IsMendingCut contents plan parity w w' old new fault = HalfMends plan parity w w
 abbrev pub IsRunCut : {W : Type 0} → (W → Option (List ℕ)) → Plan → Bool → RepairWorld → RepairWorld → CountedRecord W → CountedRecord W → RepairFault → Type 0
 IsRunCut contents plan parity w w' old new fault = IsCutBy plan parity w w' (contents old.inner) (contents new.inner) fault
 
--- each block was looked at, in one pass, and this is known of the image
+-- each block was visited, in one pass, and this is known of the image
 pub record RunsInOnePass (plan : Plan) (w w' : RepairWorld) (old new : Option (List ℕ)) (outcome : Outcome) : Type 0 where
   pub repair : Repairs plan false w w' old new None
   pub all : LooksAtAll plan w w' old new
@@ -173,7 +176,7 @@ pub record RunsInOnePass (plan : Plan) (w w' : RepairWorld) (old new : Option (L
 abbrev pub IsRunWhole : {W : Type 0} → (W → Option (List ℕ)) → Plan → RepairWorld → RepairWorld → CountedRecord W → CountedRecord W → Outcome → Type 0
 IsRunWhole contents plan w w' old new outcome = RunsInOnePass plan w w' (contents old.inner) (contents new.inner) outcome
 
--- with parity, in passes, in each of which what was found nowhere was sought by it
+-- with parity, in passes; in each pass the blocks that were found nowhere were sought by parity
 pub record RunsInPasses (plan : Plan) (l : Layout) (p p' : Device) (w w' : RepairWorld) (old new : Option (List ℕ)) (outcome : Outcome) : Type 0 where
   pub repair : Repairs plan true w w' old new None
   pub within : RepairsInPasses plan l w w' p p' old new None

@@ -1,4 +1,4 @@
--- All that `repair` opens: the two parts that are repaired, and the copies.
+-- All that `repair` opens: the two parts to be repaired, and the copies.
 use Rattle.std.specs.Prelude.{◌≡◌, ◌⊎◌, true, false, List, map}
 use Rattle.block_device.specs.Device.{Device}
 use Rattle.command_line.specs.declared.image_copies.ImageCopy.{ImageCopy}
@@ -21,7 +21,7 @@ pub record OpensCopies {S D : Type 0} (w : Calls S D) (files : List FileUse) (co
   pub data_opened : OpensEachCopy (record w { new = between }) files (map (path_in false) copies) opened.data_copies.items
   pub hash_opened : OpensEachCopy (record w { old = between }) files (map (path_in true) copies) opened.hash_copies.items
 
--- the data were, and the hashes weren't
+-- the data were opened, and the hashes couldn't be
 pub record RefusesHashes {S D : Type 0} (w : Calls S D) (files : List FileUse) (copies : List ImageCopy) (fault : TreeFault) : Type 0 where
   pub between : S
   pub devices : List D
@@ -31,7 +31,7 @@ pub record RefusesHashes {S D : Type 0} (w : Calls S D) (files : List FileUse) (
 abbrev pub RefusesCopies : {S D : Type 0} → Calls S D → List FileUse → List ImageCopy → TreeFault → Type 0
 RefusesCopies w files copies fault = RefusesEach w files (map (path_in false) copies) fault ⊎ RefusesHashes w files copies fault
 
--- ---- the whole
+-- ---- all files
 
 -- the files were measured, and then their parts opened
 pub record IsPairOpen {S D : Type 0} (w : Calls S D) (p : Places) (parts : Parts) (pair : Pair D) : Type 0 where
@@ -39,26 +39,26 @@ pub record IsPairOpen {S D : Type 0} (w : Calls S D) (p : Places) (parts : Parts
   pub measures : MeasuresBoth (record w { new = between }) p parts
   pub opens : OpensPair (record w { old = between }) p parts pair
 
--- and then the copies, none of which is a file that may be written
+-- and then the copies, none of which is a writable file
 pub record OpensAll {S D : Type 0} (w : Calls S D) (p : Places) (copies : List ImageCopy) (o : Opened D) : Type 0 where
   pub between : S
   pub pair_open : IsPairOpen (record w { new = between }) p o.parts o.pair
   pub copies_open : OpensCopies (record w { old = between }) (pair_uses p.write o.parts o.pair) copies o.copies
 
--- the files aren't measured
+-- the files couldn't be measured
 pub record EndsUnmeasured {S D : Type 0} (w : Calls S D) (p : Places) (fault : TreeFault) : Type 0 where
   pub file : UnopenedFile
   pub ends : FailsToMeasure w p file
   pub is : fault ≡ Open file
 
--- they are, and their parts aren't opened
+-- the files were measured, and their parts couldn't be opened
 pub record EndsUnpaired {S D : Type 0} (w : Calls S D) (p : Places) (fault : TreeFault) : Type 0 where
   pub between : S
   pub parts : Parts
   pub measures : MeasuresBoth (record w { new = between }) p parts
   pub ends : FailsToOpenPair (record w { old = between }) p parts fault
 
--- these are, and a copy isn't
+-- the parts were opened, and a copy couldn't be
 pub record EndsUncopied {S D : Type 0} (w : Calls S D) (p : Places) (copies : List ImageCopy) (fault : TreeFault) : Type 0 where
   pub between : S
   pub parts : Parts
@@ -70,7 +70,7 @@ pub record EndsUncopied {S D : Type 0} (w : Calls S D) (p : Places) (copies : Li
 abbrev pub FailsToOpenCopies : {S D : Type 0} → Calls S D → Places → List ImageCopy → TreeFault → Type 0
 FailsToOpenCopies w p copies fault = EndsUnmeasured w p fault ⊎ (EndsUnpaired w p fault ⊎ EndsUncopied w p copies fault)
 
--- ---- the same by what an opener does, before and behind, and the places of the words
+-- ---- in terms of an opener before and after, and the places in the arguments
 
 abbrev pub AreCopiesOpened : {S D : Type 0} → Opener S D → (D → Device) → S → S → List FileUse → List ImageCopy → Copies D → Type 0
 AreCopiesOpened relations state old new files copies opened = OpensCopies (calls relations state old new) files copies opened

@@ -1,4 +1,4 @@
--- Which parts of which files `repair` opens, in which order and with which rights.
+-- Which parts of which files `repair` opens, in which order, for reading or writing.
 use Rattle.std.specs.Prelude.{◌≡◌, ◌⊎◌, ℕ, ◌-◌, ◌^◌, ◌&&◌, nat_lt, Bool, false, List, [], ◌∷◌, if◌then◌else◌}
 use Rattle.block_device.specs.Device.{Device}
 use Rattle.device_adapters.specs.declared.part.Part.{Part}
@@ -30,11 +30,11 @@ pub record Places : Type 0 where
 abbrev pub places_of : RepairPlaces → Places
 places_of p = record { data_path = p.«data».now; hash_path = p.hash.now; first = p.hash_first; write = p.write }
 
--- where the data end: in one file before the hash image, else at the end of theirs
+-- where the data end: at the hash image's first sector if both are one file, otherwise at the end of the data file
 abbrev pub pair_data_end : {D : Type 0} → Pair D → ℕ → ℕ
 pair_data_end pair first = if nat_lt 0 first && is_one_file pair.data_image.id pair.hash_image.id then first else 2 ^ 64 - 1
 
--- both files were opened for reading, the data's first, and the parts are these by their lengths
+-- both files were opened for reading, the data file first, and these are the parts by their lengths
 pub record MeasuresBoth {S D : Type 0} (w : Calls S D) (p : Places) (parts : Parts) : Type 0 where
   pub between : S
   pub pair : Pair D
@@ -43,7 +43,7 @@ pub record MeasuresBoth {S D : Type 0} (w : Calls S D) (p : Places) (parts : Par
   pub data_part : parts.data_part ≡ part_before (w.state pair.data_image.device) (pair_data_end pair p.first)
   pub hash_part : parts.hash_part ≡ part_behind (w.state pair.hash_image.device) p.first
 
--- the data's file was opened, and the other one wasn't
+-- the data file was opened, and the other couldn't be
 pub record RefusesOther {S D : Type 0} (w : Calls S D) (p : Places) (file : UnopenedFile) : Type 0 where
   pub between : S
   pub data_image : OpenImage D
@@ -55,24 +55,24 @@ FailsToMeasure w p file = Refuses w p.data_path false file ⊎ RefusesOther w p 
 
 -- ---- the parts
 
--- a part that ends behind its file is one of a file that is too small
+-- a part that ends past its file: the file is too small
 abbrev pub part_fault : UnopenedPart → TreeFault
 part_fault (File file) = Open file
 part_fault (Outside path) = Survey (Image TooSmall)
 
--- a part isn't opened, or has a sector in common with one of these
+-- a part can't be opened, or overlaps with one of these
 pub record IsPartEnd {S D : Type 0} (w : Calls S D) (files : List FileUse) (path : List ℕ) (writable : Bool) (part : Part) (fault : TreeFault) : Type 0 where
   pub cause : UnopenedPart
   pub refused : RefusesPart w files path writable part cause
   pub is : fault ≡ part_fault cause
 
--- both parts were opened, the data first; where they may be written they have no sector in common
+-- both parts were opened, the data first; if they are writable, they don't overlap
 pub record OpensPair {S D : Type 0} (w : Calls S D) (p : Places) (parts : Parts) (pair : Pair D) : Type 0 where
   pub between : S
   pub data_opened : OpensPart (record w { new = between }) [] p.data_path p.write parts.data_part pair.data_image
   pub hash_opened : OpensPart (record w { old = between }) (part_use p.write parts.data_part pair.data_image ∷ []) p.hash_path p.write parts.hash_part pair.hash_image
 
--- the data were opened, and the hash image wasn't
+-- the data image was opened, and the hash image couldn't be
 pub record FailsAtHash {S D : Type 0} (w : Calls S D) (p : Places) (parts : Parts) (fault : TreeFault) : Type 0 where
   pub between : S
   pub data_image : OpenImage D
@@ -86,7 +86,7 @@ FailsToOpenPair w p parts fault = IsPartEnd w [] p.data_path p.write parts.data_
 abbrev pub pair_uses : {D : Type 0} → Bool → Parts → Pair D → List FileUse
 pair_uses write parts pair = part_use write parts.data_part pair.data_image ∷ part_use write parts.hash_part pair.hash_image ∷ []
 
--- ---- the same by what an opener does, before and behind, and the places of the words
+-- ---- in terms of an opener before and after, and the places in the arguments
 
 abbrev pub AreMeasured : {S D : Type 0} → Opener S D → (D → Device) → S → S → RepairPlaces → Parts → Type 0
 AreMeasured relations state old new places parts = MeasuresBoth (calls relations state old new) (places_of places) parts

@@ -19,8 +19,9 @@ use Rattle.verity_format.specs.Image.{tree_sectors}
 use Rattle.verity_format.specs.Superblock.{SuperRecord, shape_of}
 use Rattle.verity_format.specs.Verifying.{IsReadCause, IsReadFrom}
 
--- The superblock was read and has the values of the pin, if there is one, and where the tree lies on the device the hash blocks on the way to the last data block, each at most
--- once. None of them that is good under the root holds anything but zeros after its last used entry. `whole` says that all are good.
+-- The superblock was read and has the values of the pin, if there is one. If the tree fits on the device, the hash blocks on
+-- the path to the last data block were read, each at most once. Those that verify hold zeros after their last used entries.
+-- `whole` is whether all of them verify.
 pub record IsUnusedPassed (trusted : TrustedRoot) (hash_dev hash_dev' : Device) (whole : Bool) : Type 0 where
   pub super : SuperRecord
   pub sector : List ℕ
@@ -32,7 +33,7 @@ pub record IsUnusedPassed (trusted : TrustedRoot) (hash_dev hash_dev' : Device) 
   pub zeros : tree_sectors (shape_of super) ≤ hash_dev.size → FindsZerosAlone (super_tree super trusted.root) hash_dev hash_dev'
   pub good : whole ≡ true → IsTrue hash_dev.steady → IsWayGood (super_tree super trusted.root) hash_dev.image
 
--- one that is good holds something else
+-- a hash block that verifies holds something else
 pub record HoldsUnused (trusted : TrustedRoot) (hash_dev : Device) : Type 0 where
   pub super : SuperRecord
   pub sector : List ℕ
@@ -40,7 +41,7 @@ pub record HoldsUnused (trusted : TrustedRoot) (hash_dev : Device) : Type 0 wher
   pub pinned : mismatch_of trusted.pin super ≡ None
   pub finds : FindsNonzero (super_tree super trusted.root) hash_dev
 
--- why an image is refused, or couldn't be looked at: so, or there is no superblock, or it differs from the pin, or memory ran out
+-- why an image is refused or couldn't be checked: such a hash block, no superblock, a difference from the pin, or no memory
 abbrev pub IsUnusedCause : TrustedRoot → Device → Device → TreeFault → Type 0
 IsUnusedCause trusted hash_dev hash_dev' (Survey (Image NoMemory)) = (hash_dev'.failures ≡ hash_dev.failures) × IsOutOfMemory largest_block
 IsUnusedCause trusted hash_dev hash_dev' (Survey (Image fault)) = IsReadCause hash_dev hash_dev' fault
@@ -48,7 +49,7 @@ IsUnusedCause trusted hash_dev hash_dev' UnusedEntries = HoldsUnused trusted has
 IsUnusedCause trusted hash_dev hash_dev' (Unpinned mismatch) = IsTreeUnpinned hash_dev trusted.pin mismatch
 IsUnusedCause trusted hash_dev hash_dev' fault = ⊥
 
--- the same by what devices of any kind are
+-- the image is accepted, by the states of a device of any type
 abbrev pub IsUnusedPassedBy : {H : Type 0} → (H → Device) → TrustedRoot → H → H → Bool → Type 0
 IsUnusedPassedBy state trusted hash_dev hash_dev' whole = IsUnusedPassed trusted (state hash_dev) (state hash_dev') whole
 

@@ -1,4 +1,4 @@
-//! `repair --fec FILE`: what no copy has is made again by the parity in a file.
+//! `repair --fec FILE`: restores what no copy has by the parity in a file.
 ghost use Rattle.std.specs.Prelude.{◌≤◌, ◌^◌, true, IfErr, IfOk, OnOk};
 ghost use Rattle.tree_repair.specs.Repairs.{IsAllowed};
 ghost use Rattle.repair_commands.specs.ByParity.{AreRepairedByFec, AreUnrepairedByFec, IsHalfByFec, IsMendedByFec, IsPairHalfMendedByFec, IsPairMendedByFec};
@@ -27,8 +27,14 @@ use tree_repair::{DamagedImage, Outcome, Plan, RepairFault, repair_with_parity};
 use tree_shape::Digest;
 use verity_commands::TreeFault;
 
-/// `repair --fec FILE [--fec-roots N] ..`: as `repair_images`, and each block that no copy has is sought by the parity in that
-/// file, which is opened last, and for reading.
+/// Runs `repair --fec FILE [--fec-roots N] ..`. It repairs as `repair_images` does, and restores each block that no copy has by
+/// the parity in FILE. FILE is opened last, for reading.
+///
+/// # Errors
+///
+/// - `Tree` with the faults of `repair_images`.
+/// - `BlockSizes` if the superblock has two block sizes.
+/// - `TooSmall` if FILE has fewer sectors than needed.
 pub fn repair_by_parity<'a, I: Images, S: Watchers, W: Write>(
     alloc: Global,
     images: &mut I,
@@ -57,7 +63,7 @@ pub fn repair_by_parity<'a, I: Images, S: Watchers, W: Write>(
     Ok(())
 }
 
-// Repairs what is open, and gives the images back, however that ends.
+// Repairs the open images and closes them, whatever the result.
 fn mend_opened<'a, I: Images, W: Write>(
     alloc: Global,
     images: &mut I,
@@ -107,7 +113,7 @@ fn mend_opened<'a, I: Images, W: Write>(
     ended
 }
 
-// Lays the parity out, repairs both by it too, and has what was written put on their media.
+// Determines the layout of the parity, repairs both devices with it, and syncs what was written.
 fn mend_laid_out<'a, D: SyncDev, H: SyncDev, C: BlockDev, P: BlockDev + Drop, W: Write>(
     alloc: Global,
     image: &mut DamagedImage<D, H, C>,
@@ -140,7 +146,7 @@ fn mend_laid_out<'a, D: SyncDev, H: SyncDev, C: BlockDev, P: BlockDev + Drop, W:
     }
 }
 
-// Repairs the image to its end, also if the writer fails.
+// Repairs the image to its end, even if the writer fails.
 fn repair_through<D: BlockDev, H: BlockDev, C: BlockDev, P: BlockDev, W: Write>(
     alloc: Global,
     image: &mut DamagedImage<D, H, C>,
@@ -161,7 +167,7 @@ fn repair_through<D: BlockDev, H: BlockDev, C: BlockDev, P: BlockDev, W: Write>(
     }
 }
 
-// What ended a repair. If that is a failed writer, it first goes over the image anew without one.
+// Returns what ended a repair. If the writer failed, the image is repaired again without a writer first.
 fn go_on<D: BlockDev, H: BlockDev, C: BlockDev, P: BlockDev>(
     alloc: Global,
     image: &mut DamagedImage<D, H, C>,
@@ -181,7 +187,7 @@ fn go_on<D: BlockDev, H: BlockDev, C: BlockDev, P: BlockDev>(
     }
 }
 
-// Goes over the image without a writer. `Write` says that it came to the end.
+// Repairs the image without a writer. The fault `Write` means that this completed.
 fn repair_unheard<D: BlockDev, H: BlockDev, C: BlockDev, P: BlockDev>(
     alloc: Global,
     image: &mut DamagedImage<D, H, C>,

@@ -1,4 +1,4 @@
-//! The copies in which blocks are sought.
+//! The copies that blocks are sought in.
 ghost use Rattle.std.specs.Prelude.{◌≡◌, ◌++◌, ◌∷◌, [], IfErr, IfOk, OnErr, OnOk};
 ghost use Rattle.allocation.specs.Refusal.{IsOutOfMemory};
 ghost use Rattle.repair_commands.specs.Copies.{EachIsOpen, RefusesOne, path_in};
@@ -11,8 +11,7 @@ use tree_survey::SurveyFault;
 use verity_commands::TreeFault;
 use verity_format::VerifyFault;
 
-/// Opens the data of the copies for reading, or their hashes, beside files of which none may be among them where it may be
-/// written.
+/// Opens the data of the copies, or their hashes, for reading. No copy may be one of `files` that is writable.
 pub(crate) fn open_copies<'a, I: Images>(
     alloc: Global,
     images: &mut I,

@@ -6,14 +6,14 @@ use tree_repair::RepairFault;
 use verity_commands::TreeFault;
 use verity_format::VerifyFault;
 
-/// Why a repair by parity ends early.
+/// Why a repair with parity ended early.
 #[derive(Clone, Copy, Debug, PartialEq, Eq)]
 pub enum ParityRepairFault<'a> {
-    /// As a repair without parity does.
+    /// A fault of a repair without parity.
     Tree(TreeFault<'a>),
-    /// Data and hash blocks have different sizes: no parity lies across them.
+    /// The data blocks and the hash blocks have different sizes, so there is no parity of both.
     BlockSizes,
-    /// The parity's file has fewer sectors of 512 bytes than are needed.
+    /// The parity file has fewer sectors (of 512 bytes) than needed.
     TooSmall { needed: u64 },
 }
 

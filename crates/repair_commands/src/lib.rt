@@ -1,4 +1,4 @@
-//! The program's command `repair`: paths, a root and a writer in, a written text or the fault that ends it out.
+//! The command `repair`: repairs the images at some paths under a root hash, and writes lines or returns the fault.
 #![tactic(auto)]
 
 mod by_parity;

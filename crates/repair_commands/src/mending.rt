@@ -1,4 +1,4 @@
-//! The two devices repaired by copies, and synced.
+//! Repairs two devices from copies, and syncs them.
 ghost use Rattle.std.specs.Prelude.{◌≤◌, ◌^◌, false, IfErr, IfOk};
 ghost use Rattle.tree_repair.specs.Repairs.{IsAllowed};
 ghost use Rattle.repair_commands.specs.Mends.{IsEndBehind, IsMendedByCopies, IsMendedHalf, IsMendedInOnePass, IsMendingCut, IsRunCut, IsRunWhole, IsUnheard};
@@ -14,13 +14,16 @@ use std::io::Write;
 use tree_repair::{DamagedImage, Outcome, Plan, RepairFault, repair_image};
 use verity_commands::TreeFault;
 
-/// Repairs both, and syncs them however that ends. Returns what is known of the image by then.
+/// Repairs both devices, and syncs them whatever the result. Returns what is known of the image.
 ///
 /// # Errors
 ///
-/// `Unaligned`, or the superblock's fault, before anything is written. `Write` if the writer failed: the image is repaired
-/// to its end all the same. `Device` if a write or a sync failed. `NoMemory` if memory ran out. A failed sync doesn't hide the fault
-/// that ended the repair before it.
+/// - `Unaligned`, or the superblock's fault, before anything is written.
+/// - `Write` if the writer failed; the image is repaired to its end nevertheless.
+/// - `Device` if a write or a sync failed.
+/// - `NoMemory` if memory ran out.
+///
+/// A failed sync doesn't hide an earlier fault that ended the repair.
 pub(crate) fn mend<'a, D: SyncDev, H: SyncDev, C: BlockDev, W: Write>(
     alloc: Global,
     image: &mut DamagedImage<D, H, C>,
@@ -39,7 +42,7 @@ pub(crate) fn mend<'a, D: SyncDev, H: SyncDev, C: BlockDev, W: Write>(
     }
 }
 
-// The same, of a hash image that is known to stand where it may.
+// Repairs both devices; the hash image is known to begin where it may.
 fn mend_placed<D: SyncDev, H: SyncDev, C: BlockDev, W: Write>(
     alloc: Global,
     image: &mut DamagedImage<D, H, C>,
@@ -57,7 +60,7 @@ fn mend_placed<D: SyncDev, H: SyncDev, C: BlockDev, W: Write>(
     end_of(ended, synced)
 }
 
-// Repairs the image to its end, also if the writer fails.
+// Repairs the image to its end, even if the writer fails.
 fn repair_through<D: BlockDev, H: BlockDev, C: BlockDev, W: Write>(
     alloc: Global,
     image: &mut DamagedImage<D, H, C>,
@@ -75,7 +78,7 @@ fn repair_through<D: BlockDev, H: BlockDev, C: BlockDev, W: Write>(
     }
 }
 
-// What ended a repair. If that is a failed writer, it first goes over the image anew without one.
+// Returns what ended a repair. If the writer failed, the image is repaired again without a writer first.
 fn go_on<D: BlockDev, H: BlockDev, C: BlockDev>(
     alloc: Global,
     image: &mut DamagedImage<D, H, C>,
@@ -92,7 +95,7 @@ fn go_on<D: BlockDev, H: BlockDev, C: BlockDev>(
     }
 }
 
-// Goes over the image without a writer. `Write` says that it came to the end.
+// Repairs the image without a writer. The fault `Write` means that this completed.
 fn repair_unheard<D: BlockDev, H: BlockDev, C: BlockDev>(
     alloc: Global,
     image: &mut DamagedImage<D, H, C>,

@@ -1,8 +1,8 @@
-//! A writer that drops what it is given.
+//! A writer that discards what is written.
 use std::io;
 use std::io::Write;
 
-/// Takes the place of a writer that failed.
+/// Replaces a writer that failed.
 #[derive(Drop)]
 pub(crate) struct Nowhere;
 

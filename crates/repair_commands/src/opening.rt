@@ -1,4 +1,4 @@
-//! All that a repair reads and writes, opened.
+//! Opens all that a repair reads and writes.
 ghost use Rattle.std.specs.Prelude.{◌≡◌, IfErr, IfOk};
 ghost use Rattle.image_files.specs.Opener.{IsFresh};
 ghost use Rattle.repair_commands.specs.Openings.{AreCopiesOpened, IsAllOpened, IsCopyRefused, IsOneUnopened};

@@ -1,4 +1,4 @@
-//! The data image and the hash image that are repaired, each a part of its file.
+//! The data image and the hash image to be repaired, each a part of its file.
 ghost use Rattle.std.specs.Prelude.{◌≡◌, IfErr, IfOk};
 ghost use Rattle.device_adapters.specs.Parts.{part_before, part_behind};
 ghost use Rattle.image_files.specs.FileUses.{part_use};
@@ -14,8 +14,8 @@ use tree_survey::SurveyFault;
 use verity_commands::TreeFault;
 use verity_format::VerifyFault;
 
-/// The paths of a data image and of its hash image, the sector of 512 bytes of the hash image's file where the hash image
-/// begins, and whether anything may be written.
+/// The paths of a data image and of its hash image, the sector (of 512 bytes) of the latter's file at which the hash image
+/// begins, and whether the repair may write.
 #[derive(Clone, Copy, Debug, PartialEq, Eq)]
 pub struct RepairPlaces<'a> {
     pub data: &'a str,
@@ -24,22 +24,22 @@ pub struct RepairPlaces<'a> {
     pub write: bool,
 }
 
-/// Which part of its file each of the two is.
+/// The parts of the two files that are the data image and the hash image.
 #[derive(Clone, Copy, Debug, PartialEq, Eq)]
 pub(crate) struct Parts {
     pub data_part: Part,
     pub hash_part: Part,
 }
 
-/// The two, open.
+/// The two images, open.
 #[derive(Drop)]
 pub(crate) struct Pair<D> {
     pub data_image: OpenImage<D>,
     pub hash_image: OpenImage<D>,
 }
 
-/// Opens both files for reading, and tells the parts: what lies behind the sector where the hash image begins, and of the
-/// data's file all, or what lies before that sector where both are one file.
+/// Opens both files for reading, and returns the parts. The hash image is everything from its first sector on. The data image
+/// is the whole data file; if both are one file, it is everything before the hash image.
 pub(crate) fn measure<'a, I: Images>(
     images: &mut I,
     places: RepairPlaces<'a>,
@@ -67,7 +67,7 @@ fn parts_of<D: BlockDev>(pair: &Pair<D>, first: u64) -> Parts
     }
 }
 
-// The sector where the data end: in one file before the hash image, else at the end of theirs.
+// The sector where the data end: the hash image's first sector if both are one file, otherwise the end of the data file.
 fn data_end<D>(pair: &Pair<D>, first: u64) -> u64
     ensures { result ≡ pair_data_end pair.now first }
 {
@@ -77,7 +77,7 @@ fn data_end<D>(pair: &Pair<D>, first: u64) -> u64
     u64::MAX
 }
 
-/// Opens both parts, for writing too where anything may be written. Then they may not have a sector in common.
+/// Opens both parts, for writing if the repair may write. Then the parts mustn't overlap.
 pub(crate) fn open_pair<'a, I: Images>(
     images: &mut I,
     places: RepairPlaces<'a>,
@@ -108,7 +108,7 @@ pub(crate) fn open_pair<'a, I: Images>(
     }
 }
 
-/// How a part of a file is used that was opened with this right.
+/// Returns how an open part of a file is used: for reading, or for writing too.
 pub(crate) fn part_use<D>(image: &OpenImage<D>, writable: bool, part: Part) -> FileUse
     ensures { result ≡ part_use writable part image.now }
 {
@@ -119,7 +119,7 @@ pub(crate) fn part_use<D>(image: &OpenImage<D>, writable: bool, part: Part) -> F
     }
 }
 
-// A part that ends behind its file was measured of a longer one: the file is too small by now.
+// A part that ends past its file was measured when the file was longer: the file is too small now.
 fn part_fault(fault: UnopenedPart<'_>) -> TreeFault<'_>
     ensures { result ≡ part_fault fault.entry }
 {

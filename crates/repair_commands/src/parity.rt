@@ -1,4 +1,4 @@
-//! The parity of an image in a file, and how it lies across the image.
+//! The parity file of an image, and the layout of the parity.
 ghost use Rattle.std.specs.Prelude.{◌≡◌, ◌≤◌, IfErr, IfOk};
 ghost use Rattle.verity_format.specs.Blocks.{IsOnlyRead};
 ghost use Rattle.repair_commands.specs.Parity.{IsFecOpened, IsFecUnopened, IsUnlaidBy, LaysAcross};
@@ -14,14 +14,14 @@ use image_files::{Images, UnopenedFile, open_apart};
 use verity_commands::TreeFault;
 use verity_format::{VerifyFault, data_sectors, read_superblock, tree_sectors};
 
-/// The device that holds it, and how many bytes of it a codeword has.
+/// The parity device, and how many bytes of parity a codeword has.
 #[derive(Drop)]
 pub(crate) struct Parity<D> {
     pub device: D,
     pub roots: u32,
 }
 
-/// Opens its file for reading, which is none of the two that are repaired, where anything may be written.
+/// Opens the parity file for reading. If the repair may write, it mustn't be one of the two images.
 pub(crate) fn open_parity<'a, I: Images>(
     images: &mut I,
     write: bool,
@@ -42,7 +42,7 @@ pub(crate) fn open_parity<'a, I: Images>(
     })
 }
 
-/// How it lies across the image, whose superblock is read, and whose hash image begins at that sector of its file.
+/// Returns the layout of the parity of an image, whose superblock is read; the hash image begins at sector `first` of its file.
 pub(crate) fn lay_out<'a, D: BlockDev, H: BlockDev, P: BlockDev>(
     data_dev: &D,
     hash_dev: &mut H,

@@ -1,4 +1,4 @@
-//! The command `repair`: blocks that aren't good are sought in copies, and what is still lost is told.
+//! The command `repair`: seeks corrupt blocks in copies, and reports what is still lost.
 ghost use Rattle.std.specs.Prelude.{◌≡◌, ◌≤◌, ◌^◌, IfErr, IfOk, OnOk};
 ghost use Rattle.tree_repair.specs.Repairs.{IsAllowed};
 ghost use Rattle.repair_commands.specs.Commands.{AreRepaired, AreUnrepaired, GivesBackBoth, IsPairHalfMended, IsPairMended};
@@ -21,9 +21,17 @@ use tree_shape::Digest;
 use tree_survey::SurveyFault;
 use verity_commands::TreeFault;
 
-/// `repair [--check] [--hash-offset BYTES] DATA HASH ROOT [COPY ..]`: a line for each block that isn't good and was found in a
-/// copy, and then what `verify --all` prints; where the repair left all good, without reading all again. Each copy is asked for
-/// each such block, at its place in DATA or in HASH.
+/// Runs `repair [--check] [--hash-offset BYTES] DATA HASH ROOT [COPY ..]`. It prints a line for each corrupt block that was
+/// found in a copy, and then what `verify --all` prints. If the repair left all blocks valid, they aren't read again for that.
+/// Each copy is read at the block's offset in DATA or in HASH.
+///
+/// # Errors
+///
+/// - `Open` if a file can't be opened, or conflicts with an open one.
+/// - `Survey` if there is no superblock, an image is too small, a device failed, or memory ran out.
+/// - `Unaligned`, `Unpinned` or `UnusedEntries` if the image is refused before anything is written.
+/// - `Damaged` if blocks are still lost.
+/// - `Write` if a line can't be written.
 pub fn repair_images<'a, I: Images, S: Watchers, W: Write>(
     alloc: Global,
     images: &mut I,
@@ -44,7 +52,7 @@ pub fn repair_images<'a, I: Images, S: Watchers, W: Write>(
     say_rest(alloc, images, watchers, places, known, trusted, writer)
 }
 
-// Repairs what is open, and gives the images back, however that ends.
+// Repairs the open images and closes them, whatever the result.
 fn mend_opened<'a, I: Images, W: Write>(
     alloc: Global,
     images: &mut I,
@@ -91,7 +99,7 @@ fn mend_opened<'a, I: Images, W: Write>(
     ended
 }
 
-/// Gives both parts back, where anything may be written.
+/// Closes both parts if the repair may have written to them.
 pub(crate) fn give_back<'a, I: Images>(
     images: &mut I,
     places: RepairPlaces<'a>,
@@ -108,7 +116,7 @@ pub(crate) fn give_back<'a, I: Images>(
     images.close_part(places.hash, parts.hash_part, hash_dev);
 }
 
-/// The fault with which a repair ends that isn't one to the end.
+/// Returns the command's fault for a repair that ended early.
 pub(crate) fn fault_of<'a>(fault: RepairFault) -> TreeFault<'a>
     ensures { result ≡ ending_fault fault }
 {

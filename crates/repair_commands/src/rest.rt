@@ -1,4 +1,4 @@
-//! What is still lost behind a repair.
+//! Reports what is still lost after a repair.
 ghost use Rattle.std.specs.Prelude.{◌≡◌, IfErr, OnOk};
 ghost use Rattle.program_io.specs.Counted.{Writes};
 ghost use Rattle.verity_commands.specs.Surveys.{survey_totals};
@@ -18,7 +18,7 @@ use verity_commands::{SurveyOrder, TreeFault, say_totals, survey_images};
 // How many sectors the largest hash block takes.
 const MOST_SECTORS: u64 = 8;
 
-/// Prints what `verify --all` prints of the images behind a repair. Where it left all of them good they aren't read again.
+/// Prints what `verify --all` prints of the images after a repair. If the repair left all blocks valid, they aren't read again.
 pub(crate) fn say_rest<'a, I: Images, S: Watchers, W: Write>(
     alloc: Global,
     images: &mut I,
@@ -50,15 +50,16 @@ pub(crate) fn say_rest<'a, I: Images, S: Watchers, W: Write>(
     }
 }
 
-/// What a repair lets know of an image, by whether all hash blocks on the way to the last data block were good before it: one that
-/// was brought back may hold something after its last used entry, which a survey tells.
+/// Returns what is known of an image after a repair. `whole` is whether all hash blocks on the path to the last data block
+/// verified before the repair. If not, a restored hash block may hold something after its last used entry, which only a scan
+/// reports.
 pub(crate) fn known_by(whole: bool, outcome: Outcome) -> Outcome
     ensures { result ≡ known_by whole outcome }
 {
     if whole { outcome } else { Outcome::Partly }
 }
 
-// How many data blocks are known to be good, where all of the image is, and a hash block may begin at that sector.
+// The number of valid data blocks, if all of the image is known to be valid and a hash block may begin at that sector.
 fn known_good(outcome: Outcome, first: u64) -> Option<u64>
     ensures { result ≡ known_good outcome first }
 {

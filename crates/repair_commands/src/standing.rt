@@ -1,4 +1,4 @@
-//! Whether a hash image may begin at a sector.
+//! Checks where a hash image begins.
 ghost use Rattle.std.specs.Prelude.{IfErr, OnOk};
 ghost use Rattle.verity_format.specs.Blocks.{IsOnlyRead};
 ghost use Rattle.repair_commands.specs.Standing.{IsMisplacedBy, IsPlacedBy};
@@ -8,7 +8,7 @@ use image_commands::is_aligned;
 use verity_commands::TreeFault;
 use verity_format::read_superblock;
 
-/// Reads the superblock, and checks that the hash image begins at a multiple of its hash block's size.
+/// Reads the superblock, and checks that the hash image begins at a multiple of its hash block size.
 pub(crate) fn check_start<'a, H: BlockDev>(
     hash_dev: &mut H,
     first: u64,

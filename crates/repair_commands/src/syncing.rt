@@ -1,4 +1,4 @@
-//! What was written to both devices, synced.
+//! Syncs both devices after a repair.
 ghost use Rattle.std.specs.Prelude.{◌≡◌, ◌≤◌, false, IfErr, IsTrue, OnErr, OnOk};
 ghost use Rattle.block_device.specs.Device.{HasFailed};
 ghost use Rattle.repair_commands.specs.Mends.{IsOnMedium, IsUnsyncedCause, KeepsBothImages, end_of};
@@ -6,7 +6,7 @@ ghost use Rattle.repair_commands.specs.Mends.{IsOnMedium, IsUnsyncedCause, Keeps
 use block_device::{BlockDev, DeviceFault, SyncDev};
 use tree_repair::{DamagedImage, Outcome, RepairFault};
 
-/// Syncs both devices, the second one also if the first one's sync failed.
+/// Syncs both devices, the second even if the sync of the first failed.
 pub(crate) fn sync_both<D: SyncDev, H: SyncDev, C: BlockDev>(
     image: &mut DamagedImage<D, H, C>,
     write: bool,
@@ -22,7 +22,8 @@ pub(crate) fn sync_both<D: SyncDev, H: SyncDev, C: BlockDev>(
     Ok(())
 }
 
-/// What is reported of a repair and of the sync after it. A failed writer doesn't end a repair, so a failed sync comes before it.
+/// Returns what is reported of a repair and the sync after it. A failed writer doesn't end a repair, so a failed sync takes
+/// precedence over it.
 pub(crate) fn end_of(
     ended: Result<Outcome, RepairFault>,
     synced: Result<(), RepairFault>,
@@ -39,7 +40,7 @@ pub(crate) fn end_of(
     }
 }
 
-// Syncs a device, if anything may have been written to it.
+// Syncs a device if the repair may have written to it.
 fn sync_one<D: SyncDev>(device: &mut D, write: bool) -> Result<(), DeviceFault>
     ensures kept { (D.state device.new).image ≡ (D.state device.old).image }
     ensures ok { OnOk result (IsTrue write → (D.state device.new).dirty ≡ false) }

@@ -1,4 +1,4 @@
-//! What an image holds after the last used entries of its hash blocks, and whether it is the pin's, read before anything is written.
+//! Checks, before anything is written, what an image's hash blocks hold after their last used entries, and the pin.
 ghost use Rattle.std.specs.Prelude.{IfErr, IfOk};
 ghost use Rattle.verity_format.specs.Blocks.{IsOnlyRead};
 ghost use Rattle.repair_commands.specs.Unused.{IsUnusedCauseBy, IsUnusedPassedBy};
@@ -10,13 +10,16 @@ use tree_survey::{SurveyFault, Unused, read_unused};
 use verity_commands::TreeFault;
 use verity_format::{VerifyFault, read_superblock, tree_sectors};
 
-/// Returns whether all hash blocks on the way to the last data block are good, and hold zeros after their last used entries. A
-/// tree that doesn't lie on the device isn't looked at: the repair refuses it.
+/// Returns whether all hash blocks on the path to the last data block verify, and hold zeros after their last used entries. If
+/// the tree doesn't fit on the device, nothing of it is read: the repair refuses such an image.
 ///
 /// # Errors
 ///
-/// `UnusedEntries` if a good one holds something else: the superblock has fewer data blocks than the image that was formatted.
-/// `Unpinned` if the superblock differs from the pin. The superblock's fault if there is none. `NoMemory` if an allocation of at most 4,096 elements was refused.
+/// - `UnusedEntries` if a hash block that verifies holds something else: the superblock has fewer data blocks than the image
+///   that was formatted.
+/// - `Unpinned` if the superblock differs from the pin.
+/// - The superblock's fault if there is none.
+/// - `NoMemory` if an allocation of at most 4,096 elements was refused.
 pub(crate) fn check_unused<'a, H: BlockDev>(
     alloc: Global,
     hash_dev: &mut H,

@@ -1,4 +1,4 @@
--- The readable sectors of a device are copied to an image, and how a copy ends early.
+-- Copies of a device's readable sectors to an image, and how a copy ends early.
 use Rattle.std.specs.Prelude.{◌≡◌, ◌⊎◌, ℕ, ◌<◌, Bool, true, false, IsTrue, List, Option, option_map}
 use Rattle.block_device.specs.Device.{Device, HasFailed, synced}
 use Rattle.program_io.specs.Counted.{CountedRecord}
@@ -25,7 +25,7 @@ use Rattle.scan_commands.specs.declared.recovering_fault.RecoveringFault.TheVari
 use Rattle.scan_commands.specs.Counting.{IsPassEnd, IsRecoveryStackless, listed_by}
 use Rattle.scan_commands.specs.Reports.{IsUnreported, Reports}
 
--- a device of a stack file over bindings, the image to which it is copied, whether only what differs is written, and the path of
+-- a device of a stack file over bindings, the image to copy to, whether only sectors that differ are written, and the path of
 -- the map file, if there is one
 pub record CopyWords : Type 0 where
   pub words : DeviceWords
@@ -39,12 +39,12 @@ copy_words words out differing map = record { words = words; out = out; differin
 abbrev pub words_to_copy : StackFile → CopyPlan → CopyWords
 words_to_copy file plan = copy_words (words_for file plan.device) plan.out.now plan.differing (option_map (λ p. p.now) plan.map)
 
--- OUT's device as the pass sees it: with `--differing` one that reads before it writes, and counts for itself the calls made to it
+-- OUT's device as the pass sees it: with `--differing` a device that reads before it writes, and counts its own calls
 abbrev pub IsOutputSeenAs : Bool → Device → Device → Type 0
 IsOutputSeenAs false out seen = seen ≡ out
 IsOutputSeenAs true out seen = seen ≡ differing out seen.reads seen.writes seen.dirty
 
--- the pass copied to a device that OUT is seen as, by a copy's map if there is one; `m` is of OUT itself
+-- the pass copied to OUT's device as it sees it, with a copy's map if there is one; `m` is of OUT's device itself
 pub record PassesTo {S D : Type 0} (is_differing : Bool) (w : Calls S D) (map : Option (List ℕ)) (d : ℕ) (m : Moving) (counts : Counts) : Type 0 where
   pub seen : Device
   pub left : Device
@@ -52,7 +52,7 @@ pub record PassesTo {S D : Type 0} (is_differing : Bool) (w : Calls S D) (map : 
   pub passed : Passes w (map_at map map_kind.Copy) d (moving (record m.old { out = seen }) (record m.new { out = left })) counts
   pub ended : IsOutputSeenAs is_differing m.new.out left
 
--- it ended early
+-- the pass ended early
 pub record StopsTo {S D : Type 0} (is_differing : Bool) (w : Calls S D) (map : Option (List ℕ)) (d : ℕ) (m : Moving) (fault : PassFault) : Type 0 where
   pub seen : Device
   pub left : Device
@@ -60,13 +60,13 @@ pub record StopsTo {S D : Type 0} (is_differing : Bool) (w : Calls S D) (map : O
   pub stops : StopsPass w (map_at map map_kind.Copy) d (moving (record m.old { out = seen }) (record m.new { out = left })) fault
   pub ended : IsOutputSeenAs is_differing m.new.out left
 
--- it was completed, and OUT synced
+-- the pass was completed, and OUT was synced
 pub record CopiesTo {S D : Type 0} (is_differing : Bool) (w : Calls S D) (map : Option (List ℕ)) (d : ℕ) (m : Moving) (counts : Counts) : Type 0 where
   pub unsynced : Device
   pub passed : PassesTo is_differing w map d (moving m.old (record m.new { out = unsynced })) counts
   pub durable : m.new.out ≡ synced unsynced
 
--- or OUT's sync failed
+-- the pass was completed, but OUT's sync failed
 pub record FailsToSync {S D : Type 0} (is_differing : Bool) (w : Calls S D) (map : Option (List ℕ)) (d : ℕ) (m : Moving) (fault : PassFault) : Type 0 where
   pub counts : Counts
   pub unsynced : Device
@@ -80,7 +80,7 @@ EndsCopying is_differing w map d m fault = StopsTo is_differing w map d m fault 
 
 -- ---- a copy
 
--- the device was copied to OUT's image, which was synced and then closed
+-- the device was copied to OUT's image, which was then synced and closed
 pub record Copies {S D : Type 0} (w : Calls S D) (words : CopyWords) (before : Listed) (counts : Counts) (told : Listed) : Type 0 where
   pub at : DevicePlace
   pub image : OpenImage D
@@ -92,7 +92,7 @@ pub record Copies {S D : Type 0} (w : Calls S D) (words : CopyWords) (before : L
   pub copied : CopiesTo words.differing (record w { old = between; new = behind }) words.map at.d (moving (sides at.stack (w.state image.device) before) (sides left (w.state image') told)) counts
   pub back : w.relations.takes behind words.out image' w.new
 
--- the copy was begun and ended early, and OUT's image was closed
+-- the copy began and ended early, and OUT's image was closed
 pub record StopsCopy {S D : Type 0} (w : Calls S D) (words : CopyWords) (before : Listed) (fault : RecoveringFault) (told : Listed) : Type 0 where
   pub at : DevicePlace
   pub image : OpenImage D
@@ -108,34 +108,34 @@ pub record StopsCopy {S D : Type 0} (w : Calls S D) (words : CopyWords) (before 
 abbrev pub PrintsCopy : {S D : Type 0} → Calls S D → CopyWords → Option (List ℕ) → Option (List ℕ) → Type 0
 PrintsCopy w words old new = Reports (Copies w words) false old new
 
--- it has so many sectors, which are more than the image has
+-- the device has so many sectors, which are more than the image has
 abbrev pub IsOutputTooSmall : Device → ℕ → RecoveringFault → Type 0
 IsOutputTooSmall image sectors (OutputTooSmall needed) = (needed ≡ sectors) × (image.size < sectors)
 IsOutputTooSmall image sectors fault = ⊥
 
--- the device has no room in the image
+-- the image has no room for the device
 pub record FindsNoRoom {S D : Type 0} (w : Calls S D) (words : DeviceWords) (out : List ℕ) (fault : RecoveringFault) : Type 0 where
   pub at : DevicePlace
   pub image : OpenImage D
   pub found : FindsOutput w words out at image
   pub small : IsOutputTooSmall (w.state image.device) (size at.stack.config (mapped at.d)) fault
 
--- that, or there is no such device
+-- the image has no room, or there is no such device
 abbrev pub IsOutputUncopied : {S D : Type 0} → Calls S D → DeviceWords → List ℕ → RecoveringFault → Type 0
 IsOutputUncopied w words out fault = IsRecoveryStackless (FailsToFindOutput w words out) fault ⊎ FindsNoRoom w words out fault
 
--- nothing is printed if it isn't begun
+-- nothing is printed if the copy doesn't begin
 abbrev pub IsCopyEnd : {S D : Type 0} → Calls S D → CopyWords → Option (List ℕ) → Option (List ℕ) → Bool → RecoveringFault → Type 0
 IsCopyEnd w words old new failed fault =
     ((new ≡ old) × IsOutputUncopied w words.words words.out fault) ⊎ IsUnreported (StopsCopy w words) (Copies w words) false old new failed fault
 
--- ---- as a call sees them
+-- ---- in terms of the arguments of a call
 
 -- there is no such device, or no image with room for it
 abbrev pub FailsTo : {S D : Type 0} → Opener S D → (D → Device) → S → S → StackFile → NamedDevice → List ℕ → RecoveringFault → Type 0
 FailsTo relations state old new file device out = IsOutputUncopied (calls relations state old new) (words_for file device) out
 
--- of an open device, with the writer of the lines
+-- for an open device, with the writer of the lines
 module _ {S D E O T : Type 0} (relations : Opener S D) (state : D → Device) (seen : O → Device) (contents : T → Option (List ℕ)) (images images' : S) (old new : Passing E O) (writer writer' : CountedRecord T) (plan : CopyPlan) where
   abbrev copy_moved : Moving
   copy_moved = moving (sides old.stack (seen old.out) (listed_by contents writer)) (sides new.stack (seen new.out) (listed_by contents writer'))

@@ -9,7 +9,7 @@ use Rattle.stack_recovery.specs.Listings.{Listed, listed}
 use Rattle.scan_commands.specs.declared.recovering_fault.RecoveringFault.{RecoveringFault}
 use Rattle.scan_commands.specs.declared.recovering_fault.RecoveringFault.TheVariants.{Lost, Pass, Stack, Write}
 
--- a relation of what a counted writer held before and what it holds then; and of that, whether it failed, and a fault
+-- relations of what a counted writer held before and holds afterwards; the second also of whether it failed, and of a fault
 abbrev pub PrintedBy : {T : Type 0} → (T → Option (List ℕ)) → CountedRecord T → CountedRecord T → (Option (List ℕ) → Option (List ℕ) → Type 0) → Type 0
 PrintedBy contents old new Prints = Prints (contents old.inner) (contents new.inner)
 
@@ -38,13 +38,13 @@ listed_by contents writer = listed (contents writer.inner) writer.failed
 abbrev pub TellsCounts : Counts → Option (List ℕ) → Option (List ℕ) → Type 0
 TellsCounts counts old new = (counts.lost ≡ 0) × Appends old new (counts_text counts.read 0)
 
--- some are lost, or a line can't be written, this one or one before
+-- sectors are lost, or this line or an earlier one can't be written
 abbrev pub IsCountsEnd : Counts → Listed → Option (List ℕ) → Bool → RecoveringFault → Type 0
 IsCountsEnd counts old new failed (Lost read lost) = (read ≡ counts.read) × (lost ≡ counts.lost) × (0 < counts.lost) × (new ≡ old.text) × (old.failed ≡ false)
 IsCountsEnd counts old new failed Write = failed ≡ true
 IsCountsEnd counts old new failed fault = ⊥
 
--- the same of a counted writer, before and after
+-- why the counts weren't printed, by a counted writer before and after
 abbrev pub EndsCounts : {T : Type 0} → (T → Option (List ℕ)) → CountedRecord T → CountedRecord T → Counts → RecoveringFault → Type 0
 EndsCounts contents old new counts fault = IsCountsEnd counts (listed_by contents old) (contents new.inner) new.failed fault
 

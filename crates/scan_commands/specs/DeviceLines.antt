@@ -13,7 +13,7 @@ device_facts c d =
     ++ (codes " read " ++ (decimal (read_cost c (mapped d)) ++ (codes " write " ++ (decimal (write_cost c (mapped d))
     ++ (codes " " ++ ((if may_write c (mapped d) then codes "rw" else codes "ro") ++ codes "\n")))))))))
 
--- a device's name and what it is
+-- the line of a device
 unfoldable pub device_line : Configuration → ℕ → List ℕ
 device_line c d = name_of c d ++ device_facts c d
 
@@ -26,7 +26,7 @@ device_lines c (suc n) = device_lines c n ++ device_line c n
 abbrev pub devices_text : Configuration → List ℕ
 devices_text c = device_lines c (length c.devices)
 
--- as an object, or a line each
+-- the JSON object, or a line for each device
 abbrev pub load_text : Bool → Configuration → List ℕ
 load_text true c = json_line (load_json c)
 load_text false c = devices_text c

@@ -6,7 +6,7 @@ use Rattle.stack_rules.specs.Records.{Configuration}
 use Rattle.stack_rules.specs.Names.{mapped, name_of, size, may_write}
 use Rattle.stack_rules.specs.Descend.{depth, read_cost, write_cost}
 
--- a device's name and what it is, as its line says
+-- the object of a device, with the values of its line
 abbrev pub device_json : Configuration → ℕ → Data
 device_json c d =
     object

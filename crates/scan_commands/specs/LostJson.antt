@@ -8,12 +8,12 @@ use Rattle.stack_meaning.specs.IoFaults.{io_name}
 use Rattle.stack_recovery.specs.LostRuns.{LostRun}
 use Rattle.stack_recovery.specs.declared.recovery.Counts.{Counts}
 
--- of a device's fault the number of the leaf that failed
+-- the index of the backing device, if it failed
 abbrev pub leaf_member : IoFault → Members
 leaf_member (Device leaf) = member (codes "leaf") (number (unsigned leaf)) no_members
 leaf_member fault = no_members
 
--- a run by how many sectors it has, the name of the fault and its first sector
+-- a run: how many sectors it has, the name of the fault and its first sector
 abbrev pub lost_run_json : LostRun → Data
 lost_run_json run =
     object
@@ -25,7 +25,7 @@ lost_run_json run =
 abbrev pub lost_runs_json : List LostRun → List Data
 lost_runs_json runs = map lost_run_json runs
 
--- how many sectors are lost and how many were had, and the lost runs
+-- how many sectors are lost, how many were read, and the lost runs
 abbrev pub lost_json : List LostRun → Counts → Data
 lost_json runs counts =
     object

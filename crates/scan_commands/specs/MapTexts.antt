@@ -26,7 +26,7 @@ unreplaced_text replace.Write = refused_text 31 (codes "MapWrite")
 unreplaced_text replace.Sync = refused_text 32 (codes "MapSync")
 unreplaced_text replace.Rename = refused_text 33 (codes "MapRename")
 
--- by what ended it
+-- the line for a pass that ended early
 abbrev pub pass_text : PassFault → List ℕ
 pass_text pass.NoMemory = no_memory
 pass_text (pass.Unread file) = open_text file

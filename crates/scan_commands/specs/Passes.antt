@@ -1,4 +1,4 @@
--- A pass over a mapped device, by a map file or without one.
+-- A pass over a mapped device, with or without a map file.
 use Rattle.std.specs.Prelude.{◌≡◌, ◌⊎◌, ℕ, ◌<◌, ◌≤◌, IsTrue, List, length, Option, Some, None, option_map}
 use Rattle.block_device.specs.Device.{Device}
 use Rattle.image_files.specs.Opener.{Calls, Opener, calls}
@@ -16,7 +16,7 @@ use Rattle.stack_recovery.specs.declared.recovery.Counts.{Counts}
 use Rattle.stack_recovery.specs.Listings.{Listed}
 use Rattle.stack_recovery.specs.Recoveries.{IsRecoveryEnd, Recovers, Sides, sides}
 
--- the stack with what is copied and listed, before and after
+-- the stack, the output device and the reported lines, before and after
 pub record Moving : Type 0 where
   pub old : Sides
   pub new : Sides
@@ -30,8 +30,8 @@ counts_of totals = record { read = totals.had; lost = totals.lost }
 
 -- ---- with a map file
 
--- A map file was read, or there is none and no sector was read before. Then what wasn't read was read in turns, after each of
--- which the map was replaced.
+-- A map file was read; or there is none, and no sector was read before. Then the other sectors were read in turns, and the map
+-- was replaced after each turn.
 pub record IsRescued {S D : Type 0} (w : Calls S D) (file : MapPathRecord) (d : ℕ) (m : Moving) (counts : Counts) : Type 0 where
   pub totals : Totals
   pub runs : List Run
@@ -40,25 +40,25 @@ pub record IsRescued {S D : Type 0} (w : Calls S D) (file : MapPathRecord) (d : 
   pub rescued : RescuesInTurns (kept w.relations.replaces file d (size m.old.stack.config (mapped d))) (progressed between m.old runs 0) w.new m.new totals
   pub counted : counts ≡ counts_of totals
 
--- it was read, and a turn ended early
+-- the map was read, and a turn ended early
 pub record IsCutShort {S D : Type 0} (w : Calls S D) (file : MapPathRecord) (d : ℕ) (m : Moving) (fault : PassFault) : Type 0 where
   pub runs : List Run
   pub between : S
   pub read : IsMapRead (record w { new = between }) file (size m.old.stack.config (mapped d)) runs
   pub ends : IsTurnsEnd (kept w.relations.replaces file d (size m.old.stack.config (mapped d))) (progressed between m.old runs 0) w.new m.new fault
 
--- or it wasn't read, and nothing was done
+-- the map wasn't read, and nothing was done; or a turn ended early
 abbrev pub IsUnrescued : {S D : Type 0} → Calls S D → MapPathRecord → ℕ → Moving → PassFault → Type 0
 IsUnrescued w file d m fault =
     ((m.new ≡ m.old) × IsMapUnread w file.path (size m.old.stack.config (mapped d)) fault) ⊎ IsCutShort w file d m fault
 
--- ---- with a map file or without one, where the opener isn't called
+-- ---- with a map file, or without one, when the opener isn't called
 
 abbrev pub Passes : {S D : Type 0} → Calls S D → Option MapPathRecord → ℕ → Moving → Counts → Type 0
 Passes w None d m counts = (w.new ≡ w.old) × Recovers d m.old counts m.new
 Passes w (Some file) d m counts = IsRescued w file d m counts
 
--- a recovery ended early
+-- the recovery ended early
 abbrev pub IsRecoveryStopped : ℕ → Moving → PassFault → Type 0
 IsRecoveryStopped d m NoMemory = IsRecoveryEnd d m.old m.new recovery.NoMemory
 IsRecoveryStopped d m Output = IsRecoveryEnd d m.old m.new recovery.Output
@@ -68,9 +68,9 @@ abbrev pub StopsPass : {S D : Type 0} → Calls S D → Option MapPathRecord →
 StopsPass w None d m fault = (w.new ≡ w.old) × IsRecoveryStopped d m fault
 StopsPass w (Some file) d m fault = IsUnrescued w file d m fault
 
--- ---- as a call sees them
+-- ---- in terms of the arguments of a call
 
--- the device is one of the stack's, and the other one has room for all its sectors and may be written
+-- the device is one of the stack's, and the other device is writable and has room for all its sectors
 pub record CanPass {D O : Type 0} (state : O → Device) (p : Passing D O) : Type 0 where
   pub device : p.device.0 < length p.stack.config.devices
   pub room : size p.stack.config (mapped p.device.0) ≤ (state p.out).size

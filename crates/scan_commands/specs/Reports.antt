@@ -1,4 +1,4 @@
--- What is reported of a device that was read whole: lines as lost runs are found, and then the counts; or one JSON object of both.
+-- The report on a device after a complete pass: lines as lost runs are found, and then the counts; or one JSON object of both.
 use Rattle.std.specs.Prelude.{◌≡◌, ◌⊎◌, ℕ, ◌<◌, Bool, true, false, List, [], Option, Some}
 use Rattle.std.specs.Io.KnownBytes.{Appends}
 use Rattle.program_io.specs.Counted.{CountedRecord}
@@ -13,24 +13,24 @@ use Rattle.scan_commands.specs.declared.recovering_fault.RecoveringFault.{Recove
 use Rattle.scan_commands.specs.declared.recovering_fault.RecoveringFault.TheVariants.{LostAsSaid, NoMemory, Write}
 use Rattle.scan_commands.specs.Counting.{IsCountsEnd, TellsCounts}
 
--- a pass over a device, by what was listed before it and what is listed after it: completed with these counts, or ended early
+-- a pass over a device, by what was reported before it and after it: completed with these counts, or ended early
 abbrev pub Whole : Type 1
 Whole = Listed → Counts → Listed → Type 0
 
 abbrev pub Early : Type 1
 Early = Listed → RecoveringFault → Listed → Type 0
 
--- what is listed before it: lines follow what the writer holds, and of an object no run is kept
+-- what was reported before: the lines follow what the writer holds; for an object no run is kept
 abbrev pub BeginsReport : Bool → Option (List ℕ) → Listed → Type 0
 BeginsReport false old before = before.text ≡ old
 BeginsReport true old before = before ≡ listed (Some []) false
 
--- all runs were kept, of which these are the lines
+-- all runs were kept, and these are their lines
 pub record AreKept (told : Listed) : Type 0 where
   pub runs : List LostRun
   pub same : told ≡ listed (Some (lost_text runs)) false
 
--- one object was printed of the runs and of the counts
+-- one object of the runs and the counts was printed
 abbrev pub PrintsLost : List LostRun → Counts → Option (List ℕ) → Option (List ℕ) → Type 0
 PrintsLost runs counts old new = Appends old new (json_line (lost_json runs counts))
 
@@ -39,7 +39,7 @@ abbrev pub IsReported : Bool → Counts → Listed → Option (List ℕ) → Opt
 IsReported false counts told old new = (told.failed ≡ false) × TellsCounts counts told.text new
 IsReported true counts told old new = (kept : AreKept told) × (counts.lost ≡ 0) × PrintsLost kept.runs counts old new
 
--- some are lost, as the object states; it can't be written; or memory ran out for a run or for the object
+-- sectors are lost, as the object states; or the object can't be written; or memory ran out for a run or for the object
 abbrev pub IsObjectEnd : Counts → Listed → Option (List ℕ) → Option (List ℕ) → Bool → RecoveringFault → Type 0
 IsObjectEnd counts told old new failed LostAsSaid = (kept : AreKept told) × (0 < counts.lost) × PrintsLost kept.runs counts old new
 IsObjectEnd counts told old new failed Write = AreKept told × (failed ≡ true)
@@ -50,7 +50,7 @@ abbrev pub IsReportEnd : Bool → Counts → Listed → Option (List ℕ) → Op
 IsReportEnd false counts told old new failed fault = IsCountsEnd counts told new failed fault
 IsReportEnd true counts told old new failed fault = IsObjectEnd counts told old new failed fault
 
--- lines that were printed stay, and of runs that were kept none is printed
+-- lines that were printed remain; runs that were kept aren't printed
 abbrev pub KeepsReport : Bool → Listed → Option (List ℕ) → Option (List ℕ) → Bool → Type 0
 KeepsReport false told old new failed = told ≡ listed new failed
 KeepsReport true told old new failed = new ≡ old
@@ -64,7 +64,7 @@ pub record Reports (Done : Whole) (json : Bool) (old new : Option (List ℕ)) : 
   pub done : Done before counts told
   pub reported : IsReported json counts told old new
 
--- it was completed, and sectors are lost or not all is printed
+-- the pass was completed, and sectors are lost or not all is printed
 pub record LosesSectors (Done : Whole) (json : Bool) (old new : Option (List ℕ)) (failed : Bool) (fault : RecoveringFault) : Type 0 where
   pub counts : Counts
   pub before : Listed
@@ -73,7 +73,7 @@ pub record LosesSectors (Done : Whole) (json : Bool) (old new : Option (List ℕ
   pub done : Done before counts told
   pub ends : IsReportEnd json counts told old new failed fault
 
--- it ended early
+-- the pass ended early
 pub record StopsEarly (Stopped : Early) (json : Bool) (old new : Option (List ℕ)) (failed : Bool) (fault : RecoveringFault) : Type 0 where
   pub before : Listed
   pub told : Listed
@@ -84,9 +84,9 @@ pub record StopsEarly (Stopped : Early) (json : Bool) (old new : Option (List �
 abbrev pub IsUnreported : Early → Whole → Bool → Option (List ℕ) → Option (List ℕ) → Bool → RecoveringFault → Type 0
 IsUnreported Stopped Done json old new failed fault = StopsEarly Stopped json old new failed fault ⊎ LosesSectors Done json old new failed fault
 
--- ---- as a call sees them
+-- ---- in terms of the arguments of a call
 
--- the text of the runs that are kept, and whether one couldn't be
+-- the text of the runs that are kept, and whether a run couldn't be kept
 abbrev pub kept_text : KeptRuns → Listed
 kept_text kept = listed (Some (lost_text kept.runs.items)) kept.refused
 

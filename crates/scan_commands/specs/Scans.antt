@@ -1,4 +1,4 @@
--- Which sectors of a device are lost, and how a scan ends early.
+-- Scans for a device's lost sectors, and how a scan ends early.
 use Rattle.std.specs.Prelude.{◌≡◌, ◌⊎◌, ℕ, Bool, IsTrue, List, Option, option_map}
 use Rattle.block_device.specs.Device.{Device}
 use Rattle.program_io.specs.Counted.{CountedRecord}
@@ -31,7 +31,7 @@ scan_words words map json = record { words = words; map = map; json = json }
 abbrev pub words_to_scan : StackFile → ScanPlan → ScanWords
 words_to_scan file plan = scan_words (words_for file plan.device) (option_map (λ p. p.now) plan.map) plan.json
 
--- the device was scanned, by a scan's map if there is one
+-- the device was scanned, with a scan's map if there is one
 pub record Scans {S D : Type 0} (w : Calls S D) (words : ScanWords) (before : Listed) (counts : Counts) (told : Listed) : Type 0 where
   pub at : DevicePlace
   pub out : Device
@@ -41,7 +41,7 @@ pub record Scans {S D : Type 0} (w : Calls S D) (words : ScanWords) (before : Li
   pub found : FindsDevice (record w { new = between }) words.words at
   pub passed : Passes (record w { old = between }) (map_at words.map map_kind.Scan) at.d (moving (sides at.stack out before) (sides left out' told)) counts
 
--- the scan was begun and ended early; the device to which it copies never fails
+-- the scan began and ended early; the device that it copies to never fails
 pub record StopsScan {S D : Type 0} (w : Calls S D) (words : ScanWords) (before : Listed) (fault : RecoveringFault) (told : Listed) : Type 0 where
   pub at : DevicePlace
   pub out : Device
@@ -61,7 +61,7 @@ abbrev pub IsScanEnd : {S D : Type 0} → Calls S D → ScanWords → Option (Li
 IsScanEnd w words old new failed fault =
     ((new ≡ old) × IsRecoveryStackless (FailsToFindDevice w words.words) fault) ⊎ IsUnreported (StopsScan w words) (Scans w words) words.json old new failed fault
 
--- ---- as a call sees them, of an open device
+-- ---- in terms of the arguments of a call, for an open device
 
 module _ {S D E T : Type 0} (relations : Opener S D) (state : D → Device) (seen : Discard → Device) (contents : T → Option (List ℕ)) (images images' : S) (old new : Passing E Discard) (writer writer' : CountedRecord T) where
   abbrev scanned : Listed → Listed → Moving

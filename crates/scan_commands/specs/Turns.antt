@@ -1,4 +1,4 @@
--- A device that is read in turns, after each of which its map file is replaced.
+-- A device that is read in turns, with its map file replaced after each turn.
 use Rattle.std.specs.Prelude.{◌≡◌, ℕ, ◌+◌, ◌*◌, ◌/◌, ◌≤◌, ◌==◌, max, Bool, true, IsTrue, List, replicate, Option, Some, None, Result, Ok, Err, if◌then◌else◌}
 use Rattle.std.specs.List.{list_all}
 use Rattle.allocation.specs.Refusal.{IsOutOfMemory}
@@ -21,11 +21,11 @@ use Rattle.scan_commands.specs.declared.turns.NextTurn.{NextTurn}
 use Rattle.scan_commands.specs.declared.rescue_fault.PassFault.{PassFault}
 use Rattle.scan_commands.specs.declared.rescue_fault.PassFault.TheVariants.{NoMemory, Output, Unwritten}
 
--- what replaces a file by bytes
+-- how a file is replaced by bytes
 abbrev pub Replaces : Type 0 → Type 1
 Replaces S = S → List ℕ → List ℕ → Result (Unit {0}) ReplaceFault → S → Type 0
 
--- a device of so many sectors, its map file, and what replaces it
+-- a device of so many sectors, its map file, and how the file is replaced
 pub record Kept (S : Type 0) : Type 1 where
   pub replaces : Replaces S
   pub file : MapPathRecord
@@ -35,7 +35,7 @@ pub record Kept (S : Type 0) : Type 1 where
 abbrev pub kept : {S : Type 0} → Replaces S → MapPathRecord → ℕ → ℕ → Kept S
 kept replaces file d sectors = record { replaces = replaces; file = file; d = d; sectors = sectors }
 
--- the opener, the stack with what is copied and printed, and the map; the sectors before `at` are done
+-- the opener, the stack with the output device and the reported lines, and the map; the sectors before `at` are done
 pub record Progressed (S : Type 0) : Type 0 where
   pub images : S
   pub sides : Sides
@@ -45,15 +45,16 @@ pub record Progressed (S : Type 0) : Type 0 where
 abbrev pub progressed : {S : Type 0} → S → Sides → List Run → ℕ → Progressed S
 progressed images sides runs at = record { images = images; sides = sides; runs = runs; at = at }
 
--- 64 MiB, or a 256th of a larger device, in whole groups of eight sectors
+-- the sectors of a turn: 64 MiB, or about a 256th of a larger device, in whole groups of eight sectors
 unfoldable pub turn_len : ℕ → ℕ
 turn_len sectors = max 131072 ((sectors / 2048 + 1) * 8)
 
--- the marks of the span as the map has them; all other sectors count as read before, so that they aren't read
+-- the marks that a turn reads by: those of the map in the span; all other sectors count as read before, so that they aren't
+-- read
 abbrev pub asked_marks : Span → ℕ → List Run → List Bool
 asked_marks span sectors runs = spliced_marks span (replicate sectors true) (marks runs)
 
--- of a map that replaces the one before: the sectors before that one were tried, or all
+-- the status of a map file: the sectors before that one were tried, or all
 abbrev pub tried_before : ℕ → ℕ → Option ℕ
 tried_before sectors at = if at == sectors then None else Some at
 
@@ -65,8 +66,8 @@ pub record IsSpan (sectors at : ℕ) (span : Span) (at' : ℕ) : Type 0 where
   pub end : at' ≡ at + span.count
   pub inside : at' ≤ sectors
 
--- A turn: of the next sectors those that weren't read before were read, the readable ones were copied to the other device, which
--- was synced, and then the map file was replaced by a map that states so.
+-- A turn. Those of the next sectors that weren't read before were read, and the readable ones were copied to the other device,
+-- which was synced. Then the map file was replaced by the new map.
 pub record IsTurn {S : Type 0} (k : Kept S) (old new : Progressed S) : Type 0 where
   pub span : Span
   pub next : IsSpan k.sectors old.at span new.at
@@ -97,22 +98,22 @@ pub record RescuesInTurns {S : Type 0} (k : Kept S) (first : Progressed S) (imag
   pub turns : Turns k first (progressed images sides runs k.sectors)
   pub counted : totals ≡ map_totals runs
 
--- the most elements for which one allocation makes room where a map is printed
+-- the most elements that one allocation requests when a map is printed
 abbrev pub largest_print_allocation : ℕ
 largest_print_allocation = 40
 
--- a map file isn't replaced: by that fault, or an allocation for its text was refused before the opener was called
+-- why a map file isn't replaced: by that fault, or an allocation for its text was refused before the opener was called
 abbrev pub IsMapUnwritten : {S : Type 0} → Replaces S → List ℕ → S → List ℕ → S → PassFault → Type 0
 IsMapUnwritten replaces path old text new NoMemory = (new ≡ old) × IsOutOfMemory largest_print_allocation
 IsMapUnwritten replaces path old text new (Unwritten fault) = replaces old path text (Err fault) new
 IsMapUnwritten replaces path old text new other = ⊥
 
--- the device to which is copied counts no further failure
+-- the output device counts no further failure
 abbrev pub IsUnfailed : Sides → Sides → Type 0
 IsUnfailed old new = new.out.failures ≡ old.out.failures
 
--- Why the turn after some ended early: the map file is that of the turns before. If memory ran out, an allocation of at most so
--- many elements was refused, for a read, for a map or for its text.
+-- Why a turn ended early. The map file is that of the completed turns. If memory ran out, an allocation of at most so many
+-- elements was refused: for a read, for a map or for its text.
 abbrev pub StopsIn : {S : Type 0} → Kept S → Progressed S → S → Sides → PassFault → Type 0
 StopsIn k now images new NoMemory = (images ≡ now.images) × IsUnfailed now.sides new × IsOutOfMemory largest_allocation
 StopsIn k now images new Output = (images ≡ now.images) × HasFailed now.sides.out new.out × (IsTrue now.sides.out.never_fails → ⊥)
@@ -125,9 +126,9 @@ pub record IsTurnsEnd {S : Type 0} (k : Kept S) (first : Progressed S) (images :
   pub turns : Turns k first now
   pub stops : StopsIn k now images new fault
 
--- ---- as a call sees them
+-- ---- in terms of the arguments of a call
 
--- a turn, which makes this map
+-- a turn, which results in this map
 abbrev pub TakesTurn : {S O L : Type 0} → Replaces S → (O → Device) → (L → Listed) → ℕ → NextTurn → S → Parties O L → S → Parties O L → List Run → Type 0
 TakesTurn replaces state told d turn images old images' new map =
     IsTurn (kept replaces (map_path_of turn.file) d turn.sectors) (progressed images (seen_sides state told old) turn.map.now turn.span.first) (progressed images' (seen_sides state told new) map (turn.span.first + turn.span.count))
@@ -136,7 +137,7 @@ abbrev pub StopsTurn : {S O L : Type 0} → Replaces S → (O → Device) → (L
 StopsTurn replaces state told d turn images old images' new fault =
     StopsIn (kept replaces (map_path_of turn.file) d turn.sectors) (progressed images (seen_sides state told old) turn.map.now turn.span.first) images' (seen_sides state told new) fault
 
--- all turns of a device by the map of a file
+-- all turns of a device with the map of a file
 abbrev pub RescuesByFile : {S O L : Type 0} → Replaces S → (O → Device) → (L → Listed) → ℕ → MapFile → S → Parties O L → S → Parties O L → Totals → Type 0
 RescuesByFile replaces state told d kept_map images old images' new totals =
     RescuesInTurns (kept replaces (map_path_of kept_map.file) d (size old.stack.config (mapped d))) (progressed images (seen_sides state told old) kept_map.map 0) images' (seen_sides state told new) totals

@@ -1,4 +1,4 @@
-//! The readable sectors of a device are copied to an image.
+//! Copies the readable sectors of a device to an image.
 ghost use Rattle.std.specs.Prelude.{OnOk, IfOk, IfErr};
 ghost use Rattle.image_files.specs.Opener.{calls};
 ghost use Rattle.scan_commands.specs.Passes.{CanPass};
@@ -21,8 +21,8 @@ use stack_recovery::Counts;
 use std::alloc::Global;
 use std::io::Write;
 
-/// The device that is copied, the path of the image to which it is copied, whether only what differs is written, and the path of
-/// the map file, if there is one.
+/// The device to be copied, the path of the image to copy to, whether only sectors that differ are written, and the path of the
+/// map file, if there is one.
 #[derive(Clone, Copy, Debug, PartialEq, Eq)]
 pub struct CopyPlan<'a> {
     pub device: NamedDevice<'a>,
@@ -31,9 +31,19 @@ pub struct CopyPlan<'a> {
     pub map: Option<&'a str>,
 }
 
-/// Copies the readable sectors of a device of a stack file over the bindings to an image, which is synced and closed before the
-/// counts are printed. With a map file it copies the sectors that the map doesn't mark as read, and keeps the map, as a copy's.
-/// By a scan's map no sector was read: the image has none of the sectors that it marks `+`.
+/// Copies the readable sectors of a device of a stack file to an image. The image is synced and closed before the counts are
+/// printed.
+///
+/// With a map file, only sectors that the map doesn't mark as read are copied, and the map file is kept as a copy's map. A
+/// scan's map counts no sector as read: the image has none of the sectors that it marks `+`.
+///
+/// # Errors
+///
+/// - `Stack` if there is no such device, or a file can't be opened.
+/// - `OutputTooSmall` if the image has fewer sectors than the device.
+/// - `Pass` if the copy ended early.
+/// - `Lost` if sectors are lost; the copy was completed.
+/// - `Write` if a line can't be written; the copy was completed.
 pub fn copy_device<'a, I: Images, W: Write, P: Progress>(
     alloc: Global,
     images: &mut I,
@@ -80,7 +90,7 @@ fn copy_synced<'a, I: Images, D: BlockDev + Drop, O: SyncDev + Drop, W: Write, P
     }
 }
 
-// Copies the device; with `--differing` to a device that reads before it writes.
+// Copies the device. With `--differing` the image is wrapped in a device that reads before it writes.
 fn copy_to<'a, I: Images, D: BlockDev + Drop, O: SyncDev + Drop, W: Write, P: Progress>(
     alloc: Global,
     images: &mut I,

@@ -1,4 +1,4 @@
-//! What the devices of a stack are, a line each.
+//! The devices of a stack, a line each.
 ghost use Rattle.std.specs.Prelude.{◌≡◌, ◌<◌, codes, if◌then◌else◌, length};
 ghost use Rattle.program_io.specs.Counted.{Writes};
 ghost use Rattle.scan_commands.specs.DeviceLines.{device_facts, device_line, devices_text};
@@ -7,7 +7,11 @@ use program_io::{Counted, WriteFault};
 use stack_config::{Config, DevId};
 use std::io::Write;
 
-/// A line for each mapped device: `NAME sectors S depth D read R write W rw`, or `ro` in place of `rw`.
+/// Prints a line for each mapped device: `NAME sectors S depth D read R write W rw`, or `ro` in place of `rw`.
+///
+/// # Errors
+///
+/// `WriteFault` if the writer failed.
 pub fn say_devices<W: Write>(config: &Config, writer: &mut Counted<W>) -> Result<(), WriteFault>
     ensures { Writes W.contents writer.old writer.new (devices_text config.now) result }
 {
@@ -17,7 +21,7 @@ pub fn say_devices<W: Write>(config: &Config, writer: &mut Counted<W>) -> Result
     Ok(())
 }
 
-// The device's name, and what it is.
+// Prints the line of a device.
 #[tactic(auto, unfolding(crate::specs::DeviceLines::device_line))]
 fn say_device<W: Write>(
     config: &Config,

@@ -1,4 +1,4 @@
-//! What the devices of a stack are, as one JSON object.
+//! The devices of a stack as one JSON object.
 ghost use Rattle.std.specs.Prelude.{◌≡◌, ◌<◌, length, string_bytes, IfOk};
 ghost use Rattle.program_io.specs.JsonLines.{json_line};
 ghost use Rattle.serde_json.specs.Data.{array};
@@ -11,8 +11,12 @@ use serde_json::{Value, json};
 use stack_config::{Config, DevId};
 use std::alloc::{AllocError, Global};
 
-/// The line of the object: `{"devices":[..]}` with `{"depth":N,"name":TEXT,"read":N,"sectors":N,"writable":BOOL,"write":N}` for each
-/// mapped device.
+/// Returns the line of the object: `{"devices":[..]}` with
+/// `{"depth":N,"name":TEXT,"read":N,"sectors":N,"writable":BOOL,"write":N}` for each mapped device.
+///
+/// # Errors
+///
+/// `AllocError` if an allocation was refused.
 #[tactic(auto, using(crate::proofs::PlainLemmas::plain_load))]
 pub fn devices_line(alloc: Global, config: &Config) -> Result<String, AllocError>
     ensures { IfOk result (λ line. string_bytes line ≡ json_line (load_json config.now)) }
@@ -28,7 +32,7 @@ fn load_value(alloc: Global, config: &Config) -> Result<Value, AllocError>
     json!(in alloc; {"devices": devices})
 }
 
-// An array of the devices.
+// Returns the array of the devices.
 fn devices_value(alloc: Global, config: &Config) -> Result<Value, AllocError>
     ensures { IfOk result (λ value. view value ≡ array (items_of (devices_json config.now (length config.now.devices)))) }
 {
@@ -40,7 +44,7 @@ fn devices_value(alloc: Global, config: &Config) -> Result<Value, AllocError>
     Ok(Value::Array(values))
 }
 
-// The members in the order of their keys.
+// Returns the object of a device, its members in the order of their keys.
 fn device_value(alloc: Global, config: &Config, d: DevId) -> Result<Value, AllocError>
     requires { d.0 < length config.now.devices }
     ensures { IfOk result (λ value. view value ≡ device_json config.now d.0) }
@@ -56,7 +60,7 @@ fn device_value(alloc: Global, config: &Config, d: DevId) -> Result<Value, Alloc
     })
 }
 
-// The device's name, which has printing characters of ASCII alone.
+// Returns the name of a device, which has only printable ASCII characters.
 fn name_text(config: &Config, d: DevId) -> &str
     requires { d.0 < length config.now.devices }
     ensures { result.now ≡ name_of config.now d.0 }

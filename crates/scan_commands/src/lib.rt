@@ -1,4 +1,5 @@
-//! Scans and copies of a stack file's device, with a map file and without one, and the devices and lost sectors as lines of JSON.
+//! Scans and copies a stack file's device, with or without a map file. It also formats devices and lost sectors as lines of
+//! JSON.
 #![tactic(auto)]
 
 mod copy;

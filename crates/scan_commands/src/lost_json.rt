@@ -1,4 +1,4 @@
-//! The lost sectors of a device, as one JSON object.
+//! The lost sectors of a device as one JSON object.
 ghost use Rattle.std.specs.Prelude.{◌≡◌, string_bytes, IfOk};
 ghost use Rattle.program_io.specs.JsonLines.{json_line};
 ghost use Rattle.serde_json.specs.Data.{array};
@@ -11,8 +11,12 @@ use stack_engine::IoFault;
 use stack_recovery::{Counts, LostRun};
 use std::alloc::{AllocError, Global};
 
-/// The line of the object: `{"lost":N,"read":N,"runs":[..]}` with `{"count":N,"fault":NAME,"first":N}` for each run, and
-/// `"leaf":N` behind that where a leaf failed.
+/// Returns the line of the object: `{"lost":N,"read":N,"runs":[..]}` with `{"count":N,"fault":NAME,"first":N}` for each run,
+/// followed by `"leaf":N` if a backing device failed.
+///
+/// # Errors
+///
+/// `AllocError` if an allocation was refused.
 #[tactic(auto, using(crate::proofs::PlainLemmas::plain_lost))]
 pub fn lost_line(alloc: Global, runs: &[LostRun], counts: Counts) -> Result<String, AllocError>
     ensures { IfOk result (λ line. string_bytes line ≡ json_line (lost_json runs.now counts)) }
@@ -21,7 +25,7 @@ pub fn lost_line(alloc: Global, runs: &[LostRun], counts: Counts) -> Result<Stri
     line_of(alloc, &value)
 }
 
-// The members in the order of their keys.
+// Returns the object, its members in the order of their keys.
 fn lost_value(alloc: Global, runs: &[LostRun], counts: Counts) -> Result<Value, AllocError>
     ensures { IfOk result (λ value. view value ≡ lost_json runs.now counts) }
 {
@@ -30,7 +34,7 @@ fn lost_value(alloc: Global, runs: &[LostRun], counts: Counts) -> Result<Value, 
     json!(in alloc; {"lost": lost, "read": read, "runs": runs})
 }
 
-// An array of the runs.
+// Returns the array of the runs.
 fn runs_value(alloc: Global, runs: &[LostRun]) -> Result<Value, AllocError>
     ensures { IfOk result (λ value. view value ≡ array (items_of (lost_runs_json runs.now))) }
 {
@@ -42,7 +46,7 @@ fn runs_value(alloc: Global, runs: &[LostRun]) -> Result<Value, AllocError>
     Ok(Value::Array(values))
 }
 
-// The members in the order of their keys.
+// Returns the object of a run, its members in the order of their keys.
 fn run_value(alloc: Global, run: LostRun) -> Result<Value, AllocError>
     ensures { IfOk result (λ value. view value ≡ lost_run_json run) }
 {

@@ -14,14 +14,14 @@ use std::alloc::Global;
 
 const MOST_TEXT: usize = 1 << 24;
 
-/// The path of a map file, and the kind of the map that is kept there.
+/// The path of a map file, and the kind of map that is kept there.
 #[derive(Clone, Copy, Debug, PartialEq, Eq)]
 pub struct MapPath<'a> {
     pub path: &'a str,
     pub kind: MapKind,
 }
 
-/// The map file of that kind under a path, if one is given.
+/// Returns the map file of that kind, if a path is given.
 pub fn map_at<'a>(path: Option<&'a str>, kind: MapKind) -> Option<MapPath<'a>>
     ensures { option_map map_path_of result ≡ map_at (option_map (λ p. p.now) path.entry) kind }
 {
@@ -29,20 +29,22 @@ pub fn map_at<'a>(path: Option<&'a str>, kind: MapKind) -> Option<MapPath<'a>>
     Some(MapPath { path, kind })
 }
 
-/// A map of a device, and the file in which it is kept.
+/// A map of a device, and the file that it is kept in.
 #[derive(Drop)]
 pub struct MapFile<'a> {
     pub file: MapPath<'a>,
     pub map: Map,
 }
 
-/// The map of a device of so many sectors in a file. If there is no file, no sector was read before; nor if the file has a
-/// scan's map and the map is to be a copy's.
+/// Returns the map of a device of `sectors` sectors that a file holds. The map marks no sector as read if there is no file, or
+/// the file has a scan's map and the map is to be a copy's.
 ///
 /// # Errors
 ///
-/// `Unread` if the file can't be read, `TooLong` if it has more than 16 MiB, `NoMap` if it isn't a map of the device, or
-/// `NoMemory` if room for one run of the map was refused.
+/// - `Unread` if the file can't be read.
+/// - `TooLong` if it has more than 16 MiB.
+/// - `NoMap` if it isn't a map of the device.
+/// - `NoMemory` if the allocator refused memory for a run of the map.
 pub fn read_map<'a, I: Images>(
     alloc: Global,
     images: &mut I,
@@ -71,7 +73,7 @@ pub fn read_map<'a, I: Images>(
     }
 }
 
-// The map in a text, or one of no sector that was read before if a map of the kind doesn't continue it.
+// The map in a text; a map that marks no sector as read if a map of the kind doesn't continue the one in the text.
 fn map_in<'a>(alloc: Global, kind: MapKind, text: &[u8], sectors: u64) -> Result<Map, PassFault<'a>>
     requires { sectors ≤ 2 ^ 54 }
     ensures ok { IfOk result (IsMapOfText kind text.now sectors) }
@@ -88,7 +90,8 @@ fn map_in<'a>(alloc: Global, kind: MapKind, text: &[u8], sectors: u64) -> Result
     new_map(alloc, sectors)
 }
 
-// Whether a map of a kind continues one that was read: a copy's doesn't continue a scan's, whose `+` isn't in the copy.
+// Whether a map of a kind continues one that was read. A copy's map doesn't continue a scan's, because the copy doesn't have
+// the sectors that a scan marks `+`.
 fn continues(kind: MapKind, read: MapKind) -> bool
     ensures { result ≡ continues kind read }
 {
@@ -108,7 +111,7 @@ fn is_missing(fault: OpenFault) -> bool
     }
 }
 
-// A map of so many sectors, of which none was read before.
+// A map of so many sectors, none of which was read before.
 fn new_map<'a>(alloc: Global, sectors: u64) -> Result<Map, PassFault<'a>>
     requires { sectors ≤ 2 ^ 54 }
     ensures ok { IfOk result (λ map. marks map ≡ replicate sectors false) }

@@ -10,7 +10,11 @@ use program_io::{Counted, WriteFault};
 use rescue_map::MapFault;
 use std::io::Write;
 
-/// One line.
+/// Prints a line for a pass that ended early.
+///
+/// # Errors
+///
+/// `WriteFault` if the writer failed.
 pub fn say_pass_fault<W: Write>(
     writer: &mut Counted<W>,
     fault: PassFault<'_>,
@@ -27,7 +31,7 @@ pub fn say_pass_fault<W: Write>(
     }
 }
 
-// Why a text isn't a map of the device.
+// Prints why a text isn't a map of the device.
 fn say_no_map<W: Write>(writer: &mut Counted<W>, fault: MapFault) -> Result<(), WriteFault>
     ensures { Writes W.contents writer.old writer.new (no_map_text fault) result }
 {
@@ -42,7 +46,7 @@ fn say_no_map<W: Write>(writer: &mut Counted<W>, fault: MapFault) -> Result<(), 
     }
 }
 
-// Why a map file isn't replaced.
+// Prints why a map file isn't replaced.
 fn say_unreplaced<W: Write>(writer: &mut Counted<W>, fault: ReplaceFault) -> Result<(), WriteFault>
     ensures { Writes W.contents writer.old writer.new (unreplaced_text fault) result }
 {

@@ -1,4 +1,4 @@
-//! The image to which a device is copied.
+//! The image that a device is copied to.
 ghost use Rattle.std.specs.Prelude.{◌≡◌, ◌≤◌, ◌<◌, length, true, IfOk, IfErr};
 ghost use Rattle.stack_rules.specs.Names.{mapped, size};
 ghost use Rattle.stack_files.specs.NamedDevices.{FindsTo};
@@ -12,7 +12,7 @@ use stack_engine::Stack;
 use stack_files::{NamedDevice, StackFile, open_device_and_output};
 use std::alloc::Global;
 
-/// A device of a stack file over the bindings, and beside it an image with room for all its sectors.
+/// Opens a device of a stack file over the bindings, and an image with room for all its sectors.
 pub(crate) fn open_with_room<'a, I: Images>(
     alloc: Global,
     images: &mut I,

@@ -1,4 +1,4 @@
-//! A pass over a mapped device, by a map file or without one.
+//! A pass over a mapped device, with or without a map file.
 ghost use Rattle.std.specs.Prelude.{◌≡◌, IfOk, IfErr};
 ghost use Rattle.scan_commands.specs.Passes.{CanPass, PassesBy, PassesMapBy, StopsBy, StopsMapBy, counts_of};
 
@@ -14,7 +14,7 @@ use stack_engine::Stack;
 use stack_recovery::{Counts, Listing, recover_with};
 use std::alloc::Global;
 
-/// A mapped device of a stack, and the device to which its readable sectors are copied.
+/// A mapped device of a stack, and the device that its readable sectors are copied to.
 #[derive(Drop)]
 pub struct Passing<D: BlockDev, O> {
     pub stack: Stack<D>,
@@ -22,13 +22,19 @@ pub struct Passing<D: BlockDev, O> {
     pub out: O,
 }
 
-/// Reads each sector of a mapped device, copies the readable ones to the same offset of another device, and lists the longest
-/// runs of sectors that are lost by one fault. With a map file it reads what the map doesn't mark as read, in turns, after each
-/// of which it syncs the other device and replaces the map. Without one it makes no map, calls no opener and syncs nothing.
+/// Reads each sector of a mapped device, copies the readable sectors to the same offset of another device, and reports the
+/// longest runs of sectors that are lost by one fault.
+///
+/// With a map file, only sectors that the map doesn't mark as read are read. They are read in turns; after each turn the other
+/// device is synced and the map file replaced. Without a map file no map is made, the opener isn't called, and nothing is
+/// synced.
 ///
 /// # Errors
 ///
-/// `NoMemory`, or `Output` if the other device fails; with a map file also why the file can't be read or replaced.
+/// - `NoMemory` if an allocation was refused.
+/// - `Output` if the other device failed.
+/// - With a map file also `Unread`, `TooLong` or `NoMap` if the file holds no usable map, and `Unwritten` if it can't be
+///   replaced.
 pub fn run_pass<'a, I: Images, D: BlockDev, O: SyncDev, L: Listing, P: Progress>(
     alloc: Global,
     images: &mut I,
@@ -53,7 +59,7 @@ pub fn run_pass<'a, I: Images, D: BlockDev, O: SyncDev, L: Listing, P: Progress>
     }
 }
 
-// The pass with a map file.
+// Runs the pass with a map file.
 fn pass_by_map<'a, I: Images, D: BlockDev, O: SyncDev, L: Listing, P: Progress>(
     alloc: Global,
     images: &mut I,
@@ -66,7 +72,7 @@ fn pass_by_map<'a, I: Images, D: BlockDev, O: SyncDev, L: Listing, P: Progress>(
     ensures ok { IfOk result (PassesMapBy I.relations I.Dev.state O.state L.told images.old images.new passing.old passing.new listing.old listing.new file.entry) }
     ensures err { IfErr result (StopsMapBy I.relations I.Dev.state O.state L.told images.old images.new passing.old passing.new listing.old listing.new file.entry) }
 {
-    // How many sectors a device can have is learned from a call.
+    // The call provides the bound on a device's sectors.
     let _most = passing.out.sectors();
     let sectors = passing.stack.config().sectors(passing.device);
     let map = read_map(alloc, images, file, sectors)?;

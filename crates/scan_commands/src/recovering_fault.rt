@@ -1,4 +1,4 @@
-//! Why a device isn't scanned or copied to its end, or not all of it is readable.
+//! Why a scan or a copy of a device ends early or doesn't read all sectors.
 ghost use Rattle.std.specs.Prelude.{◌≡◌};
 ghost use Rattle.scan_commands.specs.declared.recovering_fault.RecoveringFault.TheVariants as recovering_fault;
 
@@ -7,14 +7,14 @@ use program_io::WriteFault;
 use stack_files::StackFault;
 use std::alloc::AllocError;
 
-/// Why a device isn't scanned or copied to its end, or not all of it is readable.
+/// Why a scan or a copy of a device ended early or didn't read all sectors.
 #[derive(Clone, Copy, Debug, PartialEq, Eq)]
 pub enum RecoveringFault<'a> {
     /// Memory ran out for the runs of a JSON object, or for the object.
     NoMemory,
     /// There is no such device.
     Stack(StackFault<'a>),
-    /// The image to which a device is copied has fewer sectors than the device.
+    /// The image has fewer sectors than the device to be copied.
     OutputTooSmall { needed: u64 },
     /// The pass over the device ended early.
     Pass(PassFault<'a>),

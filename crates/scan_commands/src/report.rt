@@ -1,4 +1,4 @@
-//! What `scan` and `copy` report of a device that was read whole.
+//! What `scan` and `copy` report after a complete pass over a device.
 ghost use Rattle.std.specs.Prelude.{IfErr, OnOk};
 ghost use Rattle.program_io.specs.Counted.{Writes};
 ghost use Rattle.scan_commands.specs.Counting.{EndsCounts, TellsCountsBy, counts_text};
@@ -11,7 +11,12 @@ use stack_recovery::{Counts, KeptRuns};
 use std::alloc::Global;
 use std::io::Write;
 
-/// Prints the counts if no sector is lost; else they are a fault. After a line that couldn't be written it prints nothing.
+/// Prints the counts if no sector is lost.
+///
+/// # Errors
+///
+/// - `Lost` with the counts if sectors are lost.
+/// - `Write` if this line or an earlier one can't be written.
 pub(crate) fn tell_counts<'a, W: Write>(
     counts: Counts,
     writer: &mut Counted<W>,
@@ -29,14 +34,24 @@ pub(crate) fn tell_counts<'a, W: Write>(
     Ok(say_counts(writer, read, lost)?)
 }
 
-/// `read N lost M`
+/// Prints `read N lost M`.
+///
+/// # Errors
+///
+/// `WriteFault` if the writer failed.
 pub fn say_counts<W: Write>(writer: &mut Counted<W>, read: u64, lost: u64) -> Result<(), WriteFault>
     ensures { Writes W.contents writer.old writer.new (counts_text read lost) result }
 {
     writer.print(format_args!("read {read} lost {lost}\n"))
 }
 
-/// Prints one JSON object of the counts and of the runs that were kept; if sectors are lost, that is a fault.
+/// Prints one JSON object with the counts and the lost runs.
+///
+/// # Errors
+///
+/// - `NoMemory` if memory ran out for a run or for the object.
+/// - `Write` if the object can't be written.
+/// - `LostAsSaid` if sectors are lost.
 pub(crate) fn tell_object<'a, W: Write>(
     alloc: Global,
     kept: &KeptRuns,

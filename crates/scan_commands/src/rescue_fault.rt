@@ -9,7 +9,7 @@ use image_files::{ReplaceFault, UnopenedFile};
 use rescue_map::MapFault;
 use stack_recovery::RecoveryFault;
 
-/// Why a pass over a device ends early.
+/// Why a pass over a device ended early.
 #[derive(Clone, Copy, Debug, PartialEq, Eq)]
 pub enum PassFault<'a> {
     /// An allocation was refused.
@@ -20,7 +20,7 @@ pub enum PassFault<'a> {
     TooLong,
     /// The file isn't a map of the device.
     NoMap(MapFault),
-    /// The device to which the sectors are copied failed.
+    /// The device that the sectors are copied to failed.
     Output,
     /// The map file can't be replaced.
     Unwritten(ReplaceFault),

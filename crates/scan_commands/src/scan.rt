@@ -1,4 +1,4 @@
-//! Which sectors of a device are lost.
+//! Finds which sectors of a device are lost.
 ghost use Rattle.std.specs.Prelude.{OnOk, IfErr};
 ghost use Rattle.image_files.specs.Opener.{calls};
 ghost use Rattle.scan_commands.specs.Passes.{CanPass};
@@ -19,7 +19,7 @@ use stack_recovery::{Discard, KeptRuns};
 use std::alloc::Global;
 use std::io::Write;
 
-/// The device that is scanned, the path of its map file, if it has one, and whether the report is one JSON object.
+/// The device to be scanned, the path of its map file, if there is one, and whether the report is one JSON object.
 #[derive(Clone, Copy, Debug, PartialEq, Eq)]
 pub struct ScanPlan<'a> {
     pub device: NamedDevice<'a>,
@@ -27,8 +27,16 @@ pub struct ScanPlan<'a> {
     pub json: bool,
 }
 
-/// Reads a device of a stack file over the bindings, and reports which sectors are lost. With a map file it reads the sectors
-/// that the map doesn't mark as read, and keeps the map, as a scan's.
+/// Reads a device of a stack file over the bindings, and reports which sectors are lost. With a map file, only sectors that the
+/// map doesn't mark as read are read, and the map file is kept as a scan's map.
+///
+/// # Errors
+///
+/// - `NoMemory` if memory ran out for the JSON object.
+/// - `Stack` if there is no such device, or a file can't be opened.
+/// - `Pass` if the scan ended early.
+/// - `Lost` or `LostAsSaid` if sectors are lost; the scan was completed.
+/// - `Write` if a line can't be written; the scan was completed.
 pub fn scan_device<'a, I: Images, W: Write, P: Progress>(
     alloc: Global,
     images: &mut I,
@@ -46,7 +54,7 @@ pub fn scan_device<'a, I: Images, W: Write, P: Progress>(
     report_scan(alloc, images, &mut passing, plan, writer, progress)
 }
 
-// Scans an open device: prints each lost run as it is found, or keeps the runs for one JSON object.
+// Scans an open device. Prints each lost run as it is found, or keeps the runs for one JSON object.
 fn report_scan<'a, I: Images, D: BlockDev, W: Write, P: Progress>(
     alloc: Global,
     images: &mut I,

@@ -1,4 +1,4 @@
-//! A mapped device is read in turns, after each of which its map file is replaced.
+//! Reads a mapped device in turns. After each turn its map file is replaced.
 ghost use Rattle.std.specs.Prelude.{◌≡◌, ◌+◌, ◌≤◌, ◌<◌, length, IsTrue, IfOk, IfErr, OnErr, OnOk};
 ghost use Rattle.allocation.specs.Refusal.{IsOutOfMemory};
 ghost use Rattle.rescue_map.specs.Maps.{marks};
@@ -26,7 +26,7 @@ const GROUP: u64 = 8;
 
 const MOST_TURNS: u64 = 256;
 
-// How many sectors of a device of so many are read in a turn.
+// How many sectors one turn covers, of a device of so many.
 #[tactic(auto, unfolding(crate::specs::Turns::turn_len))]
 fn turn_len(sectors: u64) -> u64
     ensures value { result ≡ turn_len sectors }
@@ -35,27 +35,27 @@ fn turn_len(sectors: u64) -> u64
     LEAST_TURN.max((sectors / (MOST_TURNS * GROUP) + 1) * GROUP)
 }
 
-// The map by which only sectors of a span are read: all others count as read before.
+// The map that a turn reads by: all sectors outside the span count as read before.
 fn asked(alloc: Global, map: &Map, span: Span, sectors: u64) -> Result<Map, OutOfMemory>
     requires map { length (marks map.now) ≡ sectors }
     requires inside { span.first + span.count ≤ sectors }
     ensures ok { IfOk result (λ runs. marks runs ≡ asked_marks span sectors map.now) }
     ensures err { OnErr result (IsOutOfMemory 1) }
 {
-    // How many sectors a map can have is learned from a call.
+    // The call provides the bound on a map's sectors.
     let _runs = map.runs();
     let all = Map::filled(alloc, sectors, true)?;
     splice(alloc, &all, map, span, sectors)
 }
 
-// Up to which sector a map was tried, or all of it.
+// The sector before which all were tried; `None` if all sectors were tried.
 fn tried_before(sectors: u64, at: u64) -> Option<u64>
     ensures { result ≡ tried_before sectors at }
 {
     if at == sectors { None } else { Some(at) }
 }
 
-// Replaces the map file by a map that was tried up to a sector, or all of it.
+// Replaces the map file by a map that was tried up to a sector, or to its end.
 fn write_map<'a, I: Images>(
     alloc: Global,
     images: &mut I,
@@ -70,7 +70,7 @@ fn write_map<'a, I: Images>(
     Ok(images.replace(file.path, text.as_slice())?)
 }
 
-/// A turn: its sectors, the map before it, and the map by which its sectors are read.
+/// A turn: its sectors, the map before it, and the map that it reads by.
 #[derive(Clone, Copy)]
 struct NextTurn<'a> {
     span: Span,
@@ -80,7 +80,7 @@ struct NextTurn<'a> {
     wanted: &'a Map,
 }
 
-// Reads the sectors, syncs the other device, and replaces the map file.
+// Reads the sectors of a turn, syncs the other device, and replaces the map file.
 fn take_turn<'a, I: Images, D: BlockDev, O: SyncDev, L: Listing, P: Progress>(
     alloc: Global,
     images: &mut I,
@@ -110,15 +110,20 @@ fn take_turn<'a, I: Images, D: BlockDev, O: SyncDev, L: Listing, P: Progress>(
     Ok(map)
 }
 
-/// Reads the sectors of a mapped device that a map doesn't mark as read, in turns of 64 MiB or of a 256th of the device. Each
-/// turn lists the longest runs of sectors that are lost by one fault, copies the readable sectors to the same offset of another
-/// device, which has room for all, and syncs that device; then it replaces the map file by the map of what was read and lost so
-/// far. So an interruption loses one turn.
+/// Reads the sectors of a mapped device that a map doesn't mark as read, in turns of 64 MiB, or of about a 256th of a larger
+/// device.
+///
+/// Each turn reports the longest runs of sectors that are lost by one fault, copies the readable sectors to the same offset of
+/// another device, which has room for all, and syncs that device. Then it replaces the map file by the map of what was read and
+/// lost so far. An interruption therefore loses at most one turn.
 ///
 /// # Errors
 ///
-/// `NoMemory` if an allocation of at most 65,536 bytes was refused, `Output` if the other device fails, or `Unwritten` if the map
-/// file can't be replaced. The map file is then that of the turns before.
+/// - `NoMemory` if an allocation of at most 65,536 bytes was refused.
+/// - `Output` if the other device failed.
+/// - `Unwritten` if the map file can't be replaced.
+///
+/// After `NoMemory` and `Output` the map file is that of the completed turns.
 pub fn rescue_in_turns<'a, I: Images, D: BlockDev, O: SyncDev, L: Listing, P: Progress>(
     alloc: Global,
     images: &mut I,

@@ -1,5 +1,4 @@
-//! Tests of tables and sessions, over public calls. They stand in a crate of their own, since a crate with tests is proved
-//! twice.
+//! Tests of tables and sessions through public functions. A crate with tests is proved twice, so they have their own crate.
 #![tactic(auto)]
 
 #[cfg(test)]

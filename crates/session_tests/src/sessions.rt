@@ -1,4 +1,4 @@
-//! Sessions over readers and writers that fail, and what no line of a session can ask of a queue.
+//! Sessions over readers and writers that fail, and requests that no line of a session can make.
 use block_device::MemoryDev;
 use program_io::Counted;
 use request_queue::{Queue, Request};
@@ -12,7 +12,7 @@ use std::rt::HostRuntime;
 use std::test::Fail;
 use table_text::parse_stack;
 
-/// What a reader answers once its text is at its end.
+/// What a reader returns after the end of its text.
 #[derive(Clone, Copy, PartialEq, Eq)]
 enum After {
     End,
@@ -20,7 +20,7 @@ enum After {
     Interruption,
 }
 
-/// Gives its text in parts, and is interrupted before each part where that is wanted.
+/// Returns its text in parts, each after an interruption if this is wanted.
 #[derive(Drop)]
 struct Parts<'a> {
     text: &'a [u8],
@@ -51,7 +51,7 @@ impl Read for Parts<'_> {
     }
 }
 
-/// Takes so many bytes, and fails behind them and at one of its flushes, counted from 1.
+/// Accepts so many bytes, and fails after them and at one of its flushes, counted from 1.
 #[derive(Drop)]
 struct Narrow {
     text: Vec<u8>,
@@ -82,8 +82,8 @@ impl Write for Narrow {
     }
 }
 
-/// The input: blanks, a text behind them, and how it is read; how the output fails; how the session ends, what is written
-/// and how much of it handed on, how often the reader is called, and how many flushes there are (0: not looked at).
+/// The input: blanks, then a text, and how it is read; how the output fails; how the session ends; what is written, how much of
+/// it is flushed, how often the reader is called, and how many flushes there are (0: not checked).
 #[derive(Clone, Copy)]
 struct Row {
     blanks: usize,
@@ -100,7 +100,7 @@ struct Row {
     flushes: u64,
 }
 
-/// The replies to its first two lines have 27 bytes, and all have 60.
+/// The replies to the first two lines have 27 bytes, and all replies 60.
 const PLAIN: Row = Row {
     blanks: 0,
     text: b"load z,,,rw,0 2 zero\nread z 0 2\ncost z",
@@ -131,7 +131,7 @@ const UNWRITTEN: Row = Row {
     ..PLAIN
 };
 
-/// As much as may be, of which the last line is within it.
+/// The longest allowed input; its last line ends within the limit.
 const LONG: Row = Row {
     blanks: LIMIT - 8,
     text: b"\ncost a\n",
@@ -140,7 +140,7 @@ const LONG: Row = Row {
     ..PLAIN
 };
 
-/// One byte more.
+/// One byte more than the limit.
 const TOO_LONG: Row = Row {
     text: b"\ncost a\n ",
     end: Some(SessionFault::TooLong),
@@ -149,7 +149,7 @@ const TOO_LONG: Row = Row {
 
 static ROWS: [Row; 19] = [
     PLAIN,
-    // A read that was interrupted is repeated, but not for ever.
+    // A read that was interrupted is repeated, but not indefinitely.
     Row {
         most: 1,
         interrupts: true,
@@ -175,13 +175,13 @@ static ROWS: [Row; 19] = [
         reads: 16_777_217,
         ..CUT
     },
-    // The whole lines before a read that fails have their replies.
+    // The whole lines before a failed read get their replies.
     Row {
         after: After::Failure,
         reads: 18,
         ..CUT
     },
-    // Replies are handed on before each read and at the end, and a flush that fails ends the session there.
+    // Replies are flushed before each read and at the end; a failed flush ends the session there.
     Row {
         failing: 1,
         written: b"",
@@ -207,7 +207,7 @@ static ROWS: [Row; 19] = [
         failing: 4,
         ..PLAIN
     },
-    // So does a write, at whichever byte.
+    // A failed write ends the session too, at any byte.
     Row {
         room: 0,
         written: b"",
@@ -238,7 +238,7 @@ static ROWS: [Row; 19] = [
         flushes: 2,
         ..UNWRITTEN
     },
-    // 16 MiB are read to their end, byte by byte too.
+    // 16 MiB are read to their end, even byte by byte.
     Row {
         reads: 4097,
         flushes: 4098,
@@ -250,7 +250,7 @@ static ROWS: [Row; 19] = [
         flushes: 16_777_218,
         ..LONG
     },
-    // Replies are handed on before it is said that a byte is too much, also where it comes with the last line.
+    // Replies are flushed before input that is too long is refused, even if the byte too many comes with the last line.
     Row {
         reads: 4097,
         flushes: 4098,
@@ -273,7 +273,7 @@ static ROWS: [Row; 19] = [
     },
 ];
 
-/// A queue over the stack of a text without leaves.
+/// Returns a queue over the stack of a text without backing devices.
 fn queue_of(alloc: Global, text: &[u8]) -> Result<Queue<MemoryDev>, Fail> {
     if text.len() > 1 << 20 {
         return Err(Fail::from("the text is too long"));
@@ -298,7 +298,7 @@ fn is_read<T>(row: &Row, reader: &Counted<T>) -> bool {
     reader.calls() == row.reads && reader.failed() == (row.after == After::Failure)
 }
 
-/// Whether a session ends so.
+/// Whether the session ends as the row says.
 fn is_so(alloc: Global, row: &Row) -> Result<bool, Fail> {
     let mut input = vec![in alloc; b' '; row.blanks]?;
     input.extend_from_slice(row.text)?;
@@ -331,7 +331,7 @@ fn readers_and_writers_fail(rt: HostRuntime) -> Result<(), Fail> {
     Ok(())
 }
 
-/// The number of the fault by which a write of 513 bytes is refused.
+/// Returns the number of the fault that refuses a write of 513 bytes.
 fn fault_of(alloc: Global, queue: &mut Queue<MemoryDev>, name: u8, first: u64) -> Result<u8, Fail> {
     let request = Request::Write {
         device: vec![in alloc; name]?,
@@ -352,7 +352,7 @@ fn refuses_parts(alloc: Global) -> Result<bool, Fail> {
     Ok(beyond == 2 && inside == 3 && read_only == 3)
 }
 
-// Whatever a session writes are whole sectors. The bytes of a part of one count as a sector before its length is refused.
+// A session only writes whole sectors. The bytes of a part of a sector count as a sector until their length is refused.
 #[test]
 fn parts_of_sectors_are_refused(rt: HostRuntime) -> Result<(), Fail> {
     assert!(rt; refuses_parts(rt.alloc())?);

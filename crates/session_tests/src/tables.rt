@@ -1,4 +1,4 @@
-//! What no command prints or reads: tables as texts of their own, keys, and the stack of one table.
+//! What no command prints or reads: tables as texts of their own, keys, and a stack of a single table.
 use dm_table::StackText;
 use std::alloc::Global;
 use std::rt::HostRuntime;
@@ -8,7 +8,7 @@ use table_text::{parse_table, print_table};
 const SPELLED: &str =
     "0 8 linear D 2\n8 32 striped 2 8 A 0 /dev/mapper/b 16\n40 1 error\n41 18446744073709551615 zero\n";
 
-/// A line of each target.
+/// A line for each target.
 const EACH: &str = "0 8 striped 1 8 D 3
 8 1 linear E 1
 9 1 zero
@@ -17,8 +17,8 @@ const EACH: &str = "0 8 striped 1 8 D 3
 19 8 verity 1 D /dev/mapper/tree 4096 512 1 1 sha256 093e73a8dd12477cb1e61b5085baef24598ec3f82d6297cc01366ba0d50a3f74 0a0b 1 ignore_zero_blocks
 ";
 
-/// Tables, and what they are printed as with their keys, or their first fault. Behind `single` stands the name of a device
-/// whose table is then the only one of a stack.
+/// Tables, and what they are printed as with their keys, or their first fault. `single` is followed by the name of a device
+/// whose table is the only one of a stack.
 static TEXTS: [(&str, &str); 21] = [
     ("# x\n\n0 08 linear D 02", "0 8 linear D 2\n"),
     ("0 21474836480 zero", "0 21474836480 zero\n"),
@@ -58,7 +58,7 @@ static TEXTS: [(&str, &str); 21] = [
     ("single a,b", "entry 1, line 0: Name"),
 ];
 
-/// The table, copied and printed with its keys, or what its fault is printed as.
+/// Returns the text of a table that is copied and printed with its keys, or the text of its fault.
 fn table_text(alloc: Global, text: &str) -> Result<Vec<u8>, Fail> {
     if text.len() >= 1 << 24 {
         return Err(Fail::from("a text of this size is not tried"));
@@ -69,7 +69,7 @@ fn table_text(alloc: Global, text: &str) -> Result<Vec<u8>, Fail> {
     }
 }
 
-/// What the only entry of the stack of one table is printed as, or what the fault of its name is.
+/// Returns the text of the only entry of a single-table stack, or the text of its name's fault.
 fn single_text(alloc: Global, name: &[u8]) -> Result<Vec<u8>, Fail> {
     let table = parse_table(alloc, b"0 8 linear D 02\n8 8 zero".as_slice())?;
     match StackText::single(alloc, name, true, table) {

@@ -1,4 +1,4 @@
--- The stack of no mapped device over the leaves of bindings.
+-- Stacks without mapped devices over the backing devices of bindings.
 use Rattle.std.specs.Prelude.{◌≡◌, ◌⊎◌, ℕ, List, [], map, Some}
 use Rattle.block_device.specs.Device.{Device}
 use Rattle.command_line.specs.Bindings.{BindingRecord, binding_record}
@@ -16,33 +16,33 @@ use Rattle.stack_files.specs.declared.stack_fault.StackFault.TheVariants.{Leaves
 use Rattle.stack_files.specs.Configuration.{leaves_alone}
 use Rattle.stack_files.specs.Endings.{IsOpeningEnd}
 
--- the bindings' images were opened, and the stack stands on their leaves, with a cache of so many hash blocks
+-- the bindings' images were opened, and the stack uses them as backing devices, with a cache of so many hash blocks
 pub record StandsOnLeaves {S D : Type 0} (w : Calls S D) (bindings : List BindingRecord) (cache : ℕ) (stack : StackRecord) : Type 0 where
   pub over : OpenLeaves D
   pub bound : AreBound w [] bindings over.leaves.items over.devices.items
   pub is : stack ≡ stack_over (leaves_alone over.leaves.items) (map w.state over.devices.items) cache
 
--- leaves are refused
+-- the backing devices are refused
 abbrev pub RefusesLeaves : List LeafRecord → StackFault → Type 0
 RefusesLeaves leaves (Leaves fault) = first_leaf_fault leaves ≡ Some fault
 RefusesLeaves leaves fault = ⊥
 
--- those of the bindings were opened, and aren't taken
+-- the bindings were opened, and their backing devices are refused
 pub record FailsToTake {S D : Type 0} (w : Calls S D) (bindings : List BindingRecord) (fault : StackFault) : Type 0 where
   pub over : OpenLeaves D
   pub bound : AreBound w [] bindings over.leaves.items over.devices.items
   pub refused : RefusesLeaves over.leaves.items fault
 
--- that, or an image isn't opened
+-- the backing devices are refused, or an image can't be opened
 abbrev pub FailsToStand : {S D : Type 0} → Calls S D → List BindingRecord → StackFault → Type 0
 FailsToStand w bindings fault = IsOpeningEnd (IsBindingEnd w [] bindings) fault ⊎ FailsToTake w bindings fault
 
--- ---- the same by the opener, before and after its calls, and by the words of the program
+-- ---- in terms of the opener, before and after its calls, and the program's arguments
 
--- the stack on the leaves of bindings
+-- the stack over the backing devices of bindings
 abbrev pub StandsBy : {S D : Type 0} → Opener S D → (D → Device) → S → S → List Binding → ℕ → StackRecord → Type 0
 StandsBy relations state old new bindings cache = StandsOnLeaves (calls relations state old new) (map binding_record bindings) cache
 
--- there is none
+-- there is no such stack
 abbrev pub FailsStanding : {S D : Type 0} → Opener S D → (D → Device) → S → S → List Binding → StackFault → Type 0
 FailsStanding relations state old new bindings = FailsToStand (calls relations state old new) (map binding_record bindings)

@@ -1,4 +1,4 @@
--- The leaves and devices to which names are bound.
+-- The backing devices that names are bound to.
 use Rattle.std.specs.Global.{Global}
 use Rattle.std.specs.Prelude.{◌≡◌, ℕ, Bool, true, List, [], ◌∷◌, ◌++◌, map, Vec}
 use Rattle.block_device.specs.Device.{Device, in_memory, zeros_image, ramp_image}
@@ -17,37 +17,37 @@ use Rattle.stack_rules.specs.Records.{LeafRecord}
 use Rattle.stack_meaning.specs.Leaves.{ServeLeaves}
 use Rattle.stack_files.specs.declared.leaves.OpenLeaves.{OpenLeaves}
 
--- an image was opened under its path, clashes with none of the files that are open, and is one of them from then on
+-- an image was opened at its path, doesn't conflict with any open file, and is one of the open files now
 pub record OpensBackingFile {S D : Type 0} (w : Calls S D) (files : List FileUse) (path : List ℕ) (writable : Bool) (device : D) (files' : List FileUse) : Type 0 where
   pub image : OpenImage D
   pub opened : OpensApart w files path writable image
   pub is : device ≡ image.device
   pub more : files' ≡ files ++ image_use writable image ∷ []
 
--- the part that a binding names, as one of a device
+-- the part of a binding as a part of a device
 abbrev pub device_part : PartRecord → Part
 device_part at = record { first = at.first; count = at.count }
 
--- that part of the image was opened, clashes with none of the files that are open, and is one of them from then on
+-- that part of the image was opened, doesn't conflict with any open file, and is one of the open files now
 pub record OpensPartOf {S D : Type 0} (w : Calls S D) (files : List FileUse) (path : List ℕ) (writable : Bool) (at : Part) (device : D) (files' : List FileUse) : Type 0 where
   pub image : OpenImage D
   pub opened : OpensPart w files path writable at image
   pub is : device ≡ image.device
   pub more : files' ≡ files ++ part_use writable at image ∷ []
 
--- a device in memory was made, of that image
+-- a device in memory was made, with that image
 pub record MakesMemory {S D : Type 0} (w : Calls S D) (image : List (List ℕ)) (device : D) : Type 0 where
   pub is : w.state device ≡ in_memory image true
   pub same : w.new ≡ w.old
 
--- the device is the one that stands behind the name
+-- the device is the one that the name is bound to
 abbrev pub OpensBacking : {S D : Type 0} → Calls S D → List FileUse → BackingRecord → D → List FileUse → Type 0
 OpensBacking w files (file path writable) device files' = OpensBackingFile w files path writable device files'
 OpensBacking w files (part path writable at) device files' = OpensPartOf w files path writable (device_part at) device files'
 OpensBacking w files (zeros n) device files' = MakesMemory w (zeros_image n) device × (files' ≡ files)
 OpensBacking w files (ramp n) device files' = MakesMemory w (ramp_image n) device × (files' ≡ files)
 
--- the devices are those that stand behind the names, opened in their order
+-- the devices are those that the names are bound to, opened in order
 abbrev pub OpensEach : {S D : Type 0} → Calls S D → List FileUse → List BackingRecord → List D → List FileUse → Type 0
 OpensEach w files [] [] files' = (w.new ≡ w.old) × (files' ≡ files)
 OpensEach w files [] (device ∷ devices) files' = ⊥
@@ -59,47 +59,47 @@ OpensEach {S} w files (backing ∷ backings) (device ∷ devices) files' =
 abbrev pub backings_of : List BindingRecord → List BackingRecord
 backings_of bindings = map (λ binding. binding.backing) bindings
 
--- Beside these files the images of the bindings were opened. The leaves have the names of the bindings, and are the devices
--- behind these.
+-- The bindings' images were opened next to these files. The backing devices have the names of the bindings, and are the devices
+-- that these names are bound to.
 pub record AreBound {S D : Type 0} (w : Calls S D) (files : List FileUse) (bindings : List BindingRecord) (leaves : List LeafRecord) (devices : List D) : Type 0 where
   pub names : map (λ leaf. leaf.name) leaves ≡ map (λ binding. binding.name) bindings
   pub files' : List FileUse
   pub opened : OpensEach w files (backings_of bindings) devices files'
   pub served : ServeLeaves leaves (map w.state devices)
 
--- the image behind a name, or the part of one, is given back under its path
+-- the image of a binding, or its part of one, is closed
 abbrev pub ClosesBacking : {S D : Type 0} → Calls S D → BackingRecord → D → Type 0
 ClosesBacking w (file path writable) device = w.relations.takes w.old path device w.new
 ClosesBacking w (part path writable at) device = w.relations.takes_part w.old path (device_part at) device w.new
 ClosesBacking w (zeros n) device = w.new ≡ w.old
 ClosesBacking w (ramp n) device = w.new ≡ w.old
 
--- each of them, from the last name to the first
+-- each of them is closed, from the last name to the first
 abbrev pub ClosesEach : {S D : Type 0} → Calls S D → List BackingRecord → List D → Type 0
 ClosesEach w [] devices = w.new ≡ w.old
 ClosesEach w (backing ∷ backings) [] = w.new ≡ w.old
 ClosesEach {S} w (backing ∷ backings) (device ∷ devices) =
     (between : S) × ClosesEach (record w { new = between }) backings devices × ClosesBacking (record w { old = between }) backing device
 
--- the names of leaves
+-- the names of backing devices
 abbrev pub names_in : List LeafRecord → List (List ℕ)
 names_in leaves = map (λ leaf. leaf.name) leaves
 
--- ---- the same by the opener, before and after its calls, and by what the program names
+-- ---- in terms of the opener, before and after its calls, and the program's arguments
 
--- the device behind a name is opened beside some files, and its file is one of them then
+-- the device of a binding is opened next to some files, and its file is one of them then
 abbrev pub Backs : {S D : Type 0} → Opener S D → (D → Device) → S → S → Vec FileUse Global → Vec FileUse Global → Backing → D → Type 0
 Backs relations state old new files files' backing = λ device. OpensBacking (calls relations state old new) files.items (backing_record backing) device files'.items
 
--- the leaves of the bindings and their devices
+-- the backing devices of the bindings, and their devices
 abbrev pub BindsAll : {S D : Type 0} → Opener S D → (D → Device) → S → S → List FileUse → List Binding → OpenLeaves D → Type 0
 BindsAll relations state old new files bindings =
     λ over. AreBound (calls relations state old new) files (map binding_record bindings) over.leaves.items over.devices.items
 
--- the device behind a name is given back
+-- the device of a binding is closed
 abbrev pub ClosesBy : {S D : Type 0} → Opener S D → (D → Device) → S → S → Backing → D → Type 0
 ClosesBy relations state old new backing device = ClosesBacking (calls relations state old new) (backing_record backing) device
 
--- the devices of the bindings are
+-- the devices of the bindings are closed
 abbrev pub ClosesAll : {S D : Type 0} → Opener S D → (D → Device) → S → S → List Binding → List D → Type 0
 ClosesAll relations state old new bindings devices = ClosesEach (calls relations state old new) (backings_of (map binding_record bindings)) devices

@@ -1,4 +1,4 @@
--- The configuration that a stack text makes of leaves.
+-- The configuration that a stack text makes of backing devices.
 use Rattle.std.specs.Prelude.{◌≡◌, ◌⊎◌, ℕ, List, [], Option, Some, None, Result, Ok, Err}
 use Rattle.allocation.specs.Refusal.{IsOutOfMemory}
 use Rattle.dm_table.specs.declared.stack.Entry.{Entry}
@@ -13,11 +13,11 @@ use Rattle.stack_rules.specs.Rules.{first_refusal, after_load}
 use Rattle.stack_files.specs.declared.stack_fault.StackFault.{StackFault}
 use Rattle.stack_files.specs.declared.stack_fault.StackFault.TheVariants.{Leaves, Load, NoMemory, Text}
 
--- leaves with no mapped device
+-- backing devices without mapped devices
 abbrev pub leaves_alone : List LeafRecord → Configuration
 leaves_alone leaves = record { leaves = leaves; devices = [] }
 
--- the devices of a text, put on leaves, or the first refusal
+-- the mapped devices of a text over backing devices, or the first refusal
 abbrev pub with_entries : Configuration → List Entry → Option Refusal → Result Configuration StackFault
 with_entries c entries None = Ok (after_load c entries)
 with_entries c entries (Some refusal) = Err (Load refusal)
@@ -26,12 +26,12 @@ abbrev pub with_text : Configuration → Result (List Entry) TextFault → Resul
 with_text c (Ok entries) = with_entries c entries (first_refusal c entries)
 with_text c (Err fault) = Err (Text fault)
 
--- the same, behind the leaves' own fault
+-- the configuration of a text over backing devices, unless they have a fault
 abbrev pub with_leaves : List LeafRecord → Option ConfigFault → Result (List Entry) TextFault → Result Configuration StackFault
 with_leaves leaves None entries = with_text (leaves_alone leaves) entries
 with_leaves leaves (Some fault) entries = Err (Leaves fault)
 
--- the configuration that a stack text makes of leaves, or the first fault: of the leaves, the text, the load
+-- the configuration that a stack text makes of backing devices, or the first fault: of the backing devices, the text, the load
 unfoldable pub configuration_of : List LeafRecord → List ℕ → Result Configuration StackFault
 configuration_of leaves text = with_leaves leaves (first_leaf_fault leaves) (stack_of text)
 

@@ -1,4 +1,4 @@
--- Why there is no stack, by the faults of what makes one.
+-- The faults of a stack, by the faults of its parts.
 use Rattle.std.specs.Prelude.{◌≡◌}
 use Rattle.dm_table.specs.declared.fault.ParseFault.{ParseFault}
 use Rattle.dm_table.specs.declared.fault.ParseFault.TheVariants as parse
@@ -9,7 +9,7 @@ use Rattle.stack_rules.specs.declared.refusal.LoadFault.TheVariants as load
 use Rattle.stack_files.specs.declared.stack_fault.StackFault.{StackFault}
 use Rattle.stack_files.specs.declared.stack_fault.StackFault.TheVariants.{Load, NoMemory, Open, Outside, Text, TooLong}
 
--- where a text has a fault, and where a load is refused
+-- the text has a fault, or memory ran out for it
 abbrev pub text_ending : ParseFault → StackFault
 text_ending (parse.Text fault) = Text fault
 text_ending parse.NoMemory = NoMemory
@@ -18,13 +18,13 @@ abbrev pub load_ending : LoadFault → StackFault
 load_ending (load.Refused refusal) = Load refusal
 load_ending load.NoMemory = NoMemory
 
--- where what is named isn't opened
+-- a file can't be opened
 abbrev pub opening_ending : OpeningFault → StackFault
 opening_ending opening.NoMemory = NoMemory
 opening_ending opening.TooLong = TooLong
 opening_ending (opening.Open file) = Open file
 opening_ending (opening.Outside path) = Outside path
 
--- it is so, and that is said of the opening's fault
+-- a file can't be opened, and this is the fault
 abbrev pub IsOpeningEnd : (OpeningFault → Type 0) → StackFault → Type 0
 IsOpeningEnd Fails fault = (cause : OpeningFault) × (fault ≡ opening_ending cause) × Fails cause

@@ -25,25 +25,25 @@ pub record DevicePlace : Type 0 where
 abbrev pub device_place : StackRecord → ℕ → DevicePlace
 device_place stack d = record { stack = stack; d = d }
 
--- the device of that name, of the stack that the text makes of the open leaves
+-- the device with that name, of the stack that the text makes of the open backing devices
 pub record HasDevice {D : Type 0} (state : D → Device) (name : List ℕ) (over : OpenStack D) (cache : ℕ) (at : DevicePlace) : Type 0 where
   pub made : IsStackOf state over cache at.stack
   pub named : device_named at.stack.config name ≡ Some at.d
 
--- the text makes a configuration that has none of that name
+-- the text makes a configuration without a device of that name
 pub record IsUnnamed {D : Type 0} (name : List ℕ) (over : OpenStack D) (fault : StackFault) : Type 0 where
   pub config : Configuration
   pub makes : configuration_of over.leaves.items over.text.bytes.items ≡ Ok config
   pub none : device_named config name ≡ None
   pub is : fault ≡ NoSuchDevice
 
--- that, or the text makes no stack
+-- there is no such device, or the text makes no stack
 abbrev pub FailsToFind : {D : Type 0} → List ℕ → OpenStack D → StackFault → Type 0
 FailsToFind name over fault = FailsToLoad over fault ⊎ IsUnnamed name over fault
 
--- ---- of a stack file
+-- ---- with a stack file
 
--- a stack file and bindings, the name of a device, and how many hash blocks are kept
+-- a stack file and bindings, the name of a device, and how many hash blocks are cached
 pub record DeviceWords : Type 0 where
   pub words : StackWords
   pub name : List ℕ
@@ -52,11 +52,11 @@ pub record DeviceWords : Type 0 where
 abbrev pub device_words : StackWords → List ℕ → ℕ → DeviceWords
 device_words words name cache = record { words = words; name = name; cache = cache }
 
--- of a stack file, and a device as it is named
+-- a stack file and a named device
 abbrev pub words_for : StackFile → NamedDevice → DeviceWords
 words_for file device = device_words (stack_words file) device.name.now device.cache
 
--- the device of that name, of the stack that STACK's text makes of the bindings' leaves
+-- the device with that name, of the stack that STACK's text makes of the bindings' backing devices
 pub record FindsDevice {S D : Type 0} (w : Calls S D) (words : DeviceWords) (at : DevicePlace) : Type 0 where
   pub loaded : Loads w words.words words.cache at.stack
   pub named : device_named at.stack.config words.name ≡ Some at.d
@@ -64,15 +64,15 @@ pub record FindsDevice {S D : Type 0} (w : Calls S D) (words : DeviceWords) (at 
 abbrev pub FailsToFindDevice : {S D : Type 0} → Calls S D → DeviceWords → StackFault → Type 0
 FailsToFindDevice w words fault = FailsBehind w words.words (FailsToFind words.name) fault
 
--- ---- beside an image that is copied to
+-- ---- with an image to copy to
 
--- all was opened, and there is such a device
+-- all files were opened, and there is such a device
 pub record FindsOutput {S D : Type 0} (w : Calls S D) (words : DeviceWords) (out : List ℕ) (at : DevicePlace) (image : OpenImage D) : Type 0 where
   pub over : OpenStack D
   pub opened : OpensOutput w words.words out over image
   pub has : HasDevice w.state words.name over words.cache at
 
--- all is open, but the text makes no stack or there is no such device
+-- all files are open, but the text makes no stack or there is no such device
 pub record FindsNone {S D : Type 0} (w : Calls S D) (words : DeviceWords) (out : List ℕ) (fault : StackFault) : Type 0 where
   pub over : OpenStack D
   pub image : OpenImage D
@@ -82,9 +82,9 @@ pub record FindsNone {S D : Type 0} (w : Calls S D) (words : DeviceWords) (out :
 abbrev pub FailsToFindOutput : {S D : Type 0} → Calls S D → DeviceWords → List ℕ → StackFault → Type 0
 FailsToFindOutput w words out fault = IsOpeningEnd (FailsToOpenOutput w words.words out) fault ⊎ FindsNone w words out fault
 
--- ---- the same by the opener, before and after its calls, and by the words of the program
+-- ---- in terms of the opener, before and after its calls, and the program's arguments
 
--- a device by its name, in the stack of a text over open leaves
+-- a device by its name, in the stack of a text over open backing devices
 abbrev pub HasNamed : {D : Type 0} → (D → Device) → OpenStack D → NamedDevice → StackRecord × DevId → Type 0
 HasNamed state over device = λ found. HasDevice state device.name.now over device.cache (device_place found.0 found.1.0)
 
@@ -92,15 +92,15 @@ HasNamed state over device = λ found. HasDevice state device.name.now over devi
 abbrev pub FindsBy : {S D : Type 0} → Opener S D → (D → Device) → S → S → StackFile → NamedDevice → StackRecord × DevId → Type 0
 FindsBy relations state old new file device = λ found. FindsDevice (calls relations state old new) (words_for file device) (device_place found.0 found.1.0)
 
--- there is none
+-- there is no such device
 abbrev pub FailsToFindBy : {S D : Type 0} → Opener S D → (D → Device) → S → S → StackFile → NamedDevice → StackFault → Type 0
 FailsToFindBy relations state old new file device = FailsToFindDevice (calls relations state old new) (words_for file device)
 
--- a device, and beside it the image that it is copied to
+-- a device, and the image to copy to
 abbrev pub FindsTo : {S D : Type 0} → Opener S D → (D → Device) → S → S → StackFile → NamedDevice → List ℕ → StackRecord × DevId × OpenImage D → Type 0
 FindsTo relations state old new file device out =
     λ found. FindsOutput (calls relations state old new) (words_for file device) out (device_place found.0 found.1.0) found.2
 
--- one of them is missing
+-- the device or the image is missing
 abbrev pub LacksTo : {S D : Type 0} → Opener S D → (D → Device) → S → S → StackFile → NamedDevice → List ℕ → StackFault → Type 0
 LacksTo relations state old new file device out = FailsToFindOutput (calls relations state old new) (words_for file device) out

@@ -1,4 +1,4 @@
--- What a command on a stack file opens, in this order: the stack text, what stands beside it, and the bindings.
+-- The files of a command on a stack file, opened in this order: the stack text, another file, and the bindings.
 use Rattle.std.specs.Prelude.{◌⊎◌, ℕ, Bool, true, List, [], ◌∷◌, map, false}
 use Rattle.block_device.specs.Device.{Device}
 use Rattle.command_line.specs.Bindings.{BindingRecord, binding_record}
@@ -22,43 +22,43 @@ pub record StackWords : Type 0 where
 abbrev pub stack_words : StackFile → StackWords
 stack_words file = record { stack = file.path.now; bindings = map binding_record file.bindings.now }
 
--- STACK's text was told, and then the images of the bindings opened beside it
+-- STACK's text was read, and then the images of the bindings were opened next to it
 pub record OpensStack {S D : Type 0} (w : Calls S D) (words : StackWords) (over : OpenStack D) : Type 0 where
   pub between : S
   pub told : TellsStack (record w { new = between }) words.stack over.text
   pub bound : AreBound (record w { old = between }) (text_use over.text ∷ []) words.bindings over.leaves.items over.devices.items
 
--- its text was told, and then the bindings weren't all opened
+-- the text was read, and then the bindings weren't all opened
 pub record FailsToBind {S D : Type 0} (w : Calls S D) (words : StackWords) (fault : OpeningFault) : Type 0 where
   pub text : FileText
   pub between : S
   pub told : TellsStack (record w { new = between }) words.stack text
   pub fails : IsBindingEnd (record w { old = between }) (text_use text ∷ []) words.bindings fault
 
--- one of them isn't opened, the first that the opener refuses
+-- the first of the files that the opener refuses
 abbrev pub FailsToOpen : {S D : Type 0} → Calls S D → StackWords → OpeningFault → Type 0
 FailsToOpen w words fault = IsTextEnd w words.stack fault ⊎ FailsToBind w words fault
 
--- STACK's text and then SOURCE's were told
+-- STACK's text and then SOURCE's were read
 pub record TellsBoth {S D : Type 0} (w : Calls S D) (stack source : List ℕ) (text source_text : FileText) : Type 0 where
   pub between : S
   pub told : TellsStack (record w { new = between }) stack text
   pub source_told : TellsFile (record w { old = between }) source most_source source_text
 
--- and then the images of the bindings opened beside both
+-- and then the images of the bindings were opened next to both
 pub record OpensSource {S D : Type 0} (w : Calls S D) (words : StackWords) (source : List ℕ) (over : OpenStack D) (source_text : FileText) : Type 0 where
   pub between : S
   pub told : TellsBoth (record w { new = between }) words.stack source over.text source_text
   pub bound : AreBound (record w { old = between }) (text_use over.text ∷ text_use source_text ∷ []) words.bindings over.leaves.items over.devices.items
 
--- STACK's text was told, and SOURCE's wasn't
+-- STACK's text was read, and SOURCE's couldn't be
 pub record FailsAtSource {S D : Type 0} (w : Calls S D) (stack source : List ℕ) (fault : OpeningFault) : Type 0 where
   pub text : FileText
   pub between : S
   pub told : TellsStack (record w { new = between }) stack text
   pub fails : IsFileUnopened (RefusesText (record w { old = between }) source most_source) fault
 
--- both were told, and then the bindings weren't all opened
+-- both were read, and then the bindings weren't all opened
 pub record FailsBehindSource {S D : Type 0} (w : Calls S D) (words : StackWords) (source : List ℕ) (fault : OpeningFault) : Type 0 where
   pub text : FileText
   pub source_text : FileText
@@ -70,19 +70,19 @@ abbrev pub FailsToOpenSource : {S D : Type 0} → Calls S D → StackWords → L
 FailsToOpenSource w words source fault =
     IsTextEnd w words.stack fault ⊎ (FailsAtSource w words.stack source fault ⊎ FailsBehindSource w words source fault)
 
--- STACK's text was told, and then an image opened beside it, for writing too or not: that is another file where it may be written
+-- STACK's text was read, and then an image was opened, for writing too or not; a writable image is another file
 pub record TellsAndOpens {S D : Type 0} (w : Calls S D) (stack path : List ℕ) (writable : Bool) (text : FileText) (image : OpenImage D) : Type 0 where
   pub between : S
   pub told : TellsStack (record w { new = between }) stack text
   pub opened : OpensApart (record w { old = between }) (text_use text ∷ []) path writable image
 
--- and then the images of the bindings opened beside both
+-- and then the images of the bindings were opened next to both
 pub record OpensBeside {S D : Type 0} (w : Calls S D) (words : StackWords) (path : List ℕ) (writable : Bool) (over : OpenStack D) (image : OpenImage D) : Type 0 where
   pub between : S
   pub told : TellsAndOpens (record w { new = between }) words.stack path writable over.text image
   pub bound : AreBound (record w { old = between }) (text_use over.text ∷ image_use writable image ∷ []) words.bindings over.leaves.items over.devices.items
 
--- STACK's text was told, and the image isn't opened
+-- STACK's text was read, and the image can't be opened
 pub record FailsAtImage {S D : Type 0} (w : Calls S D) (stack path : List ℕ) (writable : Bool) (fault : OpeningFault) : Type 0 where
   pub text : FileText
   pub between : S
@@ -108,44 +108,44 @@ OpensOutput w words out over image = OpensBeside w words out true over image
 abbrev pub FailsToOpenOutput : {S D : Type 0} → Calls S D → StackWords → List ℕ → OpeningFault → Type 0
 FailsToOpenOutput w words out fault = FailsToOpenBeside w words out true fault
 
--- ---- the same by the opener, before and after its calls, and by the words of the program
+-- ---- in terms of the opener, before and after its calls, and the program's arguments
 
 -- STACK and the bindings are opened
 abbrev pub OpensByFile : {S D : Type 0} → Opener S D → (D → Device) → S → S → StackFile → OpenStack D → Type 0
 OpensByFile relations state old new file = OpensStack (calls relations state old new) (stack_words file)
 
--- they are not
+-- STACK or a binding can't be opened
 abbrev pub FailsByFile : {S D : Type 0} → Opener S D → (D → Device) → S → S → StackFile → OpeningFault → Type 0
 FailsByFile relations state old new file = FailsToOpen (calls relations state old new) (stack_words file)
 
--- STACK, SOURCE's text and the bindings are
+-- STACK, SOURCE's text and the bindings are opened
 abbrev pub OpensWithSource : {S D : Type 0} → Opener S D → (D → Device) → S → S → StackFile → List ℕ → OpenStack D × FileText → Type 0
 OpensWithSource relations state old new file source = λ both. OpensSource (calls relations state old new) (stack_words file) source both.0 both.1
 
--- they are not
+-- one of these can't be opened
 abbrev pub FailsWithSource : {S D : Type 0} → Opener S D → (D → Device) → S → S → StackFile → List ℕ → OpeningFault → Type 0
 FailsWithSource relations state old new file source = FailsToOpenSource (calls relations state old new) (stack_words file) source
 
--- STACK, an image and the bindings are
+-- STACK, an image and the bindings are opened
 abbrev pub OpensWith : {S D : Type 0} → Opener S D → (D → Device) → S → S → StackFile → List ℕ → Bool → OpenStack D × OpenImage D → Type 0
 OpensWith relations state old new file path writable = λ both. OpensBeside (calls relations state old new) (stack_words file) path writable both.0 both.1
 
--- they are not
+-- one of these can't be opened
 abbrev pub FailsWith : {S D : Type 0} → Opener S D → (D → Device) → S → S → StackFile → List ℕ → Bool → OpeningFault → Type 0
 FailsWith relations state old new file path writable = FailsToOpenBeside (calls relations state old new) (stack_words file) path writable
 
--- the same of an image that is only read
+-- STACK, an image that is only read, and the bindings are opened
 abbrev pub OpensWithInput : {S D : Type 0} → Opener S D → (D → Device) → S → S → StackFile → List ℕ → OpenStack D × OpenImage D → Type 0
 OpensWithInput relations state old new file source = OpensWith relations state old new file source false
 
--- they are not
+-- one of these can't be opened
 abbrev pub FailsWithInput : {S D : Type 0} → Opener S D → (D → Device) → S → S → StackFile → List ℕ → OpeningFault → Type 0
 FailsWithInput relations state old new file source = FailsWith relations state old new file source false
 
--- the same of OUT, which is written
+-- STACK, OUT for writing, and the bindings are opened
 abbrev pub OpensWithOutput : {S D : Type 0} → Opener S D → (D → Device) → S → S → StackFile → List ℕ → OpenStack D × OpenImage D → Type 0
 OpensWithOutput relations state old new file out = λ both. OpensOutput (calls relations state old new) (stack_words file) out both.0 both.1
 
--- they are not
+-- one of these can't be opened
 abbrev pub FailsWithOutput : {S D : Type 0} → Opener S D → (D → Device) → S → S → StackFile → List ℕ → OpeningFault → Type 0
 FailsWithOutput relations state old new file out = FailsToOpenOutput (calls relations state old new) (stack_words file) out

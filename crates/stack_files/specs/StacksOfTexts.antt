@@ -1,4 +1,4 @@
--- The stack that a text makes of open leaves, and of a stack file's bindings.
+-- The stack that a text makes of open backing devices, and that a stack file makes of its bindings.
 use Rattle.std.specs.Prelude.{◌≡◌, ◌⊎◌, ℕ, map, Ok, Err}
 use Rattle.block_device.specs.Device.{Device}
 use Rattle.image_files.specs.Opener.{Calls, Opener, calls}
@@ -12,32 +12,31 @@ use Rattle.stack_files.specs.declared.stack_fault.StackFault.{StackFault}
 use Rattle.stack_files.specs.Configuration.{IsRefusal, configuration_of}
 use Rattle.stack_files.specs.Endings.{IsOpeningEnd}
 
--- the stack of the configuration that the text makes of the open leaves, over their devices, with a cache of so many hash
--- blocks of which none is kept
+-- the stack of the configuration that the text makes of the open backing devices, with an empty cache for so many hash blocks
 pub record IsStackOf {D : Type 0} (state : D → Device) (over : OpenStack D) (cache : ℕ) (stack : StackRecord) : Type 0 where
   pub config : Configuration
   pub makes : configuration_of over.leaves.items over.text.bytes.items ≡ Ok config
   pub is : stack ≡ stack_over config (map state over.devices.items) cache
 
--- the text makes none, or an allocation was refused
+-- the text makes no stack, or an allocation was refused
 abbrev pub FailsToLoad : {D : Type 0} → OpenStack D → StackFault → Type 0
 FailsToLoad over fault = (configuration_of over.leaves.items over.text.bytes.items ≡ Err fault) ⊎ IsRefusal fault
 
--- ---- of a stack file
+-- ---- with a stack file
 
--- the configuration that STACK's text makes of the bindings' leaves
+-- the configuration that STACK's text makes of the bindings' backing devices
 pub record Configures {S D : Type 0} (w : Calls S D) (words : StackWords) (config : Configuration) : Type 0 where
   pub over : OpenStack D
   pub opened : OpensStack w words over
   pub makes : configuration_of over.leaves.items over.text.bytes.items ≡ Ok config
 
--- the stack that it makes of them
+-- the stack that STACK's text makes of the bindings' backing devices
 pub record Loads {S D : Type 0} (w : Calls S D) (words : StackWords) (cache : ℕ) (stack : StackRecord) : Type 0 where
   pub over : OpenStack D
   pub opened : OpensStack w words over
   pub made : IsStackOf w.state over cache stack
 
--- what is named isn't opened, or this is said of what is open
+-- a file can't be opened, or `Fails` holds of the open files
 abbrev pub FailsBehind : {S D : Type 0} → Calls S D → StackWords → (OpenStack D → StackFault → Type 0) → StackFault → Type 0
 FailsBehind {S} {D} w words Fails fault =
     IsOpeningEnd (FailsToOpen w words) fault ⊎ ((over : OpenStack D) × OpensStack w words over × Fails over fault)
@@ -45,7 +44,7 @@ FailsBehind {S} {D} w words Fails fault =
 abbrev pub FailsToLoadFile : {S D : Type 0} → Calls S D → StackWords → StackFault → Type 0
 FailsToLoadFile w words fault = FailsBehind w words FailsToLoad fault
 
--- ---- the same by the opener, before and after its calls, and by the words of the program
+-- ---- in terms of the opener, before and after its calls, and the program's arguments
 
 -- the configuration that the text makes
 abbrev pub ConfiguresBy : {S D : Type 0} → Opener S D → (D → Device) → S → S → StackFile → Configuration → Type 0
@@ -55,6 +54,6 @@ ConfiguresBy relations state old new file = λ config. Configures (calls relatio
 abbrev pub LoadsBy : {S D : Type 0} → Opener S D → (D → Device) → S → S → StackFile → ℕ → StackRecord → Type 0
 LoadsBy relations state old new file cache = Loads (calls relations state old new) (stack_words file) cache
 
--- it makes none
+-- the text makes no configuration or stack
 abbrev pub FailsLoading : {S D : Type 0} → Opener S D → (D → Device) → S → S → StackFile → StackFault → Type 0
 FailsLoading relations state old new file = FailsToLoadFile (calls relations state old new) (stack_words file)

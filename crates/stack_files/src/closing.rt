@@ -1,4 +1,4 @@
-//! Gives back the images that a stack stands on.
+//! Closes the images that a stack uses.
 ghost use Rattle.stack_files.specs.Closings.{GivesStackBack, SyncsAndGivesBack};
 
 use crate::leaf_closing::close_each;
@@ -7,7 +7,7 @@ use command_line::Binding;
 use image_files::Images;
 use stack_engine::{IoFault, Stack};
 
-/// The images of the bindings, as the leaves of the stack are.
+/// Closes the images of the bindings, in the state of the stack's backing devices.
 pub fn close_stack<I: Images>(images: &mut I, bindings: &[Binding<'_>], stack: Stack<I::Dev>)
     ensures { GivesStackBack I.relations I.Dev.state images.old images.new bindings.now stack.leaves }
 {
@@ -15,7 +15,11 @@ pub fn close_stack<I: Images>(images: &mut I, bindings: &[Binding<'_>], stack: S
     close_each(images, bindings, devices);
 }
 
-/// The same, once what was written to them is put on the media, as far as that can be done.
+/// Syncs what was written to the backing devices as far as possible, and closes the images.
+///
+/// # Errors
+///
+/// The first fault of a sync; the images are closed nevertheless.
 pub fn sync_and_close<I: Images>(
     images: &mut I,
     bindings: &[Binding<'_>],

@@ -11,7 +11,15 @@ use stack_loader::{config_over, load};
 use std::alloc::Global;
 use table_text::parse_stack;
 
-/// The configuration that a stack file's text makes of the leaves of its bindings.
+/// Returns the configuration that a stack file makes of the bindings' backing devices.
+///
+/// # Errors
+///
+/// - `NoMemory` if an allocation was refused.
+/// - `TooLong` if the stack file has more than 1 MiB.
+/// - `Open` if a file can't be opened or read, or conflicts with an open one.
+/// - `Outside` if a binding's part isn't within its file.
+/// - `Leaves`, `Text` or `Load` if the configuration is refused.
 pub fn open_configuration<'a, I: Images>(
     alloc: Global,
     images: &mut I,
@@ -28,7 +36,12 @@ pub fn open_configuration<'a, I: Images>(
     configuration_of(alloc, leaves, text.bytes.as_slice())
 }
 
-/// The configuration that a stack text makes of leaves.
+/// Returns the configuration that a stack text makes of backing devices.
+///
+/// # Errors
+///
+/// The first of these faults: `Leaves` if the backing devices are refused, `Text` if the text has a fault, `Load` if the load
+/// is refused. `NoMemory` if an allocation was refused.
 pub fn configuration_of<'a>(
     alloc: Global,
     leaves: Vec<Leaf>,

@@ -12,14 +12,18 @@ use stack_config::DevId;
 use stack_engine::Stack;
 use std::alloc::Global;
 
-/// A mapped device by its name, and how many hash blocks are kept.
+/// The name of a mapped device, and how many hash blocks to cache.
 #[derive(Clone, Copy, Debug, PartialEq, Eq)]
 pub struct NamedDevice<'a> {
     pub name: &'a str,
     pub cache: u32,
 }
 
-/// The stack that a stack file's text makes of the leaves of its bindings, and its device of that name.
+/// Opens the stack of a stack file over its bindings, and finds the device with that name.
+///
+/// # Errors
+///
+/// The faults of `open_loaded`, and `NoSuchDevice` if the stack has no device with that name.
 pub fn open_device<'a, I: Images>(
     alloc: Global,
     images: &mut I,
@@ -34,7 +38,12 @@ pub fn open_device<'a, I: Images>(
     find_device(alloc, over, device)
 }
 
-/// The same, and beside it an image that is copied to, which may not be the stack file.
+/// Opens the stack of a stack file, finds the device with that name, and opens an image to copy to, which mustn't be the stack
+/// file.
+///
+/// # Errors
+///
+/// The faults of `open_device`; `Open` also if the image can't be opened, or is the stack file.
 pub fn open_device_and_output<'a, I: Images>(
     alloc: Global,
     images: &mut I,
@@ -52,7 +61,11 @@ pub fn open_device_and_output<'a, I: Images>(
     Ok((stack, device, image))
 }
 
-/// The stack that a text makes of the open leaves, and its device of that name.
+/// Makes the stack of a text over the open backing devices, and finds the device with that name.
+///
+/// # Errors
+///
+/// The faults of `load_stack`, and `NoSuchDevice` if the stack has no device with that name.
 pub fn find_device<'a, D: BlockDev + Drop>(
     alloc: Global,
     over: OpenStack<D>,

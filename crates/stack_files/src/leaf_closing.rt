@@ -1,4 +1,4 @@
-//! Gives back what was opened.
+//! Closes what was opened.
 ghost use Rattle.stack_files.specs.Bindings.{ClosesAll, ClosesBy};
 
 use crate::part::device_part;
@@ -6,7 +6,7 @@ use block_device::BlockDev;
 use command_line::{Backing, Binding};
 use image_files::Images;
 
-// The image of a binding. What is in memory alone is under no path.
+// Closes the image of a binding. A device in memory has no path.
 fn close_backing<I: Images>(images: &mut I, backing: Backing<'_>, device: I::Dev)
     ensures { ClosesBy I.relations I.Dev.state images.old images.new backing.entry device }
 {
@@ -21,7 +21,7 @@ fn close_backing<I: Images>(images: &mut I, backing: Backing<'_>, device: I::Dev
     }
 }
 
-/// Gives the images of the bindings back, from the last one to the first.
+/// Closes the images of the bindings, from the last to the first.
 pub fn close_each<I: Images>(images: &mut I, bindings: &[Binding<'_>], mut devices: Vec<I::Dev>)
     ensures { ClosesAll I.relations I.Dev.state images.old images.new bindings.now devices.items }
 {

@@ -1,4 +1,4 @@
-//! The leaves of the bindings that a command line names, opened in their order.
+//! The backing devices of a command line's bindings, opened in order.
 ghost use Rattle.std.specs.Prelude.{◌≡◌, ◌≤◌, ◌+◌, ◌++◌, [], ◌∷◌, length, map, IfOk, IfErr, OnOk};
 ghost use Rattle.allocation.specs.Asked.{asked};
 ghost use Rattle.stack_meaning.specs.Leaves.{ServeLeaves};
@@ -14,7 +14,7 @@ use image_files::{FileUse, Images, open_apart, open_part};
 use stack_config::Leaf;
 use std::alloc::Global;
 
-/// Leaves, and their devices in the same order.
+/// Backing devices, and their devices in the same order.
 #[derive(Drop)]
 pub struct OpenLeaves<D> {
     pub leaves: Vec<Leaf>,
@@ -32,7 +32,7 @@ impl<D: BlockDev + Drop> OpenLeaves<D> {
         }
     }
 
-    // Adds a device under a name.
+    // Adds a device with a name.
     fn bind(&mut self, alloc: Global, name: &str, device: D) -> Result<(), OutOfMemory>
         requires { ServeLeaves self.old.leaves.items (map D.state self.old.devices.items) }
         ensures served { OnOk result (ServeLeaves self.new.leaves.items (map D.state self.new.devices.items)) }
@@ -49,8 +49,8 @@ impl<D: BlockDev + Drop> OpenLeaves<D> {
     }
 }
 
-// Opens the image of a binding, or a part of one, or makes its sectors. A sector that is open already is refused where one
-// of the two may be written: the engine takes leaves for devices of their own.
+// Opens the image of a binding, or a part of one, or makes a device in memory. A sector that is open already is refused if one
+// of the two devices is writable: the engine assumes that backing devices don't share sectors.
 fn open_backing<'a, I: Images>(
     alloc: Global,
     images: &mut I,
@@ -85,7 +85,13 @@ fn open_backing<'a, I: Images>(
     }
 }
 
-/// The leaves and devices of the bindings, opened in their order beside these files.
+/// Opens the bindings' backing devices in order, next to these open files.
+///
+/// # Errors
+///
+/// - `NoMemory` if an allocation was refused.
+/// - `Open` if a file can't be opened, or conflicts with an open one.
+/// - `Outside` if a binding's part isn't within its file.
 pub fn open_all<'a, I: Images>(
     alloc: Global,
     images: &mut I,

@@ -1,5 +1,5 @@
-//! The stack that a stack file makes over the images of its bindings: opening them, loading the text, finding a device by name,
-//! and closing the images.
+//! The stack that a stack file makes over the images of its bindings: opens the images, loads the text, finds a device by name,
+//! and closes the images.
 #![tactic(auto)]
 
 mod closing;

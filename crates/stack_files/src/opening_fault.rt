@@ -1,4 +1,4 @@
-//! Why what a command names isn't opened.
+//! Why a file of a command can't be opened.
 ghost use Rattle.std.specs.Prelude.{◌≡◌};
 ghost use Rattle.stack_files.specs.declared.opening_fault.OpeningFault.TheVariants as opening_fault;
 ghost use Rattle.stack_files.specs.Openings.{part_ending};
@@ -6,16 +6,16 @@ ghost use Rattle.stack_files.specs.Openings.{part_ending};
 use allocation::OutOfMemory;
 use image_files::{UnopenedFile, UnopenedPart};
 
-/// Why what a command names isn't opened.
+/// Why a file of a command can't be opened.
 #[derive(Clone, Copy, Debug, PartialEq, Eq)]
 pub enum OpeningFault<'a> {
     /// An allocation was refused.
     NoMemory,
-    /// A stack file has more than 1 MiB.
+    /// The stack file has more than 1 MiB.
     TooLong,
-    /// A file isn't opened, or can't be read.
+    /// A file can't be opened or read.
     Open(UnopenedFile<'a>),
-    /// A binding's part isn't inside the file under this path.
+    /// A binding's part isn't within the file at this path.
     Outside(&'a str),
 }
 

@@ -6,7 +6,7 @@ ghost use Rattle.stack_files.specs.Bindings.{device_part};
 use command_line::FilePart;
 use device_adapters::Part;
 
-/// As a part of a device.
+/// Returns the part as a part of a device.
 pub fn device_part(part: FilePart) -> Part
     ensures { result ≡ device_part (part_record part) }
 {

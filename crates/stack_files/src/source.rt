@@ -1,4 +1,4 @@
-//! The texts that a command takes: stack texts, and what is written.
+//! The files that a command reads whole: stack texts, and data to write.
 ghost use Rattle.std.specs.Prelude.{IfOk, IfErr};
 ghost use Rattle.image_files.specs.Opened.{TellsFile};
 ghost use Rattle.image_files.specs.Opener.{calls};
@@ -10,10 +10,14 @@ use image_files::{FileText, Images, UnopenedFile, read_text};
 
 const MOST_TEXT: usize = 1 << 20;
 
-// One sector more than a write may have, so that this is refused.
+// One sector more than a write may have, so that the queue refuses a longer file.
 const MOST_BYTES: usize = 2049 * 512;
 
-/// The text of a stack file. The fault tells whether it can't be opened, can't be read or is too long.
+/// Reads the text of a stack file.
+///
+/// # Errors
+///
+/// `Open` if it can't be opened or read, and `TooLong` if it has more than 1 MiB.
 pub fn read_stack<'a, I: Images>(
     images: &mut I,
     path: &'a str,
@@ -28,7 +32,11 @@ pub fn read_stack<'a, I: Images>(
     Ok(text)
 }
 
-/// At most 2,049 sectors of a file that is written to a device.
+/// Reads at most 2,049 sectors of a file that is to be written to a device.
+///
+/// # Errors
+///
+/// `UnopenedFile` if it can't be opened or read.
 pub fn read_source<'a, I: Images>(
     images: &mut I,
     path: &'a str,

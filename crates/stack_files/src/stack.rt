@@ -1,4 +1,4 @@
-//! Stacks of configurations, with a cache of so many hash blocks.
+//! Stacks of configurations, with a cache of hash blocks.
 ghost use Rattle.std.specs.Prelude.{◌≡◌, ◌≤◌, ◌^◌, length, map, IfOk, IfErr};
 ghost use Rattle.stack_meaning.specs.Leaves.{ServeLeaves};
 ghost use Rattle.stack_files.specs.BareLeaves.{FailsStanding, StandsBy};
@@ -15,7 +15,11 @@ use stack_engine::Stack;
 use stack_loader::config_over;
 use std::alloc::Global;
 
-/// The stack that a stack file's text makes of the leaves of its bindings.
+/// Opens the stack of a stack file over its bindings, with a cache of `cache` hash blocks.
+///
+/// # Errors
+///
+/// The faults of `open_configuration`.
 pub fn open_loaded<'a, I: Images>(
     alloc: Global,
     images: &mut I,
@@ -29,7 +33,14 @@ pub fn open_loaded<'a, I: Images>(
     load_stack(alloc, over, cache)
 }
 
-/// The stack of no mapped device over the leaves of bindings alone.
+/// Opens a stack without mapped devices over bindings, with a cache of `cache` hash blocks.
+///
+/// # Errors
+///
+/// - `NoMemory` if an allocation was refused.
+/// - `Open` if a file can't be opened, or conflicts with an open one.
+/// - `Outside` if a binding's part isn't within its file.
+/// - `Leaves` if the backing devices are refused.
 pub fn open_leaves<'a, I: Images>(
     alloc: Global,
     images: &mut I,
@@ -44,7 +55,11 @@ pub fn open_leaves<'a, I: Images>(
     Ok(Stack::over(alloc, config, devices, cache))
 }
 
-/// The stack that a text makes of the open leaves.
+/// Makes the stack of a text over the open backing devices.
+///
+/// # Errors
+///
+/// The faults of `configuration_of`.
 pub fn load_stack<'a, D: BlockDev + Drop>(
     alloc: Global,
     over: OpenStack<D>,

@@ -8,24 +8,24 @@ use dm_table::{ParseFault, TextFault};
 use image_files::UnopenedFile;
 use stack_loader::{ConfigFault, LoadFault, Refusal};
 
-/// Why a stack isn't made, or a device of it not found.
+/// Why there is no stack, or no such device.
 #[derive(Clone, Copy, Debug, PartialEq, Eq)]
 pub enum StackFault<'a> {
     /// Memory ran out.
     NoMemory,
-    /// A stack file has more than 1 MiB.
+    /// The stack file has more than 1 MiB.
     TooLong,
-    /// A file isn't opened, or can't be read.
+    /// A file can't be opened or read.
     Open(UnopenedFile<'a>),
-    /// A binding's part isn't inside the file under this path.
+    /// A binding's part isn't within the file at this path.
     Outside(&'a str),
-    /// The leaves aren't taken.
+    /// The backing devices are refused.
     Leaves(ConfigFault),
     /// The stack text has a fault.
     Text(TextFault),
-    /// The stack isn't loaded.
+    /// The load of the stack is refused.
     Load(Refusal),
-    /// It has no device of that name.
+    /// The stack has no device with that name.
     NoSuchDevice,
 }
 

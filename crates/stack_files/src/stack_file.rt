@@ -1,4 +1,4 @@
-//! What a command on a stack file opens, in this order: the stack text, what stands beside it, and the bindings.
+//! The files of a command on a stack file, opened in this order: the stack text, another file, and the bindings.
 ghost use Rattle.std.specs.Prelude.{◌≡◌, false, true, IfOk, IfErr};
 ghost use Rattle.image_files.specs.FileUses.{text_use};
 ghost use Rattle.stack_files.specs.OpenStacks.{FailsByFile, FailsWith, FailsWithInput, FailsWithOutput, FailsWithSource, OpensByFile, OpensWith, OpensWithInput, OpensWithOutput, OpensWithSource};
@@ -12,14 +12,14 @@ use image_files::{FileText, FileUse, Images, OpenImage, open_apart};
 use stack_config::Leaf;
 use std::alloc::Global;
 
-/// A stack file, and what its leaves are bound to.
+/// The path of a stack file, and the bindings of its backing devices.
 #[derive(Clone, Copy)]
 pub struct StackFile<'a, 'b> {
     pub path: &'a str,
     pub bindings: &'b [Binding<'a>],
 }
 
-/// A stack text, and the leaves under it with their devices in the same order.
+/// A stack text, and its backing devices with their devices in the same order.
 #[derive(Drop)]
 pub struct OpenStack<D> {
     pub text: FileText,
@@ -27,7 +27,7 @@ pub struct OpenStack<D> {
     pub devices: Vec<D>,
 }
 
-// How a text's file is used.
+// How the file of a text is used.
 fn text_use(text: &FileText) -> FileUse
     ensures { result ≡ text_use text.now }
 {
@@ -38,7 +38,14 @@ fn text_use(text: &FileText) -> FileUse
     }
 }
 
-/// The text of a stack file, and then the leaves of the bindings.
+/// Reads a stack file, and then opens the bindings' backing devices.
+///
+/// # Errors
+///
+/// - `NoMemory` if an allocation was refused.
+/// - `TooLong` if the stack file has more than 1 MiB.
+/// - `Open` if a file can't be opened or read, or conflicts with an open one.
+/// - `Outside` if a binding's part isn't within its file.
 pub fn open_stack<'a, I: Images>(
     alloc: Global,
     images: &mut I,
@@ -61,7 +68,11 @@ pub fn open_stack<'a, I: Images>(
     })
 }
 
-/// The same, and between them a file that is written to a device.
+/// Reads a stack file, then a file that is to be written to a device, and then opens the bindings.
+///
+/// # Errors
+///
+/// The faults of `open_stack`; `Open` also if the file to be written can't be opened or read.
 pub fn open_with_source<'a, I: Images>(
     alloc: Global,
     images: &mut I,
@@ -83,7 +94,11 @@ pub fn open_with_source<'a, I: Images>(
     Ok((over, source))
 }
 
-/// The same, and between them an image that is copied to, which may not be the stack file.
+/// Reads a stack file, then opens an image to copy to, which mustn't be the stack file, and then the bindings.
+///
+/// # Errors
+///
+/// The faults of `open_stack`; `Open` also if the image can't be opened, or is the stack file.
 pub fn open_with_output<'a, I: Images>(
     alloc: Global,
     images: &mut I,
@@ -97,7 +112,11 @@ pub fn open_with_output<'a, I: Images>(
     open_beside(alloc, images, file, out, true)
 }
 
-/// The same, and between them an image that is only read, which may be the stack file.
+/// Reads a stack file, then opens an image for reading, which may be the stack file, and then the bindings.
+///
+/// # Errors
+///
+/// The faults of `open_stack`; `Open` also if the image can't be opened.
 pub fn open_with_input<'a, I: Images>(
     alloc: Global,
     images: &mut I,
@@ -110,7 +129,7 @@ pub fn open_with_input<'a, I: Images>(
     open_beside(alloc, images, file, source, false)
 }
 
-// The stack file, an image, for writing too where `writable` says so, and then the leaves of the bindings.
+// Reads a stack file, then opens an image, for writing too if `writable` is set, and then the bindings.
 fn open_beside<'a, I: Images>(
     alloc: Global,
     images: &mut I,

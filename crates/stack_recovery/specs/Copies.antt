@@ -1,21 +1,21 @@
--- What is put on another device while a mapped device is gone over.
+-- What a recovery writes to the output device.
 use Rattle.std.specs.Prelude.{◌≡◌, ℕ, ◌+◌, IsTrue, List, [], ◌∷◌, length}
 use Rattle.block_device.specs.Device.{Device, IsSameDevice, sectors_of, spliced}
 use Rattle.stack_recovery.specs.Surveys.{Finding, had, lost, again, kept, PieceRead, states_of}
 
--- the sectors that were had stand where they stood, and no others are changed
+-- sectors that were read are written to the same offset; others are unchanged
 abbrev pub image_after : ℕ → Finding → ℕ → List (List ℕ) → List (List ℕ)
 image_after first (had bytes) n image = spliced image first (sectors_of n bytes)
 image_after first (lost fault) n image = image
 image_after first (again fault) n image = image
 image_after first kept n image = image
 
--- the same of pieces one after another, from the first sector on
+-- the image after a sequence of pieces, from the first sector on
 abbrev pub copied_image : ℕ → List PieceRead → List (List ℕ) → List (List ℕ)
 copied_image first [] image = image
 copied_image first (r ∷ more) image = copied_image (first + length (states_of r)) more (image_after first r.found r.count image)
 
--- a device to which the pieces were copied: over one that is steady its image is known
+-- a device that the pieces were copied to; if it is steady, its image is known
 pub record IsCopied (reads : List PieceRead) (old new : Device) : Type 0 where
   pub same : IsSameDevice old new
   pub image : IsTrue old.steady → new.image ≡ copied_image 0 reads old.image

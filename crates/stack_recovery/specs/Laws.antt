@@ -1,4 +1,4 @@
--- Laws of what is found where a device is gone over.
+-- Laws of what a recovery finds.
 use Rattle.std.specs.Prelude.{◌≡◌, ◌≢◌, ◌↔◌, ℕ, zero, suc, ◌+◌, ◌-◌, ◌/◌, ◌<◌, ◌≤◌, Bool, IsTrue, List, [], ◌∷◌, length, get_or, All, Some, None, Ok, Err}
 use Rattle.std.specs.List.{slice_index_or}
 use Rattle.block_device.specs.Device.{Device}
@@ -21,44 +21,44 @@ use Rattle.runs.specs.Runs.{runs_of}
 use Rattle.stack_recovery.specs.LostRuns.{LostRun, is_same_fault}
 use Rattle.stack_recovery.specs.Surveys.{IsStackSurvey, PieceRead, SectorState, all_states}
 
--- ---- over leaves that are steady and never fail
+-- ---- on backing devices that are steady and never fail
 
--- of these leaves each is steady and never fails
+-- each of these backing devices is steady and never fails
 pub record AreSure (these : ℕ → Bool) (leaves : List Device) : Type 0 where
   pub steady : AreSteady these leaves
   pub never_fail : (i : ℕ) (x : Device) → i < length leaves → IsTrue (these i) → IsTrue (slice_index_or leaves i x).never_fails
 
--- what becomes of a sector that means this
+-- the state of a sector that means this
 abbrev pub meant_state : Outcome → SectorState
 meant_state (Ok bytes) = None
 meant_state (Err fault) = Some (Stack fault)
 
--- of n sectors from the first on, where at says what each means
+-- the states of n sectors from the first on; `at` gives what each means
 abbrev pub meant_states : (ℕ → Outcome) → ℕ → ℕ → List SectorState
 meant_states at first zero = []
 meant_states at first (suc n) = meant_state (at first) ∷ meant_states at (suc first) n
 
--- where those beneath the device are such, a sector is lost where it means a fault, by that fault
+-- if the backing devices are such, a sector is lost exactly if it means a fault, and by that fault
 abbrev pub StatesAreMeant : Type 0
 StatesAreMeant = (d first : ℕ) (w : StackRecord) (reads : List PieceRead) (w' : StackRecord) → IsStackSurvey d first w reads w' → AreSure (λ i. stands_on w.config i (mapped d)) w.leaves
     → all_states reads ≡ meant_states (sector w.config (steady_images w.leaves) (mapped d)) first (length (all_states reads))
 
 -- ---- runs
 
--- sectors that are lost by the run's fault, while those directly before and behind it aren't
+-- the sectors are lost by the run's fault, and those directly before and after it aren't
 pub record IsLongestRun (states : List SectorState) (r : LostRun) : Type 0 where
   pub some : 1 ≤ r.count
   pub lost : (j : ℕ) → j < r.count → get_or states (r.first + j) None ≡ Some r.kind
   pub before : (s : ℕ) → suc s ≡ r.first → get_or states s None ≢ Some r.kind
   pub behind : get_or states (r.first + r.count) None ≢ Some r.kind
 
--- each run is one of the longest
+-- each run is as long as possible
 abbrev pub RunsAreLongest : Type 0
 RunsAreLongest = (states : List SectorState) → All (IsLongestRun states) (runs_of is_same_fault 0 states)
 
 -- ---- verity lines
 
--- a sector of a verity line means a fault where its data block does
+-- a sector of a verity line means a fault exactly if its data block does
 abbrev pub LostBlocksAreLost : Type 0
 LostBlocksAreLost = (c : Configuration) → IsLoaded c → (images : Images) (d s l : ℕ) (line : Line) (v : Verity) → LiesInVerity c d s l line v → (fault : Fault)
     → (sector c images (mapped d) s ≡ Err fault) ↔ (verity_block c images v ((s - line.start) / block_sectors v) ≡ Err fault)

@@ -1,4 +1,4 @@
--- A piece that ended in a fault, while a device is gone over: its sectors are lost, or they are read again.
+-- A piece whose read failed: its sectors are lost, or they are read again.
 use Rattle.std.specs.Prelude.{◌≡◌, ◌⊎◌, ℕ, ◌+◌, Bool, true, false, List, replicate, Option, Some}
 use Rattle.stack_meaning.specs.declared.fault.IoFault.{IoFault}
 use Rattle.stack_meaning.specs.declared.fault.IoFault.TheVariants as io
@@ -12,7 +12,7 @@ use Rattle.stack_recovery.specs.Listings.{Listed, Tells}
 use Rattle.stack_recovery.specs.Recoveries.{IsMapRefused, NotesMore}
 use Rattle.stack_recovery.specs.Texts.{lost_text}
 
--- what is noted, where they are lost or not
+-- what is recorded in the map
 abbrev pub NotesLost : ℕ → Option (List Run) → Option (List Run) → Bool → Type 0
 NotesLost count old new true = NotesMore old new (replicate count false)
 NotesLost count old new false = new ≡ old
@@ -22,12 +22,12 @@ abbrev pub TalliesLost : LostRun → Tally → Tally → Bool → Type 0
 TalliesLost run old new true = new ≡ record { last = Some (opened_by is_same_fault old.last run); lost = old.lost + run.count }
 TalliesLost run old new false = new ≡ old
 
--- and what is told: the run that doesn't grow further
+-- what is reported: the run that doesn't grow further
 abbrev pub ListsLost : {L : Type 0} → (L → Listed) → LostRun → Tally → L → L → Bool → Type 0
 ListsLost told run tally old new true = Tells (told old) (told new) (lost_text (closed_by is_same_fault tally.last run))
 ListsLost told run tally old new false = new ≡ old
 
--- why the recovery ends there: the read found no memory, or room in the map that is made was refused
+-- why the recovery ends there: the read ran out of memory, or memory for the map was refused
 abbrev pub StopsInPiece : {L : Type 0} → IoFault → Bool → L → L → RecoveryFault → Type 0
 StopsInPiece fault makes_map old new NoMemory = ((fault ≡ io.NoMemory) ⊎ IsMapRefused makes_map) × (new ≡ old)
 StopsInPiece fault makes_map old new Output = ⊥

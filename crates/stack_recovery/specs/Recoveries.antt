@@ -1,4 +1,4 @@
--- What going over a mapped device does.
+-- The effects of a recovery.
 use Rattle.std.specs.Prelude.{◌≡◌, ◌⊎◌, ℕ, ◌-◌, Bool, true, false, IsTrue, List, [], ◌++◌, length, map, Option, Some, None, Err}
 use Rattle.allocation.specs.Refusal.{IsOutOfMemory}
 use Rattle.block_device.specs.Device.{Device, HasFailed}
@@ -22,7 +22,7 @@ use Rattle.stack_recovery.specs.Listings.{Listed, Tells}
 use Rattle.stack_recovery.specs.Surveys.{IsStackSurvey, IsSurveyOver, PieceRead, SectorState, all_states}
 use Rattle.stack_recovery.specs.Texts.{lost_text}
 
--- the stack, the device to which is copied, and what was printed
+-- the stack, the output device, and what was printed
 pub record Sides : Type 0 where
   pub stack : StackRecord
   pub out : Device
@@ -31,8 +31,8 @@ pub record Sides : Type 0 where
 abbrev pub sides : StackRecord → Device → Listed → Sides
 sides stack out printed = record { stack = stack; out = out; printed = printed }
 
--- Each sector of device d was had or is lost. What was had was copied, a line was printed for each longest lost run,
--- and the counts are those of the sectors.
+-- Each sector of device d was read or is lost. The sectors that were read were copied, a line was printed for each longest lost
+-- run, and the counts are right.
 pub record Recovers (d : ℕ) (old : Sides) (counts : Counts) (new : Sides) : Type 0 where
   pub reads : List PieceRead
   pub survey : IsStackSurvey d 0 old.stack reads new.stack
@@ -42,7 +42,7 @@ pub record Recovers (d : ℕ) (old : Sides) (counts : Counts) (new : Sides) : Ty
   pub printed : Tells old.printed new.printed (lost_text (runs_of is_same_fault 0 (all_states reads)))
   pub counted : counts ≡ record { read = length (all_states reads) - lost_in (all_states reads); lost = lost_in (all_states reads) }
 
--- some first pieces of the device were read, and the first of their lost runs printed
+-- the first pieces of the device were read, and the first of their lost runs printed
 pub record IsBegunOver (marks : List Bool) (d : ℕ) (old new : Sides) : Type 0 where
   pub reads : List PieceRead
   pub left : StackRecord
@@ -52,24 +52,24 @@ pub record IsBegunOver (marks : List Bool) (d : ℕ) (old new : Sides) : Type 0 
   pub first : runs_of is_same_fault 0 (all_states reads) ≡ runs ++ more
   pub printed : Tells old.printed new.printed (lost_text runs)
 
--- a read of some sectors from that one on found no memory, and a `verity` line is on their way: no other read takes any
+-- a read of some sectors from that one on ran out of memory; a `verity` line is below them, as only its reads allocate
 pub record FindsNoMemory (d at : ℕ) (w w' : StackRecord) : Type 0 where
   pub count : ℕ
   pub answered : EachBytes w d at count (Err io.NoMemory) w'
   pub met : MeetVerity (said_at w.config (mapped d)) at count
 
--- a map is made, and room for one run of it was refused
+-- a map is made, and memory for one of its runs was refused
 abbrev pub IsMapRefused : Bool → Type 0
 IsMapRefused makes_map = (makes_map ≡ true) × IsOutOfMemory 1
 
--- Memory ran out for a read or for the map: what was had so far is copied, and the device to which it is copied didn't fail.
+-- Memory ran out for a read or for the map. The sectors read so far are copied, and the output device didn't fail.
 pub record RunsShort (makes_map : Bool) (marks : List Bool) (d : ℕ) (old new : Sides) : Type 0 where
   pub begun : IsBegunOver marks d old new
   pub copied : IsCopied begun.reads old.out new.out
   pub unfailed : new.out.failures ≡ old.out.failures
   pub refused : FindsNoMemory d (length (all_states begun.reads)) begun.left new.stack ⊎ IsMapRefused makes_map
 
--- why it ended early: never because a line can't be written
+-- why the recovery ended early; a line that can't be written is no cause
 abbrev pub EndsEarly : Bool → List Bool → ℕ → Sides → Sides → RecoveryFault → Type 0
 EndsEarly makes_map marks d old new NoMemory = RunsShort makes_map marks d old new
 EndsEarly makes_map marks d old new Output = IsBegunOver marks d old new × (HasFailed old.out new.out × (IsTrue old.out.never_fails → ⊥))
@@ -80,9 +80,9 @@ IsRescueEnd marks d old new fault = EndsEarly true marks d old new fault
 abbrev pub IsRecoveryEnd : ℕ → Sides → Sides → RecoveryFault → Type 0
 IsRecoveryEnd d old new fault = EndsEarly false [] d old new fault
 
--- ---- as a call sees them
+-- ---- in terms of the arguments of a call
 
--- a stack, the device to which is copied, and who is told of lost runs
+-- a stack, the output device, and the receiver of lost runs
 pub record Parties (O L : Type 0) : Type 0 where
   pub stack : StackRecord
   pub out : O
@@ -91,33 +91,33 @@ pub record Parties (O L : Type 0) : Type 0 where
 abbrev pub parties : {O L : Type 0} → StackRecord → O → L → Parties O L
 parties stack out listing = record { stack = stack; out = out; listing = listing }
 
--- what a proof sees of them
+-- their states, as a proof sees them
 abbrev pub seen_sides : {O L : Type 0} → (O → Device) → (L → Listed) → Parties O L → Sides
 seen_sides state told p = sides p.stack (state p.out) (told p.listing)
 
 abbrev pub RecoversBy : {O L : Type 0} → (O → Device) → (L → Listed) → ℕ → Parties O L → Parties O L → Counts → Type 0
 RecoversBy state told d old new counts = Recovers d (seen_sides state told old) counts (seen_sides state told new)
 
--- the same of a device's number, and of each of them before and behind the call
+-- a recovery of a device, by its index and the arguments before and after the call
 abbrev pub Recovered : {O L : Type 0} → (O → Device) → (L → Listed) → DevId → StackRecord → O → L → StackRecord → O → L → Counts → Type 0
 Recovered state told d stack out listing stack' out' listing' counts = RecoversBy state told d.0 (parties stack out listing) (parties stack' out' listing') counts
 
 abbrev pub EndsRecovery : {O L : Type 0} → (O → Device) → (L → Listed) → ℕ → Parties O L → Parties O L → RecoveryFault → Type 0
 EndsRecovery state told d old new fault = IsRecoveryEnd d (seen_sides state told old) (seen_sides state told new) fault
 
--- ---- where some sectors were had before
+-- ---- if some sectors were read before
 
--- whether a sector is had
+-- whether a sector was read
 abbrev pub is_had : SectorState → Bool
 is_had None = true
 is_had (Some fault) = false
 
--- the marks of a map, where one is made, are those of the states
+-- if a map is made, its marks are those of the states
 abbrev pub AreMarksNoted : Option (List Run) → List SectorState → Type 0
 AreMarksNoted None states = Unit {0}
 AreMarksNoted (Some runs) states = marks runs ≡ map is_had states
 
--- Each sector of device d was had, before or now, or is lost: as above, and a map is made of all of them.
+-- Each sector of device d was read, now or before, or is lost. In addition to `RecoversBy`, a map is made of all sectors.
 pub record GoesOver (before : List Bool) (d : ℕ) (old : Sides) (counts : Counts) (made : Option (List Run)) (new : Sides) : Type 0 where
   pub reads : List PieceRead
   pub survey : IsSurveyOver before d 0 old.stack reads new.stack
@@ -128,11 +128,11 @@ pub record GoesOver (before : List Bool) (d : ℕ) (old : Sides) (counts : Count
   pub counted : counts ≡ record { read = length (all_states reads) - lost_in (all_states reads); lost = lost_in (all_states reads) }
   pub noted : AreMarksNoted made (all_states reads)
 
--- it answers that map
+-- the result has that map
 abbrev pub Rescues : List Bool → ℕ → Sides → Rescued → Sides → Type 0
 Rescues before d old rescued new = GoesOver before d old rescued.counts (Some rescued.map) new
 
--- the same, as a call sees them
+-- such a recovery, by the arguments before and after the call
 abbrev pub GoesOverBy : {O L : Type 0} → (O → Device) → (L → Listed) → List Bool → ℕ → Parties O L → Option (List Run) → Parties O L → Counts → Type 0
 GoesOverBy state told before d old made new counts = GoesOver before d (seen_sides state told old) counts made (seen_sides state told new)
 
@@ -145,7 +145,7 @@ RescuesBy state told before d old new rescued = Rescues before d (seen_sides sta
 abbrev pub EndsRescue : {O L : Type 0} → (O → Device) → (L → Listed) → List Bool → ℕ → Parties O L → Parties O L → RecoveryFault → Type 0
 EndsRescue state told before d old new fault = IsRescueEnd before d (seen_sides state told old) (seen_sides state told new) fault
 
--- these sectors were noted behind those before
+-- these sectors were recorded after the earlier ones
 abbrev pub NotesMore : Option (List Run) → Option (List Run) → List Bool → Type 0
 NotesMore None None more = Unit {0}
 NotesMore (Some old) (Some new) more = marks new ≡ marks old ++ more

@@ -1,4 +1,4 @@
--- A mapped device gone over from sector to sector: the pieces that were read, and what came of each.
+-- A scan of a mapped device: the pieces that were read, and the result for each.
 use Rattle.std.specs.Prelude.{◌≡◌, ◌≢◌, ℕ, ◌+◌, ◌<◌, ◌≤◌, Bool, true, false, List, [], ◌∷◌, length, replicate, Option, Some, None, Ok, Err}
 use Rattle.std.specs.List.{flat_map, slice_index_or}
 use Rattle.stack_rules.specs.Records.{Configuration}
@@ -8,53 +8,53 @@ use Rattle.stack_engine.specs.Bytes.{EachBytes}
 use Rattle.stack_engine.specs.Stacks.{StackRecord}
 use Rattle.stack_recovery.specs.Alike.{AreAlike}
 
--- what came of a piece
+-- the result for a piece
 pub data Finding : Type 0 where
-  -- the bytes of its sectors
+  -- its sectors were read, with these bytes
   had : List ℕ → Finding
   -- its sectors are lost by this fault
   lost : IoFault → Finding
-  -- it ended in this fault, and its sectors are read again in smaller pieces
+  -- its read ended in this fault, and its sectors are read again in smaller pieces
   again : IoFault → Finding
-  -- they were had before, and aren't asked again
+  -- its sectors were read before, and aren't read again
   kept : Finding
 
--- so many sectors were read, and the stack that this left
+-- the number of sectors, the result, and the state of the stack afterwards
 pub record PieceRead : Type 0 where
   pub count : ℕ
   pub found : Finding
   pub after : StackRecord
 
--- how the stack answered, and what this left
+-- the stack's answer, and its state afterwards
 abbrev pub AnswersFinding : StackRecord → ℕ → ℕ → ℕ → Finding → StackRecord → Type 0
 AnswersFinding w d first n (had bytes) w' = EachBytes w d first n (Ok bytes) w'
 AnswersFinding w d first n (lost fault) w' = EachBytes w d first n (Err fault) w'
 AnswersFinding w d first n (again fault) w' = EachBytes w d first n (Err fault) w'
 AnswersFinding w d first n kept w' = w' ≡ w
 
--- Sectors are lost only by a read of one alone, or of some that are lost together; and want of memory is no loss.
+-- Sectors are lost only by a read of one sector, or of sectors that are lost together. Running out of memory is no loss.
 abbrev pub MayFind : Configuration → ℕ → ℕ → ℕ → Finding → Type 0
 MayFind c d first n (had bytes) = Unit {0}
 MayFind c d first n (lost fault) = AreAlike c d first n × (fault ≢ NoMemory)
 MayFind c d first n (again fault) = Unit {0}
 MayFind c d first n kept = 1 ≤ n
 
--- of each sector a mark says whether it was had before, and beyond the last mark none was: n sectors have this one
+-- a mark states whether a sector was read before; past the last mark none was; these n sectors have this mark
 abbrev pub AreMarked : List Bool → ℕ → ℕ → Bool → Type 0
 AreMarked marks first n mark = (j : ℕ) → j < n → slice_index_or marks (first + j) false ≡ mark
 
--- the mark of sectors of which that was found
+-- the mark of sectors with this result
 abbrev pub mark_of : Finding → Bool
 mark_of kept = true
 mark_of other = false
 
--- a piece of device d from sector first on, which the stack answered so, unless its sectors were had before
+-- a piece of device d from sector `first` on, which the stack answered so, unless its sectors were read before
 pub record IsPieceSurveyed (marks : List Bool) (d first : ℕ) (w : StackRecord) (r : PieceRead) : Type 0 where
   pub answered : AnswersFinding w d first r.count r.found r.after
   pub may : MayFind w.config d first r.count r.found
   pub marked : AreMarked marks first r.count (mark_of r.found)
 
--- what became of a sector: it is had, or lost by that fault
+-- the state of a sector: read, or lost by that fault
 abbrev pub SectorState : Type 0
 SectorState = Option IoFault
 
@@ -64,19 +64,19 @@ states_found n (lost fault) = replicate n (Some fault)
 states_found n (again fault) = []
 states_found n kept = replicate n None
 
--- of the sectors of a piece, and of several pieces
+-- the states of the sectors of a piece, and of several pieces
 abbrev pub states_of : PieceRead → List SectorState
 states_of r = states_found r.count r.found
 
 abbrev pub all_states : List PieceRead → List SectorState
 all_states reads = flat_map states_of reads
 
--- The pieces are read one after another, from sector first of device d on, and leave the stack w'. A sector that was had
--- before isn't in a piece that is read, and no other is kept.
+-- The pieces are read in order, from sector `first` of device d on, and leave the stack w'. A sector that was read before isn't
+-- in a piece that is read, and no other sector is kept.
 abbrev pub IsSurveyOver : List Bool → ℕ → ℕ → StackRecord → List PieceRead → StackRecord → Type 0
 IsSurveyOver marks d first w [] w' = w' ≡ w
 IsSurveyOver marks d first w (r ∷ more) w' = IsPieceSurveyed marks d first w r × IsSurveyOver marks d (first + length (states_of r)) r.after more w'
 
--- the same where no sector was had before
+-- such a scan, in which no sector was read before
 abbrev pub IsStackSurvey : ℕ → ℕ → StackRecord → List PieceRead → StackRecord → Type 0
 IsStackSurvey d first w reads w' = IsSurveyOver [] d first w reads w'

@@ -1,4 +1,4 @@
--- What is printed of lost sectors.
+-- The lines that are printed for lost sectors.
 use Rattle.std.specs.Prelude.{ℕ, List, ◌++◌, codes, decimal}
 use Rattle.std.specs.List.{flat_map}
 use Rattle.io_fault_text.specs.Texts.{io_words}

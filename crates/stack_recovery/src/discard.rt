@@ -1,4 +1,4 @@
-//! A device that keeps nothing.
+//! A device that discards what is written.
 ghost use Rattle.std.specs.Prelude.{◌≡◌, ◌≤◌, ◌^◌, false, true, refl};
 ghost use Rattle.block_device.specs.Counters.{capped-fits};
 ghost use Rattle.block_device.specs.Device.{capped, zeros_image};
@@ -6,8 +6,7 @@ ghost use Rattle.block_device.specs.Whole.{whole_zeros};
 
 use block_device::{BlockDev, DeviceFault, SyncDev};
 
-/// A device of so many sectors that takes every write, and keeps nothing of it. It never fails, and a read leaves the
-/// buffer as it is.
+/// A device that accepts every write and discards the data. It never fails, and a read leaves the buffer unchanged.
 #[derive(Drop)]
 pub struct Discard {
     sectors: u64,
@@ -18,7 +17,7 @@ pub struct Discard {
 }
 
 impl Discard {
-    /// A device of that many sectors.
+    /// Returns a device of `sectors` sectors.
     pub fn new(sectors: u64) -> Discard
         requires { sectors ≤ 2 ^ 54 }
         ensures size { (⟦<Discard as BlockDev>⟧.state result).size ≡ sectors }
@@ -91,7 +90,7 @@ impl SyncDev for Discard {
         self.dirty
     }
 
-    // There is nothing to put on a medium.
+    // There is nothing to sync.
     fn sync(&mut self) -> Result<(), DeviceFault> {
         self.dirty = false;
         Ok(())

@@ -1,4 +1,4 @@
-//! Why a device isn't gone over to its end.
+//! Why a recovery ends early.
 ghost use Rattle.std.specs.Prelude.{◌≡◌};
 ghost use Rattle.stack_recovery.specs.declared.fault.RecoveryFault.TheVariants as recovery_fault;
 
@@ -6,13 +6,13 @@ use allocation::OutOfMemory;
 use block_device::DeviceFault;
 use thiserror::Error;
 
-/// Why a device isn't gone over to its end.
+/// Why a recovery ends early.
 #[derive(Clone, Copy, Debug, PartialEq, Eq, Error)]
 pub enum RecoveryFault {
     /// An allocation was refused.
     #[error("NoMemory")]
     NoMemory,
-    /// The device failed to which the sectors are copied.
+    /// The device that the sectors are copied to failed.
     #[error("Output")]
     Output,
 }

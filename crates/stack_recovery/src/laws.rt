@@ -1,18 +1,18 @@
-//! Laws of the definitions: each function's contract is the law, and its call gives it.
+//! Laws of recoveries: each function's contract states the law, and a call of the function provides it.
 ghost use Rattle.stack_recovery.specs.Laws.{LostBlocksAreLost, RunsAreLongest, StatesAreMeant};
 
-/// Over leaves that are steady and never fail, a sector is lost where it means a fault, by that fault.
+/// If the backing devices are steady and never fail, a sector is lost exactly if it means a fault, and by that fault.
 pub fn states_are_meant()
     ensures { StatesAreMeant }
 {}
 
-/// A sector of a verity line means a fault where its data block does: so the lost sectors of a verity volume are those
-/// of the blocks that don't verify.
+/// A sector of a verity line means a fault exactly if its data block does. The lost sectors of a verity volume are therefore
+/// those of the blocks that fail verification.
 pub fn lost_blocks_are_lost()
     ensures { LostBlocksAreLost }
 {}
 
-/// Each run of lost sectors is one of the longest.
+/// Each reported run of lost sectors is as long as possible.
 pub fn runs_are_longest()
     ensures { RunsAreLongest }
 {}

@@ -1,4 +1,4 @@
-//! Goes over all sectors of a mapped device, and says which of them can be had.
+//! Scans all sectors of a mapped device, and reports which of them can be read.
 #![tactic(auto)]
 
 mod discard;

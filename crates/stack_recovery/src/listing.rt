@@ -1,4 +1,4 @@
-//! Who is told of lost runs: a writer, or a list in memory.
+//! Receivers of lost runs: a writer, or a list in memory.
 ghost use Rattle.std.specs.Prelude.{◌≡◌, [], false};
 ghost use Rattle.stack_recovery.specs.Listings.{Listed, Tells};
 ghost use Rattle.stack_recovery.specs.Texts.{lost_run_text};
@@ -9,12 +9,12 @@ use program_io::Counted;
 use std::alloc::Global;
 use std::io::Write;
 
-/// Who is told of lost runs, one after another. After a run that couldn't be told no further one is: a recovery goes on.
+/// Receives lost runs, in order. After a run that couldn't be reported no further run is; the recovery goes on.
 pub trait Listing {
-    /// The text of the runs that were told, a line each, and whether one couldn't be.
+    /// The text of the reported runs, a line each, and whether a run couldn't be reported.
     ghost told: { Self → Listed };
 
-    /// Tells a run, unless one couldn't be told before.
+    /// Reports a run, unless an earlier run couldn't be reported.
     fn tell(&mut self, run: LostRun)
         ensures { Tells (told self.old) (told self.new) (lost_run_text run) };
 }
@@ -31,7 +31,7 @@ impl<W: Write> Listing for Counted<W> {
     }
 }
 
-/// Runs that are kept in memory, and whether one couldn't be, since its allocation failed.
+/// Runs in memory, and whether a run couldn't be kept because its allocation was refused.
 #[derive(Drop)]
 pub struct KeptRuns {
     pub runs: Vec<LostRun>,
@@ -39,7 +39,7 @@ pub struct KeptRuns {
 }
 
 impl KeptRuns {
-    /// No run yet.
+    /// Returns an empty list.
     pub fn new(alloc: Global) -> KeptRuns
         ensures runs { result.runs.items ≡ [] }
         ensures refused { result.refused ≡ false }

@@ -10,10 +10,10 @@ use runs::Run;
 use stack_engine::{Fault, IoFault};
 use std::io::Write;
 
-/// A run of sectors, counted from 0, and the fault in which a read of each ends.
+/// A run of sectors, counted from 0, and the fault that a read of each returns.
 pub type LostRun = Run<IoFault>;
 
-/// Whether both are one fault, of a device also of one leaf.
+/// Returns whether two faults are the same; device faults must be of the same backing device.
 pub fn is_same(a: IoFault, b: IoFault) -> bool
     ensures { result ≡ is_same_fault a b }
 {

@@ -1,4 +1,4 @@
-//! The map that is made while a device is gone over.
+//! The map that a recovery makes of the sectors.
 ghost use Rattle.std.specs.Prelude.{◌≡◌, ◌+◌, ◌≤◌, ◌^◌, length, replicate, true, IfErr, OnErr, OnOk};
 ghost use Rattle.std.specs.Option.{ForSome, is_some};
 ghost use Rattle.allocation.specs.Refusal.{IsOutOfMemory};
@@ -9,7 +9,11 @@ ghost use Rattle.stack_recovery.specs.declared.fault.RecoveryFault.TheVariants a
 use crate::fault::RecoveryFault;
 use rescue_map::{Map, Run};
 
-/// Notes that the next sectors are had, or lost, where a map is made.
+/// Records in the map, if one is made, that the next `count` sectors were read (`had`) or are lost.
+///
+/// # Errors
+///
+/// `NoMemory` if the allocator refused memory for a run of the map.
 pub(crate) fn note(noted: &mut Option<Map>, count: u64, had: bool) -> Result<(), RecoveryFault>
     requires some { 1 ≤ count }
     requires room { ForSome noted.old (λ map. length (marks map) + count ≤ 2 ^ 54) }

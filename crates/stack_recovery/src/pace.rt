@@ -1,11 +1,11 @@
-//! How long the next pieces of a device are.
+//! The lengths of the next pieces of a recovery.
 ghost use Rattle.std.specs.Prelude.{◌≡◌, ◌≤◌, ◌<◌, ◌/◌};
 ghost use Rattle.stack_recovery.specs.Pieces.{IsPace};
 
 const MOST_PIECE: u32 = 128;
 
-/// How many sectors the next piece has at most, and where the last piece ended that was lost in part: up to there
-/// pieces get shorter, behind it longer.
+/// The most sectors of the next piece, and the end of the last piece that couldn't be read whole. Pieces get shorter up to this
+/// sector, and longer after it.
 #[derive(Clone, Copy)]
 pub struct Pace {
     pub most: u32,
@@ -13,7 +13,7 @@ pub struct Pace {
 }
 
 impl Pace {
-    /// As in front of sectors of which nothing is known.
+    /// Returns the pace before any sector is known.
     pub fn new() -> Pace
         ensures { IsPace result.most }
     {
@@ -23,7 +23,7 @@ impl Pace {
         }
     }
 
-    /// Behind a piece of so many sectors that was had, at sector `at`.
+    /// Returns the pace after a piece of `count` sectors was read; `at` is the next sector.
     pub fn after_bytes(self, count: u32, at: u64) -> Pace
         requires { IsPace count }
         ensures { IsPace result.most }
@@ -39,14 +39,14 @@ impl Pace {
         }
     }
 
-    /// Behind sectors that are lost.
+    /// Returns the pace after lost sectors.
     pub fn after_loss() -> Pace
         ensures { IsPace result.most }
     {
         Pace { most: 1, doubt: 0 }
     }
 
-    /// Where a piece of so many sectors, which ends before sector `end`, is lost in part.
+    /// Returns the pace after a piece of `count` sectors, which ends before sector `end`, couldn't be read whole.
     pub fn after_failure(count: u32, end: u64) -> Pace
         requires some { 2 ≤ count }
         requires few { count ≤ 128 }

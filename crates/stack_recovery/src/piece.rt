@@ -1,4 +1,4 @@
-//! The next piece of a device that is gone over.
+//! The next piece of a recovery.
 ghost use Rattle.std.specs.Prelude.{◌≡◌, ◌+◌, ◌≤◌, ◌<◌, length};
 ghost use Rattle.dm_table.specs.Grammar.{IsTargetOfGrammar};
 ghost use Rattle.stack_rules.specs.Names.{mapped, size};
@@ -10,21 +10,21 @@ use stack_config::{Config, DevId};
 
 const MOST_PIECE: u64 = 128;
 
-/// So many sectors, and whether they are lost together where they are lost.
+/// A number of sectors, and whether a fault of one of them is a fault of all.
 #[derive(Clone, Copy)]
 pub struct Piece {
     pub count: u32,
     pub alike: bool,
 }
 
-/// How many sectors are lost together from one on, and in a part behind them.
+/// How many sectors are lost together from one sector on, and how many in each unit after them.
 #[derive(Clone, Copy)]
 struct Unit {
     rest: u64,
     whole: u64,
 }
 
-// Of a line's sectors from its sector `within` on.
+// The units of a line's sectors from its sector `within` on.
 fn unit_of(target: &Target, within: u64) -> Unit
     requires { IsTargetOfGrammar target.now }
     ensures rest { 1 ≤ result.rest }
@@ -47,8 +47,8 @@ fn unit_of(target: &Target, within: u64) -> Unit
     }
 }
 
-/// The piece from sector `first` on and before sector `end`, of at most so many sectors if they aren't lost together. It stays
-/// in one line, and splits no unit and no data block that can be read in one piece.
+/// Returns the piece from sector `first` on and before sector `end`. It has at most `most` sectors unless they are lost
+/// together. It stays in one line, and splits no unit and no data block that can be read in one piece.
 pub fn piece_at(config: &Config, d: DevId, first: u64, end: u64, most: u32) -> Piece
     requires device { d.0 < length config.now.devices }
     requires some { first < end }
@@ -56,7 +56,7 @@ pub fn piece_at(config: &Config, d: DevId, first: u64, end: u64, most: u32) -> P
     requires most { IsPace most }
     ensures { IsPiece config.now d.0 first end most result }
 {
-    // What holds of every loaded configuration is learned from a call.
+    // The call provides what holds of every loaded configuration.
     let _loaded = config.count();
     let (number, left) = config.line_at(d, first);
     let lines = config.table(d).lines();

@@ -1,4 +1,4 @@
-//! Going over a mapped device from its first sector to its last.
+//! Recovers a mapped device from its first sector to its last.
 ghost use Rattle.std.specs.Prelude.{◌≡◌, ◌≢◌, ◌≤◌, ◌<◌, ◌+◌, ◌^◌, [], length, IsTrue, IfOk, IfErr, OnOk};
 ghost use Rattle.stack_rules.specs.Names.{mapped, size};
 ghost use Rattle.std.specs.Option.{ForSome, is_some};
@@ -22,19 +22,23 @@ use rescue_map::{Ahead, Map};
 use stack_config::DevId;
 use stack_engine::{IoFault, Stack};
 
-/// How many sectors were had, and how many are lost.
+/// How many sectors were read, and how many are lost.
 #[derive(Clone, Copy, Debug, PartialEq, Eq)]
 pub struct Counts {
     pub read: u64,
     pub lost: u64,
 }
 
-/// The bytes of the longest piece.
+/// The size of the longest piece in bytes.
 const ROOM: usize = 65536;
 
-/// Reads each sector of a mapped device, by the longest pieces, and tells each longest run of sectors that
-/// are lost by one fault. Each sector that is had is put where it stands on another device, which has room for all; what
-/// is lost is left there as it was.
+/// Reads each sector of a mapped device, and reports each longest run of sectors that are lost by one fault. Each readable
+/// sector is written to the same offset of `out`, which has room for all sectors. Lost sectors are left unchanged there.
+///
+/// # Errors
+///
+/// - `NoMemory` if an allocation was refused.
+/// - `Output` if `out` failed.
 pub fn recover<D: BlockDev, O: BlockDev, L: Listing>(
     stack: &mut Stack<D>,
     d: DevId,
@@ -50,7 +54,12 @@ pub fn recover<D: BlockDev, O: BlockDev, L: Listing>(
     recover_with(stack, d, out, listing, &mut NoProgress)
 }
 
-/// The same, and tells how far it has come.
+/// Recovers a device as `recover` does, and reports progress.
+///
+/// # Errors
+///
+/// - `NoMemory` if an allocation was refused.
+/// - `Output` if `out` failed.
 pub fn recover_with<D: BlockDev, O: BlockDev, L: Listing, P: Progress>(
     stack: &mut Stack<D>,
     d: DevId,
@@ -68,7 +77,8 @@ pub fn recover_with<D: BlockDev, O: BlockDev, L: Listing, P: Progress>(
     go_over(stack, d, out, ahead, &mut None, listing, progress)
 }
 
-/// Goes over all sectors, of which those that were had before aren't asked; the map that is made begins empty.
+/// Recovers a device. Sectors that were read before, by the marks ahead, aren't read again. The map, if one is made, is empty
+/// at first.
 pub(crate) fn go_over<D: BlockDev, O: BlockDev, L: Listing, P: Progress>(
     stack: &mut Stack<D>,
     d: DevId,
@@ -87,7 +97,7 @@ pub(crate) fn go_over<D: BlockDev, O: BlockDev, L: Listing, P: Progress>(
     ensures err { IfErr result (EndsEarlyBy O.state L.told (is_some noted.old) (marks_ahead ahead.entry) d.0 (parties stack.old out.old listing.old) (parties stack.new out.new listing.new)) }
     ensures noted { OnOk result (is_some noted.new ≡ is_some noted.old) }
 {
-    // How many sectors a device can have is learned from a call.
+    // The call provides the bound on a device's sectors.
     let _fits = out.sectors();
     let mut room = [0u8; ROOM];
     go_over_by(
@@ -102,7 +112,7 @@ pub(crate) fn go_over<D: BlockDev, O: BlockDev, L: Listing, P: Progress>(
     )
 }
 
-/// The same, each piece by that buffer.
+/// Recovers a device through the buffer `room`.
 fn go_over_by<D: BlockDev, O: BlockDev, L: Listing, P: Progress>(
     stack: &mut Stack<D>,
     d: DevId,
@@ -165,7 +175,7 @@ fn go_over_by<D: BlockDev, O: BlockDev, L: Listing, P: Progress>(
     Ok(tally.counts(sectors))
 }
 
-// A piece that ended in a fault: whether its sectors are lost. If not, they are read again in smaller pieces.
+// Handles a piece whose read failed: returns whether its sectors are lost. If not, they are read again in smaller pieces.
 fn lose_piece<L: Listing>(
     noted: &mut Option<Map>,
     tally: &mut Tally,
@@ -203,7 +213,7 @@ fn lose_piece<L: Listing>(
     Ok(true)
 }
 
-// So many sectors are done of so many.
+// Reports progress in bytes.
 fn tell<P: Progress>(progress: &mut P, done: u64, all: u64) {
     progress.tell(done.saturating_mul(512), Some(all.saturating_mul(512)));
 }

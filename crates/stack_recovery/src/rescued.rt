@@ -1,4 +1,4 @@
-//! Going over a mapped device where a map says which of its sectors were had before.
+//! Recovers a mapped device with a map of the sectors that were read before.
 ghost use Rattle.std.specs.Prelude.{◌≡◌, ◌≤◌, ◌<◌, length, IsTrue, IfOk, IfErr};
 ghost use Rattle.stack_rules.specs.Names.{mapped, size};
 ghost use Rattle.rescue_map.specs.Maps.{marks};
@@ -14,14 +14,19 @@ use stack_config::DevId;
 use stack_engine::Stack;
 use std::alloc::Global;
 
-/// How many sectors are had, before or now, and how many are lost; and which.
+/// The counts of sectors that were read, now or before, and that are lost; and the map of them.
 #[derive(Drop)]
 pub struct Rescued {
     pub counts: Counts,
     pub map: Map,
 }
 
-/// As `recover`, but sectors that were had before, as the map says, aren't asked again, nor written.
+/// Recovers a device as `recover` does, but neither reads nor writes the sectors that the map marks as read before.
+///
+/// # Errors
+///
+/// - `NoMemory` if an allocation was refused.
+/// - `Output` if `out` failed.
 pub fn rescue<D: BlockDev, O: BlockDev, L: Listing, P: Progress>(
     alloc: Global,
     stack: &mut Stack<D>,

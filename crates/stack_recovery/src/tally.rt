@@ -1,4 +1,4 @@
-//! The lost sectors of a device, while it is gone over.
+//! The lost sectors of a recovery so far.
 ghost use Rattle.std.specs.Prelude.{◌≡◌, ◌+◌, ◌-◌, ◌<◌, ◌≤◌, ◌^◌, None, Some};
 ghost use Rattle.stack_recovery.specs.Listings.{Tells};
 ghost use Rattle.runs.specs.Tallies.{EndsAt, closed_by, joined_run, listed, opened_by};
@@ -9,14 +9,14 @@ use crate::listing::Listing;
 use crate::lost_run::{LostRun, is_same};
 use crate::recovery::Counts;
 
-/// The lost run that may still grow, and how many sectors are lost.
+/// The open run, which may still grow, and how many sectors are lost.
 #[derive(Clone, Copy)]
 pub(crate) struct Tally {
     pub(crate) last: Option<LostRun>,
     pub(crate) lost: u64,
 }
 
-/// Both runs as one, if they are lost by one fault.
+/// Joins two adjacent runs into one if they are lost by the same fault.
 fn joined(last: Option<LostRun>, run: LostRun) -> Option<LostRun>
     requires ends { EndsAt last run.first }
     requires room { run.first + run.count < 2 ^ 64 }
@@ -40,7 +40,7 @@ impl Tally {
         }
     }
 
-    /// How many of so many sectors are had, and how many are lost.
+    /// Returns the counts for a device of so many sectors.
     pub(crate) fn counts(self, sectors: u64) -> Counts
         requires { self.lost ≤ sectors }
         ensures { result ≡ record { read = sectors - self.lost; lost = self.lost } }
@@ -51,7 +51,7 @@ impl Tally {
         }
     }
 
-    /// Tells the run that may still grow, since it doesn't.
+    /// Reports the open run, and closes it.
     #[tactic(auto, using(crate::proofs::WritingLemmas::tells_nothing))]
     pub(crate) fn close<L: Listing>(&mut self, listing: &mut L)
         ensures text { Tells (L.told listing.old) (L.told listing.new) (lost_text (listed self.old.last)) }

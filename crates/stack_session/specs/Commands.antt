@@ -1,4 +1,4 @@
--- What the lines of a session ask for.
+-- The commands of a session's lines.
 use Rattle.std.specs.Prelude.{ℕ, ◌≤◌, nat_le, List, [], ◌∷◌, length, drop, slice_index, codes, replicate, ◌*◌, Option, Some, None, option_map, if◌then◌else◌}
 use Rattle.std.specs.List.{prefix_len, position_or_len}
 use Rattle.std.specs.Option.{option_map_or}
@@ -15,23 +15,23 @@ use Rattle.stack_session.specs.declared.verb.Verb.TheVariants as verb
 use Rattle.stack_session.specs.Accesses.{access_record, IsSmall}
 
 pub data CommandRecord : Type 0 where
-  -- the line has no word
+  -- the line has no words
   nothing : CommandRecord
   -- a stack text to load
   load : List ℕ → CommandRecord
-  -- sectors to read or to write at once
+  -- sectors to read or write at once
   run : RequestRecord → CommandRecord
-  -- sectors to read or to write step by step
+  -- sectors to read or write step by step
   submit : RequestRecord → CommandRecord
-  -- the ticket of which the next piece shall be served
+  -- the ticket of the request whose next piece is to be served
   step : ℕ → CommandRecord
-  -- the name of a device that shall be gone
+  -- the name of a device to remove
   remove : Word → CommandRecord
-  -- the size, the depth and the costs of the device of that name
+  -- print the size, the depth and the costs of the device of that name
   cost : Word → CommandRecord
-  -- the table of the device of that name
+  -- print the table of the device of that name
   table : Word → CommandRecord
-  -- how much the leaves have moved
+  -- print how many sectors the backing devices have transferred
   moved : CommandRecord
   -- the line is no command
   usage : CommandRecord
@@ -44,7 +44,7 @@ after_word line =
 
 -- ---- sectors
 
--- a read where both numbers were read
+-- a read, if both numbers are valid
 abbrev pub read_where : Word → Option ℕ → Option ℕ → Option RequestRecord
 read_where name (Some first) (Some count) = Some (a_read name first count)
 read_where name (Some first) None = None
@@ -55,7 +55,7 @@ abbrev pub session_read : List Word → Option RequestRecord
 session_read (name ∷ first ∷ count ∷ []) = read_where name (number first) (number count)
 session_read words = None
 
--- how many sectors a write may ask for: one too many is refused, and more are no command
+-- how many sectors a write may request: one more than the most is refused by the queue, and more are no command
 abbrev pub write_count : Word → Option ℕ
 write_count word = number_if (λ n. nat_le n 2049) (number word)
 
@@ -63,7 +63,7 @@ write_count word = number_if (λ n. nat_le n 2049) (number word)
 unfoldable pub hex_byte : Word → Option ℕ
 hex_byte word = option_map (λ bytes. slice_index bytes 0) (result_ok (decode_sized word 1))
 
--- a write of so many sectors of that byte, where all numbers were read
+-- a write of so many sectors of that byte, if all numbers are valid
 abbrev pub write_where : Word → Option ℕ → Option ℕ → Option ℕ → Option RequestRecord
 write_where name (Some first) (Some count) (Some byte) = Some (a_write name first (replicate (512 * count) byte))
 write_where name (Some first) (Some count) None = None
@@ -77,12 +77,12 @@ session_write words = None
 
 -- ---- commands
 
--- the word, where there is just one
+-- the word, if there is just one
 abbrev pub only_word : List Word → Option Word
 only_word (word ∷ []) = Some word
 only_word words = None
 
--- a command with what its words say, where they say it
+-- a command with the value of its words, if they have one
 abbrev pub command_with : {T : Type 0} → (T → CommandRecord) → Option T → CommandRecord
 command_with command said = option_map_or command said usage
 
@@ -120,8 +120,8 @@ abbrev pub session_access : List Word → Option RequestRecord
 session_access [] = None
 session_access (word ∷ words) = access_in (verb_of word) words
 
--- `load TEXT`, where the text is the rest of the line, `read NAME FIRST COUNT`, `write NAME FIRST COUNT BB`,
--- `submit` and one of these two, `step T`, `remove NAME`, `cost NAME`, `table NAME` or `moved`
+-- `load TEXT`, in which the text is the rest of the line, `read NAME FIRST COUNT`, `write NAME FIRST COUNT BB`, `submit` and
+-- one of these two, `step T`, `remove NAME`, `cost NAME`, `table NAME` or `moved`
 abbrev pub verb_command : Option Verb → List ℕ → List Word → CommandRecord
 verb_command (Some verb.Load) line words = load (after_word line)
 verb_command (Some verb.Read) line words = command_with run (session_read words)
@@ -134,7 +134,7 @@ verb_command (Some verb.Table) line words = command_with table (only_word words)
 verb_command (Some verb.Moved) line words = lone_command moved words
 verb_command None line words = usage
 
--- what the first word of a line asks for
+-- the command of a line, by its words
 abbrev pub words_command : List ℕ → List Word → CommandRecord
 words_command line [] = nothing
 words_command line (verb ∷ words) = verb_command (verb_of verb) line words
@@ -142,7 +142,7 @@ words_command line (verb ∷ words) = verb_command (verb_of verb) line words
 unfoldable pub line_command : List ℕ → CommandRecord
 line_command line = words_command line (words line)
 
--- what a command of the program asks for
+-- the record of a program's command
 abbrev pub command_record : Command → CommandRecord
 command_record Nothing = nothing
 command_record (Load text) = load text.now

@@ -1,4 +1,4 @@
--- What a queue replies to the lines of a session, and how they leave it.
+-- The replies of a queue to the lines of a session, and its state after each.
 use Rattle.std.specs.Prelude.{◌≡◌, ◌⊎◌, ℕ, false, List, [], length, Result, Ok, Err, Option}
 use Rattle.std.specs.Option.{option_map_or}
 use Rattle.allocation.specs.Refusal.{IsOutOfMemory}
@@ -36,19 +36,19 @@ use Rattle.stack_session.specs.declared.access.Access.{Access}
 use Rattle.program_io.specs.Counted.{CountedRecord}
 use Rattle.program_io.specs.declared.fault.WriteFault.{WriteFault}
 
--- How an event leads from one world of a queue to the next.
+-- How an event leads from one state of a queue to the next.
 abbrev pub Stepping : Type 1
 Stepping = World → Event → World → Type 0
 
--- this text, and nothing changes
+-- this text, and no change
 abbrev pub Says : List ℕ → World → List ℕ → World → Type 0
 Says text w reply w' = (reply ≡ text) × (w' ≡ w)
 
--- an allocation of at most so much was refused, and nothing happened
+-- an allocation of at most so much was refused, and nothing was done
 abbrev pub RepliesNoMemory : ℕ → World → List ℕ → World → Type 0
 RepliesNoMemory most w reply w' = Says no_memory w reply w' × IsOutOfMemory most
 
--- to a text that is to be loaded
+-- the reply to a text to be loaded
 abbrev pub RepliesToText : Stepping → World → Result (List Entry) TextFault → List ℕ → World → Type 0
 RepliesToText steps w (Err fault) reply w' = Says (fault_text fault) w reply w'
 RepliesToText steps w (Ok entries) reply w' =
@@ -58,23 +58,23 @@ RepliesToText steps w (Ok entries) reply w' =
 abbrev pub first_sector : World → ℕ → ℕ
 first_sector w ticket = option_map_or (λ f. f.first) (flight_of w ticket) 0
 
--- what is printed of the device of that name, where there is one
+-- what is printed for the device of that name, if there is one
 abbrev pub device_text : Configuration → Word → (ℕ → List ℕ) → List ℕ
 device_text c name text = option_map_or text (device_named c name) (submit_text NoSuchDevice)
 
--- its size, depth and costs
+-- the device's size, depth and costs
 abbrev pub cost_of : Configuration → ℕ → List ℕ
 cost_of c d = cost_text (size c (mapped d)) (depth c (mapped d)) (read_cost c (mapped d)) (write_cost c (mapped d))
 
--- its table, with zeros for keys
+-- the device's table, with zeros for keys
 abbrev pub device_table : Configuration → ℕ → List ℕ
 device_table c d = printed_table false (lines_of c d)
 
--- what the leaves have read and written
+-- how many sectors the backing devices have read and written
 abbrev pub leaves_moved_text : List Device → List ℕ
 leaves_moved_text leaves = moved_text (capped (reads_of leaves)) (capped (writes_of leaves))
 
--- A command may get this reply, and leave the second world: it is one event of the queue, or changes nothing.
+-- A command may get this reply, and leave the second state: it is one event of the queue, or changes nothing.
 abbrev pub RepliesTo : Stepping → World → CommandRecord → List ℕ → World → Type 0
 RepliesTo steps w nothing reply w' = Says [] w reply w'
 RepliesTo steps w usage reply w' = Says usage_text w reply w'
@@ -93,7 +93,7 @@ RepliesTo steps w moved reply w' = Says (leaves_moved_text w.stack.leaves) w rep
 pub record Replies (steps : Stepping) (w : World) (line reply : List ℕ) (w' : World) : Type 0 where
   pub to : RepliesTo steps w (line_command line) reply w'
 
--- a run answers for its request as a whole
+-- the answer of a run is that for its request as a whole
 abbrev pub IsWholeAnswer : World → Event → World → Type 0
 IsWholeAnswer w (event.submit r result) w' = Unit {0}
 IsWholeAnswer w (event.step ticket result) w' = Unit {0}
@@ -104,25 +104,25 @@ IsWholeAnswer w (event.remove_device name result) w' = Unit {0}
 IsWholeAnswer w (event.run r result) w' = RunAnswers w r result w'
 IsWholeAnswer w (event.sync result) w' = Unit {0}
 
--- all that is known of a step: of each piece, and of each run as a whole
+-- all that is known of a step: each piece, and each run as a whole
 pub record WholeStep (w : World) (e : Event) (w' : World) : Type 0 where
   pub each : Step EachPart w e w'
   pub whole : IsWholeAnswer w e w'
 
--- of a text that is the reply to a command: all that is known
+-- the text is the reply to a command, by all that is known
 abbrev pub IsReplyTo : World → CommandRecord → World → List ℕ → Type 0
 IsReplyTo w command w' reply = RepliesTo WholeStep w command reply w'
 
--- ---- as a call sees them
+-- ---- in terms of the arguments of a call
 
 -- the reply to a command was written, or the writer failed in it
 abbrev pub RepliesBy : {T : Type 0} → (T → Option (List ℕ)) → CountedRecord T → CountedRecord T → World → World → CommandRecord → Result Unit WriteFault → Type 0
 RepliesBy contents old new w w' command result = WritesReply contents old new (IsReplyTo w command w') result
 
--- the command that runs what a line asks for
+-- the command that runs the request of a line
 abbrev pub runs_access : Access → CommandRecord
 runs_access access = run (access_record access)
 
--- the command that begins it
+-- the command that begins the request of a line
 abbrev pub submits_access : Access → CommandRecord
 submits_access access = submit (access_record access)

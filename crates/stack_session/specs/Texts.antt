@@ -23,7 +23,7 @@ use Rattle.request_queue.specs.declared.reply.Reply.{Reply}
 use Rattle.request_queue.specs.declared.reply.Reply.TheVariants.{Sectors, Written}
 use Rattle.request_queue.specs.SubmitFaults.{submit_number, submit_name}
 
--- sector n: one byte where all its bytes are equal, else all digits
+-- sector n: one byte if all its bytes are equal, otherwise all digits
 unfoldable pub sector_line : ℕ → List ℕ → List ℕ
 sector_line n bytes =
     if list_all (λ b. b == slice_index bytes 0) bytes then decimal n ++ (codes " all " ++ (encode_lower (take 1 bytes) ++ codes "\n"))
@@ -47,7 +47,7 @@ loaded_text count = codes "loaded " ++ (decimal count ++ codes "\n")
 abbrev pub fault_text : TextFault → List ℕ
 fault_text f = codes "text fault " ++ (decimal f.entry ++ (codes " " ++ (decimal f.line ++ (codes " " ++ kind_then (text_number f.kind) (text_name f.kind) (codes "\n")))))
 
--- a load that is refused, with the device and the line
+-- a load that is refused, with the device and the line of the configuration
 abbrev pub load_refusal_text : Refusal → List ℕ
 load_refusal_text r = codes "refused " ++ kind_then (load_number r.kind) (load_name r.kind) (codes " device " ++ (decimal r.device ++ (codes " line " ++ (decimal r.line ++ codes "\n"))))
 
@@ -72,12 +72,12 @@ remove_text (Err (Fault fault)) = removal_text fault
 
 -- ---- requests
 
--- a request that isn't begun
+-- a request that isn't accepted
 abbrev pub submit_text : SubmitFault → List ℕ
 submit_text submit.NoMemory = no_memory
 submit_text fault = refused_text (submit_number fault) (submit_name fault)
 
--- one that is begun, and its ticket
+-- the ticket of a request that is accepted
 abbrev pub ticket_text : ℕ → List ℕ
 ticket_text ticket = codes "ticket " ++ (decimal ticket ++ codes "\n")
 
@@ -88,17 +88,17 @@ submission_text (Err fault) = submit_text fault
 abbrev pub written_text : List ℕ
 written_text = codes "written\n"
 
--- what a request gave that began at that sector
+-- the result of a request that began at that sector
 abbrev pub reply_text : ℕ → Reply → List ℕ
 reply_text first (Sectors got) = sector_lines (length got.bytes / 512) first got.bytes
 reply_text first Written = written_text
 
--- the same, or the fault that ended it
+-- the result of a request, or the fault that ended it
 abbrev pub answer_text : ℕ → Result Reply IoFault → List ℕ
 answer_text first (Ok reply) = reply_text first reply
 answer_text first (Err fault) = io_text fault
 
--- a request that was served to its end, unless it wasn't begun
+-- a request that was served to its end, unless it wasn't accepted
 abbrev pub run_reply_text : ℕ → Result (Result Reply IoFault) SubmitFault → List ℕ
 run_reply_text first (Ok answer) = answer_text first answer
 run_reply_text first (Err fault) = submit_text fault
@@ -115,21 +115,21 @@ step_text first (Ok More) = more_reply
 step_text first (Ok (Done answer)) = answer_text first answer
 step_text first (Err none) = no_ticket_text
 
--- ---- what is told
+-- ---- other replies
 
--- a device's size and depth, and the most leaf sectors that one sector read and one written move
+-- a device's size and depth, and the most sectors of backing devices that a read and a write of one sector transfer
 abbrev pub cost_text : ℕ → ℕ → ℕ → ℕ → List ℕ
 cost_text sectors depth read write =
     codes "sectors " ++ (decimal sectors ++ (codes " depth " ++ (decimal depth
     ++ (codes " read " ++ (decimal read ++ (codes " write " ++ (decimal write ++ codes "\n")))))))
 
--- how many sectors the leaves have read and written
+-- how many sectors the backing devices have read and written
 abbrev pub moved_text : ℕ → ℕ → List ℕ
 moved_text reads writes = codes "moved " ++ (decimal reads ++ (codes " " ++ (decimal writes ++ codes "\n")))
 
--- ---- as a call sees them
+-- ---- in terms of the arguments of a call
 
--- the whole sectors of these bytes, the first of them under that number
+-- the whole sectors of these bytes; the first has that number
 abbrev pub sectors_text : ℕ → List ℕ → List ℕ
 sectors_text first bytes = sector_lines (length bytes / 512) first bytes
 

@@ -1,4 +1,4 @@
-//! Sectors that a line requests to read or write.
+//! The sectors that a line requests to read or write.
 ghost use Rattle.std.specs.Prelude.{◌≡◌, ◌*◌, ◌≤◌, IfErr, IfOk, OnErr, replicate};
 ghost use Rattle.allocation.specs.Asked.{WasRefused};
 ghost use Rattle.allocation.specs.Refusal.{IsOutOfMemory};
@@ -11,7 +11,7 @@ use std::alloc::Global;
 
 const SECTOR: usize = 512;
 
-/// Sectors of the device of that name, of which every byte shall be the same.
+/// Sectors of the device of that name, each byte of which is to be `byte`.
 #[derive(Clone, Copy, Debug, PartialEq, Eq)]
 pub struct Filling<'a> {
     pub name: &'a [u8],
@@ -32,7 +32,7 @@ pub enum Access<'a> {
 }
 
 impl<'a> Access<'a> {
-    /// The first of the sectors.
+    /// Returns the first of the sectors.
     pub fn first(self) -> u64
         ensures { result ≡ first_of (access_record self.entry) }
     {
@@ -42,7 +42,7 @@ impl<'a> Access<'a> {
         }
     }
 
-    /// The request for the sectors, with the bytes of a write.
+    /// Returns the request for the sectors, with the data of a write.
     ///
     /// # Errors
     ///
@@ -67,7 +67,7 @@ impl<'a> Access<'a> {
     }
 }
 
-// So many sectors of which every byte is the same.
+// Returns `count` sectors of which every byte is `byte`.
 fn filled_sectors(alloc: Global, count: u64, byte: u8) -> Result<Vec<u8>, OutOfMemory>
     requires { count ≤ 2049 }
     ensures ok { IfOk result (λ bytes. bytes.items ≡ replicate (512 * count) byte) }

@@ -8,35 +8,35 @@ use crate::access::{Access, Filling};
 use crate::verb::{Verb, verb_of};
 use table_text::{Words, number, white_len, word_len};
 
-// One more than a write may have, so that this is refused and not called usage.
+// One more than a write may have, so that the queue refuses such a write; it isn't a usage error.
 const MOST_ASKED: u64 = 2049;
 
 /// The command of a line.
 #[derive(Clone, Copy, Debug, PartialEq, Eq)]
 pub enum Command<'a> {
-    /// The line has no word.
+    /// The line has no words.
     Nothing,
     /// A stack text to load.
     Load(&'a [u8]),
-    /// Sectors to read or to write at once.
+    /// Sectors to read or write at once.
     Run(Access<'a>),
-    /// Sectors to read or to write step by step.
+    /// Sectors to read or write step by step.
     Submit(Access<'a>),
-    /// The ticket of which the next piece is to be served.
+    /// The ticket of the request whose next piece is to be served.
     Step(u64),
     /// The device of that name is to be removed.
     Remove(&'a [u8]),
-    /// The size, the depth and the costs of the device of that name.
+    /// Prints the size, the depth and the costs of the device of that name.
     Cost(&'a [u8]),
-    /// The table of the device of that name.
+    /// Prints the table of the device of that name.
     Table(&'a [u8]),
-    /// How much the leaves have moved.
+    /// Prints how many sectors the backing devices have transferred.
     Moved,
     /// The line is no command.
     Usage,
 }
 
-/// `load TEXT`, where the text is the rest of the line, `read NAME FIRST COUNT`, `write NAME FIRST COUNT BB`,
+/// Parses a line: `load TEXT`, in which the text is the rest of the line, `read NAME FIRST COUNT`, `write NAME FIRST COUNT BB`,
 /// `submit` and one of these two, `step T`, `remove NAME`, `cost NAME`, `table NAME` or `moved`.
 pub fn command_of(line: &[u8]) -> Command<'_>
     ensures value { command_record result ≡ line_command line.now }
@@ -140,7 +140,7 @@ fn write_of(mut words: Words<'_>) -> Option<Access<'_>>
     }))
 }
 
-// How many sectors are to be written.
+// The number of sectors to write.
 fn write_count(word: &[u8]) -> Option<u64>
     ensures value { result ≡ write_count word.now }
     ensures most { IfSome result (λ count. count ≤ 2049) }
@@ -152,7 +152,7 @@ fn write_count(word: &[u8]) -> Option<u64>
     Some(count)
 }
 
-// A byte of two hexadecimal digits.
+// The byte of two hexadecimal digits.
 fn byte_of(word: &[u8]) -> Option<u8>
     ensures { result ≡ hex_byte word.now }
 {
@@ -224,7 +224,7 @@ fn moved_of(mut words: Words<'_>) -> Command<'_>
     }
 }
 
-// The one word that is left.
+// The only word that is left.
 fn only_word<'a>(mut words: Words<'a>) -> Option<&'a [u8]>
     ensures { option_map (λ word. word.now) result ≡ only_word words.entry }
 {

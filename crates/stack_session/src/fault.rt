@@ -8,16 +8,16 @@ use thiserror::Error;
 /// Why a session ended early.
 #[derive(Clone, Copy, Debug, PartialEq, Eq, Error)]
 pub enum SessionFault {
-    /// The reader failed, or was asked 2^24 + 1 times before its end.
+    /// The reader failed, or was called 2^24 + 1 times before its end.
     #[error("the reader failed")]
     ReadFault = 1,
     /// The writer failed.
     #[error("the writer failed")]
     WriteFault = 2,
-    /// There are more than 16 MiB of input.
+    /// The input has more than 16 MiB.
     #[error("the input is too long")]
     TooLong = 3,
-    /// An allocation to keep a line was refused.
+    /// An allocation to keep a part of a line was refused.
     #[error("out of memory")]
     NoMemory = 4,
 }

@@ -1,4 +1,4 @@
-//! A session over any server of lines: reads the input, cuts it into lines, and has each line served.
+//! A session over any server of lines: reads the input, splits it into lines, and has each line served.
 ghost use Rattle.std.specs.Prelude.{false, ◌≡◌, ◌≢◌, ℕ, ◌+◌, ◌≤◌, ◌<◌, List, [], ◌∷◌, ◌++◌, length, take, IfOk, OnOk, OnErr, MatchOption};
 ghost use Rattle.allocation.specs.Refusal.{IsOutOfMemory};
 ghost use Rattle.stack_session.specs.Session.{AddsText, HandsOnText, IsEnding, IsOneLine, IsRefusedIn, IsRemembered, IsSessionOf, IsStoppedIn, KeepsAtMost, OnTooLong, ServesFront, ServesWhole, IsWithinLine, StopsWriting, WritesReply, StopsLine};
@@ -10,17 +10,21 @@ use std::alloc::Global;
 use std::io;
 use std::io::{Read, Write};
 
-/// The most bytes of input.
+/// The most bytes of input: 16 MiB.
 pub const LIMIT: usize = 16777216;
 
 const PIECE: usize = 4096;
 
-/// What serves the lines of a session.
+/// A server of a session's lines.
 pub trait LineServer {
-    // From the first state the line may get the reply, and leave the second.
+    // In the first state the line may get this reply, and leave the server in the second state.
     ghost replies: { Self → List ℕ → List ℕ → Self → Type 0 };
 
     /// Writes the reply to one line.
+    ///
+    /// # Errors
+    ///
+    /// `WriteFault` if the writer failed.
     fn serve_line<W: Write>(
         &mut self,
         alloc: Global,
@@ -31,7 +35,7 @@ pub trait LineServer {
         ensures { WritesReply W.contents writer.old writer.new (λ reply. replies self.old line.now reply self.new) result };
 }
 
-// The first line, and what comes after its newline.
+// Splits off the first line at its newline.
 fn first_line(bytes: &[u8]) -> Option<(&[u8], &[u8])>
     ensures { MatchOption result (IsOneLine bytes.now)
         (λ cut. IsOneLine cut.0.now × (bytes.now ≡ cut.0.now ++ 10 ∷ cut.1.now)) }
@@ -40,7 +44,7 @@ fn first_line(bytes: &[u8]) -> Option<(&[u8], &[u8])>
     Some((&bytes[..end], &bytes[end + 1..]))
 }
 
-// Keeps the start of a line.
+// Keeps the beginning of a line.
 fn keep(rest: &mut Vec<u8>, start: &[u8]) -> Result<(), SessionFault>
     ensures ok { OnOk result (rest.new.items ≡ rest.old.items ++ start.now) }
     ensures kind { OnErr result (result ≡ Err SessionFault.NoMemory) }
@@ -102,8 +106,8 @@ fn feed<S: LineServer, W: Write>(
     keep(rest, left)
 }
 
-// Serves what of the piece is within the limit, of which `left` bytes are left, and answers how many are
-// left then. Replies are flushed before input that is too long is refused.
+// Serves the part of the piece that is within the limit, of which `left` bytes are left, and returns how many are left then.
+// Replies are flushed before input that is too long is refused.
 fn absorb<S: LineServer, W: Write>(
     alloc: Global,
     server: &mut S,
@@ -130,13 +134,16 @@ fn absorb<S: LineServer, W: Write>(
     Ok(left - piece.len())
 }
 
-/// Serves the lines of the input, of which the last may lack its newline.
+/// Serves the lines of the input. The last line may lack its newline.
 ///
-/// Replies are flushed before the reader is called again, and at the end.
+/// Replies are flushed before each call of the reader, and at the end.
 ///
 /// # Errors
 ///
-/// The reader or the writer failed, the input is too long, or an allocation of at most 16 MiB was refused (`NoMemory`).
+/// - `ReadFault` if the reader failed, or was called 2^24 + 1 times.
+/// - `WriteFault` if the writer failed.
+/// - `TooLong` if the input has more than 16 MiB.
+/// - `NoMemory` if an allocation of at most 16 MiB was refused.
 pub fn serve_lines<S: LineServer, R: Read, W: Write>(
     alloc: Global,
     server: &mut S,

@@ -1,4 +1,4 @@
-//! Writes the replies.
+//! Writes the replies. Each function returns `WriteFault` if the writer failed.
 ghost use Rattle.std.specs.Prelude.{◌≡◌, ◌+◌, ◌*◌, ◌<◌, decimal, ◌==◌, length, slice_index};
 ghost use Rattle.std.specs.List.{list_all};
 ghost use Rattle.program_io.specs.Counted.{Writes};
@@ -15,21 +15,21 @@ use std::io::Write;
 
 const SECTOR: usize = 512;
 
-/// `loaded K`
+/// Writes `loaded K`.
 pub fn say_loaded<W: Write>(writer: &mut Counted<W>, count: usize) -> Result<(), WriteFault>
     ensures { Writes W.contents writer.old writer.new (loaded_text count) result }
 {
     writer.print(format_args!("loaded {count}\n"))
 }
 
-/// `busy`
+/// Writes `busy`.
 pub fn say_busy<W: Write>(writer: &mut Counted<W>) -> Result<(), WriteFault>
     ensures { Writes W.contents writer.old writer.new busy_text result }
 {
     writer.put(b"busy\n")
 }
 
-/// `text fault E L K NAME`
+/// Writes `text fault E L K NAME`.
 pub fn say_text_fault<W: Write>(writer: &mut Counted<W>, fault: TextFault) -> Result<(), WriteFault>
     ensures { Writes W.contents writer.old writer.new (fault_text fault) result }
 {
@@ -38,7 +38,7 @@ pub fn say_text_fault<W: Write>(writer: &mut Counted<W>, fault: TextFault) -> Re
     writer.print(format_args!("text fault {entry} {line} {number} {name}\n"))
 }
 
-/// `refused K NAME device D line L`
+/// Writes `refused K NAME device D line L`.
 pub fn say_refusal<W: Write>(writer: &mut Counted<W>, refusal: Refusal) -> Result<(), WriteFault>
     ensures { Writes W.contents writer.old writer.new (load_refusal_text refusal) result }
 {
@@ -47,7 +47,7 @@ pub fn say_refusal<W: Write>(writer: &mut Counted<W>, refusal: Refusal) -> Resul
     writer.print(format_args!("refused {number} {name} device {device} line {line}\n"))
 }
 
-/// `ticket T`
+/// Writes `ticket T`.
 pub fn say_ticket<W: Write>(writer: &mut Counted<W>, ticket: Ticket) -> Result<(), WriteFault>
     ensures { Writes W.contents writer.old writer.new (ticket_text ticket.0) result }
 {
@@ -55,21 +55,21 @@ pub fn say_ticket<W: Write>(writer: &mut Counted<W>, ticket: Ticket) -> Result<(
     writer.print(format_args!("ticket {number}\n"))
 }
 
-/// `more`
+/// Writes `more`.
 pub fn say_more<W: Write>(writer: &mut Counted<W>) -> Result<(), WriteFault>
     ensures { Writes W.contents writer.old writer.new more_reply result }
 {
     writer.put(b"more\n")
 }
 
-/// `refused 1 NoSuchTicket`
+/// Writes `refused 1 NoSuchTicket`.
 pub fn say_no_ticket<W: Write>(writer: &mut Counted<W>) -> Result<(), WriteFault>
     ensures { Writes W.contents writer.old writer.new no_ticket_text result }
 {
     writer.put(b"refused 1 NoSuchTicket\n")
 }
 
-/// `refused K NAME`, or `no memory`.
+/// Writes `refused K NAME`, or `no memory`.
 pub fn say_submit_fault<W: Write>(
     writer: &mut Counted<W>,
     fault: SubmitFault,
@@ -82,14 +82,14 @@ pub fn say_submit_fault<W: Write>(
     say_refused(writer, fault.number(), fault.name())
 }
 
-/// `removed`
+/// Writes `removed`.
 pub fn say_removed<W: Write>(writer: &mut Counted<W>) -> Result<(), WriteFault>
     ensures { Writes W.contents writer.old writer.new removed_text result }
 {
     writer.put(b"removed\n")
 }
 
-/// `refused K NAME`
+/// Writes `refused K NAME`.
 pub fn say_removal_fault<W: Write>(
     writer: &mut Counted<W>,
     fault: RemoveFault,
@@ -99,7 +99,7 @@ pub fn say_removal_fault<W: Write>(
     say_refused(writer, fault.number(), fault.name())
 }
 
-/// `written`
+/// Writes `written`.
 pub fn say_written<W: Write>(writer: &mut Counted<W>) -> Result<(), WriteFault>
     ensures { Writes W.contents writer.old writer.new written_text result }
 {
@@ -113,7 +113,7 @@ fn say_number<W: Write>(writer: &mut Counted<W>, number: u128) -> Result<(), Wri
     writer.print(number)
 }
 
-// Whether every byte is the first one: each is the one before it, which two slices are compared for by lanes.
+// Whether all bytes are equal. Two slices, shifted by one byte, are compared, because slices are compared in lanes.
 fn is_filled(bytes: &[u8]) -> bool
     requires { 0 < length bytes.now }
     ensures { result ≡ list_all (λ b. b == slice_index bytes.now 0) bytes.now }
@@ -121,7 +121,7 @@ fn is_filled(bytes: &[u8]) -> bool
     bytes[1..] == bytes[..bytes.len() - 1]
 }
 
-// Writes one line: a number, a text and digits.
+// Writes a line of a number, a text and digits.
 fn say_digits<W: Write>(
     writer: &mut Counted<W>,
     number: u128,
@@ -136,7 +136,7 @@ fn say_digits<W: Write>(
     writer.put(b"\n")
 }
 
-// Writes one sector: its number, and its byte or all its digits.
+// Writes a sector: its number, then one byte if all its bytes are equal, otherwise all digits.
 #[tactic(auto, unfolding(crate::specs::Texts::sector_line))]
 fn say_sector<W: Write>(
     writer: &mut Counted<W>,
@@ -156,7 +156,7 @@ fn say_sector<W: Write>(
     say_digits(writer, number, b" ", &digits)
 }
 
-/// Writes the sectors of which these are the bytes, the first of them under that number.
+/// Writes the sectors with these bytes; the first of them has the number `first`.
 pub fn say_sectors<W: Write>(
     writer: &mut Counted<W>,
     first: u64,
@@ -164,7 +164,7 @@ pub fn say_sectors<W: Write>(
 ) -> Result<(), WriteFault>
     ensures { Writes W.contents writer.old writer.new (sectors_text first bytes.now) result }
 {
-    // No number of a sector wraps, whatever the first is.
+    // The number of a sector doesn't wrap, whatever `first` is.
     let mut number = u128::from(first);
     let mut rest = bytes;
     'sectors: while rest.len() >= SECTOR {
@@ -176,7 +176,7 @@ pub fn say_sectors<W: Write>(
     Ok(())
 }
 
-/// Writes what a request gave that began at that sector: its sectors, or `written`.
+/// Writes the result of a request that began at sector `first`: its sectors, or `written`.
 pub fn say_reply<W: Write>(
     writer: &mut Counted<W>,
     first: u64,
@@ -190,7 +190,7 @@ pub fn say_reply<W: Write>(
     }
 }
 
-/// `sectors S depth D read R write W`
+/// Writes `sectors S depth D read R write W`.
 pub fn say_cost<W: Write>(
     writer: &mut Counted<W>,
     config: &Config,
@@ -206,7 +206,7 @@ pub fn say_cost<W: Write>(
     writer.print(format_args!("sectors {sectors} depth {depth} read {read} write {write}\n"))
 }
 
-/// `moved R W`
+/// Writes `moved R W`.
 pub fn say_moved<W: Write>(
     writer: &mut Counted<W>,
     reads: u64,

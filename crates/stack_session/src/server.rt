@@ -1,4 +1,4 @@
-//! The lines of a session, served by a queue over a stack.
+//! Serves the lines of a session by a queue over a stack.
 ghost use Rattle.std.specs.Prelude.{false, ◌≡◌, ◌≤◌, length};
 ghost use Rattle.stack_session.specs.Accesses.{IsSmall};
 ghost use Rattle.stack_session.specs.Commands.{load, run, submit, step, remove, cost, table, moved};
@@ -24,7 +24,7 @@ use std::alloc::Global;
 use std::io::{Read, Write};
 use table_text::{parse_stack, print_table};
 
-// Loads a text, and replies to that. A fault of the text goes before requests in flight.
+// Loads a text, and replies. A fault of the text is reported even if requests are in flight.
 fn reply_to_load<D: BlockDev, W: Write>(
     alloc: Global,
     queue: &mut Queue<D>,
@@ -47,7 +47,7 @@ fn reply_to_load<D: BlockDev, W: Write>(
     }
 }
 
-// Serves a request to its end, and replies with what it gave.
+// Serves a request to its end, and replies with its result.
 fn reply_to_run<D: BlockDev, W: Write>(
     alloc: Global,
     queue: &mut Queue<D>,
@@ -92,7 +92,7 @@ fn reply_to_submit<D: BlockDev, W: Write>(
     }
 }
 
-// Serves a piece of the request with that ticket, and replies with what that gave.
+// Serves a piece of the request with that ticket, and replies with the result.
 fn reply_to_step<D: BlockDev, W: Write>(
     queue: &mut Queue<D>,
     ticket: u64,
@@ -109,7 +109,7 @@ fn reply_to_step<D: BlockDev, W: Write>(
     }
 }
 
-// Removes a device, and replies to that.
+// Removes a device, and replies.
 fn reply_to_remove<D: BlockDev, W: Write>(
     queue: &mut Queue<D>,
     name: &[u8],
@@ -158,7 +158,7 @@ fn reply_to_table<D: BlockDev, W: Write>(
     }
 }
 
-// Replies with what the leaves have read and written.
+// Replies with the sectors that the backing devices have read and written.
 fn reply_to_moved<D: BlockDev, W: Write>(
     queue: &Queue<D>,
     writer: &mut Counted<W>,
@@ -193,12 +193,14 @@ impl<D: BlockDev> LineServer for Queue<D> {
     }
 }
 
-/// Serves a session's lines by a queue, which is left as the last line left it.
+/// Serves a session's lines by a queue. The queue is in the state that the last line left.
 ///
 /// # Errors
 ///
-/// `TooLong` if the input has more than 16 MiB; `ReadFault` if the reader failed, or was called 2^24 + 1 times;
-/// `WriteFault` if the writer failed; `NoMemory` if an allocation of at most 16 MiB was refused.
+/// - `TooLong` if the input has more than 16 MiB.
+/// - `ReadFault` if the reader failed, or was called 2^24 + 1 times.
+/// - `WriteFault` if the writer failed.
+/// - `NoMemory` if an allocation of at most 16 MiB was refused.
 pub fn session<D: BlockDev, R: Read, W: Write>(
     alloc: Global,
     queue: &mut Queue<D>,

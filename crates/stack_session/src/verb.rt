@@ -16,7 +16,7 @@ pub enum Verb {
     Moved,
 }
 
-/// The command of that name.
+/// Returns the command of that name.
 #[tactic(auto, unfolding(crate::specs::Commands::verb_of))]
 pub fn verb_of(word: &[u8]) -> Option<Verb>
     ensures { result ≡ verb_of word.now }

@@ -1,4 +1,4 @@
--- Sectors of a mapped device that are written out.
+-- Sectors of a mapped device that are written to a writer.
 use Rattle.std.specs.Prelude.{◌≡◌, ◌≢◌, ℕ, ◌+◌, ◌<◌, ◌≤◌, Bool, true, List, Option, Ok, Err}
 use Rattle.std.specs.Io.KnownBytes.{Appends}
 use Rattle.program_io.specs.Counted.{CountedRecord}
@@ -17,7 +17,7 @@ use Rattle.transfer_commands.specs.declared.output.SectorRange.{SectorRange}
 use Rattle.transfer_commands.specs.declared.stream_fault.CatFault.{CatFault}
 use Rattle.transfer_commands.specs.declared.stream_fault.CatFault.TheVariants.{Range, Read, Write}
 
--- the stack, and what the writer holds, where that is known
+-- the stack, and what the writer holds, if that is known
 pub record CatSide : Type 0 where
   pub stack : StackRecord
   pub written : Option (List ℕ)
@@ -25,9 +25,9 @@ pub record CatSide : Type 0 where
 abbrev pub cat_side : StackRecord → Option (List ℕ) → CatSide
 cat_side stack written = record { stack = stack; written = written }
 
--- The bytes of k sectors of device d from the first on were written out, and nothing else: over any leaves bytes for which
--- there are good chains, where those beneath are steady what the stack means. Leaves were read alone, and only those on which the device
--- stands.
+-- The bytes of k sectors of device d from the first on were written, and nothing else. Over any backing devices there are
+-- verified chains for the bytes; over steady ones the bytes are what the stack means. Only backing devices below the device
+-- were accessed, by reads.
 pub record IsCat (d first k : ℕ) (old new : CatSide) : Type 0 where
   pub bytes : List ℕ
   pub most : ℕ
@@ -39,13 +39,13 @@ pub record IsCat (d first k : ℕ) (old new : CatSide) : Type 0 where
   pub exact : AreSteady (leaves_of old.stack.config (mapped d)) old.stack.leaves → span (sector old.stack.config (steady_images old.stack.leaves) (mapped d)) first k ≡ Ok bytes
   pub written : Appends old.written new.written bytes
 
--- a sector means this fault, where it is one that a sector may mean
+-- the sector means this fault, if it is a fault that a sector may mean
 abbrev pub MeansFault : Outcome → IoFault → Type 0
 MeansFault outcome (io.Stack fault) = outcome ≡ Err fault
 MeansFault outcome fault = Unit {0}
 
--- Of so many sectors those before one were written out. That one is lost by the fault: of it alone, or of it and those behind
--- it that are lost with it, some sectors were read, unless memory ran out, which a verity line alone takes.
+-- The sectors before the k-th were written. The k-th is lost by the fault: some sectors were read, of it alone or of it and
+-- those lost together with it; or memory ran out, which happens only on a verity line.
 pub record IsCatStop (d first count : ℕ) (old new : CatSide) (fault : IoFault) : Type 0 where
   pub k : ℕ
   pub left : StackRecord
@@ -58,13 +58,13 @@ pub record IsCatStop (d first count : ℕ) (old new : CatSide) (fault : IoFault)
   pub alike : fault ≢ io.NoMemory → AreAlike old.stack.config d (first + k) n
   pub means : AreSteady (leaves_of old.stack.config (mapped d)) old.stack.leaves → MeansFault (sector old.stack.config (steady_images old.stack.leaves) (mapped d) (first + k)) fault
 
--- why it ended early, where the last says whether the writer failed
+-- why writing stopped early; `failed` is whether the writer failed
 abbrev pub IsCatEnd : ℕ → SectorRange → CatSide → CatSide → Bool → CatFault → Type 0
 IsCatEnd d range old new failed Range = (new ≡ old) × (size old.stack.config (mapped d) < range.first + range.count)
 IsCatEnd d range old new failed (Read fault) = IsCatStop d range.first range.count old new fault
 IsCatEnd d range old new failed Write = failed ≡ true
 
--- ---- as a call sees them: the stack and a counted writer before, and both after
+-- ---- in terms of the arguments of a call: the stack and a counted writer, before and after
 
 abbrev pub CatsBy : {T : Type 0} → (T → Option (List ℕ)) → ℕ → SectorRange → StackRecord → CountedRecord T → StackRecord → CountedRecord T → Type 0
 CatsBy contents d range stack writer stack' writer' =

@@ -1,4 +1,4 @@
--- Requests that are made of a stack.
+-- Requests to a stack.
 use Rattle.std.specs.Prelude.{◌≡◌, ℕ, List, [], length, Result, Ok, Err}
 use Rattle.allocation.specs.Refusal.{IsOutOfMemory}
 use Rattle.command_line.specs.declared.invocation.Sectors.{Sectors}
@@ -14,11 +14,11 @@ use Rattle.request_queue.specs.World.{Step, World, run, world}
 use Rattle.transfer_commands.specs.declared.request_fault.RequestFault.{RequestFault}
 use Rattle.transfer_commands.specs.declared.request_fault.RequestFault.TheVariants.{Io, NoMemory, Submit}
 
--- a stack of which nothing was asked yet
+-- a queue over a stack before its first request
 abbrev pub new_world : StackRecord → World
 new_world stack = world stack 0 []
 
--- what is known of a request that is run: of each of its pieces, and of the whole
+-- what is known of a request that is run: each of its pieces, and the whole
 pub record IsRequestRun (w : World) (r : RequestRecord) (answer : Result (Result Reply IoFault) SubmitFault) (w' : World) : Type 0 where
   pub each : Step EachPart w (run r answer) w'
   pub whole : RunAnswers w r answer w'
@@ -32,21 +32,21 @@ abbrev pub request_name : RequestRecord → List ℕ
 request_name (a_read name first count) = name
 request_name (a_write name first bytes) = name
 
--- why it isn't: it isn't begun, or the stack answered a fault, or before that an allocation of the name was refused
+-- why the request isn't served: the queue refused it, or it ended in a fault, or an allocation of the name was refused before
 abbrev pub FailsToServe : World → RequestRecord → RequestFault → World → Type 0
 FailsToServe w r (Submit fault) w' = IsRequestRun w r (Err fault) w'
 FailsToServe w r (Io fault) w' = IsRequestRun w r (Ok (Err fault)) w'
 FailsToServe w r NoMemory w' = (w' ≡ w) × IsOutOfMemory (length (request_name r))
 FailsToServe w r fault w' = ⊥
 
--- the request for the sectors that are wanted
+-- the request for these sectors
 abbrev pub read_request : Sectors → RequestRecord
 read_request sectors = a_read sectors.name.now sectors.first sectors.count
 
--- the request to put bytes where a transfer's go
+-- the request to write bytes where a transfer goes
 abbrev pub write_request : Transfer → List ℕ → RequestRecord
 write_request transfer bytes = a_write transfer.name.now transfer.first bytes
 
--- a request isn't served, between these worlds
+-- the request isn't served, between these states of the queue
 abbrev pub FailsServing : World → RequestRecord → World → RequestFault → Type 0
 FailsServing w r w' = λ fault. FailsToServe w r fault w'

@@ -1,4 +1,4 @@
--- What `store` does with a file, and how it ends early.
+-- `store` of a file, and how it ends early.
 use Rattle.std.specs.Prelude.{◌≡◌, ◌⊎◌, ℕ, Bool, true, false, List, Option, Ok, Err}
 use Rattle.std.specs.Io.KnownBytes.{Appends}
 use Rattle.block_device.specs.Device.{Device}
@@ -23,7 +23,7 @@ use Rattle.stack_files.specs.Closings.{IsGivenBack}
 use Rattle.stack_files.specs.Endings.{IsOpeningEnd}
 use Rattle.stack_files.specs.NamedDevices.{DeviceWords, FailsToFind, HasDevice, DevicePlace}
 
--- a stack file, the name of one of its devices, bindings, the source, and the first sector that is written
+-- a stack file, the name of one of its devices, bindings, the source, and the first sector to be written
 pub record FileWords : Type 0 where
   pub words : DeviceWords
   pub source : List ℕ
@@ -35,20 +35,20 @@ file_words words source first = record { words = words; source = source; first =
 abbrev pub words_to_store : StackFile → Target → List ℕ → FileWords
 words_to_store file target source = file_words (words_to file target) source target.first
 
--- all was opened, SOURCE to be read alone, and whether it ends inside a sector was told
+-- all files were opened, SOURCE read-only; `part` is whether SOURCE ends inside a sector
 pub record OpensSourceFile {S D : Type 0} (w : Calls S D) (words : FileWords) (over : OpenStack D) (image : OpenImage D) (part : Bool) : Type 0 where
   pub between : S
   pub opened : OpensBeside (record w { new = between }) words.words.words words.source false over image
   pub measured : w.relations.measures between words.source (Ok part) w.new
 
--- and there is such a device
+-- all files were opened, and there is such a device
 pub record FindsTarget {S D : Type 0} (w : Calls S D) (words : FileWords) (at : DevicePlace) (image : OpenImage D) (part : Bool) : Type 0 where
   pub over : OpenStack D
   pub opened : OpensSourceFile w words over image part
   pub has : HasDevice w.state words.words.name over words.words.cache at
 
--- All sectors of SOURCE, which ends with a whole one, were written to the device, n of them, and are on the media. What then
--- stood in the images of the bindings was given back.
+-- All n sectors of SOURCE, which ends with a whole one, were written to the device and synced. Then the images of the bindings
+-- were closed.
 pub record StoresFile {S D : Type 0} (w : Calls S D) (words : FileWords) (n : ℕ) : Type 0 where
   pub at : DevicePlace
   pub image : OpenImage D
@@ -63,12 +63,12 @@ pub record PrintsFileStored {S D : Type 0} (w : Calls S D) (words : FileWords) (
   pub stored : StoresFile w words n
   pub printed : Appends old new (stored_text n)
 
--- a source that ends inside a sector is refused, and nothing is done; or not all sectors of one were stored
+-- a source that ends inside a sector is refused, and nothing is done; or not all sectors of a source were stored
 abbrev pub IsWholeEnd : Bool → ℕ → ℕ → StackRecord → Device → StackRecord → Device → StoreFault → Type 0
 IsWholeEnd true d first old source new source' fault = (fault ≡ record { written = 0; cause = Length }) × (new ≡ old) × (source' ≡ source)
 IsWholeEnd false d first old source new source' fault = IsStoredEnd d first old source new source' fault
 
--- not all were, and what then stood in the images was given back
+-- not all sectors were stored, and the images were closed
 abbrev pub IsFileFault : (StoreFault → Type 0) → StreamFault → Type 0
 IsFileFault Ends (Store fault) = Ends fault
 IsFileFault Ends fault = ⊥
@@ -85,7 +85,7 @@ pub record FailsToStoreFile {S D : Type 0} (w : Calls S D) (words : FileWords) (
   pub quiet : new ≡ old
   pub back : IsGivenBack (record w { old = between }) words.words.words.bindings left.leaves
 
--- all was opened, and whether SOURCE ends inside a sector isn't told
+-- all files were opened, but the size of SOURCE isn't known
 abbrev pub IsOpenEnd : List ℕ → (OpenFault → Type 0) → StackFault → Type 0
 IsOpenEnd path Fails (Open file) = (file.path.now ≡ path) × Fails file.fault
 IsOpenEnd path Fails fault = ⊥
@@ -97,7 +97,7 @@ pub record FailsToMeasureSource {S D : Type 0} (w : Calls S D) (words : FileWord
   pub opened : OpensBeside (record w { new = between }) words.words.words words.source false over image
   pub fails : IsOpenEnd words.source (λ cause. w.relations.measures between words.source (Err cause) w.new) fault
 
--- the text makes no stack or there is no such device
+-- the text makes no stack, or there is no such device
 pub record FindsNoTarget {S D : Type 0} (w : Calls S D) (words : FileWords) (fault : StackFault) : Type 0 where
   pub over : OpenStack D
   pub image : OpenImage D
@@ -105,7 +105,7 @@ pub record FindsNoTarget {S D : Type 0} (w : Calls S D) (words : FileWords) (fau
   pub opened : OpensSourceFile w words over image part
   pub fails : FailsToFind words.words.name over fault
 
--- nothing is written where it isn't begun
+-- nothing is written if the transfer doesn't begin
 abbrev pub IsUnstored : {S D : Type 0} → Calls S D → FileWords → StackFault → Type 0
 IsUnstored w words fault =
     IsOpeningEnd (FailsToOpenBeside w words.words.words words.source false) fault ⊎ (FailsToMeasureSource w words fault ⊎ FindsNoTarget w words fault)
@@ -114,8 +114,8 @@ abbrev pub IsFileEnd : {S D : Type 0} → Calls S D → FileWords → Option (Li
 IsFileEnd w words old new failed fault =
     ((new ≡ old) × IsStackless (IsUnstored w words) fault) ⊎ (FailsToStoreFile w words old new fault ⊎ ((n : ℕ) × StoresFile w words n × IsStreamUnwritten failed fault))
 
--- ---- as a call sees them
+-- ---- in terms of the arguments of a call
 
--- the same of a source by what a proof sees of it
+-- why not all sectors of a source were stored, by the states of the source
 abbrev pub EndsWhole : {T : Type 0} → (T → Device) → Bool → ℕ → ℕ → StackRecord → T → StackRecord → T → StoreFault → Type 0
 EndsWhole state part d first stack source stack' source' = IsWholeEnd part d first stack (state source) stack' (state source')

@@ -15,9 +15,9 @@ use Rattle.transfer_commands.specs.declared.stream_fault.StoreFault.{StoreFault}
 use Rattle.transfer_commands.specs.declared.input.StorePlace.{StorePlace}
 use Rattle.transfer_commands.specs.Filling.{IsBroken}
 
--- ---- what is known before
+-- ---- refusals before the first read
 
--- of that many sectors behind the first one, so many bytes
+-- so many bytes, for that many sectors from the first one on
 abbrev pub length_refusal : ℕ → Option ℕ → Option StoreCause
 length_refusal sectors None = None
 length_refusal sectors (Some bytes) = if not (bytes % 512 == 0) then Some cause.Length else if nat_lt sectors (bytes / 512) then Some cause.Range else None
@@ -31,7 +31,7 @@ put_refusal c d place =
 
 -- ---- what was done
 
--- the stack, and what the reader has left, where that is known
+-- the stack, and what the reader has left, if that is known
 pub record StoreSide : Type 0 where
   pub stack : StackRecord
   pub input : Option (List ℕ)
@@ -39,44 +39,44 @@ pub record StoreSide : Type 0 where
 abbrev pub store_side : StackRecord → Option (List ℕ) → StoreSide
 store_side stack input = record { stack = stack; input = input }
 
--- The bytes of n sectors were taken from the reader, and written to device d from its sector first on, in pieces: what
--- that leaves is what a write leaves.
+-- The bytes of n sectors were read from the reader, and written to device d from its sector `first` on, in pieces. Each piece
+-- has the effect of a write.
 pub record HasStored (d first n : ℕ) (old new : StoreSide) : Type 0 where
   pub bytes : List ℕ
   pub count : length bytes ≡ 512 * n
   pub pieces : WritesInPieces old.stack d first bytes (Ok tt) new.stack
   pub taken : Consumes old.input new.input bytes
 
--- no leaf is dirty, and nothing else changed
+-- no backing device is dirty, and nothing else changed
 pub record IsSynced (old new : StackRecord) : Type 0 where
   pub config : new.config ≡ old.config
   pub capacity : new.capacity ≡ old.capacity
   pub kept : new.kept ≡ old.kept
   pub leaves : new.leaves ≡ map synced old.leaves
 
--- What was written to the leaves was synced, or one of them couldn't be; nothing else changed.
+-- What was written to the backing devices was synced, or the sync of one of them failed; nothing else changed.
 pub record IsSyncTried (old new : StackRecord) : Type 0 where
   pub config : new.config ≡ old.config
   pub capacity : new.capacity ≡ old.capacity
   pub kept : new.kept ≡ old.kept
   pub leaves : (new.leaves ≡ map synced old.leaves) ⊎ ((fault : IoFault) × FailsToSync old.leaves new.leaves fault)
 
--- all bytes of the reader were written, those of n sectors, and put on the media
+-- all bytes of the reader were written, n sectors, and synced
 pub record Stores (d first : ℕ) (old new : StoreSide) (n : ℕ) : Type 0 where
   pub left : StackRecord
   pub stored : HasStored d first n old (store_side left new.input)
   pub ended : IsAtEnd new.input
   pub synced : IsSynced left new.stack
 
--- ---- where it ended early
+-- ---- how writing stopped early
 
--- so many sectors were written, and then some more bytes taken, of which these are
+-- so many sectors were written, and then these bytes were read as well
 pub record IsLeftOver (d first n : ℕ) (old new : StoreSide) (more : List ℕ) : Type 0 where
   pub left : Option (List ℕ)
   pub stored : HasStored d first n old (store_side new.stack left)
   pub taken : Consumes left new.input more
 
--- the next piece was taken, and its write ended in this fault
+-- the next piece was read, and its write ended in this fault
 pub record IsWriteStop (d first n : ℕ) (old new : StoreSide) (fault : IoFault) : Type 0 where
   pub left : StoreSide
   pub piece : List ℕ
@@ -85,12 +85,12 @@ pub record IsWriteStop (d first n : ℕ) (old new : StoreSide) (fault : IoFault)
   pub taken : Consumes left.input new.input (piece ++ more)
   pub failed : EachWrite left.stack d (first + n) piece (Err fault) new.stack
 
--- all was written, and a leaf couldn't be synced
+-- all bytes were written, and the sync of a backing device failed
 abbrev pub IsStoreUnsynced : StoreCause → StackRecord → StackRecord → Type 0
 IsStoreUnsynced (cause.Sync fault) old new = (new.config ≡ old.config) × (new.capacity ≡ old.capacity) × (new.kept ≡ old.kept) × FailsToSync old.leaves new.leaves fault
 IsStoreUnsynced other old new = ⊥
 
--- why it ended early behind so many sectors, where the reader may be broken
+-- why writing stopped after n sectors; the reader may be broken
 abbrev pub StopsStore : ℕ → ℕ → ℕ → StoreSide → StoreSide → Type 0 → StoreCause → Type 0
 StopsStore d first n old new broken cause.TooLong = (more : List ℕ) × (0 < length more) × IsLeftOver d first n old new more × (first + n ≡ size old.stack.config (mapped d))
 StopsStore d first n old new broken cause.PartSector = (more : List ℕ) × (0 < length more) × (length more < 512) × IsLeftOver d first n old new more × IsAtEnd new.input
@@ -101,13 +101,13 @@ StopsStore d first n old new broken other = ⊥
 abbrev pub IsStoreStop : ℕ → ℕ → StoreSide → StoreSide → Type 0 → StoreFault → Type 0
 IsStoreStop d first old new broken fault = StopsStore d first fault.written old new broken fault.cause
 
--- it ended early, and what was written until then was synced, or one leaf couldn't be
+-- writing stopped early, and what was written so far was synced, or the sync of a backing device failed
 pub record IsStoppedSynced (d first : ℕ) (old new : StoreSide) (broken : Type 0) (fault : StoreFault) : Type 0 where
   pub left : StackRecord
   pub stops : IsStoreStop d first old (store_side left new.input) broken fault
   pub synced : IsSyncTried left new.stack
 
--- nothing was written to the media: the fault was known before, and nothing was done; or all but the sync was
+-- nothing was synced: the request was refused before, and nothing was done; or all was done but the sync
 pub record IsStoreRefused (d : ℕ) (place : StorePlace) (old new : StoreSide) (fault : StoreFault) : Type 0 where
   pub none : fault.written ≡ 0
   pub same : new ≡ old
@@ -119,14 +119,14 @@ pub record IsSyncStop (d first : ℕ) (old new : StoreSide) (fault : StoreFault)
   pub ended : IsAtEnd new.input
   pub unsynced : IsStoreUnsynced fault.cause left new.stack
 
--- one of the three
+-- one of these three
 abbrev pub IsStoreEnd : ℕ → StorePlace → StoreSide → StoreSide → Type 0 → StoreFault → Type 0
 IsStoreEnd d place old new broken fault =
     IsStoreRefused d place old new fault ⊎ (IsStoppedSynced d place.first old new broken fault ⊎ IsSyncStop d place.first old new fault)
 
--- ---- on the way
+-- ---- single steps
 
--- these bytes of whole sectors were written, of which there may be none
+-- these bytes of whole sectors were written; there may be none
 abbrev pub StoresPiece : StackRecord → ℕ → ℕ → List ℕ → StackRecord → Type 0
 StoresPiece w d first bytes w' = ((bytes ≡ []) × (w' ≡ w)) ⊎ EachWrite w d first bytes (Ok tt) w'
 
@@ -134,7 +134,7 @@ StoresPiece w d first bytes w' = ((bytes ≡ []) × (w' ≡ w)) ⊎ EachWrite w 
 abbrev pub whole_of : List ℕ → List ℕ
 whole_of bytes = take (length bytes / 512 * 512) bytes
 
--- the last bytes behind so many sectors are no whole sectors, or their write ended in a fault
+-- the last bytes, after `written` sectors, aren't whole sectors, or their write ended in a fault
 abbrev pub LastEnds : ℕ → ℕ → List ℕ → StackRecord → StackRecord → ℕ → ℕ → StoreCause → Type 0
 LastEnds d at bytes w w' written n cause.PartSector = (n ≡ written + length bytes / 512) × (length bytes % 512 ≢ 0) × StoresPiece w d at (whole_of bytes) w'
 LastEnds d at bytes w w' written n (cause.Write fault) = (n ≡ written) × EachWrite w d at (whole_of bytes) (Err fault) w'
@@ -143,13 +143,13 @@ LastEnds d at bytes w w' written n other = ⊥
 abbrev pub IsLastEnd : ℕ → ℕ → ℕ → List ℕ → StackRecord → StackRecord → StoreFault → Type 0
 IsLastEnd d at written bytes w w' fault = LastEnds d at bytes w w' written fault.written fault.cause
 
--- the reader has more, or is broken
+-- the reader has more bytes, or is broken
 abbrev pub IsProbeEnd : Option (List ℕ) → Option (List ℕ) → Type 0 → StoreCause → Type 0
 IsProbeEnd old new broken cause.TooLong = (more : List ℕ) × (0 < length more) × Consumes old new more
 IsProbeEnd old new broken cause.Read = (more : List ℕ) × Consumes old new more × broken
 IsProbeEnd old new broken other = ⊥
 
--- ---- as a call sees them: the stack and a counted reader before, and both after
+-- ---- in terms of the arguments of a call: the stack and a counted reader, before and after
 
 abbrev pub StoresBy : {T : Type 0} → (T → Option (List ℕ)) → ℕ → StorePlace → StackRecord → CountedRecord T → StackRecord → CountedRecord T → ℕ → Type 0
 StoresBy remaining d place stack reader stack' reader' n =
@@ -168,17 +168,17 @@ abbrev pub StopsStoreBy : {T : Type 0} → (T → Option (List ℕ)) → ℕ →
 StopsStoreBy remaining d place stack reader stack' reader' fault =
     IsStoreStop d place.first (store_side stack (remaining reader.inner)) (store_side stack' (remaining reader'.inner)) (IsBroken reader') fault
 
--- the reader ends there, behind so many sectors
+-- the reader ends there, after so many sectors
 abbrev pub EndsThere : {T : Type 0} → (T → Option (List ℕ)) → CountedRecord T → CountedRecord T → ℕ → ℕ → Type 0
 EndsThere remaining reader reader' written =
     λ n. (n ≡ written) × Consumes (remaining reader.inner) (remaining reader'.inner) [] × IsAtEnd (remaining reader'.inner)
 
--- or it doesn't
+-- the reader doesn't end there
 abbrev pub GoesFurther : {T : Type 0} → (T → Option (List ℕ)) → CountedRecord T → CountedRecord T → ℕ → StoreFault → Type 0
 GoesFurther remaining reader reader' written =
     λ fault. (fault.written ≡ written) × IsProbeEnd (remaining reader.inner) (remaining reader'.inner) (IsBroken reader') fault.cause
 
--- the last bytes are whole sectors, and were written behind so many others
+-- the last bytes are whole sectors, and were written after `written` sectors
 abbrev pub StoresLast : ℕ → ℕ → ℕ → List ℕ → StackRecord → StackRecord → ℕ → Type 0
 StoresLast d at written bytes w w' =
     λ n. (n ≡ written + length bytes / 512) × (length bytes % 512 ≡ 0) × StoresPiece w d at (whole_of bytes) w'

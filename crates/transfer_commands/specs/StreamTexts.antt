@@ -1,4 +1,4 @@
--- What is printed where bytes of a device are read or stored, and the statuses.
+-- The lines and statuses of `cat` and `store`.
 use Rattle.std.specs.Prelude.{ℕ, List, [], ◌++◌, codes, decimal}
 use Rattle.io_fault_text.specs.Texts.{io_text, refused_text}
 use Rattle.request_queue.specs.declared.fault.SubmitFault.{SubmitFault}
@@ -11,7 +11,7 @@ use Rattle.transfer_commands.specs.declared.stream_fault.StoreCause.{StoreCause}
 use Rattle.transfer_commands.specs.declared.stream_fault.StoreCause.TheVariants as store
 use Rattle.transfer_commands.specs.declared.stream_fault.StoreFault.{StoreFault}
 
--- what can't be asked for, as of a request
+-- the line of a refusal, as for a request
 abbrev pub refused_request_text : SubmitFault → List ℕ
 refused_request_text fault = refused_text (submit_number fault) (submit_name fault)
 
@@ -29,7 +29,7 @@ cat_status fault = 1
 abbrev pub stored_text : ℕ → List ℕ
 stored_text n = codes "written " ++ (decimal n ++ codes "\n")
 
--- and then this
+-- the number of written sectors, and then another line
 unfoldable pub late_text : ℕ → List ℕ → List ℕ
 late_text n line = stored_text n ++ line
 

@@ -1,4 +1,4 @@
--- What `cat` and `store` do with a device's bytes, and how they end early.
+-- The streams of `cat` and `store`, and how they end early.
 use Rattle.std.specs.Prelude.{◌≡◌, ◌⊎◌, ℕ, ◌-◌, Bool, true, List, Option, Some, None}
 use Rattle.std.specs.Io.KnownBytes.{Appends}
 use Rattle.program_io.specs.Counted.{CountedRecord}
@@ -21,7 +21,7 @@ use Rattle.stack_files.specs.NamedDevices.{DeviceWords, FailsToFindDevice, Finds
 use Rattle.stack_files.specs.declared.stack_file.StackFile.{StackFile}
 use Rattle.stack_files.specs.OpenStacks.{stack_words}
 
--- a relation of what a counted writer held before and what it holds then; and of that, whether it failed, and a fault
+-- relations of what a counted writer held before and holds afterwards; the second also of whether it failed, and of a fault
 abbrev pub Printing : {T : Type 0} → (T → Option (List ℕ)) → CountedRecord T → CountedRecord T → (Option (List ℕ) → Option (List ℕ) → Type 0) → Type 0
 Printing contents old new Prints = Prints (contents old.inner) (contents new.inner)
 
@@ -40,23 +40,23 @@ IsStreamUnwritten failed fault = ⊥
 
 -- ---- `cat`
 
--- how many sectors are wanted: all from the first one on where no count is said
+-- how many sectors are wanted: without a count all from the first one on
 abbrev pub count_from : Option ℕ → ℕ → ℕ → ℕ
 count_from None first sectors = sectors - first
 count_from (Some count) first sectors = count
 
--- which sectors of a device those are
+-- the range of these sectors on a device
 abbrev pub wanted_sectors : DevicePlace → ℕ → Option ℕ → SectorRange
 wanted_sectors at first count = record { first = first; count = count_from count first (size at.stack.config (mapped at.d)) }
 
--- their bytes were written, and nothing else
+-- the bytes of these sectors were written, and nothing else
 pub record PrintsBytes {S D : Type 0} (w : Calls S D) (words : DeviceWords) (first : ℕ) (count : Option ℕ) (old new : Option (List ℕ)) : Type 0 where
   pub at : DevicePlace
   pub left : StackRecord
   pub found : FindsDevice w words at
   pub written : IsCat at.d first (wanted_sectors at first count).count (cat_side at.stack old) (cat_side left new)
 
--- not all of them were
+-- not all of the sectors were written
 abbrev pub IsCatFault : ℕ → SectorRange → CatSide → CatSide → Bool → StreamFault → Type 0
 IsCatFault d range old new failed (Cat fault) = IsCatEnd d range old new failed fault
 IsCatFault d range old new failed fault = ⊥
@@ -67,12 +67,12 @@ pub record FailsToCat {S D : Type 0} (w : Calls S D) (words : DeviceWords) (firs
   pub found : FindsDevice w words at
   pub fails : IsCatFault at.d (wanted_sectors at first count) (cat_side at.stack old) (cat_side left new) failed fault
 
--- nothing is written where the stack isn't loaded or has no such device
+-- nothing is written if the stack isn't loaded or has no such device
 abbrev pub IsBytesEnd : {S D : Type 0} → Calls S D → DeviceWords → ℕ → Option ℕ → Option (List ℕ) → Option (List ℕ) → Bool → StreamFault → Type 0
 IsBytesEnd w words first count old new failed fault =
     ((new ≡ old) × IsStackless (FailsToFindDevice w words) fault) ⊎ FailsToCat w words first count old new failed fault
 
--- the sectors that are wanted, as words name them
+-- the sectors that are wanted, as the arguments name them
 abbrev pub wanted_words : StackFile → Wanted → DeviceWords
 wanted_words file wanted = device_words (stack_words file) wanted.name.now wanted.cache
 
@@ -84,12 +84,11 @@ IsWantedEnd w file wanted old new failed fault = IsBytesEnd w (wanted_words file
 
 -- ---- `store`
 
--- from that sector on, whatever comes
+-- from that sector on, any number of bytes
 abbrev pub place_from : ℕ → StorePlace
 place_from first = record { first = first; length = None }
 
--- All bytes of the input were written to the device, those of n sectors, and are on the media. What then stood in the images
--- was given back.
+-- All bytes of the input, n sectors, were written to the device and synced. Then the images were closed.
 pub record StoresInput {S D : Type 0} (w : Calls S D) (words : DeviceWords) (first : ℕ) (old new : Streams) (n : ℕ) : Type 0 where
   pub at : DevicePlace
   pub left : StackRecord
@@ -103,12 +102,12 @@ pub record PrintsStored {S D : Type 0} (w : Calls S D) (words : DeviceWords) (fi
   pub stored : StoresInput w words first old new n
   pub printed : Appends old.output new.output (stored_text n)
 
--- not all were
+-- not all bytes were stored
 abbrev pub IsStoreFault : ℕ → StorePlace → StoreSide → StoreSide → StreamFault → Type 0
 IsStoreFault d place old new (Store fault) = IsStoreEnd d place old new (Unit {0}) fault
 IsStoreFault d place old new fault = ⊥
 
--- and what then stood in the images was given back
+-- not all bytes were stored, and the images were closed
 pub record FailsToStore {S D : Type 0} (w : Calls S D) (words : DeviceWords) (first : ℕ) (old new : Streams) (fault : StreamFault) : Type 0 where
   pub at : DevicePlace
   pub left : StackRecord
@@ -118,13 +117,13 @@ pub record FailsToStore {S D : Type 0} (w : Calls S D) (words : DeviceWords) (fi
   pub quiet : new.output ≡ old.output
   pub back : IsGivenBack (record w { old = between }) words.words.bindings left.leaves
 
--- nothing is read or written where the stack isn't loaded or has no such device; or the line can't be written
+-- nothing is read or written if the stack isn't loaded or has no such device; or the line can't be written
 abbrev pub IsStoringEnd : {S D : Type 0} → Calls S D → DeviceWords → ℕ → Streams → Streams → Bool → StreamFault → Type 0
 IsStoringEnd w words first old new failed fault =
     ((new ≡ old) × IsStackless (FailsToFindDevice w words) fault)
     ⊎ (FailsToStore w words first old new fault ⊎ ((n : ℕ) × StoresInput w words first old new n × IsStreamUnwritten failed fault))
 
--- a counted reader and a counted writer, and what a proof sees of them
+-- a counted reader and a counted writer, and their contents as a proof sees them
 pub record StreamEnds (R W : Type 0) : Type 0 where
   pub reader : CountedRecord R
   pub writer : CountedRecord W
@@ -135,7 +134,7 @@ ends reader writer = record { reader = reader; writer = writer }
 abbrev pub streams_of : {R W : Type 0} → (R → Option (List ℕ)) → (W → Option (List ℕ)) → StreamEnds R W → Streams
 streams_of remaining contents e = streams (remaining e.reader.inner) (contents e.writer.inner)
 
--- where bytes go, as words name it
+-- the destination of the bytes, as the arguments name it
 abbrev pub words_to : StackFile → Target → DeviceWords
 words_to file target = device_words (stack_words file) target.name.now target.cache
 

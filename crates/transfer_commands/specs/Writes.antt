@@ -1,4 +1,4 @@
--- What is done where a file's bytes are written to a stack file's device, and why it isn't.
+-- Writes of a file's bytes to a stack file's device, and why they fail.
 use Rattle.std.specs.Prelude.{◌⊎◌, ℕ, List, Result, Ok, Err}
 use Rattle.block_device.specs.Device.{Device}
 use Rattle.command_line.specs.declared.invocation.Transfer.{Transfer}
@@ -21,7 +21,7 @@ use Rattle.transfer_commands.specs.declared.request_fault.RequestFault.TheVarian
 use Rattle.transfer_commands.specs.Reads.{IsRequestStackless}
 use Rattle.transfer_commands.specs.Requests.{FailsToServe, HasReply, new_world, write_request}
 
--- a stack file, a source, bindings, how many hash blocks are kept, and the request to put some bytes
+-- a stack file, a source, bindings, how many hash blocks are cached, and the request to write some bytes
 pub record PutWords : Type 0 where
   pub words : StackWords
   pub cache : ℕ
@@ -31,7 +31,7 @@ pub record PutWords : Type 0 where
 abbrev pub put_words : StackWords → ℕ → List ℕ → (List ℕ → RequestRecord) → PutWords
 put_words words cache source put = record { words = words; cache = cache; source = source; put = put }
 
--- the source's bytes were put, by the first request of a new queue over the stack
+-- the source's bytes were written, by the first request of a new queue over the stack
 pub record Puts {S D : Type 0} (w : Calls S D) (words : PutWords) (after : World) : Type 0 where
   pub over : OpenStack D
   pub source : FileText
@@ -41,7 +41,7 @@ pub record Puts {S D : Type 0} (w : Calls S D) (words : PutWords) (after : World
   pub made : IsStackOf w.state over words.cache stack
   pub served : HasReply (new_world stack) (words.put source.bytes.items) reply after
 
--- and what then stands in the images was given back, synced or not
+-- the source's bytes were written, and the images were closed, synced or not
 pub record PutsBack {S D : Type 0} (w : Calls S D) (words : PutWords) (synced : Result Unit IoFault) : Type 0 where
   pub after : World
   pub between : S
@@ -55,11 +55,11 @@ pub record MakesNoStack {S D : Type 0} (w : Calls S D) (words : PutWords) (fault
   pub opened : OpensSource w words.words words.source over source
   pub fails : FailsToLoad over fault
 
--- that, or what is named isn't opened
+-- the text makes no stack, or a file can't be opened
 abbrev pub FailsToLoadSource : {S D : Type 0} → Calls S D → PutWords → StackFault → Type 0
 FailsToLoadSource w words fault = IsOpeningEnd (FailsToOpenSource w words.words words.source) fault ⊎ MakesNoStack w words fault
 
--- the request isn't served to its end, and what then stands in the images is given back, synced or not
+-- the request isn't served to its end, and the images are closed, synced or not
 pub record FailsToPut {S D : Type 0} (w : Calls S D) (words : PutWords) (fault : RequestFault) : Type 0 where
   pub over : OpenStack D
   pub source : FileText
@@ -72,25 +72,25 @@ pub record FailsToPut {S D : Type 0} (w : Calls S D) (words : PutWords) (fault :
   pub synced : Result Unit IoFault
   pub back : GivesBack (record w { old = between }) words.words.bindings after.stack.leaves synced
 
--- an image wasn't synced behind it
+-- the sync of an image failed after the request
 abbrev pub IsUnsyncedBehind : (Result Unit IoFault → Type 0) → RequestFault → Type 0
 IsUnsyncedBehind Done (Io fault) = Done (Err fault)
 IsUnsyncedBehind Done fault = ⊥
 
--- nothing was put, or not all, or it isn't synced
+-- nothing was written, or not all, or it isn't synced
 abbrev pub IsPutEnd : {S D : Type 0} → Calls S D → PutWords → RequestFault → Type 0
 IsPutEnd w words fault = IsRequestStackless (FailsToLoadSource w words) fault ⊎ (FailsToPut w words fault ⊎ IsUnsyncedBehind (PutsBack w words) fault)
 
--- ---- the same by the opener, before and after its calls, and by the words of the program
+-- ---- in terms of the opener, before and after its calls, and of the program's arguments
 
--- the source's bytes go where a transfer says
+-- the write of the source's bytes to a transfer's destination
 abbrev pub words_to_put : StackFile → ℕ → Transfer → PutWords
 words_to_put file cache transfer = put_words (stack_words file) cache transfer.source.now (write_request transfer)
 
--- the source's bytes were put, and the images synced and given back
+-- the source's bytes were written, and the images synced and closed
 abbrev pub PutsBy : {S D : Type 0} → Opener S D → (D → Device) → S → S → StackFile → ℕ → Transfer → Type 0
 PutsBy relations state old new file cache transfer = PutsBack (calls relations state old new) (words_to_put file cache transfer) (Ok tt)
 
--- they were not
+-- the source's bytes weren't written and synced
 abbrev pub UnputBy : {S D : Type 0} → Opener S D → (D → Device) → S → S → StackFile → ℕ → Transfer → RequestFault → Type 0
 UnputBy relations state old new file cache transfer = IsPutEnd (calls relations state old new) (words_to_put file cache transfer)

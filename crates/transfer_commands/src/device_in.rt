@@ -1,4 +1,4 @@
-//! The bytes of a reader are written to a stack file's device.
+//! Writes the bytes of a reader to a stack file's device.
 ghost use Rattle.std.specs.Prelude.{OnOk, IfErr};
 ghost use Rattle.image_files.specs.Opener.{calls};
 ghost use Rattle.transfer_commands.specs.Streaming.{IsTargetEnd, StoresTarget, ends};
@@ -14,7 +14,7 @@ use stack_files::{NamedDevice, StackFile, close_stack, open_device};
 use std::alloc::Global;
 use std::io::{Read, Write};
 
-/// The mapped device to which bytes go from its sector `first` on, and how many blocks are cached.
+/// The mapped device, the sector to write from, and how many hash blocks to cache.
 #[derive(Clone, Copy, Debug, PartialEq, Eq)]
 pub struct Target<'a> {
     pub name: &'a str,
@@ -22,7 +22,13 @@ pub struct Target<'a> {
     pub cache: u32,
 }
 
-/// All bytes of the reader to a device of a stack file over the bindings, whose images are synced and given back before anything is printed.
+/// Writes all bytes of the reader to a device of a stack file. The images are synced and closed before anything is printed.
+///
+/// # Errors
+///
+/// - `Stack` if there is no such device, or a file can't be opened.
+/// - `Store` if not all bytes were stored and synced.
+/// - `Write` if the line can't be written; all bytes were stored.
 pub fn store_device<'a, I: Images, S: Read, W: Write, P: Progress>(
     alloc: Global,
     images: &mut I,

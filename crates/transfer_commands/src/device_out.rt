@@ -1,4 +1,4 @@
-//! The bytes of a stack file's device are written out, and nothing else.
+//! Writes the bytes of a stack file's device to a writer, and nothing else.
 ghost use Rattle.std.specs.Prelude.{◌≡◌, OnOk, IfErr};
 ghost use Rattle.image_files.specs.Opener.{calls};
 ghost use Rattle.transfer_commands.specs.Streaming.{EndsPrinting, IsWantedEnd, Printing, PrintsWanted, count_from};
@@ -13,7 +13,7 @@ use stack_files::{NamedDevice, StackFile, open_device};
 use std::alloc::Global;
 use std::io::Write;
 
-/// Sectors of a mapped device: all from the first one on where no count is said. How many blocks are cached.
+/// Sectors of a mapped device, and how many hash blocks to cache. Without a count they are all sectors from the first one on.
 #[derive(Clone, Copy, Debug, PartialEq, Eq)]
 pub struct Wanted<'a> {
     pub name: &'a str,
@@ -31,7 +31,12 @@ fn count_from(count: Option<u64>, first: u64, sectors: u64) -> u64
     }
 }
 
-/// The bytes of a device of a stack file over the bindings.
+/// Writes the bytes of the sectors to the writer.
+///
+/// # Errors
+///
+/// - `Stack` if there is no such device, or a file can't be opened.
+/// - `Cat` if not all sectors were written.
 pub fn cat_device<'a, I: Images, W: Write, P: Progress>(
     alloc: Global,
     images: &mut I,

@@ -1,4 +1,4 @@
-//! The sectors of a file are written to a stack file's device.
+//! Writes the sectors of a file to a stack file's device.
 ghost use Rattle.std.specs.Prelude.{◌≡◌, ◌<◌, false, length, IsOk, OnOk, IfOk, IfErr};
 ghost use Rattle.image_files.specs.Opener.{calls};
 ghost use Rattle.transfer_commands.specs.Images.{StoresImage};
@@ -19,8 +19,14 @@ use stack_files::{NamedDevice, StackFault, StackFile, close_stack, find_device, 
 use std::alloc::Global;
 use std::io::Write;
 
-/// All sectors of a file to a device of a stack file over the bindings, whose images are synced and given back before anything is printed. What doesn't fit is refused before anything
-/// is written.
+/// Writes all sectors of a file to a device of a stack file. The images are synced and closed before anything is printed. A
+/// file that doesn't fit is refused before anything is written.
+///
+/// # Errors
+///
+/// - `Stack` if there is no such device, or a file can't be opened.
+/// - `Store` if not all sectors were stored and synced.
+/// - `Write` if the line can't be written; all sectors were stored.
 pub fn store_file<'a, I: Images, W: Write, P: Progress>(
     alloc: Global,
     images: &mut I,
@@ -56,7 +62,7 @@ pub fn store_file<'a, I: Images, W: Write, P: Progress>(
     }
 }
 
-// Writes all sectors of an image to the device. One that ends inside a sector is refused.
+// Writes all sectors of an image to the device. An image that ends inside a sector is refused.
 fn store_whole<D: SyncDev + Drop, S: BlockDev, P: Progress>(
     stack: &mut Stack<D>,
     device: DevId,

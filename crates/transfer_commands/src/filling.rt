@@ -1,15 +1,16 @@
-//! Takes bytes from a reader.
+//! Fills buffers from a reader.
 ghost use Rattle.std.specs.Prelude.{◌≡◌, IfOk, IfErr};
 ghost use Rattle.transfer_commands.specs.Filling.{BreaksOff, FillsTo};
 
 use program_io::Counted;
 use std::io::{ErrorKind, Read};
 
-/// The reader failed, or was called as often as is counted.
+/// The reader failed, or was called as often as its counter can count.
 #[derive(Clone, Copy)]
 pub(crate) struct ReadFault;
 
-/// Fills a buffer from its beginning, as far as the input goes: so many bytes.
+/// Fills a buffer from its beginning, and returns how many bytes were read. They are fewer than the buffer's only if the input
+/// ended.
 pub(crate) fn fill<R: Read>(reader: &mut Counted<R>, buffer: &mut [u8]) -> Result<usize, ReadFault>
     ensures ok { IfOk result (FillsTo (R.remaining reader.old.inner) (R.remaining reader.new.inner) buffer.new) }
     ensures err { IfErr result (λ _. BreaksOff R.remaining reader.old reader.new) }

@@ -12,8 +12,12 @@ use device_adapters::Progress;
 use stack_config::DevId;
 use stack_engine::Stack;
 
-/// Writes all sectors of another device to a mapped device from its sector `first` on, and has them put on the media,
-/// those too that are written before a fault. Where they don't fit nothing is read or written.
+/// Writes all sectors of another device to a mapped device from its sector `first` on, and syncs them. Sectors that were
+/// written before a fault are synced too. If the sectors don't fit, nothing is read or written.
+///
+/// # Errors
+///
+/// `StoreFault` with the cause, and how many sectors were written.
 pub fn store_image<D: SyncDev, S: BlockDev, P: Progress>(
     stack: &mut Stack<D>,
     d: DevId,
@@ -46,7 +50,7 @@ pub fn store_image<D: SyncDev, S: BlockDev, P: Progress>(
     }
 }
 
-// The same where they fit and may be written, each piece by that buffer, and nothing is synced.
+// Writes the sectors through the buffer `room`. They fit and may be written; nothing is synced.
 fn store_image_by<D: BlockDev, S: BlockDev, P: Progress>(
     stack: &mut Stack<D>,
     d: DevId,
@@ -62,7 +66,7 @@ fn store_image_by<D: BlockDev, S: BlockDev, P: Progress>(
     ensures ok { IfOk result (HasStoredAll d.0 first stack.old (S.state source.old) stack.new) }
     ensures err { IfErr result (StopsImage S.state d.0 first stack.old source.old stack.new source.new) }
 {
-    // How many sectors the device has is learned from a call.
+    // The call provides how many sectors the device has.
     let _sectors = stack.config().sectors(d);
     let sectors = source.sectors();
     let mut done = 0;

@@ -14,20 +14,19 @@ use stack_config::{Config, DevId};
 use stack_engine::{IoFault, Stack};
 use std::io::Read;
 
-/// Where bytes are written: from a sector of a mapped device on, counted from 0. How many there are to come, where that is
-/// known.
+/// A sector of a mapped device, counted from 0, from which bytes are written; and how many bytes there are, if this is known.
 #[derive(Clone, Copy, Debug, PartialEq, Eq)]
 pub struct StorePlace {
     pub first: u64,
     pub length: Option<u64>,
 }
 
-/// The bytes of the longest piece.
+/// The size of the longest piece in bytes.
 pub(crate) const ROOM: usize = 65536;
 
 pub(crate) const MOST_PIECE: u64 = 128;
 
-// Why nothing is written, as far as that is known before.
+// Why nothing is written, by what is known before the first read.
 pub(crate) fn refusal_of(config: &Config, d: DevId, place: StorePlace) -> Option<StoreCause>
     requires { d.0 < length config.now.devices }
     ensures { result ≡ put_refusal config.now d.0 place }
@@ -49,9 +48,14 @@ pub(crate) fn refusal_of(config: &Config, d: DevId, place: StorePlace) -> Option
     None
 }
 
-/// Writes all bytes of a reader to a mapped device, in the longest pieces, and has them put on the media. What is known
-/// before is refused before anything is read or written. Otherwise whole sectors are written up to where it ends, of
-/// which the fault says how many; those are synced too. If that sync fails as well, the first fault is returned.
+/// Writes all bytes of a reader to a mapped device, and syncs them. A request that can't succeed is refused before anything is
+/// read or written.
+///
+/// Otherwise whole sectors are written up to the first fault, and synced. If that sync fails too, the first fault is returned.
+///
+/// # Errors
+///
+/// `StoreFault` with the cause, and how many sectors were written.
 pub fn store<D: SyncDev, R: Read, P: Progress>(
     stack: &mut Stack<D>,
     d: DevId,
@@ -80,7 +84,7 @@ pub fn store<D: SyncDev, R: Read, P: Progress>(
     }
 }
 
-// Has what was written put on the media.
+// Syncs what was written.
 pub(crate) fn sync_stored<D: SyncDev>(stack: &mut Stack<D>, written: u64) -> Result<u64, StoreFault>
     ensures ok { IfOk result (λ n. (n ≡ written) × IsSynced stack.old stack.new) }
     ensures err { IfErr result (λ fault. (fault.written ≡ written) × IsStoreUnsynced fault.cause stack.old stack.new) }
@@ -101,7 +105,7 @@ pub(crate) fn sync_stopped<D: SyncDev>(stack: &mut Stack<D>)
     let _synced = stack.sync();
 }
 
-// The same of a place inside the device that may be written, each piece by that buffer, and nothing is synced.
+// Writes the bytes through the buffer `room`. The first sector is within the device, which is writable; nothing is synced.
 fn store_by<D: BlockDev, R: Read, P: Progress>(
     stack: &mut Stack<D>,
     d: DevId,
@@ -141,7 +145,7 @@ fn store_by<D: BlockDev, R: Read, P: Progress>(
     probe(reader, at - place.first)
 }
 
-// The device is full: whether the reader ends here.
+// The device is full: checks that the reader ends here.
 fn probe<R: Read>(reader: &mut Counted<R>, written: u64) -> Result<u64, StoreFault>
     ensures ok { IfOk result (EndsThere R.remaining reader.old reader.new written) }
     ensures err { IfErr result (GoesFurther R.remaining reader.old reader.new written) }
@@ -160,7 +164,7 @@ fn probe<R: Read>(reader: &mut Counted<R>, written: u64) -> Result<u64, StoreFau
     }
 }
 
-// Whole sectors, which may be none.
+// Writes whole sectors, perhaps none.
 fn write_some<D: BlockDev>(
     stack: &mut Stack<D>,
     d: DevId,
@@ -180,7 +184,7 @@ fn write_some<D: BlockDev>(
     stack.write_piece(d, at, bytes)
 }
 
-// The last bytes, behind so many sectors.
+// Writes the last bytes, after `written` sectors.
 fn store_last<D: BlockDev>(
     stack: &mut Stack<D>,
     d: DevId,
@@ -208,7 +212,7 @@ fn store_last<D: BlockDev>(
     Ok(written)
 }
 
-// So many sectors are done of so many bytes.
+// Reports progress: so many sectors of so many bytes.
 pub(crate) fn tell<P: Progress>(progress: &mut P, done: u64, all: Option<u64>) {
     progress.tell(done.saturating_mul(512), all);
 }

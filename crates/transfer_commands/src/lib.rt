@@ -1,4 +1,5 @@
-//! Transfers of the commands on a stack file's device: requests that read or write sectors, and its bytes as a stream.
+//! Transfers of the commands with a stack file's device: requests that read or write sectors, and the device's bytes as a
+//! stream.
 #![tactic(auto)]
 
 mod device_in;

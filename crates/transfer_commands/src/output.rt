@@ -1,4 +1,4 @@
-//! Writes the bytes of a mapped device out.
+//! Writes the bytes of a mapped device to a writer.
 ghost use Rattle.std.specs.Prelude.{◌≡◌, ◌≢◌, ◌↔◌, ◌+◌, ◌≤◌, ◌<◌, length, IsTrue, OnOk, IfErr};
 ghost use Rattle.stack_rules.specs.Names.{mapped, size};
 ghost use Rattle.transfer_commands.specs.Cats.{CatsBy, EndsCatBy};
@@ -12,17 +12,17 @@ use stack_engine::{IoFault, Stack};
 use stack_recovery::{Pace, is_same, piece_at};
 use std::io::Write;
 
-/// So many sectors of a mapped device from one on, counted from 0.
+/// A range of sectors of a mapped device, counted from 0.
 #[derive(Clone, Copy, Debug, PartialEq, Eq)]
 pub struct SectorRange {
     pub first: u64,
     pub count: u64,
 }
 
-/// The bytes of the longest piece.
+/// The size of the longest piece in bytes.
 const ROOM: usize = 65536;
 
-// Whether all lie inside the device.
+// Whether the range is within the device.
 fn is_inside(config: &Config, d: DevId, range: SectorRange) -> bool
     requires { d.0 < length config.now.devices }
     ensures { IsTrue result ↔ (range.first + range.count ≤ size config.now (mapped d.0)) }
@@ -31,8 +31,14 @@ fn is_inside(config: &Config, d: DevId, range: SectorRange) -> bool
     range.first <= sectors && range.count <= sectors - range.first
 }
 
-/// Writes the bytes of sectors of a mapped device out, by the longest pieces, and nothing else. It ends before the first
-/// sector that is lost: where a piece is lost in part, what stands before that sector is read again in shorter ones.
+/// Writes the bytes of a range of sectors to a writer, and nothing else. Writing stops before the first lost sector: if a piece
+/// can't be read whole, the sectors before the lost one are read again in shorter pieces.
+///
+/// # Errors
+///
+/// - `Range` if the range isn't within the device; nothing was written.
+/// - `Read` if the next sector is lost, or memory ran out.
+/// - `Write` if the writer failed.
 pub fn cat<D: BlockDev, W: Write, P: Progress>(
     stack: &mut Stack<D>,
     d: DevId,
@@ -53,7 +59,7 @@ pub fn cat<D: BlockDev, W: Write, P: Progress>(
     cat_by(stack, d, range, writer, progress, room.as_mut_slice())
 }
 
-// The same of sectors inside the device, each piece by that buffer.
+// Writes the bytes through the buffer `room`. The range is within the device.
 fn cat_by<D: BlockDev, W: Write, P: Progress>(
     stack: &mut Stack<D>,
     d: DevId,
@@ -98,7 +104,7 @@ fn cat_by<D: BlockDev, W: Write, P: Progress>(
     Ok(())
 }
 
-// So many sectors are done of so many.
+// Reports progress in sectors.
 fn tell<P: Progress>(progress: &mut P, done: u64, all: u64) {
     progress.tell(done.saturating_mul(512), Some(all.saturating_mul(512)));
 }

@@ -1,4 +1,4 @@
-//! Sectors of a device are read by one request.
+//! Reads sectors of a device by one request.
 ghost use Rattle.std.specs.Prelude.{IfOk, IfErr};
 ghost use Rattle.transfer_commands.specs.Reads.{ReadsBy, UnreadBy};
 ghost use Rattle.transfer_commands.specs.Requests.{FailsServing, HasReply, read_request};
@@ -13,7 +13,14 @@ use request_queue::{Queue, Reply, Request};
 use stack_files::{StackFile, open_loaded};
 use std::alloc::Global;
 
-/// Sectors of a device of a stack file over the bindings, with a cache of so many hash blocks.
+/// Reads sectors of a device of a stack file over the bindings, with a cache of `cache` hash blocks.
+///
+/// # Errors
+///
+/// - `NoMemory` if an allocation was refused before the request began.
+/// - `Stack` if there is no stack.
+/// - `Submit` if the queue refused the request.
+/// - `Io` if the request ended in a fault.
 pub fn read_sectors<'a, I: Images>(
     alloc: Global,
     images: &mut I,
@@ -29,7 +36,7 @@ pub fn read_sectors<'a, I: Images>(
     fetch(alloc, &mut queue, sectors)
 }
 
-// The sectors that are wanted.
+// Reads the sectors.
 fn fetch<'a, D: BlockDev + Drop>(
     alloc: Global,
     queue: &mut Queue<D>,

@@ -1,4 +1,4 @@
-//! Requests that are made of a stack.
+//! Requests to a stack.
 ghost use Rattle.std.specs.Prelude.{IfOk, IfErr};
 ghost use Rattle.request_queue.specs.Requests.{request_record};
 ghost use Rattle.transfer_commands.specs.Requests.{FailsToServe, HasReply};
@@ -7,7 +7,13 @@ use crate::request_fault::RequestFault;
 use block_device::BlockDev;
 use request_queue::{Queue, Reply, Request, RunFault};
 
-/// Serves a request to its end.
+/// Serves a request to its end, and returns its reply.
+///
+/// # Errors
+///
+/// - `NoMemory` if an allocation was refused before the request began.
+/// - `Submit` if the queue refused the request.
+/// - `Io` if the request ended in a fault.
 pub fn serve_request<'a, D: BlockDev + Drop>(
     queue: &mut Queue<D>,
     request: Request,

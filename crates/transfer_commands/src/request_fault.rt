@@ -8,16 +8,16 @@ use request_queue::SubmitFault;
 use stack_engine::IoFault;
 use stack_files::{OpeningFault, StackFault};
 
-/// Why a request of a stack isn't served.
+/// Why a request to a stack isn't served.
 #[derive(Clone, Copy, Debug, PartialEq, Eq)]
 pub enum RequestFault<'a> {
-    /// An allocation was refused before it was begun.
+    /// An allocation was refused before the request began.
     NoMemory,
     /// There is no stack.
     Stack(StackFault<'a>),
-    /// The sectors can't be requested.
+    /// The queue refused the request.
     Submit(SubmitFault),
-    /// The stack answered a fault.
+    /// The request ended in a fault.
     Io(IoFault),
 }
 

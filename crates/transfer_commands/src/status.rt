@@ -1,4 +1,4 @@
-//! The statuses where bytes of a device are read or stored: 1 refused, 3 a fault of the stack.
+//! The exit statuses of `cat` and `store`: 1 for a refusal, 3 for a fault of the stack.
 ghost use Rattle.std.specs.Prelude.{◌≡◌};
 ghost use Rattle.transfer_commands.specs.StreamTexts.{cat_status, store_status};
 
@@ -9,6 +9,7 @@ const REFUSED: u8 = 1;
 
 const FAULT: u8 = 3;
 
+/// Returns the exit status for a fault of `cat`.
 pub fn cat_status(fault: CatFault) -> u8
     ensures { result ≡ cat_status fault }
 {
@@ -19,6 +20,7 @@ pub fn cat_status(fault: CatFault) -> u8
     }
 }
 
+/// Returns the exit status for a fault of `store`.
 pub fn store_status(fault: StoreFault) -> u8
     ensures { result ≡ store_status fault }
 {

@@ -9,10 +9,10 @@ use stack_engine::IoFault;
 use stack_files::{OpeningFault, StackFault};
 use thiserror::Error;
 
-/// Why not all sectors are written out.
+/// Why not all sectors were written to the writer.
 #[derive(Clone, Copy, Debug, PartialEq, Eq, Error)]
 pub enum CatFault {
-    /// The sectors don't lie inside the device. Nothing was done.
+    /// The sectors aren't within the device. Nothing was done.
     #[error("Range")]
     Range,
     /// The next sector is lost by this fault, or memory ran out.
@@ -31,24 +31,24 @@ impl From<WriteFault> for CatFault {
     }
 }
 
-/// Why not all bytes of a reader are stored.
+/// Why not all bytes of a reader were stored.
 #[derive(Clone, Copy, Debug, PartialEq, Eq)]
 pub enum StoreCause {
-    /// The device may not be written. Nothing was done.
+    /// The device is read-only. Nothing was done.
     ReadOnly,
-    /// The bytes that were to come don't fit behind the first sector, or it lies outside the device. Nothing was done.
+    /// The bytes don't fit after the first sector, or the sector isn't within the device. Nothing was done.
     Range,
-    /// The bytes that were to come are no whole sectors. Nothing was done.
+    /// The expected bytes aren't whole sectors. Nothing was done.
     Length,
-    /// More bytes came than the device has room for.
+    /// The reader has more bytes than the device has room for.
     TooLong,
-    /// The bytes ended inside a sector.
+    /// The input ended inside a sector.
     PartSector,
     /// The reader failed.
     Read,
-    /// A write of the device ended in this fault.
+    /// A write to the device ended in this fault.
     Write(IoFault),
-    /// What was written couldn't be put on the media.
+    /// What was written couldn't be synced.
     Sync(IoFault),
 }
 
@@ -59,16 +59,16 @@ pub struct StoreFault {
     pub cause: StoreCause,
 }
 
-/// Why a command that reads or stores the bytes of a device ends early.
+/// Why a command that reads or stores the bytes of a device ended early.
 #[derive(Clone, Copy, Debug, PartialEq, Eq)]
 pub enum StreamFault<'a> {
-    /// There is no such device, or the file that is stored isn't opened.
+    /// There is no such device, or the file to be stored can't be opened.
     Stack(StackFault<'a>),
-    /// Not all sectors were written out.
+    /// Not all sectors were written to the writer.
     Cat(CatFault),
     /// Not all bytes were stored.
     Store(StoreFault),
-    /// All were, and a line can't be written.
+    /// All bytes were stored, and a line can't be written.
     Write,
 }
 

@@ -1,4 +1,4 @@
-//! What is printed where bytes of a device are read or stored.
+//! The lines of `cat` and `store`.
 ghost use Rattle.std.specs.Prelude.{◌≡◌};
 ghost use Rattle.program_io.specs.Counted.{Writes};
 ghost use Rattle.transfer_commands.specs.StreamTexts.{cat_text, store_cause_text, late_text, refused_request_text, store_text, stored_text};
@@ -9,7 +9,11 @@ use program_io::{Counted, WriteFault};
 use request_queue::SubmitFault;
 use std::io::Write;
 
-/// One line, or none where the writer failed.
+/// Prints the line of a fault; prints nothing if the writer failed.
+///
+/// # Errors
+///
+/// `WriteFault` if the writer failed.
 pub fn say_cat_fault<W: Write>(writer: &mut Counted<W>, fault: CatFault) -> Result<(), WriteFault>
     ensures { Writes W.contents writer.old writer.new (cat_text fault) result }
 {
@@ -20,7 +24,11 @@ pub fn say_cat_fault<W: Write>(writer: &mut Counted<W>, fault: CatFault) -> Resu
     }
 }
 
-/// One line where nothing was done; else how many sectors were written, and then why not all.
+/// Prints one line if nothing was done; otherwise how many sectors were written, and then why not all.
+///
+/// # Errors
+///
+/// `WriteFault` if the writer failed.
 pub fn say_store_fault<W: Write>(
     writer: &mut Counted<W>,
     fault: StoreFault,
@@ -50,14 +58,18 @@ fn say_late<W: Write>(writer: &mut Counted<W>, written: u64, line: &[u8]) -> Res
     writer.put(line)
 }
 
-/// `written N`
+/// Prints `written N`.
+///
+/// # Errors
+///
+/// `WriteFault` if the writer failed.
 pub fn say_stored<W: Write>(writer: &mut Counted<W>, written: u64) -> Result<(), WriteFault>
     ensures { Writes W.contents writer.old writer.new (stored_text written) result }
 {
     writer.print(format_args!("written {written}\n"))
 }
 
-// `refused K NAME`, as of a request.
+// Prints `refused K NAME`, as for a request.
 fn say_request_fault<W: Write>(
     writer: &mut Counted<W>,
     fault: SubmitFault,

@@ -1,4 +1,4 @@
-//! A file's bytes are written to a device by one request.
+//! Writes a file's bytes to a device by one request.
 ghost use Rattle.std.specs.Prelude.{OnOk, Ok, IfOk, IfErr};
 ghost use Rattle.transfer_commands.specs.Requests.{FailsServing, HasReply, write_request};
 ghost use Rattle.transfer_commands.specs.Writes.{PutsBy, UnputBy};
@@ -13,8 +13,15 @@ use request_queue::{Queue, Reply, Request};
 use stack_files::{StackFile, load_stack, open_with_source, sync_and_close};
 use std::alloc::Global;
 
-/// Writes the bytes of the source file to a device of a stack file over the bindings. The images are synced and closed,
-/// also after a fault of the request, which is returned if the sync fails too.
+/// Writes the bytes of the source file to a device of a stack file over the bindings. The images are synced and closed, even
+/// after a fault of the request; if the sync fails too, the fault of the request is returned.
+///
+/// # Errors
+///
+/// - `NoMemory` if an allocation was refused before the request began.
+/// - `Stack` if there is no stack, or a file can't be opened.
+/// - `Submit` if the queue refused the request.
+/// - `Io` if the request or the sync ended in a fault.
 pub fn write_source<'a, I: Images>(
     alloc: Global,
     images: &mut I,
@@ -37,7 +44,7 @@ pub fn write_source<'a, I: Images>(
     }
 }
 
-// Writes the bytes to the device from its first sector on.
+// Writes the bytes to the device, from the requested sector on.
 fn store<'a, D: BlockDev + Drop>(
     alloc: Global,
     queue: &mut Queue<D>,

@@ -1,4 +1,4 @@
--- Why two trees aren't compared.
+-- Why a comparison of two trees ends early.
 use Rattle.std.specs.Prelude.{◌≡◌, ◌≢◌, ◌⊎◌, ℕ, ◌+◌, ◌<◌, ◌≤◌, Bool, true, IsTrue, List}
 use Rattle.block_device.specs.Device.{Device, HasFailed}
 use Rattle.tree_shape.specs.Digests.{digest}
@@ -18,14 +18,14 @@ use Rattle.tree_difference.specs.declared.fault.Which.{Which}
 use Rattle.tree_difference.specs.declared.fault.Which.TheVariants.{First, Second}
 use Rattle.tree_difference.specs.declared.walk.Walk.{Walk}
 
--- on the way to a data block the hash block of a level has another digest than stands above it, or the device failed
+-- the hash block of a level on the path to a data block has another digest than its parent stores, or the device failed
 abbrev pub IsWayCause : Steps → Which → ℕ → DifferenceFault → Type 0
 IsWayCause w which to (Hash tree level number) = (tree ≡ which) × IsStopped w to level × (number ≡ ancestor w.old.shape (level + 1) w.index)
 IsWayCause w which to (Image tree DeviceFailed) = (tree ≡ which) × HasFailed w.device w.device'
 IsWayCause w which to fault = ⊥
 
--- The hash block of that level and number has another digest than stands above it, and those above it are good. Over a
--- steady device that is what stands there.
+-- The hash block of that level and index has another digest than its parent stores, and those above it verify. On a steady
+-- device this is the stored block.
 pub record IsBadBlock (shape : ShapeRecord) (salt root : List ℕ) (device : Device) (level number : ℕ) : Type 0 where
   pub path : PathRecord
   pub index : ℕ
@@ -45,9 +45,9 @@ IsWalkCause w first second first' second' (Image First DeviceFailed) = HasFailed
 IsWalkCause w first second first' second' (Image Second DeviceFailed) = HasFailed second second'
 IsWalkCause w first second first' second' fault = ⊥
 
--- ---- calls, by what a proof sees of devices: as they were before, and then after
+-- ---- causes for calls: the devices before and after, as a proof sees them
 
--- why the hash blocks on the way to a data block, from a level down to one, weren't read or aren't good
+-- why the hash blocks on the path to a data block weren't all read and verified
 abbrev pub FailsToReadDown : {H : Type 0} → (H → Device) → PathRecord → PathRecord → H → H → ℕ → ℕ → Which → ℕ → DifferenceFault → Type 0
 FailsToReadDown state old new h h' index from which to fault = IsWayCause (steps old new (state h) (state h') index from) which to fault
 

@@ -1,4 +1,4 @@
--- What a comparison of two trees finds, prints and reads.
+-- What a comparison of two trees finds, reports and reads.
 use Rattle.std.specs.Prelude.{◌≡◌, ◌≢◌, ◌⊎◌, ℕ, suc, ◌+◌, ◌-◌, ◌*◌, ◌/◌, ◌%◌, ◌^◌, ◌<◌, ◌≤◌, IsTrue, List, [], ◌∷◌, ◌++◌, length, replicate, Option, Some, None, All}
 use Rattle.std.specs.List.{slice_index_or}
 use Rattle.std.specs.Io.KnownBytes.{Appends}
@@ -13,7 +13,7 @@ use Rattle.runs.specs.Texts.{listing_text}
 use Rattle.tree_difference.specs.declared.difference.Totals.{Totals}
 use Rattle.tree_difference.specs.Trees.{Trees, HashImages, AreWays, IsSeenAs, IsStoredAs, common_blocks, common_levels}
 
--- two devices before and after, and what was printed, where that is known
+-- two devices before and after, and what was reported, if that is known
 pub record DifferenceWorld : Type 0 where
   pub first : Device
   pub second : Device
@@ -28,23 +28,23 @@ difference_world first second first' second' printed printed' = record { first =
 abbrev pub hash_images : DifferenceWorld → HashImages
 hash_images w = record { first_image = w.first.image; second_image = w.second.image }
 
--- the states of the data blocks that one image alone has
+-- the states of the data blocks that are in one image only
 abbrev pub rest_states : Trees → List State
 rest_states t = replicate (t.first.blocks - t.second.blocks) (Some Removed) ++ replicate (t.second.blocks - t.first.blocks) (Some Added)
 
--- the states of the first data blocks, each with the ways that show it
+-- the states of the first data blocks, each with the paths that prove it
 pub record AreStatesSeen (t : Trees) (w : DifferenceWorld) (compared : List State) : Type 0 where
   pub seen : (i : ℕ) → i < length compared → IsSeenAs t i (slice_index_or compared i None)
   pub stored : IsTrue w.first.steady → IsTrue w.second.steady → (i : ℕ) → i < length compared → IsStoredAs t (hash_images w) i (slice_index_or compared i None)
 
 -- ---- the cost
 
--- the hash blocks of a level on the way to a data block, of both trees
+-- the hash blocks of a level on the path to a data block, in both trees
 pub record HashPair : Type 0 where
   pub index : ℕ
   pub level : ℕ
 
--- they were read since their digests differ; the data block is the first beneath them
+-- the pair was read because the digests differ; the data block is the first below it
 pub record IsEntered (t : Trees) (e : HashPair) : Type 0 where
   pub p : PathRecord
   pub q : PathRecord
@@ -52,11 +52,11 @@ pub record IsEntered (t : Trees) (e : HashPair) : Type 0 where
   pub differ : digest_on p e.index (e.level + 1) ≢ digest_on q e.index (e.level + 1)
   pub begins : e.index % per_block t.first ^ (e.level + 1) ≡ 0
 
--- the first was read after the second: it is beneath it, or of a later data block
+-- the first pair was read after the second: it is below it, or on the path to a later data block
 abbrev pub IsReadAfter : HashPair → HashPair → Type 0
 IsReadAfter e f = (f.index < e.index) ⊎ ((f.index ≡ e.index) × (e.level < f.level))
 
--- each behind the ones that were read before, so that none is twice among them
+-- the pair comes after all pairs that were read before, so no pair occurs twice
 abbrev pub AreBehind : HashPair → List HashPair → Type 0
 AreBehind e [] = Unit {0}
 AreBehind e (f ∷ more) = IsReadAfter e f × AreBehind e more
@@ -65,12 +65,12 @@ abbrev pub AreDistinctPairs : List HashPair → Type 0
 AreDistinctPairs [] = Unit {0}
 AreDistinctPairs (e ∷ more) = AreBehind e more × AreDistinctPairs more
 
--- these pairs of hash blocks, and the only ones of the levels that both trees have, were read
+-- these pairs of hash blocks were read, and no others of the common levels
 pub record AreEntered (t : Trees) (entries : List HashPair) : Type 0 where
   pub each : All (IsEntered t) entries
   pub apart : AreDistinctPairs entries
 
--- Beside so many sectors of each image the pairs of hash blocks that differ were read, each once.
+-- Besides so many sectors of each image, the pairs of hash blocks that differ were read, each once.
 pub record ReadsDiffering (t : Trees) (w : DifferenceWorld) (first_more second_more : ℕ) : Type 0 where
   pub entries : List HashPair
   pub entered : AreEntered t entries
@@ -87,7 +87,7 @@ compared_totals t compared = record {
   added = t.second.blocks - t.first.blocks;
 }
 
--- Each data block that both have is the same or changed. The longest runs were printed, in rising order.
+-- Each data block of both trees is the same or changed. The longest runs were reported, in rising order.
 pub record Compares (t : Trees) (w : DifferenceWorld) (most : Option ℕ) (totals : Totals) : Type 0 where
   pub compared : List State
   pub count : length compared ≡ common_blocks t

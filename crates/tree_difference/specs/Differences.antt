@@ -1,4 +1,4 @@
--- The trees of two hash images, and what ends their comparison.
+-- The trees of two hash images, and why their comparison ends early.
 use Rattle.std.specs.Prelude.{◌≡◌, ◌⊎◌, ℕ, ◌+◌, ◌-◌, ◌*◌, ◌/◌, ◌<◌, ◌≤◌, nat_lt, if◌then◌else◌, Bool, true, List, Option, Some, None}
 use Rattle.allocation.specs.Refusal.{IsOutOfMemory}
 use Rattle.block_device.specs.Device.{Device, HasFailed}
@@ -28,7 +28,7 @@ use Rattle.tree_difference.specs.Superblocks.{IsTreeCut, IsImageRead, unlike}
 use Rattle.tree_difference.specs.Trees.{Trees, AreComparable, common_blocks, common_levels}
 use Rattle.tree_difference.specs.Walks.{HaveBlock, IsOn, WalkSides, walk_sides}
 
--- the trees of two superblocks and two roots
+-- the trees of two superblocks and two root hashes
 abbrev pub trees_of : SuperRecord → SuperRecord → Roots → Trees
 trees_of a b roots = record { first = shape_of a; second = shape_of b; first_salt = a.salt; second_salt = b.salt; first_root = roots.first; second_root = roots.second }
 
@@ -36,14 +36,14 @@ trees_of a b roots = record { first = shape_of a; second = shape_of b; first_sal
 abbrev pub trees_in : Walk → Trees
 trees_in w = record { first = w.first.shape; second = w.second.shape; first_salt = w.first.salt; second_salt = w.second.salt; first_root = w.first.root; second_root = w.second.root }
 
--- a walk in these trees
+-- a walk of these trees
 pub record IsWalkOf (t : Trees) (w : Walk) : Type 0 where
   pub trees : trees_in w ≡ t
   pub shape : w.shape ≡ t.first
   pub levels : w.levels ≡ common_levels t
   pub blocks : w.blocks ≡ common_blocks t
 
--- both trees are shapes, and lie on the devices
+-- both shapes are valid, and the trees fit on the devices
 pub record HaveTrees (w : Walk) (first second : Device) : Type 0 where
   pub of : IsWalkOf (trees_in w) w
   pub alike : AreComparable (trees_in w)
@@ -52,7 +52,7 @@ pub record HaveTrees (w : Walk) (first second : Device) : Type 0 where
   pub first_fits : tree_sectors w.first.shape ≤ first.size
   pub second_fits : tree_sectors w.second.shape ≤ second.size
 
--- the hash blocks of the levels that the other tree doesn't have were read
+-- the first hash blocks of the levels that only one of the trees has were read
 pub record IsAligned (s : WalkSides) : Type 0 where
   pub first : IsDown (steps s.old.first s.new.first s.first s.first' 0 (levels s.old.first.shape)) s.old.levels s.old.levels
   pub second : IsDown (steps s.old.second s.new.second s.second s.second' 0 (levels s.old.second.shape)) s.old.levels s.old.levels
@@ -64,28 +64,28 @@ pub record CanCompare (w : Walk) (first second : Device) : Type 0 where
   pub have : HaveTrees w first second
   pub on : IsOn w first second 0 w.levels
 
--- the data blocks that one of the two trees alone has
+-- the data blocks that are in one tree only
 abbrev pub rest_run : Walk → Option (Run Kind)
 rest_run w =
     if nat_lt w.blocks w.first.shape.blocks then Some (run w.blocks (w.first.shape.blocks - w.blocks) Removed)
     else if nat_lt w.blocks w.second.shape.blocks then Some (run w.blocks (w.second.shape.blocks - w.blocks) Added)
     else None
 
--- what is told at last, of the run that may still grow and of those blocks
+-- the last lines: the open run, and the data blocks that are in one tree only
 abbrev pub last_lines : Tally → Walk → List ℕ
 last_lines tally w = limited_lines tally.limit (last_runs tally.last (rest_run w))
 
--- the totals of a walk, of which so many data blocks changed
+-- the totals of a walk with so many changed data blocks
 abbrev pub totals_in : Walk → ℕ → Totals
 totals_in w changed = record { same = w.blocks - changed; changed = changed; removed = w.first.shape.blocks - w.blocks; added = w.second.shape.blocks - w.blocks }
 
--- a walk ended early, or a line can't be written
+-- a walk ended early, or a line can't be reported
 abbrev pub IsComparisonCause : Walk → Device → Device → Device → Device → Bool → DifferenceFault → Type 0
 IsComparisonCause w first second first' second' failed Write = failed ≡ true
 IsComparisonCause w first second first' second' failed fault = IsWalkCause w first second first' second' fault
 
--- how many sectors of an image are read beside the pairs of hash blocks that differ: the superblock's, those of the root hash
--- block, which is checked first, and those of the first hash block of each level that the other tree doesn't have
+-- how many sectors of an image are read besides the pairs of hash blocks that differ: the superblock, the root hash block,
+-- which is checked first, and the first hash block of each level that the other tree doesn't have
 abbrev pub sectors_before : ShapeRecord → Trees → ℕ
 sectors_before s t = 1 + root_sectors s + (levels s - common_levels t) * (s.hash_block / 512)
 
@@ -101,11 +101,11 @@ pub record IsDifference (w : DifferenceWorld) (roots : Roots) (most : Option ℕ
   pub compares : Compares (trees_of a b roots) w most totals
   pub reads : ReadsDiffering (trees_of a b roots) w (sectors_before (shape_of a) (trees_of a b roots)) (sectors_before (shape_of b) (trees_of a b roots))
 
--- both superblocks were read, and say this
+-- both superblocks were read, and P holds of them
 abbrev pub AreSuperblocksRead : DifferenceWorld → (SuperRecord → SuperRecord → Type 0) → Type 0
 AreSuperblocksRead w P = (a : SuperRecord) × ((b : SuperRecord) × (IsImageRead w.first a × (IsImageRead w.second b × P a b)))
 
--- why two images aren't compared
+-- why two images weren't compared to the end
 abbrev pub IsDifferenceCause : DifferenceWorld → Roots → Bool → DifferenceFault → Type 0
 IsDifferenceCause w roots failed (Image First fault) = IsReadCause w.first w.first' fault ⊎ IsTreeCut w.first fault
 IsDifferenceCause w roots failed (Image Second fault) = IsReadCause w.second w.second' fault ⊎ IsTreeCut w.second fault
@@ -115,17 +115,17 @@ IsDifferenceCause w roots failed (Hash Second level number) = AreSuperblocksRead
 IsDifferenceCause w roots failed NoMemory = (w.first'.failures ≡ w.first.failures) × (w.second'.failures ≡ w.second.failures) × IsOutOfMemory largest_block
 IsDifferenceCause w roots failed Write = failed ≡ true
 
--- ---- calls, by what a proof sees of the two devices: as they were before, and then after
+-- ---- relations for calls: the two devices before and after, as a proof sees them
 
--- the first hash blocks of the levels that the other tree doesn't have were read
+-- the first hash blocks of the levels that only one of the trees has were read
 abbrev pub Aligns : {D E : Type 0} → (D → Device) → (E → Device) → Walk → Walk → D → E → D → E → Type 0
 Aligns first_state second_state old new d e d' e' = IsAligned (walk_sides old new (first_state d) (second_state e) (first_state d') (second_state e'))
 
--- what a proof sees of the devices and of what was told, before and after
+-- the devices and what was reported, before and after, as a proof sees them
 abbrev pub seen_world : {D E L : Type 0} → (D → Device) → (E → Device) → (L → Option (List ℕ)) → D → E → D → E → L → L → DifferenceWorld
 seen_world first_state second_state told d e d' e' l l' = difference_world (first_state d) (second_state e) (first_state d') (second_state e') (told l) (told l')
 
--- the data blocks of both trees were compared, and at most so many lines were told
+-- the data blocks of both trees were compared, and at most so many lines were reported
 abbrev pub ComparesBlocks : {D E L : Type 0} → (D → Device) → (E → Device) → (L → Option (List ℕ)) → Walk → D → E → D → E → L → L → Option ℕ → Totals → Type 0
 ComparesBlocks first_state second_state told w d e d' e' l l' most totals = Compares (trees_in w) (seen_world first_state second_state told d e d' e' l l') most totals
 

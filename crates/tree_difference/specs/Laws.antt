@@ -1,4 +1,4 @@
--- What a comparison says of all data under the two roots.
+-- What a comparison proves about all data with the two root hashes.
 use Rattle.std.specs.Prelude.{◌≡◌, ◌≢◌, ◌⊎◌, ℕ, List, [], length, map}
 use Rattle.std.specs.List.{slice_index_or}
 use Rattle.tree_shape.specs.Digests.{digest}
@@ -10,18 +10,18 @@ use Rattle.tree_path.specs.Laws.{Collide}
 use Rattle.tree_difference.specs.Trees.{Trees, AreComparable, IsSame, IsDifferent, common_blocks}
 use Rattle.std.specs.Prelude.{◌<◌}
 
--- two chains to one data block, each good under one of the roots
+-- two chains to one data block, each of which verifies under one of the roots
 pub record AreChains (t : Trees) (i : ℕ) (a b : ChainRecord) : Type 0 where
   pub first_index : a.index ≡ i
   pub second_index : b.index ≡ i
   pub first_good : IsGood t.first t.first_salt t.first_root a
   pub second_good : IsGood t.second t.second_salt t.second_root b
 
--- a data block that is seen as the same has one content in both chains, or two different inputs have one digest
+-- a data block found the same has one content in both chains, or two different inputs have one digest
 abbrev pub SameBlocksAreSame : Type 0
 SameBlocksAreSame = (t : Trees) → AreComparable t → (i : ℕ) → IsSame t i → (a b : ChainRecord) → AreChains t i a b → (a.content ≡ b.content) ⊎ Collide t.first_salt
 
--- one that is seen as changed has two contents, or two different inputs have one digest
+-- a data block found changed has two contents, or two different inputs have one digest
 abbrev pub ChangedChainsDiffer : Type 0
 ChangedChainsDiffer = (t : Trees) → AreComparable t → (i : ℕ) → IsDifferent t i → (a b : ChainRecord) → AreChains t i a b → (a.content ≢ b.content) ⊎ Collide t.first_salt
 
@@ -34,7 +34,7 @@ pub record AreBothContents (t : Trees) (first second : List (List ℕ)) : Type 0
   pub first_root : t.first_root ≡ root t.first.hash_block t.first_salt (map (digest t.first_salt) first)
   pub second_root : t.second_root ≡ root t.second.hash_block t.second_salt (map (digest t.second_salt) second)
 
--- the same of the data blocks themselves
+-- a block found the same is the same in both data, and one found changed differs; or two different inputs have one digest
 abbrev pub SameContentsAreSame : Type 0
 SameContentsAreSame = (t : Trees) → AreComparable t → (first second : List (List ℕ)) → AreBothContents t first second → (i : ℕ) → i < common_blocks t → IsSame t i
     → (slice_index_or first i [] ≡ slice_index_or second i []) ⊎ Collide t.first_salt

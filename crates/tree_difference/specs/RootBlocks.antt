@@ -17,12 +17,12 @@ use Rattle.tree_difference.specs.Causes.{IsBadBlock}
 abbrev pub root_level : ShapeRecord → ℕ
 root_level s = levels s - 1
 
--- how many sectors that block has: none if the tree has no level
+-- how many sectors the root hash block has: none if the tree has no level
 abbrev pub root_sectors : ShapeRecord → ℕ
 root_sectors s = (levels s - root_level s) * (s.hash_block / 512)
 
--- The root hash block was read, and has the root hash; over a steady device it is the one that is stored. A tree of one data block
--- has no hash block, and nothing of it is checked: its root hash is the digest of that block.
+-- The root hash block was read, and has the root hash; on a steady device it is the stored block. A tree of one data block has
+-- no hash block, and nothing is checked: its root hash is the digest of that data block.
 pub record IsRootRead (s : ShapeRecord) (salt root : List ℕ) (device : Device) : Type 0 where
   pub block : List ℕ
   pub good : 0 < levels s → digest salt block ≡ root
@@ -35,7 +35,7 @@ IsRootCause s root device device' which (Image tree DeviceFailed) = (tree ≡ wh
 IsRootCause s root device device' which NoMemory = (device' ≡ device) × IsOutOfMemory largest_block
 IsRootCause s root device device' which fault = ⊥
 
--- ---- as a call sees them: what a proof sees of the device, before and after
+-- ---- relations for calls: the device before and after, as a proof sees it
 
 abbrev pub ChecksRoot : {H : Type 0} → (H → Device) → H → H → SuperRecord → List ℕ → Type 0
 ChecksRoot state h h' s root = IsRootRead (shape_of s) s.salt root (state h) × IsFullRead (state h) (root_sectors (shape_of s)) (state h')

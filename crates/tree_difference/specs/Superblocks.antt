@@ -13,13 +13,13 @@ use Rattle.tree_difference.specs.declared.fault.Unlike.{Unlike as Field}
 use Rattle.tree_difference.specs.declared.fault.Unlike.TheVariants.{DataBlockSize, HashBlockSize, Salt}
 use Rattle.tree_difference.specs.declared.fault.Which.{Which}
 
--- a superblock was read from the device, and its tree lies on it
+-- a superblock was read from the device, and its tree fits on the device
 pub record IsImageRead (device : Device) (s : SuperRecord) : Type 0 where
   pub sector : List ℕ
   pub from : IsReadFrom device sector s
   pub fits : tree_sectors (shape_of s) ≤ device.size
 
--- a superblock was read, but its tree goes past the device
+-- a superblock was read, but its tree doesn't fit on the device
 pub record IsTreeCut (device : Device) (fault : VerifyFault) : Type 0 where
   pub s : SuperRecord
   pub sector : List ℕ
@@ -27,7 +27,7 @@ pub record IsTreeCut (device : Device) (fault : VerifyFault) : Type 0 where
   pub past : device.size < tree_sectors (shape_of s)
   pub is : fault ≡ TooSmall
 
--- why there is no superblock of that image
+-- why there is no usable superblock of that image
 abbrev pub IsOneImageCause : Device → Device → Which → DifferenceFault → Type 0
 IsOneImageCause device device' which (Image tree fault) = (tree ≡ which) × (IsReadCause device device' fault ⊎ IsTreeCut device fault)
 IsOneImageCause device device' which fault = ⊥

@@ -1,4 +1,4 @@
--- The ways down two trees to one data block.
+-- The paths down two trees to one data block.
 use Rattle.std.specs.Prelude.{◌≡◌, ◌≢◌, ℕ, ◌+◌, ◌-◌, ◌*◌, ◌/◌, ◌<◌, ◌≤◌, Bool, false, IsTrue}
 use Rattle.std.specs.Str.{bytes_eq}
 use Rattle.block_device.specs.Device.{Device}
@@ -22,7 +22,7 @@ pub record WalkSides : Type 0 where
 abbrev pub walk_sides : Walk → Walk → Device → Device → Device → Device → WalkSides
 walk_sides old new first second first' second' = record { old = old; new = new; first = first; second = second; first' = first'; second' = second' }
 
--- both are of the same two trees
+-- both walks are of the same two trees
 pub record AreSameTrees (old new : Walk) : Type 0 where
   pub first : IsPathOf old.first.shape old.first.salt old.first.root new.first
   pub second : IsPathOf old.second.shape old.second.salt old.second.root new.second
@@ -30,7 +30,7 @@ pub record AreSameTrees (old new : Walk) : Type 0 where
   pub levels : new.levels ≡ old.levels
   pub blocks : new.blocks ≡ old.blocks
 
--- Both lead to data block i from level k up, over steady devices by what stands there, and their digests differ above.
+-- Both paths lead to data block i from level k up, on steady devices by the stored blocks, and their digests differ above.
 pub record IsOn (w : Walk) (first second : Device) (i k : ℕ) : Type 0 where
   pub first_leads : LeadsTo w.first i k
   pub second_leads : LeadsTo w.second i k
@@ -38,7 +38,7 @@ pub record IsOn (w : Walk) (first second : Device) (i k : ℕ) : Type 0 where
   pub second_stored : IsTrue second.steady → AreStored w.second second.image i k
   pub differ : (m : ℕ) → k < m → m ≤ w.levels → digest_on w.first i m ≢ digest_on w.second i m
 
--- both trees have the data block, and lie on the devices
+-- both trees have the data block, and fit on the devices
 pub record HaveBlock (w : Walk) (first second : Device) (i : ℕ) : Type 0 where
   pub first_levels : w.levels ≤ levels w.first.shape
   pub second_levels : w.levels ≤ levels w.second.shape
@@ -57,7 +57,7 @@ pub record CanEnter (w : Walk) (first second : Device) (i level : ℕ) : Type 0 
   pub on : IsOn w first second i (level + 1)
   pub low : level < w.levels
 
--- the hash blocks of that level were read
+-- the hash blocks of that level were read and verify
 pub record HasEntered (s : WalkSides) (i level : ℕ) : Type 0 where
   pub first : IsDown (steps s.old.first s.new.first s.first s.first' i (level + 1)) level level
   pub second : IsDown (steps s.old.second s.new.second s.second s.second' i (level + 1)) level level
@@ -65,8 +65,8 @@ pub record HasEntered (s : WalkSides) (i level : ℕ) : Type 0 where
   pub levels : s.new.levels ≡ s.old.levels
   pub blocks : s.new.blocks ≡ s.old.blocks
 
--- The hash blocks of the levels from top - 1 down to one were read, each once. There the digests are the same, or those
--- of the data block differ.
+-- The hash blocks of the levels from top - 1 down to `level` were read, each once. There the digests are equal, or those of the
+-- data block differ.
 pub record HasStopped (s : WalkSides) (i top level : ℕ) (same : Bool) : Type 0 where
   pub trees : AreSameTrees s.old s.new
   pub few : level ≤ top
@@ -76,16 +76,16 @@ pub record HasStopped (s : WalkSides) (i top level : ℕ) (same : Bool) : Type 0
   pub first_read : IsFullRead s.first ((top - level) * (s.old.first.shape.hash_block / 512)) s.first'
   pub second_read : IsFullRead s.second ((top - level) * (s.old.second.shape.hash_block / 512)) s.second'
 
--- ---- calls, by what a proof sees of the two devices: as they were before, and then after
+-- ---- relations for calls: the two devices before and after, as a proof sees them
 
--- the hash blocks of that level were read, of both trees
+-- the hash blocks of that level were read in both trees, and verify
 abbrev pub Enters : {D E : Type 0} → (D → Device) → (E → Device) → Walk → Walk → D → E → D → E → ℕ → ℕ → Type 0
 Enters first_state second_state old new d e d' e' i level = HasEntered (walk_sides old new (first_state d) (second_state e) (first_state d') (second_state e')) i level
 
--- the way down from a level ended there
+-- the descent from level `top` ended at that level
 abbrev pub StopsWalk : {D E : Type 0} → (D → Device) → (E → Device) → Walk → Walk → D → E → D → E → ℕ → ℕ → Stop → Type 0
 StopsWalk first_state second_state old new d e d' e' i top stop = HasStopped (walk_sides old new (first_state d) (second_state e) (first_state d') (second_state e')) i top stop.level stop.same
 
--- the hash blocks on the way to a data block, from a level down to one, were read and are good
+-- the hash blocks on the path to a data block, from one level down to another, were read and verify
 abbrev pub ReadsDown : {H : Type 0} → (H → Device) → PathRecord → PathRecord → H → H → ℕ → ℕ → ℕ → Type 0
 ReadsDown state old new h h' index from to = IsDown (steps old new (state h) (state h') index from) to to

@@ -1,4 +1,4 @@
-//! Two trees compared from their roots down.
+//! Compares two trees from their roots down.
 ghost use Rattle.std.specs.Prelude.{◌≡◌, ◌≤◌, ◌<◌, ◌+◌, ◌^◌, OnErr, OnOk, IfOk, IfErr, IfSome};
 ghost use Rattle.allocation.specs.Refusal.{IsOutOfMemory};
 ghost use Rattle.tree_path.specs.Path.{largest_block};
@@ -21,15 +21,14 @@ use tree_path::{TreePath, span, top_at};
 use tree_shape::Digest;
 use verity_format::Superblock;
 
-/// The root digests of two trees.
+/// The root hashes of two trees.
 #[derive(Clone, Copy, Debug, PartialEq, Eq)]
 pub struct Roots {
     pub first: Digest,
     pub second: Digest,
 }
 
-/// How many data blocks both trees have with the same digest, how many with different ones, and how many one of the two
-/// alone has.
+/// How many data blocks have the same digest in both trees, how many have different ones, and how many are in one tree only.
 #[derive(Clone, Copy, Debug, PartialEq, Eq)]
 pub struct Totals {
     pub same: u64,
@@ -38,10 +37,19 @@ pub struct Totals {
     pub added: u64,
 }
 
-/// Compares the trees of two hash images from their roots down, and tells a line for each longest run of data blocks
-/// that differ, in rising order: at most so many lines, and then `more`. Both root hash blocks are read and checked, also if the
-/// root hashes are equal. Of the rest a subtree is entered only if its digests differ, and each hash block that is read is checked
-/// against the digest in its parent.
+/// Compares the trees of two hash images from their roots down. It reports a line for each longest run of data blocks that
+/// differ, in rising order: at most `most` lines, then `more`.
+///
+/// Both root hash blocks are read and checked, even if the root hashes are equal. Below them a subtree is read only if its
+/// digests differ. Each hash block that is read is checked against the hash stored in its parent.
+///
+/// # Errors
+///
+/// - `Image` if a hash image has no superblock, is too small for its tree, or failed.
+/// - `Unlike` if the superblocks make the trees incomparable.
+/// - `Hash` if a hash block fails verification.
+/// - `NoMemory` if an allocation was refused.
+/// - `Write` if a line can't be reported.
 pub fn compare_trees<D: BlockDev, E: BlockDev, L: Listing>(
     alloc: Global,
     first: &mut D,
@@ -66,7 +74,7 @@ pub fn compare_trees<D: BlockDev, E: BlockDev, L: Listing>(
     compare(&mut walk, first, second, most, listing)
 }
 
-// The paths of two trees, with nothing read.
+// Returns the paths of two trees, of which nothing was read.
 fn begin(
     alloc: Global,
     one: &Superblock,
@@ -89,7 +97,7 @@ fn begin(
     })
 }
 
-// Reads the first hash block of each level that the other tree doesn't have.
+// Reads the first hash block of each level that only one of the trees has.
 fn align<D: BlockDev, E: BlockDev>(
     walk: &mut Walk,
     first: &mut D,
@@ -106,7 +114,7 @@ fn align<D: BlockDev, E: BlockDev>(
     read_down(&mut walk.second, second, Which::Second, 0, top, levels)
 }
 
-// Compares the trees from the levels that both have on down.
+// Compares the trees from the common levels down.
 fn compare<D: BlockDev, E: BlockDev, L: Listing>(
     walk: &mut Walk,
     first: &mut D,
@@ -146,7 +154,7 @@ fn compare<D: BlockDev, E: BlockDev, L: Listing>(
     Ok(totals_after(walk, changed))
 }
 
-// Tells the last run, and the data blocks that one of the two trees alone has.
+// Reports the last run, and the data blocks that are in one tree only.
 fn finish<L: Listing>(walk: &Walk, tally: &mut Tally, listing: &mut L) -> Result<(), WriteFault>
     requires { EndsAt tally.old.last walk.now.blocks }
     ensures { Tells L.told L.failed listing.old listing.new (last_lines tally.old walk.now) result }
@@ -160,7 +168,7 @@ fn finish<L: Listing>(walk: &Walk, tally: &mut Tally, listing: &mut L) -> Result
     }
 }
 
-// How many data blocks are the same, are not, or are in one of the two trees alone.
+// The totals if `changed` data blocks differ.
 fn totals_after(walk: &Walk, changed: u64) -> Totals
     requires few { changed ≤ walk.now.blocks }
     requires first { walk.now.blocks ≤ walk.now.first.shape.blocks }
@@ -175,7 +183,7 @@ fn totals_after(walk: &Walk, changed: u64) -> Totals
     }
 }
 
-// The data blocks that one of the two trees alone has.
+// The data blocks that are in one tree only.
 fn rest(walk: &Walk) -> Option<Run<Kind>>
     ensures value { result ≡ rest_run walk.now }
     ensures inside { IfSome result (λ r. r.first + r.count < 2 ^ 64) }

@@ -1,4 +1,4 @@
-//! Why two trees aren't compared.
+//! Why a comparison of two trees ends early.
 ghost use Rattle.std.specs.Prelude.{◌≡◌};
 ghost use Rattle.tree_difference.specs.declared.fault.DifferenceFault.TheVariants as difference_fault;
 
@@ -13,7 +13,7 @@ pub enum Which {
     Second,
 }
 
-/// In what two superblocks differ, so that the digests of one tree say nothing of the other.
+/// The first difference of two superblocks that makes the digests of their trees incomparable.
 #[derive(Clone, Copy, Debug, PartialEq, Eq)]
 pub enum Unlike {
     DataBlockSize,
@@ -21,18 +21,18 @@ pub enum Unlike {
     Salt,
 }
 
-/// Why two trees aren't compared.
+/// Why a comparison of two trees ends early.
 #[derive(Clone, Copy, Debug, PartialEq, Eq)]
 pub enum DifferenceFault {
     /// A hash image has no superblock, is too small for its tree, or failed.
     Image(Which, VerifyFault),
-    /// The superblocks differ.
+    /// The superblocks make the trees incomparable.
     Unlike(Unlike),
-    /// A hash block, by its level and its number in that, has another digest than stands above it.
+    /// The hash block of a level, by its index, fails verification: its digest isn't stored in its parent.
     Hash(Which, u32, u64),
     /// An allocation was refused.
     NoMemory,
-    /// A line can't be written.
+    /// A line can't be reported.
     Write,
 }
 

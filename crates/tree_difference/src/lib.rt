@@ -1,4 +1,4 @@
-//! Two hash trees compared from their roots down.
+//! Compares two hash trees from their roots down.
 #![tactic(auto)]
 
 mod difference;

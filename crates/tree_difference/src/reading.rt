@@ -1,4 +1,4 @@
-//! Hash blocks read down to a data block, with the fault that names one that isn't good.
+//! Reads hash blocks down to a data block. The fault names a block that fails verification.
 ghost use Rattle.std.specs.Prelude.{◌≡◌, OnOk, IfErr};
 ghost use Rattle.verity_format.specs.Blocks.{IsOnlyRead};
 ghost use Rattle.tree_path.specs.Steps.{CanDescend};
@@ -10,7 +10,7 @@ use block_device::BlockDev;
 use tree_path::TreePath;
 use verity_format::VerifyFault;
 
-/// Reads the hash blocks of the levels from `from - 1` down to `to` on the way to a data block.
+/// Reads and verifies the hash blocks of the levels from `from - 1` down to `to` on the path to a data block.
 pub(crate) fn read_down<H: BlockDev>(
     path: &mut TreePath,
     device: &mut H,

@@ -13,12 +13,14 @@ use tree_path::TreePath;
 use tree_shape::Digest;
 use verity_format::Superblock;
 
-/// Reads the root hash block of a tree, and checks that it has the root hash. A tree of one data block has no hash block, and
+/// Reads the root hash block of a tree, and checks it against the root hash. A tree of one data block has no hash block, and
 /// nothing is read.
 ///
 /// # Errors
 ///
-/// `Hash` if the block has another digest, `Image` if the device failed, `NoMemory` if an allocation was refused.
+/// - `Hash` if the block has another digest.
+/// - `Image` if the device failed.
+/// - `NoMemory` if an allocation was refused.
 pub(crate) fn check_root_block<H: BlockDev>(
     alloc: Global,
     device: &mut H,

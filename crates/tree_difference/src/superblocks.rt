@@ -9,7 +9,11 @@ use block_device::BlockDev;
 use tree_shape::Salt;
 use verity_format::{Superblock, VerifyFault, read_superblock, tree_sectors};
 
-/// The superblock of a hash image, where its tree fits the device.
+/// Returns the superblock of a hash image.
+///
+/// # Errors
+///
+/// `Image` if there is no valid superblock, the device is too small for the tree, or the device failed.
 pub fn superblock_of<H: BlockDev>(
     device: &mut H,
     which: Which,
@@ -29,7 +33,7 @@ pub fn superblock_of<H: BlockDev>(
     Ok(superblock)
 }
 
-/// Refuses two superblocks of which one's digests say nothing of the other's.
+/// Returns the first difference of two superblocks that makes their trees incomparable.
 pub(crate) fn check_alike(first: &Superblock, second: &Superblock) -> Option<Unlike>
     ensures { result ≡ unlike first.now second.now }
 {

@@ -1,4 +1,4 @@
-//! The ways down two trees to one data block.
+//! The paths down two trees to one data block.
 ghost use Rattle.std.specs.Prelude.{◌≡◌, ◌≤◌, OnOk, IfOk, IfErr};
 ghost use Rattle.tree_difference.specs.Causes.{EndsWalk};
 ghost use Rattle.tree_difference.specs.Walks.{CanEnter, CanWalk, Enters, StopsWalk};
@@ -20,7 +20,7 @@ pub(crate) struct Walk {
     pub(crate) blocks: u64,
 }
 
-/// The level of the digests at which a way down ended, and whether they are the same.
+/// The level of the digests at which a descent ended, and whether the digests are equal.
 #[derive(Clone, Copy)]
 pub(crate) struct Stop {
     pub(crate) level: u32,
@@ -28,7 +28,7 @@ pub(crate) struct Stop {
 }
 
 impl Walk {
-    /// Goes down both trees to a data block while the digests differ, from so many levels above it.
+    /// Descends both trees towards a data block from level `top`, as long as the digests differ.
     pub(crate) fn descend<D: BlockDev, E: BlockDev>(
         &mut self,
         first: &mut D,
@@ -54,7 +54,7 @@ impl Walk {
         Ok(Stop { level, same: true })
     }
 
-    // Reads the hash block of that level on the way to a data block, of both trees.
+    // Reads and verifies the hash block of a level on the path to a data block, in both trees.
     fn enter<D: BlockDev, E: BlockDev>(
         &mut self,
         first: &mut D,

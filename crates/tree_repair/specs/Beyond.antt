@@ -1,4 +1,4 @@
--- Why a block stays lost where parity is asked for it.
+-- Why a block stays lost in a repair with parity.
 use Rattle.std.specs.Prelude.{◌≡◌, ◌⊎◌, ℕ, ◌+◌, ◌<◌, ◌≤◌, true, List, [], ◌∷◌}
 use Rattle.block_device.specs.Device.{Device}
 use Rattle.fec_area.specs.declared.layout.Layout.{Layout}
@@ -20,9 +20,9 @@ use Rattle.tree_repair.specs.Runs.{Job, Visit, VisitsAll}
 use Rattle.tree_repair.specs.Tries.{IsBroughtBack, IsCutOff, IsGoodBehind, IsMadeOther, IsUncovered, Trial, trial}
 use Rattle.tree_repair.specs.Worlds.{RepairWorld}
 
--- ---- blocks that needn't be sought by parity
+-- ---- blocks that aren't sought by parity
 
--- it is good, or was found elsewhere or made again
+-- the block is valid, or was found in a copy, or was reconstructed
 abbrev pub IsHad : Mended → Type 0
 IsHad mended.Good = Unit {0}
 IsHad (mended.Copy k) = Unit {0}
@@ -30,40 +30,40 @@ IsHad mended.Remade = Unit {0}
 IsHad mended.Parity = Unit {0}
 IsHad mended.Lost = ⊥
 
--- one of these visits was to the block of that height above data block i, and had it
+-- one of these visits was to the block of that height above data block i, and left it so
 abbrev pub IsHadIn : ShapeRecord → ℕ → ℕ → List Visit → Type 0
 IsHadIn s h i [] = ⊥
 IsHadIn s h i (v ∷ more) = (IsVisitAt s h i v × IsHad v.mended) ⊎ IsHadIn s h i more
 
 -- ---- blocks that are sought by parity
 
--- Covered block k can't be made again: with it more blocks of its round are lost than the code has roots, or there is less
--- parity than the code needs, or what is made of the others and the parity has another digest.
+-- Covered block k can't be restored: together with it more blocks of its round are lost than the code has roots, the parity is
+-- incomplete, or the bytes restored from the other blocks and the parity have another digest.
 abbrev pub IsRoundBeyond : Job → PathRecord → ℕ → ℕ → Trial → ℕ → Type 0
 IsRoundBeyond j p h i t k =
     (t.layout.roots < lost_count t.layout t.lost k) ⊎ ((t.parity_dev.size < parity_sectors t.layout) ⊎ IsMadeOther j.tree.salt (digest_on p i h) t k)
 
--- good hash blocks lead to a block, and parity doesn't cover it, or can't make it again
+-- verified hash blocks lead to a block, and parity doesn't cover it or can't restore it
 pub record IsBeyondParity (j : Job) (h i : ℕ) (t : Trial) : Type 0 where
   pub p : PathRecord
   pub way : IsWay j.tree i h p
   pub vain : IsUncovered j.tree.shape t.layout h i ⊎ ((k : ℕ) × (IsCoveredAt j.tree.shape t.layout h i k × IsRoundBeyond j p h i t k))
 
--- what comes of a block that is sought: it comes back, or stands there by now, or a hash block above it isn't good, or it is beyond
--- parity
+-- The result for a block that is sought by parity: it is restored; or it is valid by now; or a hash block above it is corrupt;
+-- or parity can't restore it.
 abbrev pub IsOutcome : Job → ℕ → ℕ → Trial → Type 0
 IsOutcome j h i t = IsBroughtBack j h i t.w t.w' ⊎ (IsGoodBehind j h i t.w ⊎ (IsCutOff j.tree i h t.w.hash_dev ⊎ IsBeyondParity j h i t))
 
--- ---- when it was so
+-- ---- at what point of the run
 
--- a part of a run from one world to another: blocks were visited before it and behind it
+-- a part of a run: blocks were visited before and after it
 pub record IsPart (j : Job) (w a b w' : RepairWorld) : Type 0 where
   pub earlier : List Visit
   pub later : List Visit
   pub before : VisitsAll j earlier w a
   pub behind : VisitsAll j later b w'
 
--- When its turn came a hash block above it wasn't good: one above a block beside it, which has the same hash blocks above.
+-- When its turn came a hash block above it was corrupt; this was seen at a neighbouring block with the same hash blocks above.
 pub record IsUnderBad (j : Job) (h i : ℕ) (w w' : RepairWorld) : Type 0 where
   pub beside : ℕ
   pub same : ancestor j.tree.shape (h + 1) beside ≡ ancestor j.tree.shape (h + 1) i
@@ -72,7 +72,7 @@ pub record IsUnderBad (j : Job) (h i : ℕ) (w w' : RepairWorld) : Type 0 where
   pub part : IsPart j w a b w'
   pub cut : IsCutOff j.tree beside h a.hash_dev
 
--- It was sought, where these covered blocks count as lost. Beside is the data block beneath it by which it was.
+-- The block was sought when these covered blocks counted as lost; `beside` is the data block below it that it was sought by.
 pub record IsSoughtIn (j : Job) (l : Layout) (lost : List ℕ) (h i : ℕ) (w w' : RepairWorld) (p : Device) : Type 0 where
   pub beside : ℕ
   pub same : ancestor j.tree.shape h beside ≡ ancestor j.tree.shape h i
@@ -86,12 +86,12 @@ pub record IsSoughtIn (j : Job) (l : Layout) (lost : List ℕ) (h i : ℕ) (w w'
 
 -- ---- the law
 
--- what came of a block in a pass with these visits
+-- the result for a block in a pass with these visits
 abbrev pub IsSettled : Job → Layout → List ℕ → List Visit → ℕ → ℕ → RepairWorld → RepairWorld → Device → Type 0
 IsSettled j l lost visits h i w w' p = IsHadIn j.tree.shape h i visits ⊎ (IsUnderBad j h i w w' ⊎ IsSoughtIn j l lost h i w w' p)
 
--- Over devices that never fail each block of the tree was good or found when the last pass came to it, or came back by parity,
--- or a hash block above it isn't good, or it is beyond parity.
+-- On devices that never fail, for each block of the tree one of these holds: it was valid or found when the last pass came to
+-- it; parity restored it; a hash block above it is corrupt; parity can't restore it.
 abbrev pub WhatStaysLostIsBeyondParity : Type 0
 WhatStaysLostIsBeyondParity =
     (plan : Plan) → (l : Layout) → (w w' : RepairWorld) → (p p' : Device) → (seeks : SeeksByParity plan l w w' p p') → AllNeverFail w.data_dev w.hash_dev p

@@ -1,4 +1,4 @@
--- How often the devices of an image are asked at most, in failed calls too.
+-- How often the devices of an image are accessed at most; failed calls count too.
 use Rattle.std.specs.Prelude.{◌≡◌, ◌⊎◌, ℕ, ◌+◌, ◌*◌, ◌<◌, ◌≤◌, false, List, Option, Result, IsErrAnd, length}
 use Rattle.std.specs.List.{slice_index_or}
 use Rattle.std.specs.Result.{result_err}
@@ -19,7 +19,7 @@ use Rattle.tree_repair.specs.Worlds.{IsHashReadAlone, RepairWorld}
 abbrev pub HasWrittenAtMost : Device → ℕ → Device → Type 0
 HasWrittenAtMost old n new = new.writes ≤ old.writes + n
 
--- at most n were read of each of some devices
+-- at most n sectors of each of some devices were read
 pub record AreReadAtMost (old : List Device) (n : ℕ) (new : List Device) : Type 0 where
   pub count : length new ≡ length old
   pub each : (j : ℕ) → j < length old → (d : Device) → HasReadAtMost (slice_index_or old j d) n (slice_index_or new j d)
@@ -30,9 +30,10 @@ pub record AreReadAtMost (old : List Device) (n : ℕ) (new : List Device) : Typ
 abbrev pub area_block_sectors : ShapeRecord → ℕ
 area_block_sectors s = blocks_sectors (area_blocks s) s.hash_block
 
--- Of the data each block is read once with its row, once alone, once where it is written, to read it back, and once for each
--- level, whose hash blocks it is made into. Of the tree there are the superblock, the way to each row, each block once alone, once
--- to read it back, and once for each level above. No block is written twice, nor sought twice in a copy.
+-- Each data block is read once with its row, once alone, once to read it back if it is written, and once for each level whose
+-- hash blocks are reconstructed from it. On the hash device the superblock, the path to each row, and each block are read: the
+-- block once alone, once to read it back, and once for each level above it. No block is written twice, or sought twice in one
+-- copy.
 pub record IsOnePass (s : ShapeRecord) (w w' : RepairWorld) : Type 0 where
   pub data_reads : HasReadAtMost w.data_dev ((levels s + 3) * data_sectors s) w'.data_dev
   pub hash_reads : HasReadAtMost w.hash_dev (1 + (2 * levels s + 1) * area_block_sectors s) w'.hash_dev
@@ -41,12 +42,12 @@ pub record IsOnePass (s : ShapeRecord) (w w' : RepairWorld) : Type 0 where
   pub data_copies : AreReadAtMost w.data_copies (data_sectors s) w'.data_copies
   pub hash_copies : AreReadAtMost w.hash_copies (area_block_sectors s) w'.hash_copies
 
--- an image was repaired in one pass, by the shape that its superblock says
+-- an image was repaired in one pass, by the shape in its superblock
 pub record RepairsInOnePass (plan : Plan) (w w' : RepairWorld) (old new : Option (List ℕ)) (fault : Option RepairFault) : Type 0 where
   pub repairs : Repairs plan false w w' old new fault
   pub within : IsOnePass (shape_of repairs.s) w w'
 
--- so, whether to the end or not; or there was nothing to be gone over
+-- such a repair, or one that ended early; or there was no image to repair
 abbrev pub IsRepairWithin : {W T : Type 0} → (W → Option (List ℕ)) → Plan → RepairWorld → RepairWorld → CountedRecord W → CountedRecord W → Result T RepairFault → Type 0
 IsRepairWithin contents plan w w' old new result =
     (IsErrAnd result (IsNoImageCause w.data_dev w.hash_dev w'.hash_dev) × IsHashReadAlone w w') ⊎ RepairsInOnePass plan w w' (contents old.inner) (contents new.inner) (result_err result)

@@ -1,4 +1,4 @@
--- Which blocks of an image a run looks at.
+-- Which blocks of an image a run visits.
 use Rattle.std.specs.Prelude.{◌≡◌, ◌⊎◌, ℕ, ◌+◌, ◌-◌, ◌*◌, ◌/◌, ◌<◌, ◌≤◌, List, [], ◌∷◌, ◌++◌, length, All}
 use Rattle.std.specs.List.{slice_index_or}
 use Rattle.block_device.specs.Device.{Device}
@@ -12,47 +12,47 @@ use Rattle.tree_repair.specs.Sources.{IsThere, wanted}
 use Rattle.tree_repair.specs.Tries.{IsCutOff}
 use Rattle.tree_repair.specs.Worlds.{IsWorldRead, RepairWorld}
 
--- ---- data blocks that are good
+-- ---- data blocks that verify
 
--- Data blocks from one on were read with the digests to which a path leads; over a steady device they stand there.
+-- Data blocks from one on were read with the digests that the path leads to; on a steady device they are the stored blocks.
 abbrev pub AreThere : Job → PathRecord → Device → ℕ → List (List ℕ) → Type 0
 AreThere j p d i [] = Unit {0}
 AreThere j p d i (b ∷ more) =
     IsThere d (i * (j.tree.shape.data_block / 512)) (wanted j.tree.salt (digest_on p i 0) (j.tree.shape.data_block / 512)) b × AreThere j p d (i + 1) more
 
--- n of them
+-- n such data blocks
 pub record AreGoodFrom (j : Job) (p : PathRecord) (d : Device) (i n : ℕ) : Type 0 where
   pub contents : List (List ℕ)
   pub count : length contents ≡ n
   pub are : AreThere j p d i contents
 
--- those of a row
+-- the data blocks of a row
 abbrev pub AreGoodInRow : Job → PathRecord → Row → Device → Type 0
 AreGoodInRow j p row d = AreGoodFrom j p d row.first (row.end - row.first)
 
--- all of a row
+-- all data blocks of a row were read and verify
 pub record IsGoodRow (j : Job) (p : PathRecord) (row : Row) (d : Device) : Type 0 where
   pub height_is : row.height ≡ 0
   pub good : AreGoodFrom j p d row.first (row.end - row.first)
 
--- these digests stand in a path for the data blocks from one on
+-- the path stores these digests for the data blocks from one on
 abbrev pub AreDigestsOn : PathRecord → ℕ → List (List ℕ) → Type 0
 AreDigestsOn p i digests = (k : ℕ) → k < length digests → (d : List ℕ) → slice_index_or digests k d ≡ digest_on p (i + k) 0
 
--- ---- blocks that are looked at
+-- ---- blocks that are visited
 
 -- a visit of the block of that height above data block i
 pub record IsVisitAt (s : ShapeRecord) (h i : ℕ) (v : Visit) : Type 0 where
   pub height_is : v.height ≡ h
   pub same : ancestor s h v.index ≡ ancestor s h i
 
--- one of these is
+-- one of these is such a visit
 abbrev pub IsVisitedIn : ShapeRecord → ℕ → ℕ → List Visit → Type 0
 IsVisitedIn s h i [] = ⊥
 IsVisitedIn s h i (v ∷ more) = IsVisitAt s h i v ⊎ IsVisitedIn s h i more
 
--- Behind some of the visits a hash block above it wasn't good, or the hash device, which isn't one that never fails, failed in some
--- read of the tree. It was tried with a block beside it, which has the same hash blocks above.
+-- After some of the visits a hash block above the block was corrupt, or the hash device, which may fail, failed in a read of
+-- the tree. This was seen at a neighbouring block with the same hash blocks above.
 pub record IsPassedBy (j : Job) (h i : ℕ) (visits : List Visit) (w w' : RepairWorld) : Type 0 where
   pub earlier : List Visit
   pub later : List Visit
@@ -66,7 +66,7 @@ pub record IsPassedBy (j : Job) (h i : ℕ) (visits : List Visit) (w w' : Repair
   pub same : ancestor j.tree.shape (h + 1) beside ≡ ancestor j.tree.shape (h + 1) i
   pub cut : HasFailedRead a.hash_dev b.hash_dev ⊎ IsCutOff j.tree beside h a.hash_dev
 
--- it was looked at, if good hash blocks led to it
+-- the block was visited, unless a hash block above it was corrupt or unreadable
 abbrev pub IsLookedAt : Job → ℕ → ℕ → List Visit → RepairWorld → RepairWorld → Type 0
 IsLookedAt j h i visits w w' = IsVisitedIn j.tree.shape h i visits ⊎ IsPassedBy j h i visits w w'
 
@@ -81,17 +81,17 @@ IsFromTo height first end h i = (height ≡ h) × ((first ≤ i) × (i < end))
 abbrev pub IsOfRow : Row → ℕ → ℕ → Type 0
 IsOfRow row h i = IsFromTo row.height row.first row.end h i
 
--- those of a row before some data block
+-- the blocks of a row before a data block
 abbrev pub IsOfRowBefore : Row → ℕ → ℕ → ℕ → Type 0
 IsOfRowBefore row end h i = IsOfRow row h i × (i < end)
 
--- those from some height up
+-- the blocks from a height up
 abbrev pub IsFromUp : ShapeRecord → ℕ → ℕ → ℕ → Type 0
 IsFromUp s low h i = (low ≤ h) × ((h ≤ levels s) × (i < s.blocks))
 
 -- ---- blocks that are visited once
 
--- the block of that height above data block i is due, by a data block beneath it
+-- the block of that height above data block i is due; `beside` is a data block below it
 pub record IsDueAt (s : ShapeRecord) (Due : ℕ → ℕ → Type 0) (h i : ℕ) : Type 0 where
   pub beside : ℕ
   pub due : Due h beside
@@ -101,7 +101,7 @@ pub record IsDueAt (s : ShapeRecord) (Due : ℕ → ℕ → Type 0) (h i : ℕ) 
 abbrev pub AreVisitsDue : ShapeRecord → (ℕ → ℕ → Type 0) → List Visit → Type 0
 AreVisitsDue s Due visits = All (λ (v : Visit). IsDueAt s Due v.height v.index) visits
 
--- no two of them are of one block
+-- no two of the visits are of the same block
 abbrev pub AreVisitedOnce : ShapeRecord → List Visit → Type 0
 AreVisitedOnce s [] = Unit {0}
 AreVisitedOnce s (v ∷ more) = (IsVisitedIn s v.height v.index more → ⊥) × AreVisitedOnce s more

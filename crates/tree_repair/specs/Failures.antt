@@ -1,9 +1,9 @@
--- That no call of an image's devices has failed since their failures were counted.
+-- No call of an image's devices failed since their failures were counted.
 use Rattle.std.specs.Prelude.{◌≡◌, ◌-◌, ◌^◌, ◌<◌}
 use Rattle.tree_repair.specs.declared.outcome.Failures.{Failures}
 use Rattle.tree_repair.specs.Worlds.{RepairWorld}
 
--- Both have counted none since, and neither counter is at its end.
+-- Neither device has counted a failure since, and both counters are below their maximum.
 pub record AreUncounted (before : Failures) (w : RepairWorld) : Type 0 where
   pub data_same : w.data_dev.failures ≡ before.data
   pub hash_same : w.hash_dev.failures ≡ before.hash

@@ -1,4 +1,4 @@
--- Hash blocks made again of what stands on the devices of an image.
+-- Hash blocks reconstructed from what the devices of an image store.
 use Rattle.std.specs.Prelude.{ℕ, List}
 use Rattle.tree_shape.specs.Shape.{ShapeRecord}
 use Rattle.tree_repair.specs.declared.place.Repair.{Repair}
@@ -10,7 +10,7 @@ use Rattle.tree_repair.specs.Worlds.{RepairWorld}
 abbrev pub made_in : Repair → RepairWorld → Making → List ℕ
 made_in r w m = made (ground r.shape r.salt w.data_dev w.hash_dev m.from) m.steps m.number
 
--- block n of a height as it stands
+-- block n of a height as it is stored
 abbrev pub stands_in : ShapeRecord → RepairWorld → ℕ → ℕ → List ℕ
 stands_in s w h n = standing_block s w.data_dev.image w.hash_dev.image h n
 

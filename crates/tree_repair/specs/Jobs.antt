@@ -1,4 +1,4 @@
--- The job of a repair.
+-- The parameters of a repair.
 use Rattle.std.specs.Prelude.{◌≡◌, ℕ, List, ◌+◌, ◌%◌, ◌^◌, ◌<◌, ◌≤◌, min}
 use Rattle.tree_shape.specs.Digests.{digest}
 use Rattle.tree_shape.specs.Shape.{ShapeRecord, levels, per_block}
@@ -12,7 +12,7 @@ use Rattle.tree_repair.specs.Runs.{Job, copy_line, mended_line, parity_line}
 abbrev pub job : Repair → Job
 job r = record { tree = record { shape = r.shape; salt = r.salt; root = r.root }; copy_first = r.copy_first; write = r.write; parity = r.parity }
 
--- the lines of a block
+-- the lines that are printed for a block
 abbrev pub block_lines : Repair → Place → Mended → List ℕ
 block_lines r place m = mended_line (job r) place.height place.index m
 
@@ -22,11 +22,11 @@ copy_line_at r place k = copy_line (job r) place.height place.index k
 abbrev pub parity_line_at : Repair → Place → List ℕ
 parity_line_at r place = parity_line (job r) place.height place.index
 
--- these bytes have the digest to which a path leads there
+-- these bytes have the digest that the path leads to
 abbrev pub AreGoodAt : Repair → PathRecord → Place → List ℕ → Type 0
 AreGoodAt r p place bytes = digest r.salt bytes ≡ digest_on p place.index place.height
 
--- the blocks of a row stand beneath one hash block
+-- the digests of a row's blocks are in one hash block
 pub record IsRow (s : ShapeRecord) (r : Row) : Type 0 where
   pub high : r.height ≤ levels s
   pub begins : r.first % per_block s ^ (r.height + 1) ≡ 0

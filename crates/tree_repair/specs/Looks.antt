@@ -1,4 +1,4 @@
--- A look at a block that is sought.
+-- The check of a block whose digest is known.
 use Rattle.std.specs.Prelude.{ℕ, ◌/◌, true, IfOk, List, OnErr, Result, Vec, length, map}
 use Rattle.block_device.specs.Device.{Device}
 use Rattle.tree_repair.specs.declared.mending.Mended.{Mended}
@@ -19,18 +19,18 @@ look s sectors old new copies copies' = record {
   write = s.repair.now.write;
 }
 
--- the same of a hash block of an image
+-- the check of a hash block of an image
 abbrev pub tree_look : Sought → List ℕ → RepairWorld → RepairWorld → Look
 tree_look s block w w' = look s (length block / 512) w.hash_dev w'.hash_dev w.hash_copies w'.hash_copies
 
--- the same by a device and copies that are lent, of which the states tell the devices, and by the block's bytes
+-- the check of a block as long as a buffer, by the states of its device and the copies
 abbrev pub look_by : {B C Z : Type 0} → (B → Device) → (C → Device) → Sought → List ℕ → B → B → Vec C Z → Vec C Z → Look
 look_by state copy_state s block old new copies copies' = look s (length block / 512) (state old) (state new) (map copy_state copies.items) (map copy_state copies'.items)
 
--- what came of the block is told
+-- the result of the check
 abbrev pub MendsBlock : {B C Z E : Type 0} → (B → Device) → (C → Device) → Sought → List ℕ → B → B → Vec C Z → Vec C Z → Result Mended E → Type 0
 MendsBlock state copy_state s block old new copies copies' result = IfOk result (λ m. (bytes : List ℕ) × IsMended (look_by state copy_state s block old new copies copies') bytes true m)
 
--- or it was found in a copy, but can't be written
+-- the block was found in a copy, but its write failed
 abbrev pub FailsToMend : {B C Z T E : Type 0} → (B → Device) → (C → Device) → Sought → List ℕ → B → B → Vec C Z → Vec C Z → Result T E → Type 0
 FailsToMend state copy_state s block old new copies copies' result = OnErr result (IsUnmended (look_by state copy_state s block old new copies copies'))

@@ -1,5 +1,5 @@
--- What comes of a block that is looked at: it is good, or it isn't and was found elsewhere, or it is lost. Where its device is
--- read no failure is taken back, so each that is counted stays.
+-- The result of a check of a block: it is valid; or it is corrupt and was found elsewhere; or it is lost. Reads of its device
+-- never decrease its failure counter, so each counted failure stays.
 use Rattle.std.specs.Prelude.{◌≡◌, ◌≤◌, ℕ, ◌*◌, ◌/◌, Bool, true, false, IsTrue, List, [], ◌∷◌, length}
 use Rattle.block_device.specs.Call.{Call, Read, Sync, Write}
 use Rattle.block_device.specs.Device.{Device, IsWritten, sectors_of, spliced}
@@ -9,8 +9,8 @@ use Rattle.tree_repair.specs.declared.mending.Mended.{Mended}
 use Rattle.tree_repair.specs.declared.mending.Mended.TheVariants as mended
 use Rattle.tree_repair.specs.Sources.{AreEachRead, AreIn, AreNotIn, IsBad, IsThere, Wanted}
 
--- A device and the copies before and after, the block's first sector on each, what should stand there, and whether it may be
--- written.
+-- A device and the copies before and after, the block's first sector on each, the expected bytes, and whether the repair may
+-- write.
 pub record Look : Type 0 where
   pub old : Device
   pub new : Device
@@ -21,35 +21,36 @@ pub record Look : Type 0 where
   pub w : Wanted
   pub write : Bool
 
--- a block of those bytes, which fill its sectors, was written, or the write failed: not so on a device that never fails
+-- a block of these bytes, which fill its sectors, was written, or the write failed; a device that never fails has no failed
+-- write
 pub record IsBlockPut (old : Device) (first sectors : ℕ) (bytes : List ℕ) (done : Bool) (new : Device) : Type 0 where
   pub whole : length bytes ≡ 512 * sectors
   pub moved : IsWritten old first sectors done new
   pub image : IsTrue done → IsTrue old.steady → new.image ≡ spliced old.image first (sectors_of sectors bytes)
   pub sure : IsTrue old.never_fails → IsTrue done
 
--- the same where anything may be written
+-- a write of a block if the repair may write; otherwise nothing is done
 abbrev pub IsAllowedPut : Bool → Device → ℕ → ℕ → List ℕ → Bool → Device → Type 0
 IsAllowedPut true old first sectors bytes done new = IsBlockPut old first sectors bytes done new
 IsAllowedPut false old first sectors bytes done new = (new ≡ old) × (done ≡ true)
 
--- the same of all that is at hand
+-- such a write of all bytes in a buffer
 abbrev pub IsPutAt : Bool → Device → ℕ → List ℕ → Bool → Device → Type 0
 IsPutAt write old first bytes done new = IsAllowedPut write old first (length bytes / 512) bytes done new
 
--- The calls on the device: one write of exactly these bytes at that sector, or none if nothing may be written.
+-- The calls of the device: one write of exactly these bytes at that sector, or none if the repair may not write.
 abbrev pub put_calls : Bool → ℕ → List ℕ → Bool → List Call
 put_calls true first bytes done = Write first bytes done ∷ []
 put_calls false first bytes done = []
 
--- it is good: nothing is written
+-- the block is valid: nothing is written
 pub record IsFoundGood (l : Look) (bytes : List ℕ) : Type 0 where
   pub read : IsOnlyRead l.old l.new
   pub more : l.old.failures ≤ l.new.failures
   pub copies_read : AreEachRead l.copies l.copies'
   pub there : IsThere l.old l.first l.w bytes
 
--- it isn't, and copy k has it: its bytes were written, or the write failed
+-- the block is corrupt, and copy k has it: its bytes were written, or the write failed
 pub record IsFoundInCopy (l : Look) (k : ℕ) (bytes : List ℕ) (done : Bool) : Type 0 where
   pub between : Device
   pub read : IsOnlyRead l.old between
@@ -60,8 +61,8 @@ pub record IsFoundInCopy (l : Look) (k : ℕ) (bytes : List ℕ) (done : Bool) :
   pub good : digest l.w.salt bytes ≡ l.w.digest_is
   pub put : IsAllowedPut l.write between l.first l.w.sectors bytes done l.new
 
--- It isn't, and no copy has it, but it was made again of blocks that were read behind it: its bytes were written, or the
--- write failed.
+-- The block is corrupt, and no copy has it. It was reconstructed from blocks that were read after it; its bytes were written,
+-- or the write failed.
 pub record IsFoundBeneath (l : Look) (bytes : List ℕ) (done : Bool) : Type 0 where
   pub seen : Device
   pub read : IsOnlyRead l.old seen
@@ -75,7 +76,7 @@ pub record IsFoundBeneath (l : Look) (bytes : List ℕ) (done : Bool) : Type 0 w
   pub good : digest l.w.salt bytes ≡ l.w.digest_is
   pub put : IsAllowedPut l.write between l.first l.w.sectors bytes done l.new
 
--- it isn't good, and good bytes are at hand: they were written, or the write failed
+-- the block is corrupt, and its bytes are known: they were written, or the write failed
 pub record IsBlockReplaced (old : Device) (first : ℕ) (w : Wanted) (write : Bool) (bytes : List ℕ) (done : Bool) (new : Device) : Type 0 where
   pub between : Device
   pub read : IsOnlyRead old between
@@ -84,12 +85,13 @@ pub record IsBlockReplaced (old : Device) (first : ℕ) (w : Wanted) (write : Bo
   pub good : digest w.salt bytes ≡ w.digest_is
   pub put : IsAllowedPut write between first w.sectors bytes done new
 
--- the same where parity is named as the source; what parity made isn't said here
+-- the block is corrupt, and parity restored its bytes, which were written, or the write failed; how parity restores bytes is
+-- stated elsewhere
 pub record IsFoundByParity (l : Look) (bytes : List ℕ) (done : Bool) : Type 0 where
   pub replaced : IsBlockReplaced l.old l.first l.w l.write bytes done l.new
   pub copies_read : AreEachRead l.copies l.copies'
 
--- it isn't, and no copy has it, nor was it made again: nothing is written
+-- the block is corrupt, no copy has it, and it wasn't reconstructed: nothing is written
 pub record IsFoundNowhere (l : Look) : Type 0 where
   pub seen : Device
   pub read : IsOnlyRead l.old seen
@@ -107,7 +109,7 @@ IsMended l bytes done mended.Remade = IsFoundBeneath l bytes done
 IsMended l bytes done mended.Parity = IsFoundByParity l bytes done
 IsMended l bytes done mended.Lost = IsFoundNowhere l
 
--- it wasn't good, and its bytes were found or made
+-- the block was corrupt, and its bytes were found or made
 abbrev pub IsBlockFound : Mended → Type 0
 IsBlockFound mended.Good = ⊥
 IsBlockFound (mended.Copy k) = Unit {0}
@@ -115,7 +117,7 @@ IsBlockFound mended.Remade = Unit {0}
 IsBlockFound mended.Parity = Unit {0}
 IsBlockFound mended.Lost = ⊥
 
--- it wasn't made again, nor brought back by parity
+-- the block was neither reconstructed nor restored by parity
 abbrev pub IsNotRemade : Mended → Type 0
 IsNotRemade mended.Good = Unit {0}
 IsNotRemade (mended.Copy k) = Unit {0}
@@ -123,7 +125,7 @@ IsNotRemade mended.Remade = ⊥
 IsNotRemade mended.Parity = ⊥
 IsNotRemade mended.Lost = Unit {0}
 
--- it wasn't made again, and was brought back by parity only where there is any
+-- the block wasn't reconstructed, and was restored by parity only if there is parity
 abbrev pub IsBareOf : Bool → Mended → Type 0
 IsBareOf parity mended.Good = Unit {0}
 IsBareOf parity (mended.Copy k) = Unit {0}
@@ -131,6 +133,6 @@ IsBareOf parity mended.Remade = ⊥
 IsBareOf parity mended.Parity = IsTrue parity
 IsBareOf parity mended.Lost = Unit {0}
 
--- it was found in a copy, but can't be written
+-- the block was found in a copy, but its write failed
 abbrev pub IsUnmended : Look → Type 0
 IsUnmended l = (k : ℕ) × ((bytes : List ℕ) × IsFoundInCopy l k bytes false)

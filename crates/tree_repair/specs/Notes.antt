@@ -1,4 +1,4 @@
--- What is noted of the blocks that are due, as the functions that go over them say it.
+-- The notes about the blocks that are due, in the forms that functions state.
 use Rattle.std.specs.Prelude.{ℕ, List, Option, Result}
 use Rattle.program_io.specs.Counted.{CountedRecord}
 use Rattle.tree_repair.specs.declared.bad.BadBlocks.{BadBlocks}
@@ -11,15 +11,15 @@ use Rattle.tree_repair.specs.Jobs.{job}
 use Rattle.tree_repair.specs.Passes.{Notes}
 use Rattle.tree_repair.specs.Worlds.{RepairWorld}
 
--- those of all heights
+-- the blocks of all heights
 abbrev pub NotesAll : {W T : Type 0} → (W → Option (List ℕ)) → Repair → RepairWorld → RepairWorld → BadBlocks → BadBlocks → CountedRecord W → CountedRecord W → Result T RepairFault → Type 0
 NotesAll contents r w w' a b old new result = Notes contents (job r) (IsFromUp r.shape 0) w w' a b old new result
 
--- those of a height
+-- the blocks of a height
 abbrev pub NotesHeight : {W T : Type 0} → (W → Option (List ℕ)) → Repair → ℕ → RepairWorld → RepairWorld → BadBlocks → BadBlocks → CountedRecord W → CountedRecord W → Result T RepairFault → Type 0
 NotesHeight contents r height w w' a b old new result = Notes contents (job r) (IsFromTo height 0 r.shape.blocks) w w' a b old new result
 
--- those of a row
+-- the blocks of a row
 abbrev pub NotesRow : {W T : Type 0} → (W → Option (List ℕ)) → Repair → Row → RepairWorld → RepairWorld → BadBlocks → BadBlocks → CountedRecord W → CountedRecord W → Result T RepairFault → Type 0
 NotesRow contents r row w w' a b old new result = Notes contents (job r) (IsOfRow row) w w' a b old new result
 

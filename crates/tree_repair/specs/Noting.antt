@@ -1,4 +1,4 @@
--- What is noted of a block behind a visit.
+-- What is noted of a block after a visit.
 use Rattle.std.specs.Prelude.{◌≡◌, ◌++◌, ℕ, IsTrue, Bool, true, false, List, [], ◌∷◌, Option, None, Some}
 use Rattle.tree_repair.specs.declared.bad.BadBlock.{BadBlock}
 use Rattle.tree_repair.specs.declared.bad.BadBlocks.{BadBlocks}
@@ -8,12 +8,12 @@ use Rattle.tree_repair.specs.declared.outcome.Outcome.{Outcome}
 use Rattle.tree_repair.specs.declared.outcome.Outcome.TheVariants.{Partly, Whole}
 use Rattle.tree_repair.specs.declared.place.Place.{Place}
 
--- one that was found is good, if it was written
+-- a block that was found is valid if it was written
 abbrev pub unless : Bool → Option Bool
 unless true = None
 unless false = Some true
 
--- nothing of a block that is good by now; else whether it was found
+-- nothing for a block that is valid now, otherwise whether it was found
 abbrev pub found_of : Bool → Mended → Option Bool
 found_of write mended.Good = None
 found_of write (mended.Copy k) = unless write
@@ -21,7 +21,7 @@ found_of write mended.Remade = unless write
 found_of write mended.Parity = unless write
 found_of write mended.Lost = Some false
 
--- its bytes were written
+-- the block's bytes were written
 abbrev pub was_put : Bool → Mended → Bool
 was_put write mended.Good = false
 was_put write (mended.Copy k) = write
@@ -29,7 +29,7 @@ was_put write mended.Remade = write
 was_put write mended.Parity = write
 was_put write mended.Lost = false
 
--- what is noted of it
+-- the note about a block
 abbrev pub bad_blocks : Place → Option Bool → List BadBlock
 bad_blocks place None = []
 bad_blocks place (Some found) = record { place = place; found = found } ∷ []
@@ -37,15 +37,15 @@ bad_blocks place (Some found) = record { place = place; found = found } ∷ []
 abbrev pub IsNoted : BadBlocks → BadBlocks → Place → Option Bool → Type 0
 IsNoted old new place found = IsTrue old.asked → new.blocks.items ≡ old.blocks.items ++ bad_blocks place found
 
--- it is good, and so were all before it
+-- the block is valid, and no corrupt block was noted before
 abbrev pub IsGoodBefore : BadBlocks → Option Bool → Type 0
 IsGoodBefore old found = (old.any ≡ false) × (found ≡ None)
 
--- some blocks were passed by
+-- some blocks were skipped
 abbrev pub passed_some : BadBlocks → BadBlocks
 passed_some bad = record bad { passed = true }
 
--- what is known of an image of so many data blocks, where all of it is known to be good, and where not
+-- the outcome for an image of so many data blocks, by whether all of it is known to be valid
 abbrev pub pass_outcome : Bool → ℕ → Outcome
 pass_outcome true blocks = Whole blocks
 pass_outcome false blocks = Partly

@@ -1,4 +1,4 @@
--- What a pass over an image leaves of its blocks.
+-- The state of an image's blocks after a pass.
 use Rattle.std.specs.Prelude.{◌≡◌, ◌⊎◌, ℕ, ◌<◌, ◌≤◌, Bool, true, false, IsTrue, List, [], ◌∷◌, None, All}
 use Rattle.tree_shape.specs.Shape.{ShapeRecord, levels}
 use Rattle.tree_path.specs.Laws.{Collide}
@@ -17,38 +17,38 @@ use Rattle.tree_repair.specs.Runs.{IsDone, Job, VisitsAll, Visit}
 use Rattle.tree_repair.specs.Standing.{IsSteadyImage, IsWorldSteady, StandsGood}
 use Rattle.tree_repair.specs.Worlds.{RepairWorld}
 
--- ---- why a block isn't good behind it
+-- ---- why a block is corrupt after a pass
 
 -- the block of that height above data block i was lost in one of the visits
 abbrev pub IsLostIn : ShapeRecord → ℕ → ℕ → List Visit → Type 0
 IsLostIn s h i [] = ⊥
 IsLostIn s h i (v ∷ more) = (IsVisitAt s h i v × (v.mended ≡ mended.Lost)) ⊎ IsLostIn s h i more
 
--- the data block or a hash block above it was
+-- the data block or a hash block above it was lost
 abbrev pub IsLostOnWay : ShapeRecord → ℕ → List Visit → Type 0
 IsLostOnWay s i visits = (h : ℕ) × IsLostIn s h i visits
 
--- so it is, or two different inputs have one digest
+-- a block on the path was lost, or two different inputs have one digest
 abbrev pub IsExcused : Job → ℕ → List Visit → Type 0
 IsExcused j i visits = IsLostOnWay j.tree.shape i visits ⊎ Collide j.tree.salt
 
 -- ---- a pass
 
--- data and tree lie on steady devices, of which the hash device never fails
+-- the data and the tree are on steady devices, and the hash device never fails
 pub record IsSureImage (s : ShapeRecord) (w : RepairWorld) : Type 0 where
   pub image : IsSteadyImage s w
   pub sure : IsTrue w.hash_dev.never_fails
 
--- The blocks from some height up were gone over, and no write failed. On such devices that may be written each stands good,
--- or a block on its way was lost, or two different inputs have one digest.
+-- The blocks from a height up were visited, and no write failed. On such devices, if writable, each block is valid, or a block
+-- on its path was lost, or two different inputs have one digest.
 pub record StandsFrom (j : Job) (low : ℕ) (w w' : RepairWorld) : Type 0 where
   pub visits : List Visit
   pub runs : VisitsAll j visits w w'
   pub done : All IsDone visits
   pub stand : IsTrue j.write → IsSureImage j.tree.shape w → (h i : ℕ) → IsFromUp j.tree.shape low h i → StandsGood j h i w' ⊎ IsExcused j i visits
 
--- An image was gone over, and no write failed. On steady devices that may be written, of which the hash device never fails, each
--- data block is good behind it, as are all hash blocks above it; or one of these was lost.
+-- An image was repaired in one pass, and no write failed. On steady writable devices whose hash device never fails, each data
+-- block and all hash blocks above it are valid afterwards, or one of these blocks was lost.
 pub record LeavesWhole (plan : Plan) (w w' : RepairWorld) : Type 0 where
   pub s : SuperRecord
   pub images : AreImages w.data_dev w.hash_dev s
@@ -58,22 +58,23 @@ pub record LeavesWhole (plan : Plan) (w w' : RepairWorld) : Type 0 where
   pub good : IsTrue plan.write → IsWorldSteady w → IsTrue w.hash_dev.never_fails → (i : ℕ) → i < (shape_of s).blocks
       → IsContentStoredAs (job_of s plan false).tree w'.data_dev.image w'.hash_dev.image i None ⊎ IsExcused (job_of s plan false) i visits
 
--- ---- what is known of it
+-- ---- what is known of the image
 
--- one of the visits was to the block of that height above data block i, which is good behind it
+-- one of the visits was to the block of that height above data block i, and left it valid
 abbrev pub IsGoodThenIn : Bool → ShapeRecord → ℕ → ℕ → List Visit → Type 0
 IsGoodThenIn write s h i [] = ⊥
 IsGoodThenIn write s h i (v ∷ more) = (IsVisitAt s h i v × (found_of write v.mended ≡ None)) ⊎ IsGoodThenIn write s h i more
 
--- each block of the tree was visited, and was good behind its visit; no write failed
+-- each block of the tree was visited, and the visit left it valid; no write failed
 pub record IsAllGood (j : Job) (w w' : RepairWorld) : Type 0 where
   pub visits : List Visit
   pub runs : VisitsAll j visits w w'
   pub done : All IsDone visits
   pub each : (h i : ℕ) → h ≤ levels j.tree.shape → i < j.tree.shape.blocks → IsGoodThenIn j.write j.tree.shape h i visits
 
--- So many data blocks, and all hash blocks above them, were visited, and each was good behind its visit; no call of the image's devices
--- failed. On steady devices each data block is good at the end, as are all hash blocks above it, or two different inputs have one digest.
+-- So many data blocks and all hash blocks above them were visited, and each visit left its block valid; no call of the image's
+-- devices failed. On steady devices each data block and all hash blocks above it are valid at the end, or two different inputs
+-- have one digest.
 pub record LeavesAllGood (plan : Plan) (parity : Bool) (w w' : RepairWorld) (count : ℕ) : Type 0 where
   pub s : SuperRecord
   pub images : AreImages w.data_dev w.hash_dev s
@@ -86,12 +87,12 @@ pub record LeavesAllGood (plan : Plan) (parity : Bool) (w w' : RepairWorld) (cou
   pub hash_unfailed : HasCountedNone w.hash_dev w'.hash_dev
   pub good : IsWorldSteady w → (i : ℕ) → i < count → IsContentStoredAs (job_of s plan parity).tree w'.data_dev.image w'.hash_dev.image i None ⊎ Collide s.salt
 
--- of a repair by copies
+-- the outcome of a repair without parity
 abbrev pub IsOutcomeOf : Plan → RepairWorld → RepairWorld → Outcome → Type 0
 IsOutcomeOf plan w w' (Whole count) = LeavesAllGood plan false w w' count
 IsOutcomeOf plan w w' Partly = LeavesWhole plan w w'
 
--- and by parity too
+-- the outcome of a repair with parity
 abbrev pub IsParityOutcome : Plan → RepairWorld → RepairWorld → Outcome → Type 0
 IsParityOutcome plan w w' (Whole count) = LeavesAllGood plan true w w' count
 IsParityOutcome plan w w' Partly = Unit {0}

@@ -1,4 +1,4 @@
--- Blocks brought back by parity.
+-- Blocks restored by parity.
 use Rattle.std.specs.Prelude.{◌≡◌, ℕ, zero, suc, ◌+◌, ◌/◌, ◌<◌, ◌≤◌, Bool, true, false, IsTrue, List}
 use Rattle.block_device.specs.Device.{Device}
 use Rattle.fec_area.specs.declared.layout.Layout.{Layout}
@@ -19,13 +19,13 @@ use Rattle.tree_repair.specs.Runs.{IsVisited, Job, own, sector_at, size_at, visi
 use Rattle.tree_repair.specs.Worlds.{IsWorldRead, RepairWorld}
 use Rattle.tree_repair.specs.Sources.{IsThere, Wanted, wanted}
 
--- the tree has a block of that height on the way to a data block
+-- the tree has a block of that height on the path to a data block
 pub record IsPlace (s : ShapeRecord) (h i : ℕ) : Type 0 where
   pub valid : IsShape s
   pub inside : i < s.blocks
   pub high : h ≤ levels s
 
--- covered block k is the one of that height
+-- covered block k is the block of that height
 abbrev pub IsOfPlace : ShapeRecord → Layout → ℕ → ℕ → ℕ → Type 0
 IsOfPlace s l zero i k = IsOfData l i k
 IsOfPlace s l (suc h) i k = IsOfHash l (position s h (ancestor s (h + 1) i)) k
@@ -36,52 +36,52 @@ pub record IsCoveredAt (s : ShapeRecord) (l : Layout) (h i k : ℕ) : Type 0 whe
   pub inside : k < covered_blocks l
   pub is : IsOfPlace s l h i k
 
--- the sector where data or tree end
+-- the sector where the data or the tree ends
 abbrev pub end_at : ShapeRecord → ℕ → ℕ
 end_at s zero = data_sectors s
 end_at s (suc l) = tree_sectors s
 
--- a block was put where it wasn't good, or is good and was only read
+-- a corrupt block was replaced, or the block is valid and was only read
 abbrev pub IsPutOr : Device → ℕ → Wanted → Bool → List ℕ → Device → Bool → Type 0
 IsPutOr old first w write bytes new true = IsBlockReplaced old first w write bytes true new
 IsPutOr old first w write bytes new false = (IsOnlyRead old new × (old.failures ≤ new.failures)) × ((read : List ℕ) × IsThere old first w read)
 
--- a block of an image is good
+-- a block of an image is valid
 pub record IsGoodNow (j : Job) (h i : ℕ) (w : RepairWorld) : Type 0 where
   pub p : PathRecord
   pub way : IsWay j.tree i h p
   pub bytes : List ℕ
   pub there : IsThere (own h w) (sector_at j.tree.shape h i) (wanted j.tree.salt (digest_on p i h) (size_at j.tree.shape h / 512)) bytes
 
--- the same of a block of an image
+-- a corrupt block of an image was replaced, or the block is valid and was only read
 abbrev pub IsPlaced : Job → ℕ → ℕ → List ℕ → RepairWorld → RepairWorld → Bool → Type 0
 IsPlaced j h i bytes w w' true = IsVisited j (visit h i mended.Parity bytes true) w w'
 IsPlaced j h i bytes w w' false = IsWorldRead w w' × IsGoodNow j h i w
 
--- and where it was put, all was only read behind that
+-- a corrupt block of an image was replaced, and the devices were only read afterwards; or the block is valid and was only read
 abbrev pub IsPlacedAndRead : Job → ℕ → ℕ → List ℕ → RepairWorld → RepairWorld → Bool → Type 0
 IsPlacedAndRead j h i bytes w w' true = (x : RepairWorld) × (IsVisited j (visit h i mended.Parity bytes true) w x × IsWorldRead x w')
 IsPlacedAndRead j h i bytes w w' false = IsWorldRead w w' × IsGoodNow j h i w
 
--- it wasn't good, but can't be written
+-- the block is corrupt, but its write failed
 abbrev pub FailsToPlace : Job → ℕ → ℕ → List ℕ → RepairWorld → RepairWorld → Type 0
 FailsToPlace j h i bytes w w' = IsVisited j (visit h i mended.Parity bytes false) w w'
 
 -- ---- by parity
 
--- a covered block was made again, over steady devices of what stands there
+-- a covered block was restored, from what the devices store if they are steady
 abbrev pub IsBack : Losses → RepairWorld → Device → ℕ → List ℕ → Bool → Type 0
 IsBack l w parity_dev index bytes back = IsTrue back → IsTrue w.data_dev.steady → IsTrue w.hash_dev.steady → IsTrue parity_dev.steady
     → IsMadeAgain l.layout w.data_dev.image w.hash_dev.image parity_dev.image l.lost.items index bytes
 
--- a cause other than that memory was refused; that a device failed is one only where not all three are such that never fail
+-- causes other than a refused allocation; a device failure is one only if one of the three devices may fail
 abbrev pub IsOfBlocks : Device → Device → Device → RestoreFault → Type 0
 IsOfBlocks data_dev hash_dev parity_dev (TooManyLost count) = Unit {0}
 IsOfBlocks data_dev hash_dev parity_dev (TooSmall needed) = Unit {0}
 IsOfBlocks data_dev hash_dev parity_dev DeviceFailed = AllNeverFail data_dev hash_dev parity_dev → ⊥
 IsOfBlocks data_dev hash_dev parity_dev NoMemory = ⊥
 
--- or it wasn't, and that has such a cause
+-- the block wasn't restored, for such a cause
 abbrev pub IsNotBack : Losses → ℕ → RepairWorld → RepairWorld → Device → Device → Bool → Type 0
 IsNotBack l index w w' parity_dev parity_dev' back = back ≡ false
     → (fault : RestoreFault) × (IsOfBlocks w.data_dev w.hash_dev parity_dev fault × IsRestoreCause l.layout l.lost.items index w.data_dev w.hash_dev parity_dev w'.data_dev w'.hash_dev parity_dev' fault)

@@ -1,4 +1,4 @@
--- A pass of a repair by parity: what is noted of its blocks, and that each that is lost is sought.
+-- A pass of a repair with parity: which blocks it notes, and that each lost block is sought.
 use Rattle.std.specs.Prelude.{◌≡◌, ◌⊎◌, ◌<◌, ◌≤◌, ℕ, IsTrue, List, [], ◌∷◌, ◌++◌, Option, Result, IsNone, ◌&&◌, zero, suc, Bool, true, false, None, All}
 use Rattle.std.specs.List.{flat_map}
 use Rattle.std.specs.Result.{result_err}
@@ -17,17 +17,17 @@ use Rattle.tree_repair.specs.Runs.{HasRun, IsDone, Job, VisitsAll, Visit}
 use Rattle.tree_repair.specs.Tries.{HasSought}
 use Rattle.tree_repair.specs.Worlds.{IsWorldRead, RepairWorld}
 
--- that of a visit
+-- the note about a visited block
 abbrev pub bad_of : Job → Visit → List BadBlock
 bad_of j v = bad_blocks (record { height = v.height; index = v.index }) (found_of j.write v.mended)
 
--- it is good behind a visit
+-- the block is valid after the visit
 abbrev pub IsGoodThen : Job → Visit → Type 0
 IsGoodThen j v = found_of j.write v.mended ≡ None
 
--- A run of which the blocks were noted that aren't good behind it, where that is asked. It looked at each block that was due, and
--- visited no other one, and none twice. If it knows of none that isn't good, all that it visited are; if of none that was passed by,
--- it visited all that were due.
+-- A run that notes the blocks that are corrupt after it, if the caller asks for them. It considered each block that was due,
+-- visited no other, and none twice. If it knows of no corrupt block, all blocks that it visited are valid. If it knows of no
+-- skipped block, it visited all blocks that were due.
 pub record HasNoted (j : Job) (Due : ℕ → ℕ → Type 0) (w w' : RepairWorld) (old new : Option (List ℕ)) (a b : BadBlocks) (fault : Option RepairFault) : Type 0 where
   pub run : HasRun j w w' old new fault
   pub asked : b.asked ≡ a.asked
@@ -38,18 +38,18 @@ pub record HasNoted (j : Job) (Due : ℕ → ℕ → Type 0) (w w' : RepairWorld
   pub any : IsNone fault → b.any ≡ false → (a.any ≡ false) × All (IsGoodThen j) run.visits
   pub passed : IsNone fault → b.passed ≡ false → (a.passed ≡ false) × ((h i : ℕ) → Due h i → IsVisitedIn j.tree.shape h i run.visits)
 
--- the same by a writer before and behind, and by the result of the run
+-- such a run, by the writer before and after and the result
 abbrev pub Notes : {W T : Type 0} → (W → Option (List ℕ)) → Job → (ℕ → ℕ → Type 0) → RepairWorld → RepairWorld → BadBlocks → BadBlocks → CountedRecord W → CountedRecord W → Result T RepairFault → Type 0
 Notes contents j Due w w' a b old new result = HasNoted j Due w w' (contents old.inner) (contents new.inner) a b (result_err result)
 
--- ---- blocks that came back
+-- ---- restored blocks
 
--- one of the visits brought the block back
+-- one of the visits restored the block
 abbrev pub IsBackIn : ShapeRecord → BadBlock → List Visit → Type 0
 IsBackIn s b [] = ⊥
 IsBackIn s b (v ∷ more) = (IsVisitAt s b.place.height b.place.index v × (v.mended ≡ mended.Parity)) ⊎ IsBackIn s b more
 
--- each of these blocks came back, and no write failed
+-- each of these blocks was restored, and no write failed
 pub record AreBack (j : Job) (blocks : List BadBlock) (w w' : RepairWorld) : Type 0 where
   pub visits : List Visit
   pub runs : VisitsAll j visits w w'
@@ -58,8 +58,8 @@ pub record AreBack (j : Job) (blocks : List BadBlock) (w w' : RepairWorld) : Typ
 
 -- ---- passes
 
--- All blocks were gone over, from the top down, none of them twice, and each that was lost was then sought by parity, where all that
--- aren't good count as lost; no write failed. It is due again where a hash block came back, and was written.
+-- All blocks were visited, from the top down, none of them twice. Each lost block was then sought by parity, with all corrupt
+-- blocks counted as lost; no write failed. A further pass is due if a hash block was restored and written.
 pub record IsPass (j : Job) (l : Layout) (w w' : RepairWorld) (p p' : Device) (again : Bool) : Type 0 where
   pub visits : List Visit
   pub behind : RepairWorld
@@ -71,12 +71,12 @@ pub record IsPass (j : Job) (l : Layout) (w w' : RepairWorld) (p p' : Device) (a
   pub sought : HasSought j l (flat_map (bad_of j) visits) behind w' p p' hash_came
   pub again_is : again ≡ (hash_came && j.write)
 
--- so many passes, behind each of which one is due again
+-- so many passes, after each of which a further one is due
 abbrev pub AreDuePasses : Job → Layout → ℕ → RepairWorld → RepairWorld → Device → Device → Type 0
 AreDuePasses j l zero w w' p p' = IsWorldRead w w' × IsOnlyRead p p'
 AreDuePasses j l (suc n) w w' p p' = (a : RepairWorld) × ((q : Device) × (AreDuePasses j l n w a p q × IsPass j l a w' q p' true))
 
--- One more than n passes were made. The visits are those of all but the last one.
+-- n + 1 passes were made. The visits are those of all passes but the last.
 pub record ArePasses (j : Job) (l : Layout) (n : ℕ) (w w' : RepairWorld) (p p' : Device) (again : Bool) : Type 0 where
   pub earlier : List Visit
   pub last : RepairWorld
@@ -86,7 +86,7 @@ pub record ArePasses (j : Job) (l : Layout) (n : ℕ) (w w' : RepairWorld) (p p'
   pub due : AreDuePasses j l n w last p last_parity
   pub pass : IsPass j l last w' last_parity p' again
 
--- A run ends with one, behind which none is due; or as many were made as there are covered hash blocks, and one more.
+-- A run ends with a pass after which none is due; or it made as many passes as there are covered hash blocks, and one more.
 pub record EndsInPass (j : Job) (l : Layout) (w w' : RepairWorld) (p p' : Device) : Type 0 where
   pub count : ℕ
   pub again : Bool

@@ -1,4 +1,4 @@
--- A run over the blocks of an image, each with what came of it.
+-- A run over the blocks of an image, with the result for each block.
 use Rattle.std.specs.Prelude.{◌≡◌, ℕ, zero, suc, ◌+◌, ◌*◌, ◌/◌, ◌^◌, ◌<◌, ◌≤◌, Bool, true, false, IsTrue, List, [], ◌∷◌, ◌++◌, Option, Result, All, IfSome, IsNone, codes, decimal}
 use Rattle.std.specs.List.{flat_map}
 use Rattle.std.specs.Result.{result_err}
@@ -22,16 +22,17 @@ use Rattle.tree_repair.specs.Remaking.{IsMadeBeneath, IsNowhereBeneath}
 use Rattle.tree_repair.specs.Sources.{wanted}
 use Rattle.tree_repair.specs.Worlds.{IsWorldRead, RepairWorld}
 
--- a tree, the sector at which hash blocks begin on a copy, whether anything may be written, and whether there is parity
+-- a tree, the sector at which hash blocks begin on a copy, whether the repair may write, and whether there is parity
 pub record Job : Type 0 where
   pub tree : Tree
   pub copy_first : ℕ
   pub write : Bool
   pub parity : Bool
 
--- ---- a block: a data block has height 0, a hash block of level l height l + 1; its index is that of the first data block beneath
+-- ---- a block: a data block has height 0, a hash block of level l height l + 1; its index is that of the first data block
+-- below it
 
--- the device that has it, and the other one
+-- the device of the block, and the other device
 abbrev pub own : ℕ → RepairWorld → Device
 own zero w = w.data_dev
 own (suc l) w = w.hash_dev
@@ -40,7 +41,7 @@ abbrev pub other : ℕ → RepairWorld → Device
 other zero w = w.hash_dev
 other (suc l) w = w.data_dev
 
--- the copies of that, and those of the other one
+-- the copies of the block's device, and those of the other device
 abbrev pub own_copies : ℕ → RepairWorld → List Device
 own_copies zero w = w.data_copies
 own_copies (suc l) w = w.hash_copies
@@ -49,12 +50,12 @@ abbrev pub other_copies : ℕ → RepairWorld → List Device
 other_copies zero w = w.hash_copies
 other_copies (suc l) w = w.data_copies
 
--- how many bytes it has
+-- the size of the block in bytes
 abbrev pub size_at : ShapeRecord → ℕ → ℕ
 size_at s zero = s.data_block
 size_at s (suc l) = s.hash_block
 
--- its first sector, there and on a copy
+-- the first sector of the block, on its device and on a copy
 abbrev pub sector_at : ShapeRecord → ℕ → ℕ → ℕ
 sector_at s zero i = i * (s.data_block / 512)
 sector_at s (suc l) i = position s l (ancestor s (l + 1) i) * (s.hash_block / 512)
@@ -63,7 +64,7 @@ abbrev pub copy_sector_at : Job → ℕ → ℕ → ℕ
 copy_sector_at j zero i = sector_at j.tree.shape zero i
 copy_sector_at j (suc l) i = j.copy_first + sector_at j.tree.shape (suc l) i
 
--- a look at it, where a path leads to the digest that should be its own
+-- the check of a block, when a path leads to its digest
 abbrev pub look_at : Job → PathRecord → ℕ → ℕ → RepairWorld → RepairWorld → Look
 look_at j p h i w w' = record {
   old = own h w;
@@ -76,9 +77,9 @@ look_at j p h i w w' = record {
   write = j.write;
 }
 
--- ---- one after another
+-- ---- one block after another
 
--- a block, what came of it, the bytes that are good there, and whether none of its writes failed
+-- a block, the result, its valid bytes, and whether none of its writes failed
 pub record Visit : Type 0 where
   pub height : ℕ
   pub index : ℕ
@@ -89,7 +90,7 @@ pub record Visit : Type 0 where
 abbrev pub visit : ℕ → ℕ → Mended → List ℕ → Bool → Visit
 visit height index mended bytes done = record { height = height; index = index; mended = mended; bytes = bytes; done = done }
 
--- The device that hasn't such blocks wasn't asked; but where a hash block isn't good and no copy has it, it was only read.
+-- The other device wasn't accessed; but if a hash block is corrupt and no copy has it, the data device was only read.
 abbrev pub OtherStays : ℕ → Mended → Device → Device → Type 0
 OtherStays zero m old new = new ≡ old
 OtherStays (suc l) mended.Good old new = new ≡ old
@@ -98,8 +99,8 @@ OtherStays (suc l) mended.Remade old new = IsOnlyRead old new × (old.failures �
 OtherStays (suc l) mended.Parity old new = new ≡ old
 OtherStays (suc l) mended.Lost old new = IsOnlyRead old new × (old.failures ≤ new.failures)
 
--- A hash block that was made again is made of the blocks beneath it, and one that is lost can't be. A data block isn't made.
--- Only where there is parity a block was brought back by it.
+-- A reconstructed hash block is made from the blocks below it, and a lost one can't be. A data block isn't reconstructed. A
+-- block is restored by parity only if there is parity.
 abbrev pub IsMadeOf : Job → PathRecord → ℕ → ℕ → Device → Device → List ℕ → Mended → Type 0
 IsMadeOf j p zero i data_dev hash_dev bytes m = IsBareOf j.parity m
 IsMadeOf j p (suc l) i data_dev hash_dev bytes mended.Good = Unit {0}
@@ -108,7 +109,8 @@ IsMadeOf j p (suc l) i data_dev hash_dev bytes mended.Remade = IsMadeBeneath j.t
 IsMadeOf j p (suc l) i data_dev hash_dev bytes mended.Parity = IsTrue j.parity
 IsMadeOf j p (suc l) i data_dev hash_dev bytes mended.Lost = IsNowhereBeneath j.tree.shape j.tree.salt data_dev hash_dev l i (digest_on p i (l + 1))
 
--- Good hash blocks lead from the root to the block's digest, and by that it was found good, mended or lost.
+-- Verified hash blocks lead from the root to the block's digest. By this digest the block was found valid, was repaired, or is
+-- lost.
 pub record IsVisited (j : Job) (v : Visit) (w w' : RepairWorld) : Type 0 where
   pub inside : v.index < j.tree.shape.blocks
   pub p : PathRecord
@@ -118,7 +120,7 @@ pub record IsVisited (j : Job) (v : Visit) (w w' : RepairWorld) : Type 0 where
   pub other_stays : OtherStays v.height v.mended (other v.height w) (other v.height w')
   pub copies_are : other_copies v.height w' ≡ other_copies v.height w
 
--- these blocks were visited, and all else was only read
+-- these blocks were visited, and everything else was only read
 abbrev pub VisitsAll : Job → List Visit → RepairWorld → RepairWorld → Type 0
 VisitsAll j [] w w' = IsWorldRead w w'
 VisitsAll j (v ∷ more) w w' = (a : RepairWorld) × ((b : RepairWorld) × (IsWorldRead w a × (IsVisited j v a b × VisitsAll j more b w')))
@@ -159,7 +161,7 @@ abbrev pub copy_line : Job → ℕ → ℕ → ℕ → List ℕ
 copy_line j zero i k = data_line j.write i k
 copy_line j (suc l) i k = repaired_hash_line j.write l (ancestor j.tree.shape (l + 1) i) k
 
--- one line for a block that was mended
+-- the line for a repaired block
 abbrev pub mended_line : Job → ℕ → ℕ → Mended → List ℕ
 mended_line j h i mended.Good = []
 mended_line j h i (mended.Copy k) = copy_line j h i k
@@ -170,12 +172,12 @@ mended_line j h i mended.Lost = []
 abbrev pub visit_line : Job → Visit → List ℕ
 visit_line j v = mended_line j v.height v.index v.mended
 
--- ---- the whole
+-- ---- the whole run
 
 abbrev pub IsDone : Visit → Type 0
 IsDone v = v.done ≡ true
 
--- No write failed before the last visit; that block's good bytes were at hand, and their write failed.
+-- No write failed before the last visit. In the last visit the block's valid bytes were known, and their write failed.
 pub record EndsAtFailedWrite (visits : List Visit) : Type 0 where
   pub earlier : List Visit
   pub last : Visit
@@ -184,7 +186,7 @@ pub record EndsAtFailedWrite (visits : List Visit) : Type 0 where
   pub found : IsBlockFound last.mended
   pub failed : last.done ≡ false
 
--- Why a run didn't come to its end: a write failed, and it ended with that; or an allocation was refused or a line can't be written,
+-- Why a run ended early: a write failed, and the run ended with it; or an allocation was refused or a line can't be written,
 -- and no write had failed. There is no other cause.
 abbrev pub IsEndCause : List Visit → RepairFault → Type 0
 IsEndCause visits (Image DeviceFailed) = EndsAtFailedWrite visits
@@ -196,8 +198,8 @@ IsEndCause visits Write = All IsDone visits
 abbrev pub IsRefusal : RepairFault → Type 0
 IsRefusal fault = (fault ≡ Image NoMemory) × IsOutOfMemory largest_allocation
 
--- A run, and the fault that ended it, if one did. If none, no write failed, and a line was printed for each block that was
--- mended; else the fault has its cause.
+-- A run, and the fault that ended it, if there is one. Without a fault no write failed, and a line was printed for each
+-- repaired block; a fault has its cause.
 pub record HasRun (j : Job) (w w' : RepairWorld) (old new : Option (List ℕ)) (fault : Option RepairFault) : Type 0 where
   pub visits : List Visit
   pub runs : VisitsAll j visits w w'
@@ -205,16 +207,16 @@ pub record HasRun (j : Job) (w w' : RepairWorld) (old new : Option (List ℕ)) (
   pub printed : IsNone fault → Appends old new (flat_map (visit_line j) visits)
   pub cause : IfSome fault (IsEndCause visits)
 
--- the same by a writer before and behind, and by the result of the run
+-- a run, by the writer before and after and the result
 abbrev pub Ran : {W T : Type 0} → (W → Option (List ℕ)) → Job → RepairWorld → RepairWorld → CountedRecord W → CountedRecord W → Result T RepairFault → Type 0
 Ran contents j w w' old new result = HasRun j w w' (contents old.inner) (contents new.inner) (result_err result)
 
--- a line can't be written only where the writer failed, which it remembers
+-- a line can't be written only if the writer failed, which the writer records
 abbrev pub IsWriterCause : {W : Type 0} → CountedRecord W → RepairFault → Type 0
 IsWriterCause writer (Image fault) = Unit {0}
 IsWriterCause writer Write = writer.failed ≡ true
 
--- data and tree lie on the devices, which may be written if anything may
+-- the data and the tree are within the devices, which are writable if the repair may write
 pub record CanRun (j : Job) (w : RepairWorld) : Type 0 where
   pub valid : IsShape j.tree.shape
   pub data_fits : data_sectors j.tree.shape ≤ w.data_dev.size

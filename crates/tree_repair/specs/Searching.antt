@@ -1,5 +1,5 @@
--- What functions that seek blocks by parity say of what they are lent: the image and the parity before and behind, of which
--- `state` tells the device.
+-- What functions that restore blocks by parity state of their arguments: the image and the parity before and after; `state`
+-- gives the parity device.
 use Rattle.std.specs.Prelude.{ℕ, Bool, false, IfOk, List, OnErr, OnOk, Option, Result}
 use Rattle.block_device.specs.Device.{Device}
 use Rattle.program_io.specs.Counted.{CountedRecord}
@@ -22,112 +22,112 @@ use Rattle.tree_repair.specs.Sources.{due}
 use Rattle.tree_repair.specs.Tries.{HasSought, IsMadeOrVain, IsSought, IsTried, Trial, trial}
 use Rattle.tree_repair.specs.Worlds.{RepairWorld}
 
--- ---- how often devices are asked
+-- ---- how often devices are accessed
 
--- they were asked no more than that
+-- the devices were accessed at most this often
 abbrev pub AsksWithin : {P : Type 0} → (P → Device) → ParityBill → RepairWorld → RepairWorld → P → P → Type 0
 AsksWithin state b w w' old new = IsAskedWithin b w w' (state old) (state new)
 
--- no more than one block that was found nowhere takes
+-- at most as often as one block that was found nowhere takes
 abbrev pub TriesWithin : {P : Type 0} → (P → Device) → Repair → Losses → BadBlock → RepairWorld → RepairWorld → P → P → Type 0
 TriesWithin state r l bad w w' old new = IsAskedWithin (parity_bill r.shape l.layout 0 0 (tries_of bad.found)) w w' (state old) (state new)
 
--- no more than those of them do that were found nowhere
+-- at most as often as those of the blocks take that were found nowhere
 abbrev pub SeeksWithin : {P : Type 0} → (P → Device) → Repair → Layout → List BadBlock → RepairWorld → RepairWorld → P → P → Type 0
 SeeksWithin state r l blocks w w' old new = IsAskedWithin (parity_bill r.shape l 0 0 (sought_among blocks)) w w' (state old) (state new)
 
--- no more than a block takes that is made again; if it was made, it has the size of those that are covered
+-- at most as often as the restoring of a block takes; a restored block has the size of the covered blocks
 abbrev pub MakesWithin : {P E : Type 0} → (P → Device) → Missing → Losses → RepairWorld → RepairWorld → P → P → Result Bool E → Type 0
 MakesWithin state m l w w' old new result = IsMadeWithin m.repair.now.shape l.layout m.place.height w w' (state old) (state new) result
 
 -- ---- blocks
 
--- where a covered block isn't made again, that has a cause
+-- if a covered block isn't restored, this has a cause
 abbrev pub LacksBlock : {P : Type 0} → (P → Device) → Losses → ℕ → RepairWorld → RepairWorld → P → P → Bool → Type 0
 LacksBlock state l index w w' old new back = IsNotBack l index w w' (state old) (state new) back
 
--- how a block is tried, by what is lent before and behind
+-- the attempt to restore a block, by the arguments before and after
 abbrev pub trial_by : {P : Type 0} → (P → Device) → Losses → RepairWorld → RepairWorld → P → P → Trial
 trial_by state l w w' old new = trial l.layout l.lost.items w w' (state old) (state new)
 
--- a block that isn't good is sought by parity, if it was found nowhere
+-- a corrupt block is sought by parity if it was found nowhere
 abbrev pub SeeksBlock : {P E : Type 0} → (P → Device) → Repair → Losses → BadBlock → RepairWorld → RepairWorld → P → P → Result Bool E → Type 0
 SeeksBlock state r l bad w w' old new result = IfOk result (IsSought (job r) bad (trial_by state l w w' old new))
 
--- each of some that aren't good is, where all of them count as lost
+-- each of some corrupt blocks is sought, with all of them counted as lost
 abbrev pub SeeksEach : {P E : Type 0} → (P → Device) → Repair → Layout → List BadBlock → RepairWorld → RepairWorld → P → P → Result Came E → Type 0
 SeeksEach state r l blocks w w' old new result = IfOk result (λ came. HasSought (job r) l blocks w w' (state old) (state new) came.tree)
 
--- it is told whether the block of a place came back
+-- the function returns whether the block was restored
 abbrev pub TellsPlace : {W : Type 0} → (W → Option (List ℕ)) → Repair → Place → RepairWorld → RepairWorld → CountedRecord W → CountedRecord W → Result Bool RepairFault → Type 0
 TellsPlace contents r place w w' old new result = TellsBack contents (job r) place.height w w' old new result
 
--- ---- a lost block to which good hash blocks lead
+-- ---- a lost block to which verified hash blocks lead
 
--- the tree has it
+-- the tree has the block
 abbrev pub IsInTree : Missing → Type 0
 IsInTree m = IsPlace m.repair.now.shape m.place.height m.place.index
 
--- the path leads to it
+-- the path leads to the block
 abbrev pub IsReached : Missing → Type 0
 IsReached m = IsWay (job m.repair.now).tree m.place.index m.place.height m.path.now
 
--- how many bytes it has
+-- the block's size in bytes
 abbrev pub missing_size : Missing → ℕ
 missing_size m = size_at m.repair.now.shape m.place.height
 
--- these are its bytes, by their digest
+-- these are the block's bytes, by their digest
 abbrev pub AreGoodFor : Missing → List ℕ → Type 0
 AreGoodFor m bytes = AreGoodAt m.repair.now m.path.now m.place bytes
 
--- it is made again, or parity hasn't it
+-- the block is restored, or parity doesn't have it
 abbrev pub MakesMissing : {P E : Type 0} → (P → Device) → Missing → Losses → RepairWorld → RepairWorld → P → P → Result Bool E → Type 0
 MakesMissing state m l w w' old new result = IfOk result (IsMadeOrVain (job m.repair.now) m.path.now m.place.height m.place.index (trial_by state l w w' old new))
 
--- its bytes are put where it isn't good
+-- the block's bytes are written if it is corrupt
 abbrev pub IsMissingPut : Missing → List ℕ → RepairWorld → RepairWorld → Bool → Type 0
 IsMissingPut m bytes w w' put = IsPlaced (job m.repair.now) m.place.height m.place.index bytes w w' put
 
--- and read back
+-- the block's bytes are written and read back
 abbrev pub IsMissingRead : Missing → List ℕ → RepairWorld → RepairWorld → Bool → Type 0
 IsMissingRead m bytes w w' put = IsPlacedAndRead (job m.repair.now) m.place.height m.place.index bytes w w' put
 
--- or they can't be
+-- the block's bytes can't be written
 abbrev pub FailsToPutMissing : Missing → List ℕ → RepairWorld → RepairWorld → Type 0
 FailsToPutMissing m bytes w w' = FailsToPlace (job m.repair.now) m.place.height m.place.index bytes w w'
 
--- it is sought by parity
+-- the block is sought by parity
 abbrev pub TriesMissing : {P E : Type 0} → (P → Device) → Missing → Losses → RepairWorld → RepairWorld → P → P → Result Bool E → Type 0
 TriesMissing state m l w w' old new result = IfOk result (IsTried (job m.repair.now) m.place.height m.place.index (trial_by state l w w' old new))
 
--- it is told whether it came back
+-- the function returns whether the block was restored
 abbrev pub TellsMissing : {W : Type 0} → (W → Option (List ℕ)) → Missing → RepairWorld → RepairWorld → CountedRecord W → CountedRecord W → Result Bool RepairFault → Type 0
 TellsMissing contents m w w' old new result = TellsPlace contents m.repair.now m.place w w' old new result
 
--- ---- a block that is put where it isn't good
+-- ---- writing a block that is corrupt
 
--- these bytes are, where they should have that digest; or good ones stand there
+-- these bytes are written if the block doesn't have that digest
 abbrev pub PutsWhereBad : {B E : Type 0} → (B → Device) → B → B → ℕ → Repair → List ℕ → List ℕ → Result Bool E → Type 0
 PutsWhereBad state old new first r digest_is bytes result = IfOk result (IsPutOr (state old) first (due r.salt digest_is bytes) r.write bytes (state new))
 
--- or good ones don't stand there, and they can't be written
+-- the block is corrupt, and the bytes can't be written
 abbrev pub FailsToReplace : {B T E : Type 0} → (B → Device) → B → B → ℕ → Repair → List ℕ → List ℕ → Result T E → Type 0
 FailsToReplace state old new first r digest_is bytes result = OnErr result (IsBlockReplaced (state old) first (due r.salt digest_is bytes) r.write bytes false (state new))
 
 -- ---- passes
 
--- one is made, and it is told whether a further one is due
+-- one pass is made, and the function returns whether a further one is due
 abbrev pub MakesPass : {P E : Type 0} → (P → Device) → Repair → Layout → RepairWorld → RepairWorld → P → P → Result Came E → Type 0
 MakesPass state r l w w' old new result = IfOk result (λ came. IsPass (job r) l w w' (state old) (state new) came.tree)
 
--- as many are made as are due
+-- as many passes are made as are due
 abbrev pub EndsPasses : {P T E : Type 0} → (P → Device) → Repair → Layout → RepairWorld → RepairWorld → P → P → Result T E → Type 0
 EndsPasses state r l w w' old new result = OnOk result (EndsInPass (job r) l w w' (state old) (state new))
 
--- one is made, to the end or not, and the devices are asked for no more than it takes
+-- one pass is made, to the end or not, and the devices are accessed at most as often as it takes
 abbrev pub RunsPass : {W P : Type 0} → (W → Option (List ℕ)) → (P → Device) → Repair → Layout → RepairWorld → RepairWorld → P → P → CountedRecord W → CountedRecord W → Result Came RepairFault → Type 0
 RunsPass contents state r l w w' p p' old new result = RunsInOne contents (job r) l w w' (state p) (state p') old new result
 
--- as many are made as are due, and they are asked for no more than these take
+-- as many passes are made as are due, and the devices are accessed at most as often as these take
 abbrev pub RunsPasses : {W P T : Type 0} → (W → Option (List ℕ)) → (P → Device) → Repair → Layout → RepairWorld → RepairWorld → P → P → CountedRecord W → CountedRecord W → Result T RepairFault → Type 0
 RunsPasses contents state r l w w' p p' old new result = RunsInAll contents (job r) l w w' (state p) (state p') old new result

@@ -1,4 +1,4 @@
--- Where the bytes of a block are sought, and what a read of them tells.
+-- Where the bytes of a block are sought, and what a read of them proves.
 use Rattle.std.specs.Prelude.{◌≡◌, ◌≢◌, ◌⊎◌, ℕ, ◌+◌, ◌-◌, ◌/◌, ◌<◌, ◌≤◌, IsTrue, List, length, map}
 use Rattle.std.specs.List.{concat, slice_index_or}
 use Rattle.block_device.specs.Device.{Device, run_of}
@@ -6,7 +6,7 @@ use Rattle.tree_shape.specs.Digests.{digest}
 use Rattle.tree_survey.specs.Failing.{HasFailedRead}
 use Rattle.verity_format.specs.Blocks.{IsOnlyRead}
 
--- the bytes that should stand somewhere: so many sectors, of that digest
+-- the expected bytes: so many sectors, with that digest
 pub record Wanted : Type 0 where
   pub salt : List ℕ
   pub digest_is : List ℕ
@@ -15,7 +15,7 @@ pub record Wanted : Type 0 where
 abbrev pub wanted : List ℕ → List ℕ → ℕ → Wanted
 wanted salt digest_is sectors = record { salt = salt; digest_is = digest_is; sectors = sectors }
 
--- the bytes that should fill a buffer
+-- the expected bytes of a buffer
 abbrev pub due : List ℕ → List ℕ → List ℕ → Wanted
 due salt digest_is block = wanted salt digest_is (length block / 512)
 
@@ -23,22 +23,22 @@ due salt digest_is block = wanted salt digest_is (length block / 512)
 abbrev pub bytes_on_device : Device → ℕ → ℕ → List ℕ
 bytes_on_device device first n = concat (run_of device.image first n)
 
--- these are the bytes; over a steady device they stand there
+-- these are the expected bytes; on a steady device they are stored there
 pub record IsThere (device : Device) (first : ℕ) (w : Wanted) (bytes : List ℕ) : Type 0 where
   pub good : digest w.salt bytes ≡ w.digest_is
   pub stand : IsTrue device.steady → bytes ≡ bytes_on_device device first w.sectors
 
--- other bytes were read there; over a steady device they stand there
+-- other bytes were read; on a steady device they are stored there
 pub record IsOther (device : Device) (first : ℕ) (w : Wanted) : Type 0 where
   pub bytes : List ℕ
   pub other : digest w.salt bytes ≢ w.digest_is
   pub stand : IsTrue device.steady → bytes ≡ bytes_on_device device first w.sectors
 
--- they weren't read there: the device failed, and isn't one that never fails, or gave other bytes
+-- the expected bytes weren't read: the device failed, and isn't one that never fails, or it has other bytes
 abbrev pub IsBad : Device → ℕ → Wanted → Device → Type 0
 IsBad old first w new = HasFailedRead old new ⊎ IsOther old first w
 
--- a steady device that can't fail hasn't them there
+-- a steady device that never fails doesn't have the bytes there
 abbrev pub IsWithout : Device → ℕ → Wanted → Type 0
 IsWithout device first w = IsTrue device.steady → IsTrue device.never_fails → first + w.sectors ≤ device.size → digest w.salt (bytes_on_device device first w.sectors) ≢ w.digest_is
 
@@ -53,24 +53,24 @@ pub record AreIn (copies : List Device) (first : ℕ) (w : Wanted) (n : ℕ) (by
   pub inside : n ≤ length copies
   pub there : (d : Device) → IsThere (slice_index_or copies (n - 1) d) first w bytes
 
--- none of the first k has them
+-- none of the first k copies has the bytes
 abbrev pub AreNotIn : List Device → ℕ → Wanted → ℕ → Type 0
 AreNotIn copies first w k = (j : ℕ) → j < k → (d : Device) → IsWithout (slice_index_or copies j d) first w
 
--- none at all has them
+-- no copy has the bytes
 abbrev pub AreInNone : List Device → ℕ → Wanted → Type 0
 AreInNone copies first w = AreNotIn copies first w (length copies)
 
--- ---- as it is at hand: what is lent, of which `state` tells the devices
+-- ---- in terms of the arguments of functions; `state` gives the devices
 
--- the bytes weren't read there
+-- the expected bytes weren't read
 abbrev pub FindsBad : {B : Type 0} → (B → Device) → B → B → ℕ → Wanted → Type 0
 FindsBad state old new first w = IsBad (state old) first w (state new)
 
--- copy n has them
+-- copy n has the bytes
 abbrev pub HasCopy : {C : Type 0} → (C → Device) → List C → ℕ → Wanted → List ℕ → ℕ → Type 0
 HasCopy state copies first w bytes n = AreIn (map state copies) first w n bytes
 
--- none of the copies has
+-- none of the copies has the bytes
 abbrev pub HasNoCopy : {C : Type 0} → (C → Device) → List C → ℕ → Wanted → Type 0
 HasNoCopy state copies first w = AreNotIn (map state copies) first w (length copies)

@@ -1,4 +1,4 @@
--- What stands on the devices of an image behind a run in which no write failed.
+-- What the devices of an image store after a run without a failed write.
 use Rattle.std.specs.Prelude.{◌≡◌, ◌⊎◌, ℕ, ◌/◌, ◌<◌, ◌≤◌, Bool, IsTrue, List, [], ◌∷◌, Option, None, All}
 use Rattle.block_device.specs.Device.{IsWhole}
 use Rattle.tree_shape.specs.Digests.{digest}
@@ -28,21 +28,21 @@ pub record IsWorldSteady (w : RepairWorld) : Type 0 where
   pub data_steady : IsTrue w.data_dev.steady
   pub hash_steady : IsTrue w.hash_dev.steady
 
--- data and tree lie on such devices
+-- the data and the tree are within such devices
 pub record IsSteadyImage (s : ShapeRecord) (w : RepairWorld) : Type 0 where
   pub valid : IsShape s
   pub steady : IsWorldSteady w
   pub data_fits : data_sectors s ≤ w.data_dev.size
   pub tree_fits : tree_sectors s ≤ w.hash_dev.size
 
--- these blocks were visited, what was found or made could be written, and no write failed
+-- these blocks were visited, the repair could write, and no write failed
 pub record HasWrittenAll (j : Job) (visits : List Visit) (w w' : RepairWorld) : Type 0 where
   pub image : IsSteadyImage j.tree.shape w
   pub write : IsTrue j.write
   pub runs : VisitsAll j visits w w'
   pub done : All IsDone visits
 
--- so it is of a repair that ended well, with parity or without
+-- this holds of a successful repair, with parity or without
 abbrev pub RepairsWriteAll : Type 0
 RepairsWriteAll = (plan : Plan) → (parity : Bool) → (w w' : RepairWorld) → (old new : Option (List ℕ)) → (r : Repairs plan parity w w' old new None) → IsTrue plan.write → IsWorldSteady w
     → HasWrittenAll (job_of r.s plan parity) r.run.visits w w'
@@ -56,27 +56,27 @@ IsNotLost mended.Remade = Unit {0}
 IsNotLost mended.Parity = Unit {0}
 IsNotLost mended.Lost = ⊥
 
--- the block of that height above data block i was visited, and was good, or was found or made again
+-- the block of that height above data block i was visited, and was valid, found or reconstructed
 pub record LeavesGood (s : ShapeRecord) (h i : ℕ) (v : Visit) : Type 0 where
   pub at : IsVisitAt s h i v
   pub kept : IsNotLost v.mended
 
--- so in one of the visits
+-- this holds of one of the visits
 abbrev pub IsLeftGoodIn : ShapeRecord → ℕ → ℕ → List Visit → Type 0
 IsLeftGoodIn s h i [] = ⊥
 IsLeftGoodIn s h i (v ∷ more) = LeavesGood s h i v ⊎ IsLeftGoodIn s h i more
 
--- its bytes as they stand
+-- the block's bytes as they are stored
 abbrev pub standing_bytes : Job → ℕ → ℕ → RepairWorld → List ℕ
 standing_bytes j h i w = bytes_on_device (own h w) (sector_at j.tree.shape h i) (size_at j.tree.shape h / 512)
 
--- good hash blocks lead from the root to their digest
+-- verified hash blocks lead from the root to their digest
 pub record StandsGood (j : Job) (h i : ℕ) (w : RepairWorld) : Type 0 where
   pub p : PathRecord
   pub way : IsWay j.tree i h p
   pub good : digest j.tree.salt (standing_bytes j h i w) ≡ digest_on p i h
 
--- a block that one visit left good stands good behind the run
+-- a block that one visit left valid is valid on its device after the run
 abbrev pub LeftGoodBlocksStand : Type 0
 LeftGoodBlocksStand = (j : Job) → (visits : List Visit) → (w w' : RepairWorld) → HasWrittenAll j visits w w' → (h i : ℕ) → i < j.tree.shape.blocks → IsLeftGoodIn j.tree.shape h i visits
     → StandsGood j h i w'
@@ -88,12 +88,12 @@ LeftGoodBlocksAreFormatted = (j : Job) → (visits : List Visit) → (w w' : Rep
 
 -- ---- a data block and all hash blocks above it
 
--- each of them was left good by one visit
+-- each of these blocks was left valid by one visit
 abbrev pub IsWayLeftGood : ShapeRecord → ℕ → List Visit → Type 0
 IsWayLeftGood s i visits = (h : ℕ) → h ≤ levels s → IsLeftGoodIn s h i visits
 
--- then each of them has the digest that stands above it behind the run, so the data block is good there, or two different inputs
--- have one digest
+-- Each of these blocks has the digest that its parent stores after the run, so the data block is valid, or two different inputs
+-- have one digest.
 abbrev pub LeftGoodWaysStand : Type 0
 LeftGoodWaysStand = (j : Job) → (visits : List Visit) → (w w' : RepairWorld) → HasWrittenAll j visits w w' → (i : ℕ) → i < j.tree.shape.blocks → IsWayLeftGood j.tree.shape i visits
     → IsContentStoredAs j.tree w'.data_dev.image w'.hash_dev.image i None ⊎ Collide j.tree.salt

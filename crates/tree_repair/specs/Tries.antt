@@ -1,4 +1,4 @@
--- Lost blocks that are sought by parity, and why some don't come back.
+-- Lost blocks that are sought by parity, and why some aren't restored.
 use Rattle.std.specs.Prelude.{◌≡◌, ◌≢◌, ◌⊎◌, ◌&&◌, ◌||◌, ℕ, zero, suc, ◌+◌, ◌≤◌, Bool, true, false, nat_lt, IsTrue, List, [], ◌∷◌, Option, None, Some}
 use Rattle.block_device.specs.Device.{Device}
 use Rattle.fec_area.specs.declared.layout.Layout.{Layout}
@@ -17,9 +17,9 @@ use Rattle.tree_repair.specs.Runs.{IsVisited, Job, size_at, visit}
 use Rattle.tree_repair.specs.Worlds.{IsWorldRead, RepairWorld}
 use Rattle.verity_format.specs.Blocks.{IsOnlyRead}
 
--- ---- the way to a block
+-- ---- the path to a block
 
--- a hash block above it has another digest than the good ones above that say
+-- a hash block above the block has another digest than its verified parent stores
 pub record IsCutOff (t : Tree) (i h : ℕ) (old : Device) : Type 0 where
   pub l : ℕ
   pub above : h ≤ l
@@ -29,12 +29,13 @@ pub record IsCutOff (t : Tree) (i h : ℕ) (old : Device) : Type 0 where
   pub bad : digest t.salt block ≢ digest_on p i (l + 1)
   pub stand : IsTrue old.steady → block ≡ stored_block t.shape old.image l i
 
--- good hash blocks lead to it; or one above it isn't good, or the hash device failed and isn't one that never fails
+-- verified hash blocks lead to the block; or a hash block above it is corrupt, or the hash device failed and isn't one that
+-- never fails
 abbrev pub IsWayOr : Tree → ℕ → ℕ → Device → Device → Option PathRecord → Type 0
 IsWayOr t i h old new None = HasFailedRead old new ⊎ IsCutOff t i h old
 IsWayOr t i h old new (Some p) = IsWay t i h p
 
--- a path through that tree
+-- a path in that tree
 abbrev pub IsOfTree : Tree → PathRecord → Type 0
 IsOfTree t p = IsPathOf t.shape t.salt t.root p
 
@@ -52,26 +53,26 @@ IsOffPlace s l (suc h) i = IsOffHash l (position s h (ancestor s (h + 1) i))
 abbrev pub IsUncovered : ShapeRecord → Layout → ℕ → ℕ → Type 0
 IsUncovered s l h i = (l.block ≢ size_at s h) ⊎ IsOffPlace s l h i
 
--- it is this covered block; or none, if it is one at all
+-- the block is this covered block; or none, if it isn't covered
 abbrev pub IsCoveredOr : ShapeRecord → Layout → ℕ → ℕ → Option ℕ → Type 0
 IsCoveredOr s l h i None = IsPlace s h i → IsUncovered s l h i
 IsCoveredOr s l h i (Some k) = IsCoveredAt s l h i k
 
--- the number that was found, if one was
+-- the number that was found, if there is one
 abbrev pub listed_number : Option ℕ → List ℕ
 listed_number None = []
 listed_number (Some k) = k ∷ []
 
--- the covered ones among some
+-- the covered blocks among these
 abbrev pub AreCovered : ShapeRecord → Layout → List BadBlock → List ℕ → Type 0
 AreCovered s l [] lost = lost ≡ []
 AreCovered s l (b ∷ more) lost =
     ((k : ℕ) × ((rest : List ℕ) × ((lost ≡ k ∷ rest) × (IsCoveredAt s l b.place.height b.place.index k × AreCovered s l more rest))))
     ⊎ ((IsPlace s b.place.height b.place.index → IsUncovered s l b.place.height b.place.index) × AreCovered s l more lost)
 
--- ---- sought by parity
+-- ---- a block sought by parity
 
--- how parity lies, which covered blocks count as lost, and the image and the parity before and behind
+-- the layout of the parity, the covered blocks that count as lost, and the image and the parity before and after
 pub record Trial : Type 0 where
   pub layout : Layout
   pub lost : List ℕ
@@ -83,30 +84,30 @@ pub record Trial : Type 0 where
 abbrev pub trial : Layout → List ℕ → RepairWorld → RepairWorld → Device → Device → Trial
 trial layout lost w w' parity_dev parity_dev' = record { layout = layout; lost = lost; w = w; w' = w'; parity_dev = parity_dev; parity_dev' = parity_dev' }
 
--- Covered block k isn't made again: too many of its round are lost, parity is too short, or a device failed where not all three are
--- such that never fail.
+-- Covered block k isn't restored: too many blocks of its round are lost, the parity is too short, or a device failed and one of
+-- the three may fail.
 abbrev pub IsBlockUnmade : Trial → ℕ → Type 0
 IsBlockUnmade t k =
     (fault : RestoreFault) × (IsOfBlocks t.w.data_dev t.w.hash_dev t.parity_dev fault × IsRestoreCause t.layout t.lost k t.w.data_dev t.w.hash_dev t.parity_dev t.w'.data_dev t.w'.hash_dev t.parity_dev' fault)
 
--- or what is made of the others and the parity has another digest
+-- the bytes restored from the other blocks and the parity have another digest
 pub record IsMadeOther (salt digest_is : List ℕ) (t : Trial) (k : ℕ) : Type 0 where
   pub bytes : List ℕ
   pub other : digest salt bytes ≢ digest_is
   pub made : IsTrue t.w.data_dev.steady → IsTrue t.w.hash_dev.steady → IsTrue t.parity_dev.steady
       → IsMadeAgain t.layout t.w.data_dev.image t.w.hash_dev.image t.parity_dev.image t.lost k bytes
 
--- parity hasn't a block to which a path leads
+-- parity doesn't have the block that a path leads to
 abbrev pub IsVain : Job → PathRecord → ℕ → ℕ → Trial → Type 0
 IsVain j p h i t = IsUncovered j.tree.shape t.layout h i
     ⊎ ((k : ℕ) × (IsCoveredAt j.tree.shape t.layout h i k × (IsBlockUnmade t k ⊎ IsMadeOther j.tree.salt (digest_on p i h) t k)))
 
--- it is made again, or parity hasn't it
+-- the block is restored, or parity doesn't have it
 abbrev pub IsMadeOrVain : Job → PathRecord → ℕ → ℕ → Trial → Bool → Type 0
 IsMadeOrVain j p h i t true = Unit {0}
 IsMadeOrVain j p h i t false = IsPlace j.tree.shape h i → IsVain j p h i t
 
--- it came back, and all was only read behind that
+-- the block was restored, and the devices were only read afterwards
 pub record IsBroughtBack (j : Job) (h i : ℕ) (w w' : RepairWorld) : Type 0 where
   pub between : RepairWorld
   pub read : IsWorldRead w between
@@ -115,24 +116,24 @@ pub record IsBroughtBack (j : Job) (h i : ℕ) (w w' : RepairWorld) : Type 0 whe
   pub visited : IsVisited j (visit h i mended.Parity bytes true) between behind
   pub read_back : IsWorldRead behind w'
 
--- parity hasn't it
+-- parity doesn't have the block
 pub record IsVainAlong (j : Job) (h i : ℕ) (t : Trial) : Type 0 where
   pub p : PathRecord
   pub way : IsWay j.tree i h p
   pub vain : IsVain j p h i t
 
--- it stands there by now
+-- the block is valid on its device by now
 pub record IsGoodBehind (j : Job) (h i : ℕ) (w : RepairWorld) : Type 0 where
   pub between : RepairWorld
   pub read : IsWorldRead w between
   pub good : IsGoodNow j h i between
 
--- nothing was put: image and parity were only read
+-- nothing was written: the image and the parity were only read
 pub record IsLeft (t : Trial) : Type 0 where
   pub image : IsWorldRead t.w t.w'
   pub parity : IsOnlyRead t.parity_dev t.parity_dev'
 
--- a block to which good hash blocks lead was sought by parity, and came back or not
+-- a block to which verified hash blocks lead was sought by parity, and restored or not
 abbrev pub IsTried : Job → ℕ → ℕ → Trial → Bool → Type 0
 IsTried j h i t true = IsBroughtBack j h i t.w t.w' × IsOnlyRead t.parity_dev t.parity_dev'
 IsTried j h i t false = IsLeft t × (IsVainAlong j h i t ⊎ IsGoodBehind j h i t.w)
@@ -142,11 +143,11 @@ pub record IsTriedBehind (j : Job) (h i : ℕ) (t : Trial) (back : Bool) : Type 
   pub read : IsWorldRead t.w between
   pub tried : IsTried j h i (record t { w = between }) back
 
--- it isn't in the tree, or a hash block above it isn't good, or the hash device failed and isn't one that never fails
+-- the block isn't in the tree, or a hash block above it is corrupt, or the hash device failed and isn't one that never fails
 abbrev pub IsOutOfReach : Job → ℕ → ℕ → Trial → Type 0
 IsOutOfReach j h i t = (IsPlace j.tree.shape h i → ⊥) ⊎ (HasFailedRead t.w.hash_dev t.w'.hash_dev ⊎ IsCutOff j.tree i h t.w.hash_dev)
 
--- a block that was found elsewhere isn't sought; each that was found nowhere is, if it can be
+-- a block that was found elsewhere isn't sought; each that was found nowhere is sought, if it can be
 abbrev pub IsSoughtAt : Job → ℕ → ℕ → Trial → Bool → Bool → Type 0
 IsSoughtAt j h i t true back = (back ≡ false) × IsLeft t
 IsSoughtAt j h i t false back = ((back ≡ false) × (IsLeft t × IsOutOfReach j h i t)) ⊎ IsTriedBehind j h i t back
@@ -154,18 +155,18 @@ IsSoughtAt j h i t false back = ((back ≡ false) × (IsLeft t × IsOutOfReach j
 abbrev pub IsSought : Job → BadBlock → Trial → Bool → Type 0
 IsSought j b t back = IsSoughtAt j b.place.height b.place.index t b.found back
 
--- a hash block came back
+-- a hash block was restored
 abbrev pub is_hash_back : Bool → BadBlock → Bool
 is_hash_back back b = back && nat_lt 0 b.place.height
 
--- one after another; and whether a hash block came back
+-- one block after another, and whether a hash block was restored
 abbrev pub AreSought : Job → Layout → List ℕ → List BadBlock → RepairWorld → RepairWorld → Device → Device → Bool → Type 0
 AreSought j l lost [] w w' p p' hash_came = (w' ≡ w) × ((p' ≡ p) × (hash_came ≡ false))
 AreSought j l lost (b ∷ more) w w' p p' hash_came =
     (a : RepairWorld) × ((q : Device) × ((back : Bool) × ((rest : Bool) ×
     ((hash_came ≡ (is_hash_back back b || rest)) × (IsSought j b (trial l lost w a p q) back × AreSought j l lost more a w' q p' rest)))))
 
--- all that are covered count as lost for each of them
+-- all covered blocks among these count as lost for each of them
 pub record HasSought (j : Job) (l : Layout) (blocks : List BadBlock) (w w' : RepairWorld) (p p' : Device) (hash_came : Bool) : Type 0 where
   pub lost : List ℕ
   pub are : AreCovered j.tree.shape l blocks lost

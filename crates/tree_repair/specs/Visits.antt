@@ -1,4 +1,4 @@
--- One block of an image that is looked at.
+-- The visit of one block of an image.
 use Rattle.std.specs.Prelude.{◌≡◌, ℕ, suc, ◌+◌, ◌*◌, ◌/◌, Bool, true, false, IsTrue, List}
 use Rattle.block_device.specs.Device.{Device}
 use Rattle.tree_shape.specs.Shape.{ShapeRecord, ancestor, position}
@@ -11,18 +11,19 @@ use Rattle.tree_repair.specs.Runs.{IsMadeOf, IsVisited, Job, OtherStays, visit}
 use Rattle.tree_repair.specs.Sources.{wanted}
 use Rattle.tree_repair.specs.Worlds.{IsWorldRead, RepairWorld}
 
--- it came to that, and no write failed
+-- the visit had this result, and no write failed
 abbrev pub IsLooked : Look → Mended → Type 0
 IsLooked l m = (bytes : List ℕ) × IsMended l bytes true m
 
 abbrev pub IsBlockMade : Job → ℕ → ℕ → RepairWorld → RepairWorld → Mended → Type 0
 IsBlockMade j h i w w' m = (bytes : List ℕ) × IsVisited j (visit h i m bytes true) w w'
 
--- it was found or made, but a write failed
+-- the block was found or made, but a write failed
 abbrev pub FailsToStoreBlock : Job → ℕ → ℕ → RepairWorld → RepairWorld → Type 0
 FailsToStoreBlock j h i w w' = (m : Mended) × ((bytes : List ℕ) × (IsBlockFound m × IsVisited j (visit h i m bytes false) w w'))
 
--- it came to that, and all was only read behind that; if it was written, good hash blocks lead to what was read there
+-- the visit had this result, and the devices were only read afterwards; if the block was written, verified hash blocks lead to
+-- the bytes read back
 pub record IsBlockKept (j : Job) (h i : ℕ) (w w' : RepairWorld) : Type 0 where
   pub mended : Mended
   pub bytes : List ℕ
@@ -47,7 +48,7 @@ data_look j p i old new copies copies' = record {
 
 -- ---- a hash block
 
--- its first sector
+-- the first sector of the block
 abbrev pub hash_sector : ShapeRecord → ℕ → ℕ → ℕ
 hash_sector s l i = position s l (ancestor s (l + 1) i) * (s.hash_block / 512)
 
@@ -63,7 +64,7 @@ hash_look j p l i old new copies copies' = record {
   write = j.write;
 }
 
--- a hash block of level l was looked at
+-- the visit of a hash block of level l
 pub record IsHashSeen (j : Job) (p : PathRecord) (l i : ℕ) (w w' : RepairWorld) (bytes : List ℕ) (done : Bool) (m : Mended) : Type 0 where
   pub looked : IsMended (hash_look j p l i w.hash_dev w'.hash_dev w.hash_copies w'.hash_copies) bytes done m
   pub made_of : IsMadeOf j p (suc l) i w.data_dev w.hash_dev bytes m
@@ -76,14 +77,14 @@ IsHashLooked j p l i w w' m = (bytes : List ℕ) × IsHashSeen j p l i w w' byte
 abbrev pub IsHashUnmended : Job → PathRecord → ℕ → ℕ → RepairWorld → RepairWorld → Type 0
 IsHashUnmended j p l i w w' = (m : Mended) × ((bytes : List ℕ) × (IsBlockFound m × IsHashSeen j p l i w w' bytes false m))
 
--- ---- what stays behind a part of it
+-- ---- what a part of a visit leaves unchanged
 
--- the data device and its copies weren't asked
+-- the data device and its copies weren't accessed
 pub record KeepsData (w w' : RepairWorld) : Type 0 where
   pub device_is : w'.data_dev ≡ w.data_dev
   pub copies_are : w'.data_copies ≡ w.data_copies
 
--- a block was put on the hash device, or the write failed
+-- a block was written to the hash device, or the write failed
 pub record IsTreePut (write : Bool) (first : ℕ) (bytes : List ℕ) (done : Bool) (w w' : RepairWorld) : Type 0 where
   pub put : IsPutAt write w.hash_dev first bytes done w'.hash_dev
   pub keeps : KeepsData w w'

@@ -1,4 +1,4 @@
--- That lost blocks come back by parity, at most as many of a round as the code has roots.
+-- Lost blocks are restored by parity, up to as many in a round as the code has roots.
 use Rattle.std.specs.Prelude.{◌≡◌, ◌⊎◌, ◌==◌, ◌&&◌, ℕ, ◌+◌, ◌<◌, ◌≤◌, Bool, true, not, IsTrue, List, length, All, count_by}
 use Rattle.std.specs.List.{range_with_len}
 use Rattle.std.specs.Str.{bytes_eq}
@@ -32,7 +32,7 @@ pub record FormerImage : Type 0 where
   pub data_image : List (List ℕ)
   pub hash_image : List (List ℕ)
 
--- Its data have the tree's root, and on its hash device stand the hash blocks of the tree over them.
+-- Its data have the tree's root hash, and its hash device stores the hash blocks of the tree over them.
 pub record IsFormerOf (t : Tree) (f : FormerImage) : Type 0 where
   pub sectors : All IsSector f.data_image
   pub data_fits : data_sectors t.shape ≤ length f.data_image
@@ -42,47 +42,48 @@ pub record IsFormerOf (t : Tree) (f : FormerImage) : Type 0 where
 abbrev pub former_image : List (List ℕ) → List (List ℕ) → FormerImage
 former_image data_image hash_image = record { data_image = data_image; hash_image = hash_image }
 
--- Formatting leaves one on whole, steady devices: the data device as it is, and the hash device as it stands behind the call.
+-- Formatting produces such an image on whole, steady devices: the data device unchanged, and the hash device as it is after the
+-- call.
 abbrev pub FormattedImagesAreFormer : Type 0
 FormattedImagesAreFormer =
     (s : SuperRecord) → IsSuperblock s → (data_dev hash_dev data_dev' hash_dev' : Device) → IsWhole data_dev → IsWhole hash_dev → IsTrue data_dev.steady → IsTrue hash_dev.steady
     → data_sectors (shape_of s) ≤ data_dev.size → (root : List ℕ) → IsFormatted s data_dev hash_dev data_dev' hash_dev' root
     → IsFormerOf (record { shape = shape_of s; salt = s.salt; root = root }) (former_image data_dev.image hash_dev'.image)
 
--- And each hash block that formatting leaves is zero after its last used entry.
+-- Each hash block of a formatted image is zero after its last used entry.
 abbrev pub FormattedEntriesAreZero : Type 0
 FormattedEntriesAreZero =
     (s : SuperRecord) → IsSuperblock s → (data_dev hash_dev data_dev' hash_dev' : Device) → IsWhole data_dev → IsWhole hash_dev → IsTrue data_dev.steady → IsTrue hash_dev.steady
     → data_sectors (shape_of s) ≤ data_dev.size → (root : List ℕ) → IsFormatted s data_dev hash_dev data_dev' hash_dev' root
     → (l i : ℕ) → l < levels (shape_of s) → i < (shape_of s).blocks → is_zero_after_used (shape_of s) hash_dev'.image l i ≡ true
 
--- covered blocks have the size of the tree's own
+-- covered blocks have the size of the tree's blocks
 pub record HasTreeSizes (s : ShapeRecord) (l : Layout) : Type 0 where
   pub data_size : l.block ≡ s.data_block
   pub hash_size : l.block ≡ s.hash_block
 
--- on a steady device stands the image's parity
+-- a steady device stores the image's parity
 pub record IsParityKept (l : Layout) (f : FormerImage) (p : Device) : Type 0 where
   pub layout : IsLayout l
   pub steady : IsTrue p.steady
   pub stands : IsProtected l f.data_image f.hash_image p.image
 
--- covered block n is as it was, or is damaged
+-- covered block n is as formatted, or is damaged
 abbrev pub IsAsFormed : Layout → FormerImage → RepairWorld → ℕ → Type 0
 IsAsFormed l f w n = covered l w.data_dev.image w.hash_dev.image n ≡ covered l f.data_image f.hash_image n
 
 abbrev pub IsDamaged : Layout → FormerImage → RepairWorld → ℕ → Type 0
 IsDamaged l f w n = IsAsFormed l f w n → ⊥
 
--- On steady devices that never fail a covered block that is as it was stays so, or two different inputs have one digest.
+-- On steady devices that never fail a covered block that is as formatted stays so, or two different inputs have one digest.
 abbrev pub FormattedBlocksStay : Type 0
 FormattedBlocksStay =
     (j : Job) → (f : FormerImage) → IsFormerOf j.tree f → (l : Layout) → HasTreeSizes j.tree.shape l → (visits : List Visit) → (w w' : RepairWorld) → VisitsAll j visits w w'
     → IsSteadyImage j.tree.shape w → BothNeverFail w.data_dev w.hash_dev → (n : ℕ) → IsAsFormed l f w n → IsAsFormed l f w' n ⊎ Collide j.tree.salt
 
--- ---- why a block doesn't come back
+-- ---- why a block isn't restored
 
--- the devices before a pass, behind its visits, and behind all of it
+-- the devices before a pass, after its visits, and after all of it
 pub record Stage : Type 0 where
   pub before : RepairWorld
   pub visited : RepairWorld
@@ -91,7 +92,7 @@ pub record Stage : Type 0 where
 abbrev pub stage : RepairWorld → RepairWorld → RepairWorld → Stage
 stage before visited after = record { before = before; visited = visited; after = after }
 
--- If covered block n is one of the tree, a hash block above it wasn't good in the pass (or two different inputs have one digest).
+-- If covered block n is in the tree, a hash block above it was corrupt in the pass, or two different inputs have one digest.
 abbrev pub IsUnreached : Job → Layout → ℕ → Stage → Type 0
 IsUnreached j l n s = (h i : ℕ) → IsCoveredAt j.tree.shape l h i n → IsUnderBad j h i s.before s.after ⊎ Collide j.tree.salt
 
@@ -103,25 +104,27 @@ pub record IsHiddenBeside (j : Job) (f : FormerImage) (s : Stage) (t : Trial) (k
   pub damaged : IsDamaged t.layout f t.w n
   pub unreached : IsUnreached j t.layout n s
 
--- A block's number counts as lost, but it can't be made again: with it more blocks of its round are lost than the code has roots, or
--- there is less parity than the code needs, or another block of its round is damaged, and the pass doesn't know it.
+-- A block counts as lost, but can't be restored: together with it more blocks of its round are lost than the code has roots,
+-- the parity is incomplete, or the pass doesn't know of another damaged block of its round.
 pub record IsRoundPast (j : Job) (f : FormerImage) (s : Stage) (t : Trial) (h i : ℕ) : Type 0 where
   pub k : ℕ
   pub at : IsCoveredAt j.tree.shape t.layout h i k
   pub known : IsAmong t.lost k
   pub past : (t.layout.roots < lost_count t.layout t.lost k) ⊎ ((t.parity_dev.size < parity_sectors t.layout) ⊎ IsHiddenBeside j f s t k)
 
--- good hash blocks lead to a block, and parity doesn't cover it, or can't make it again
+-- verified hash blocks lead to a block, and parity doesn't cover it, or can't restore it
 pub record IsPastParity (j : Job) (f : FormerImage) (s : Stage) (t : Trial) (h i : ℕ) : Type 0 where
   pub p : PathRecord
   pub way : IsWay j.tree i h p
   pub vain : IsOffPlace j.tree.shape t.layout h i ⊎ IsRoundPast j f s t h i
 
--- What comes of a block that is sought: it comes back, or stands there by now, and nothing is written, or parity can't bring it back.
+-- The result for a block that is sought: it is restored; or it is valid by now, and nothing is written; or parity can't restore
+-- it.
 abbrev pub IsTrialSettled : Job → FormerImage → Stage → Trial → ℕ → ℕ → Type 0
 IsTrialSettled j f s t h i = IsBroughtBack j h i t.w t.w' ⊎ ((IsWorldRead t.w t.w' × IsGoodBehind j h i t.w) ⊎ IsPastParity j f s t h i)
 
--- It was sought behind a pass's visits, where these covered blocks count as lost. Beside is the data block beneath it by which it was.
+-- The block was sought after a pass's visits, when these covered blocks counted as lost; `beside` is the data block below it
+-- that it was sought by.
 pub record IsSoughtWithin (j : Job) (l : Layout) (lost : List ℕ) (f : FormerImage) (s : Stage) (p : Device) (h i : ℕ) : Type 0 where
   pub beside : ℕ
   pub same : ancestor j.tree.shape h beside ≡ ancestor j.tree.shape h i
@@ -135,11 +138,11 @@ pub record IsSoughtWithin (j : Job) (l : Layout) (lost : List ℕ) (f : FormerIm
 
 -- ---- the laws
 
--- what came of a block in a pass with these visits
+-- the result for a block in a pass with these visits
 abbrev pub IsSettledWithin : Job → Layout → List ℕ → List Visit → FormerImage → Stage → Device → ℕ → ℕ → Type 0
 IsSettledWithin j l lost visits f s p h i = IsHadIn j.tree.shape h i visits ⊎ (IsUnderBad j h i s.before s.after ⊎ IsSoughtWithin j l lost f s p h i)
 
--- a repair over steady devices that never fail, by the parity of the formatted image
+-- a repair on steady devices that never fail, by the parity of the formatted image
 pub record IsSureRepair (plan : Plan) (l : Layout) (f : FormerImage) (w w' : RepairWorld) (p p' : Device) : Type 0 where
   pub seeks : SeeksByParity plan l w w' p p'
   pub sure : AllNeverFail w.data_dev w.hash_dev p
@@ -148,9 +151,9 @@ pub record IsSureRepair (plan : Plan) (l : Layout) (f : FormerImage) (w w' : Rep
   pub sizes : HasTreeSizes (shape_of seeks.s) l
   pub parity : IsParityKept l f p
 
--- In it each block of the tree was good or found when the last pass came to it, or came back by parity, or a hash block above it isn't
--- good, or parity doesn't cover it, or there is too little parity, or its round has more lost blocks than the code has roots, or a
--- damaged one to which the pass didn't come; or two different inputs have one digest.
+-- For each block of the tree one of these holds: it was valid or found when the last pass came to it; parity restored it; a
+-- hash block above it is corrupt; parity doesn't cover it; the parity is incomplete; its round has more lost blocks than the
+-- code has roots, or a damaged block that the pass didn't come to; two different inputs have one digest.
 abbrev pub LostBlocksWithinParityComeBack : Type 0
 LostBlocksWithinParityComeBack =
     (plan : Plan) → (l : Layout) → (f : FormerImage) → (w w' : RepairWorld) → (p p' : Device) → (r : IsSureRepair plan l f w w' p p') → (h i : ℕ) → h ≤ levels (shape_of r.seeks.s)
@@ -158,27 +161,28 @@ LostBlocksWithinParityComeBack =
     → let passes = r.seeks.ends.passes in
     IsSettledWithin (job_of r.seeks.s plan true) l passes.pass.sought.lost passes.pass.visits f (stage passes.last passes.pass.behind w') passes.last_parity h i ⊎ Collide r.seeks.s.salt
 
--- There is as much parity as the code needs. Where covered block k counts as lost, so do no more blocks of its round than the code has
--- roots; and each other block of its round that is damaged counts as lost.
+-- The parity is complete. If covered block k counts as lost, no more blocks of its round count as lost than the code has roots,
+-- and each other damaged block of its round counts as lost.
 pub record IsWithinParity (l : Layout) (f : FormerImage) (lost : List ℕ) (w : RepairWorld) (p : Device) (k : ℕ) : Type 0 where
   pub room : parity_sectors l ≤ p.size
   pub few : IsAmong lost k → lost_count l lost k ≤ l.roots
   pub known : (n : ℕ) → IsTrue (is_beside l k n) → IsDamaged l f w n → IsAmong lost n
 
--- Each covered block of the tree of which that is so behind the last pass's visits, where blocks may be written, is as it was formatted
--- behind the run, whatever other rounds hold; or a hash block above it isn't good, or two different inputs have one digest.
+-- If the repair may write, each covered block of the tree that is within parity after the last pass's visits is as formatted
+-- after the run, whatever other rounds hold; or a hash block above it is corrupt, or two different inputs have one digest.
 abbrev pub NoBlockStaysLostWithinParity : Type 0
 NoBlockStaysLostWithinParity =
     (plan : Plan) → IsTrue plan.write → (l : Layout) → (f : FormerImage) → (w w' : RepairWorld) → (p p' : Device) → (r : IsSureRepair plan l f w w' p p')
     → (h i k : ℕ) → IsCoveredAt (shape_of r.seeks.s) l h i k → let passes = r.seeks.ends.passes in IsWithinParity l f passes.pass.sought.lost passes.pass.behind p k
     → IsAsFormed l f w' k ⊎ (IsUnderBad (job_of r.seeks.s plan true) h i passes.last w' ⊎ Collide r.seeks.s.salt)
 
--- Parity covers all hash blocks of the tree, and of the data device its data blocks alone.
+-- Parity covers all hash blocks of the tree and, on the data device, its data blocks only.
 pub record IsTreeCovered (s : ShapeRecord) (l : Layout) : Type 0 where
   pub covers : (h i : ℕ) → IsPlace s (h + 1) i → (k : ℕ) × IsCoveredAt s l (h + 1) i k
   pub data_blocks : l.data_blocks ≡ s.blocks
 
--- So it does where it is laid out for that tree and a hash device on which the tree fits; and its blocks have the size of the tree's.
+-- This holds of parity that is laid out for that tree and a hash device on which the tree fits; its blocks have the size of the
+-- tree's blocks.
 abbrev pub LaidOutParityCoversTheTree : Type 0
 LaidOutParityCoversTheTree =
     (s : ShapeRecord) → (hash_sectors roots : ℕ) → (l : Layout) → IsLayoutOf s hash_sectors roots l → tree_sectors s ≤ hash_sectors → HasTreeSizes s l × IsTreeCovered s l
@@ -188,23 +192,23 @@ pub record HasWholeTree (s : ShapeRecord) (l : Layout) (f : FormerImage) (w : Re
   pub tree : IsTreeCovered s l
   pub whole : (n : ℕ) → l.data_blocks ≤ n → IsAsFormed l f w n
 
--- Where that is so before the run, a data block of whose round no more blocks count as lost in its last pass than the code has roots is
--- as it was formatted behind the run, whatever other rounds hold; or two different inputs have one digest.
+-- If this holds before the run, and no more blocks of a data block's round count as lost in the last pass than the code has
+-- roots, the block is as formatted after the run, whatever other rounds hold; or two different inputs have one digest.
 abbrev pub DataUnderWholeTreeComeBack : Type 0
 DataUnderWholeTreeComeBack =
     (plan : Plan) → IsTrue plan.write → (l : Layout) → (f : FormerImage) → (w w' : RepairWorld) → (p p' : Device) → (r : IsSureRepair plan l f w w' p p')
     → HasWholeTree (shape_of r.seeks.s) l f w → parity_sectors l ≤ p.size
     → (i : ℕ) → i < l.data_blocks → let lost = r.seeks.ends.passes.pass.sought.lost in (IsAmong lost i → lost_count l lost i ≤ l.roots) → IsAsFormed l f w' i ⊎ Collide r.seeks.s.salt
 
--- covered block n is damaged, as a test; and how many of a round are
+-- whether covered block n is damaged, and how many blocks of a round are
 abbrev pub is_damaged : Layout → FormerImage → RepairWorld → ℕ → Bool
 is_damaged l f w n = not (bytes_eq (covered l w.data_dev.image w.hash_dev.image n) (covered l f.data_image f.hash_image n))
 
 abbrev pub damaged_count : Layout → FormerImage → RepairWorld → ℕ → ℕ
 damaged_count l f w round = count_by (λ n. (round_of l n == round) && is_damaged l f w n) (range_with_len 0 (covered_blocks l))
 
--- Where a tree is whole before the run, a data block of whose round no more covered blocks are damaged then than the code has roots is as
--- it was formatted behind the run, whatever other rounds hold; or two different inputs have one digest.
+-- If a tree is whole before the run, and no more covered blocks of a data block's round are damaged then than the code has
+-- roots, the block is as formatted after the run, whatever other rounds hold; or two different inputs have one digest.
 abbrev pub DamagedBlocksWithinParityComeBack : Type 0
 DamagedBlocksWithinParityComeBack =
     (plan : Plan) → IsTrue plan.write → (l : Layout) → (f : FormerImage) → (w w' : RepairWorld) → (p p' : Device) → (r : IsSureRepair plan l f w w' p p')

@@ -4,7 +4,7 @@ use Rattle.block_device.specs.Device.{Device}
 use Rattle.verity_format.specs.Blocks.{AreOnlyRead, IsOnlyRead}
 use Rattle.tree_repair.specs.Sources.{AreEachRead}
 
--- the data device, the hash device and copies of each
+-- the data device, the hash device, and the copies of each
 pub record RepairWorld : Type 0 where
   pub data_dev : Device
   pub hash_dev : Device
@@ -14,7 +14,7 @@ pub record RepairWorld : Type 0 where
 abbrev pub repair_world : Device → Device → List Device → List Device → RepairWorld
 repair_world data_dev hash_dev data_copies hash_copies = record { data_dev = data_dev; hash_dev = hash_dev; data_copies = data_copies; hash_copies = hash_copies }
 
--- all devices were only read, and neither the data device nor the hash device takes a failure back
+-- all devices were only read, and the failure counters of the data device and the hash device didn't decrease
 pub record IsWorldRead (w w' : RepairWorld) : Type 0 where
   pub data_read : IsOnlyRead w.data_dev w'.data_dev
   pub hash_read : IsOnlyRead w.hash_dev w'.hash_dev
@@ -23,14 +23,14 @@ pub record IsWorldRead (w w' : RepairWorld) : Type 0 where
   pub data_copies_read : AreEachRead w.data_copies w'.data_copies
   pub hash_copies_read : AreEachRead w.hash_copies w'.hash_copies
 
--- the hash device alone was asked, and only read
+-- only the hash device was accessed, by reads
 pub record IsHashReadAlone (w w' : RepairWorld) : Type 0 where
   pub data_is : w'.data_dev ≡ w.data_dev
   pub read : IsOnlyRead w.hash_dev w'.hash_dev
   pub data_copies_are : w'.data_copies ≡ w.data_copies
   pub hash_copies_are : w'.hash_copies ≡ w.hash_copies
 
--- data and hash device were only read, failures are counted, and no copy was asked
+-- the data device and the hash device were only read, failures are counted, and no copy was accessed
 pub record AreBothRead (w w' : RepairWorld) : Type 0 where
   pub devices : AreOnlyRead w.data_dev w.hash_dev w'.data_dev w'.hash_dev
   pub data_more : w.data_dev.failures ≤ w'.data_dev.failures

@@ -1,4 +1,4 @@
-//! Blocks that aren't good where they stand.
+//! The corrupt blocks of an image.
 ghost use Rattle.std.specs.Prelude.{◌≡◌, ◌≤◌, ◌+◌, ◌||◌, not, ◌++◌, ◌∷◌, true, false, [], IfErr, IsTrue, OnOk, length};
 ghost use Rattle.allocation.specs.Asked.{WasRefused};
 ghost use Rattle.tree_repair.specs.Noting.{IsGoodBefore, IsNoted, found_of, passed_some, unless};
@@ -8,15 +8,15 @@ use crate::place::Place;
 use allocation::{OutOfMemory, push};
 use std::alloc::Global;
 
-/// A block that isn't good where it stands, and whether it was found elsewhere.
+/// A block that is corrupt on its device, and whether its bytes were found elsewhere.
 #[derive(Clone, Copy)]
 pub(crate) struct BadBlock {
     pub(crate) place: Place,
     pub(crate) found: bool,
 }
 
-/// The blocks that aren't good behind a pass, if anyone asks for them; whether there are any; whether some were passed by; and
-/// whether some were written and not read back, which aren't among the blocks.
+/// What a pass notes: the corrupt blocks, if the caller asks for them; whether there are any; whether some blocks were skipped;
+/// and whether a block was written but not read back, which isn't among the corrupt blocks.
 #[derive(Drop)]
 pub(crate) struct BadBlocks {
     asked: bool,
@@ -27,7 +27,7 @@ pub(crate) struct BadBlocks {
 }
 
 impl BadBlocks {
-    /// None so far.
+    /// Returns notes of no blocks. `asked` sets whether the corrupt blocks are kept.
     pub(crate) fn new(alloc: Global, asked: bool) -> BadBlocks
         ensures asked { result.asked ≡ asked }
         ensures none { result.blocks.items ≡ [] }
@@ -41,7 +41,11 @@ impl BadBlocks {
         }
     }
 
-    /// Notes what came of a block, which is good now if it was written.
+    /// Notes the result of a visit. A block that was written isn't corrupt any more.
+    ///
+    /// # Errors
+    ///
+    /// `OutOfMemory` if the allocator refused memory for the block.
     pub(crate) fn note(
         &mut self,
         place: Place,
@@ -62,7 +66,7 @@ impl BadBlocks {
         }
     }
 
-    // Notes a block that isn't good.
+    // Notes a corrupt block.
     fn add(&mut self, block: BadBlock) -> Result<(), OutOfMemory>
         ensures asked { self.new.asked ≡ self.old.asked }
         ensures noted { OnOk result (IsTrue self.old.asked → self.new.blocks.items ≡ self.old.blocks.items ++ (block ∷ [])) }
@@ -79,7 +83,7 @@ impl BadBlocks {
         push(&mut self.blocks, block)
     }
 
-    /// Notes of a block whether it was read back, if it was written. If not, it isn't known to be good.
+    /// Notes whether a block was read back after it was written. If it wasn't, it isn't known to be valid.
     pub(crate) fn keep(&mut self, kept: bool)
         ensures asked { self.new.asked ≡ self.old.asked }
         ensures blocks { self.new.blocks.items ≡ self.old.blocks.items }
@@ -94,15 +98,16 @@ impl BadBlocks {
         }
     }
 
-    /// Notes that blocks were passed by.
+    /// Notes that blocks were skipped.
     pub(crate) fn pass_by(&mut self)
         ensures { self.new ≡ passed_some self.old }
     {
         self.passed = true;
     }
 
-    /// Whether all of an image is good behind a pass, where this says whether all that were noted came back since, and whether
-    /// anything may be written. If nothing may, what came back is only repairable, so that none may have been noted.
+    /// Returns whether all of an image is valid after a pass. `back` states whether all noted blocks were restored since, and
+    /// `write` whether anything may be written. Without `write` a restored block is still corrupt on its device, so none may
+    /// have been noted.
     pub(crate) fn is_whole(&self, back: bool, write: bool) -> bool
         ensures passed { IsTrue result → self.now.passed ≡ false }
         ensures unkept { IsTrue result → self.now.unkept ≡ false }
@@ -115,14 +120,14 @@ impl BadBlocks {
         write || !self.any
     }
 
-    /// Whether no block is known that isn't good, and none was passed by.
+    /// Returns whether no corrupt block is known and none was skipped.
     pub(crate) fn is_none(&self) -> bool
         ensures { result ≡ not (self.now.any || self.now.passed) }
     {
         !(self.any || self.passed)
     }
 
-    /// Those that were noted.
+    /// Returns the corrupt blocks.
     pub(crate) fn noted(&self) -> &[BadBlock]
         ensures { result.now ≡ self.now.blocks.items }
     {
@@ -130,7 +135,7 @@ impl BadBlocks {
     }
 }
 
-// Nothing of a block that is good by now; else whether it was found.
+// Whether a block that is still corrupt was found elsewhere; `None` for a block that is valid now.
 fn found_of(mended: Mended, write: bool) -> Option<bool>
     ensures { result ≡ found_of write mended }
 {

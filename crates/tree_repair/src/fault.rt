@@ -1,4 +1,4 @@
-//! Why an image isn't repaired to its end.
+//! Why the repair of an image ends early.
 ghost use Rattle.std.specs.Prelude.{◌≡◌, ◌≢◌, false, IfErr, IfOk};
 ghost use Rattle.fec_area.specs.declared.restoring.RestoreFault.TheVariants as restore_fault;
 ghost use Rattle.tree_repair.specs.declared.fault.RepairFault.TheVariants as repair_fault;
@@ -10,10 +10,10 @@ use fec_area::RestoreFault;
 use program_io::WriteFault;
 use verity_format::VerifyFault;
 
-/// Why an image isn't repaired to its end.
+/// Why the repair of an image ends early.
 #[derive(Clone, Copy, Debug, PartialEq, Eq)]
 pub enum RepairFault {
-    /// There is no superblock, a device is too small, a write to it failed, or an allocation was refused.
+    /// There is no superblock, a device is too small, a write failed, or an allocation was refused.
     Image(VerifyFault),
     /// A line can't be written.
     Write,
@@ -51,7 +51,7 @@ impl From<WriteFault> for RepairFault {
     }
 }
 
-/// A block that isn't restored by parity stays lost; only a refused allocation ends the repair.
+/// Returns `false` for a block that parity can't restore: it stays lost. Only a refused allocation ends the repair.
 pub(crate) fn unrestored(fault: RestoreFault) -> Result<bool, RepairFault>
     ensures ok { IfOk result (λ back. (back ≡ false) × (fault ≢ restore_fault.NoMemory)) }
     ensures err { IfErr result (λ given. (given ≡ repair_fault.Image verify_fault.NoMemory) × (fault ≡ restore_fault.NoMemory)) }

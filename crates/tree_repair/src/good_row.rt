@@ -1,4 +1,4 @@
-//! Rows of data blocks that are good, seen at once.
+//! Verifies whole rows of data blocks at once.
 ghost use Rattle.std.specs.Prelude.{◌≤◌, ◌<◌, ◌+◌, ◌-◌, ◌*◌, ◌/◌, ◌^◌, IfSome, IsTrue, length};
 ghost use Rattle.tree_shape.specs.Shape.{IsShape};
 ghost use Rattle.tree_survey.specs.Pieces.{LieOnDevice, IsRunRead};
@@ -18,10 +18,10 @@ use tree_path::TreePath;
 use tree_shape::{Digest, Salt};
 use verity_format::is_same;
 
-// How many of the smallest blocks fit a visit's room.
+// How many of the smallest blocks fit in a visit's buffer.
 const MOST_BLOCKS: usize = 128;
 
-/// Whether a row of data blocks was seen to be good: read in pieces of 64 KiB, and digested side by side.
+/// Returns whether all data blocks of a row were read and verify. They are read in pieces of 64 KiB, and digested in parallel.
 pub(crate) fn is_good_row<D: BlockDev, H: BlockDev, C: BlockDev>(
     path: &TreePath,
     repair: &Repair,
@@ -43,7 +43,7 @@ pub(crate) fn is_good_row<D: BlockDev, H: BlockDev, C: BlockDev>(
     are_good(path, repair, row, &mut image.data, memory)
 }
 
-// So of the data blocks of a row.
+// Returns whether the data blocks of a row were read and verify.
 fn are_good<D: BlockDev>(
     path: &TreePath,
     repair: &Repair,
@@ -70,7 +70,7 @@ fn are_good<D: BlockDev>(
     true
 }
 
-// How many blocks from the first one on fill a piece, where all of them are good.
+// Returns how many blocks from `first` on make up a piece, if all of them verify.
 fn good_piece<D: BlockDev>(
     path: &TreePath,
     repair: &Repair,
@@ -106,7 +106,7 @@ fn good_piece<D: BlockDev>(
     None
 }
 
-// Reads blocks of that size into `run`, from block `first` on, and writes their digests; not so where the read fails.
+// Reads blocks of that size into `run`, from block `first` on, and stores their digests. Returns `false` if the read fails.
 fn read_run<D: BlockDev>(
     device: &mut D,
     salt: &Salt,
@@ -130,7 +130,7 @@ fn read_run<D: BlockDev>(
     }
 }
 
-// Whether these are the digests of the data blocks from one on.
+// Whether these are the stored digests of the data blocks from `first` on.
 fn are_digests(path: &TreePath, first: u64, digests: &[Digest]) -> bool
     requires small { first + length digests.now < 2 ^ 64 }
     ensures { IsTrue result → AreDigestsOn path.now first digests.now }

@@ -1,4 +1,4 @@
-//! A damaged image: its two devices, and the copies in which their blocks are sought.
+//! A damaged image: its two devices, and the copies that its blocks are sought in.
 use block_device::BlockDev;
 use std::marker::Model;
 

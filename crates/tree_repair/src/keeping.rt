@@ -1,4 +1,4 @@
-//! Blocks that were written, read back.
+//! Reads blocks back after they were written.
 ghost use Rattle.std.specs.Prelude.{◌≡◌, ◌≤◌, ◌<◌, ◌&&◌, IsTrue, length};
 ghost use Rattle.tree_survey.specs.Surveys.{IsWay};
 ghost use Rattle.tree_repair.specs.Bills.{LeavesWorld, block_read, nothing_due};
@@ -16,7 +16,7 @@ use crate::seeking::is_there;
 use block_device::BlockDev;
 use tree_path::TreePath;
 
-/// Whether a block was read back with its digest, if it was written.
+/// Returns whether a block that was written reads back with its digest. Blocks that weren't written aren't read.
 pub(crate) fn is_kept<D: BlockDev, H: BlockDev, C: BlockDev>(
     path: &TreePath,
     repair: &Repair,
@@ -39,7 +39,7 @@ pub(crate) fn is_kept<D: BlockDev, H: BlockDev, C: BlockDev>(
     is_read_back(path, repair, place, image, memory)
 }
 
-// Whether a block is read with its digest.
+// Returns whether a block reads with its digest.
 fn is_read_back<D: BlockDev, H: BlockDev, C: BlockDev>(
     path: &TreePath,
     repair: &Repair,
@@ -66,7 +66,7 @@ fn is_read_back<D: BlockDev, H: BlockDev, C: BlockDev>(
     is_there(&mut image.hash, first, &repair.salt, &digest, block)
 }
 
-// Whether a block was written of which that came.
+// Whether the block was written.
 fn was_put(mended: Mended, write: bool) -> bool
     ensures { result ≡ was_put write mended }
 {
@@ -79,7 +79,6 @@ fn was_put(mended: Mended, write: bool) -> bool
     }
 }
 
-/// Whether both are.
 pub(crate) fn are_both(all: bool, back: bool) -> bool
     ensures { result ≡ (all && back) }
 {

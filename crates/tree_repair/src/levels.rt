@@ -1,4 +1,4 @@
-//! The blocks of a height, scanned row by row.
+//! Repairs the blocks of a height, row by row.
 ghost use Rattle.std.specs.Prelude.{◌≡◌, ◌<◌, ◌≤◌, false, IfOk, OnOk, OnErr, length, IfErr};
 ghost use Rattle.allocation.specs.Refusal.{IsOutOfMemory};
 ghost use Rattle.tree_shape.specs.Shape.{levels};
@@ -30,7 +30,8 @@ use program_io::Counted;
 use std::io::Write;
 use tree_path::{TreePath, span};
 
-/// Goes over the blocks of a height: of the data at 0, of the hash blocks of level l at l + 1. `memory` has 64 KiB.
+/// Repairs the blocks of a height: the data blocks at height 0, the hash blocks of level l at height l + 1. `memory` has 64
+/// KiB.
 pub(crate) fn repair_height<D: BlockDev, H: BlockDev, C: BlockDev, W: Write>(
     repair: &Repair,
     height: u32,
@@ -67,7 +68,7 @@ pub(crate) fn repair_height<D: BlockDev, H: BlockDev, C: BlockDev, W: Write>(
     Ok(())
 }
 
-// Goes over a row, if all hash blocks above it are good.
+// Repairs a row if all hash blocks above it verify; otherwise notes that it is skipped.
 fn repair_row<D: BlockDev, H: BlockDev, C: BlockDev, W: Write>(
     last_path: &mut VerifiedPath,
     repair: &Repair,
@@ -95,7 +96,7 @@ fn repair_row<D: BlockDev, H: BlockDev, C: BlockDev, W: Write>(
     repair_unless_good(&last_path.path, repair, row, image, memory, bad, writer)
 }
 
-// Goes over a row to which the path leads, unless all of it was seen to be good.
+// Repairs a row, unless all of its blocks were read and verify.
 fn repair_unless_good<D: BlockDev, H: BlockDev, C: BlockDev, W: Write>(
     path: &TreePath,
     repair: &Repair,
@@ -120,7 +121,7 @@ fn repair_unless_good<D: BlockDev, H: BlockDev, C: BlockDev, W: Write>(
     repair_blocks(path, repair, row, image, memory, bad, writer)
 }
 
-// Goes over the blocks of a row.
+// Repairs the blocks of a row one by one.
 fn repair_blocks<D: BlockDev, H: BlockDev, C: BlockDev, W: Write>(
     path: &TreePath,
     repair: &Repair,
@@ -154,7 +155,7 @@ fn repair_blocks<D: BlockDev, H: BlockDev, C: BlockDev, W: Write>(
     Ok(())
 }
 
-// Looks at a block, prints its line, and reads back what was written.
+// Visits a block, prints its line, and reads back what was written.
 fn repair_block<D: BlockDev, H: BlockDev, C: BlockDev, W: Write>(
     path: &TreePath,
     repair: &Repair,

@@ -1,5 +1,5 @@
-//! Damaged images, repaired from the root down: each invalid block is sought in copies, a hash block that no copy has is
-//! reconstructed from the blocks beneath it, a block that is still lost is restored by parity, and bytes with its digest are
+//! Repairs damaged images from the root down. Each corrupt block is sought in copies. A hash block that no copy has is
+//! reconstructed from the blocks below it. A block that is still lost is restored by parity. Bytes with the block's digest are
 //! written.
 #![tactic(auto)]
 

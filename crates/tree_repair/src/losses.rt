@@ -1,11 +1,11 @@
-//! The covered blocks of an image that count as lost, by their rounds.
+//! The covered blocks of an image that count as lost, ordered by rounds.
 ghost use Rattle.std.specs.Prelude.{◌≡◌, ◌<◌, ◌%◌, max};
 ghost use Rattle.std.specs.List.Sorted.{IsNonDecreasingBy, IsPermutation};
 ghost use Rattle.fec_area.specs.Layouts.{IsLayout, code_rounds, covered_blocks};
 
 use fec_area::Layout;
 
-/// How parity lies across an image, and the covered blocks that count as lost, in the order of their rounds.
+/// The layout of the parity, and the covered blocks that count as lost, in the order of their rounds.
 #[derive(Drop)]
 pub(crate) struct Losses {
     pub(crate) layout: Layout,
@@ -18,7 +18,7 @@ pub(crate) struct Losses {
 impl Losses {
     ghost use Rattle.tree_repair.specs.Losing.{AreLostAlike};
 
-    /// Sorts the covered blocks that count as lost by their rounds.
+    /// Returns the lost blocks in the order of their rounds.
     pub(crate) fn of(layout: &Layout, lost: Vec<u64>) -> Losses
         requires { IsLayout layout.now }
         ensures layout { result.layout ≡ layout.now }
@@ -34,7 +34,7 @@ impl Losses {
         }
     }
 
-    /// Returns the lost blocks of the round of a covered block.
+    /// Returns the lost blocks in the round of a covered block.
     pub(crate) fn beside(&self, index: u64) -> &[u64]
         requires layout { IsLayout self.now.layout }
         requires index { index < covered_blocks self.now.layout }

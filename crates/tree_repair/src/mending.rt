@@ -1,4 +1,4 @@
-//! A block that is looked at, and written where it isn't good and was found elsewhere.
+//! Checks a block, and writes it if it is corrupt and was found elsewhere.
 ghost use Rattle.std.specs.Prelude.{◌/◌, ◌+◌, ◌<◌, ◌^◌, IfOk, IsTrue, is_ok, length};
 ghost use Rattle.block_device.specs.Call.{Calls, DeviceDoes};
 ghost use Rattle.block_device.specs.Device.{IsInside};
@@ -11,22 +11,22 @@ use crate::seeking::{is_there, seek};
 use block_device::{BlockDev, DeviceFault};
 use tree_shape::Digest;
 
-/// What came of a block.
+/// The result of a visit to a block.
 #[derive(Clone, Copy, Debug, PartialEq, Eq)]
 pub enum Mended {
-    /// It is good.
+    /// The block verifies.
     Good,
-    /// It was invalid, and the copy of that number, counted from 1, has it.
+    /// The block was corrupt; the copy of that number, counted from 1, has it.
     Copy(usize),
-    /// It is an invalid hash block, no copy has it, and it was reconstructed from the blocks beneath it.
+    /// The hash block is corrupt and in no copy; it was reconstructed from the blocks below it.
     Remade,
-    /// It was invalid, no other source has it, and parity restored it.
+    /// The block was corrupt and in no other source; parity restored it.
     Parity,
-    /// It is invalid, and was found nowhere.
+    /// The block is corrupt and was found nowhere.
     Lost,
 }
 
-/// A block of what is repaired: its first sector on its device and on a copy, and its digest.
+/// A block to be checked: its first sector on its device and on a copy, and its digest.
 #[derive(Clone, Copy)]
 pub(crate) struct Sought<'a> {
     pub(crate) repair: &'a Repair,
@@ -35,7 +35,11 @@ pub(crate) struct Sought<'a> {
     pub(crate) digest: Digest,
 }
 
-/// Reads a block. Where it hasn't its digest it is sought in the copies, and written if it may be.
+/// Reads a block. If it doesn't have its digest, the copies are searched, and what is found is written if the repair may write.
+///
+/// # Errors
+///
+/// `DeviceFault` if a write to the device failed.
 pub(crate) fn mend<B: BlockDev, C: BlockDev>(
     device: &mut B,
     copies: &mut Vec<C>,
@@ -69,7 +73,11 @@ pub(crate) fn mend<B: BlockDev, C: BlockDev>(
     }
 }
 
-/// Writes a block, if it may be written.
+/// Writes a block if `write` is set.
+///
+/// # Errors
+///
+/// `DeviceFault` if the write failed.
 pub(crate) fn put<B: BlockDev>(
     device: &mut B,
     first: u64,

@@ -1,4 +1,4 @@
-//! What is known of an image behind a repair.
+//! What is known of an image after a repair.
 ghost use Rattle.std.specs.Prelude.{◌≡◌, ◌&&◌, IsTrue};
 ghost use Rattle.tree_repair.specs.Failures.{AreUncounted};
 ghost use Rattle.tree_repair.specs.Noting.{pass_outcome};
@@ -6,17 +6,17 @@ ghost use Rattle.tree_repair.specs.Noting.{pass_outcome};
 use crate::image::DamagedImage;
 use block_device::BlockDev;
 
-/// What is known of an image behind a repair that came to its end.
+/// What is known of an image after a repair that wasn't ended by an error.
 #[derive(Clone, Copy, Debug, PartialEq, Eq)]
 pub enum Outcome {
-    /// Each block of the tree was looked at, and is good: so many data blocks, and all hash blocks above them. No call of the
-    /// image's devices failed.
+    /// Each block of the tree was visited and is valid: this number of data blocks, and all hash blocks above them. No call of
+    /// the image's devices failed.
     Whole(u64),
-    /// Some blocks aren't good, or weren't looked at, or a call failed.
+    /// Some blocks are corrupt or weren't visited, or a call failed.
     Partly,
 }
 
-/// How many calls of an image's data device and of its hash device have failed.
+/// The failure counters of an image's data device and hash device.
 #[derive(Clone, Copy)]
 pub(crate) struct Failures {
     data: u64,
@@ -24,7 +24,7 @@ pub(crate) struct Failures {
 }
 
 impl Failures {
-    /// So many by now.
+    /// Returns the current values of the counters.
     pub(crate) fn of<D: BlockDev, H: BlockDev, C: BlockDev>(
         image: &DamagedImage<D, H, C>,
     ) -> Failures
@@ -37,7 +37,7 @@ impl Failures {
         }
     }
 
-    /// Whether it is known that none has failed since.
+    /// Returns whether no failure was counted since.
     pub(crate) fn none_since<D: BlockDev, H: BlockDev, C: BlockDev>(
         self,
         image: &DamagedImage<D, H, C>,
@@ -52,7 +52,7 @@ impl Failures {
     }
 }
 
-/// The whole image of so many data blocks is good where its blocks are, and no call failed.
+/// Returns the outcome for an image of so many data blocks: `Whole` if all blocks are valid and no call failed.
 pub(crate) fn outcome_of(good: bool, sure: bool, blocks: u64) -> Outcome
     ensures { result ≡ pass_outcome (good && sure) blocks }
 {

@@ -1,4 +1,4 @@
-//! Blocks restored by parity.
+//! Restores blocks by parity.
 ghost use Rattle.std.specs.Prelude.{◌≡◌, ◌<◌, ◌+◌, ◌++◌, ◌&&◌, ◌||◌, false, IfOk, IsTrue, OnOk, length, IfErr};
 ghost use Rattle.allocation.specs.Asked.{WasRefused};
 ghost use Rattle.fec_area.specs.Layouts.{IsLaidOn, IsLayout, covered_blocks};
@@ -30,15 +30,15 @@ use std::alloc::Global;
 use std::io::Write;
 use verity_format::is_same;
 
-/// Whether parity restored a hash block; and for some blocks whether all were restored, for a pass whether all of the image is valid.
+/// Whether parity restored a hash block; and whether all blocks were restored or, for a pass, all of the image is valid.
 #[derive(Clone, Copy)]
 pub(crate) struct Came {
     pub(crate) tree: bool,
     pub(crate) all: bool,
 }
 
-/// Restores the blocks that were found nowhere, from the root down, by parity. Returns whether a hash block is among the
-/// restored ones, and whether all were restored and read back.
+/// Restores the blocks that were found nowhere by parity, from the root down. Returns whether a hash block was restored, and
+/// whether all blocks were restored and read back.
 pub(crate) fn restore_bad<D: BlockDev, H: BlockDev, C: BlockDev, P: BlockDev, W: Write>(
     repair: &Repair,
     layout: &Layout,
@@ -88,7 +88,7 @@ fn is_in_tree(tree: bool, back: bool, bad: &BadBlock) -> bool
     tree || back && bad.place.height > 0
 }
 
-// The covered blocks among these.
+// The indices of the blocks that parity covers.
 fn covered_of(
     repair: &Repair,
     layout: &Layout,
@@ -116,7 +116,7 @@ fn push_some(covered: &mut Vec<u64>, index: Option<u64>) -> Result<(), OutOfMemo
     }
 }
 
-// The number of a block among those that parity covers.
+// The index of a block among those that parity covers.
 fn covered_at(repair: &Repair, layout: &Layout, place: Place) -> Option<u64>
     requires { IsLayout layout.now }
     ensures { IsCoveredOr repair.now.shape layout.now place.height place.index result }
@@ -137,7 +137,7 @@ fn covered_at(repair: &Repair, layout: &Layout, place: Place) -> Option<u64>
     layout.covered_hash(repair.shape.position(level, number))
 }
 
-// Whether the tree has such a block.
+// Whether the tree has this block.
 fn is_place(repair: &Repair, place: Place) -> bool
     ensures some { IsTrue result → IsPlace repair.now.shape place.height place.index }
     ensures none { result ≡ false → IsPlace repair.now.shape place.height place.index → ⊥ }
@@ -151,7 +151,7 @@ fn is_place(repair: &Repair, place: Place) -> bool
     true
 }
 
-// Restores a block that was found nowhere, if all hash blocks above it are valid and parity has it.
+// Restores a block that was found nowhere, if all hash blocks above it verify and parity can restore it.
 fn restore_block_at<D: BlockDev, H: BlockDev, C: BlockDev, P: BlockDev, W: Write>(
     last_path: &mut VerifiedPath,
     repair: &Repair,
@@ -192,7 +192,7 @@ fn restore_block_at<D: BlockDev, H: BlockDev, C: BlockDev, P: BlockDev, W: Write
     restore_missing(&missing, losses, image, parity, writer, kept)
 }
 
-// Restores a block to which valid hash blocks lead.
+// Restores a block whose hash blocks verify.
 fn restore_missing<D: BlockDev, H: BlockDev, C: BlockDev, P: BlockDev, W: Write>(
     missing: &Missing<'_>,
     losses: &Losses,
@@ -226,7 +226,7 @@ fn restore_missing<D: BlockDev, H: BlockDev, C: BlockDev, P: BlockDev, W: Write>
     put_restored(missing, image, bytes, block, writer, kept)
 }
 
-// Restores a block by parity, and returns whether it has the digest to which the path leads.
+// Restores the bytes of a block by parity, and returns whether they have the digest that its parent stores.
 fn make_again<D: BlockDev, H: BlockDev, C: BlockDev, P: BlockDev>(
     missing: &Missing<'_>,
     losses: &Losses,
@@ -258,7 +258,7 @@ fn make_again<D: BlockDev, H: BlockDev, C: BlockDev, P: BlockDev>(
     Ok(is_same(&repair.salt.digest(bytes), &expected))
 }
 
-// Restores a covered block, and returns whether that was possible; a failed allocation is a fault.
+// Restores the bytes of a covered block, and returns whether that was possible. A refused allocation is an error.
 fn restore<D: BlockDev, H: BlockDev, C: BlockDev, P: BlockDev>(
     alloc: Global,
     losses: &Losses,

@@ -1,4 +1,4 @@
-//! An image, repaired in passes by its parity too.
+//! Repairs an image in passes, with parity.
 ghost use Rattle.std.specs.Prelude.{◌≤◌, ◌^◌, IfErr, IfOk, IsTrue, OnOk};
 ghost use Rattle.fec_area.specs.Layouts.{IsLaidOn};
 ghost use Rattle.verity_format.specs.Blocks.{IsOnlyRead};
@@ -22,11 +22,16 @@ use program_io::Counted;
 use std::alloc::Global;
 use std::io::Write;
 
-/// Like `repair_image`, and restores each block that no other source has by the parity of its round, in which all blocks that
-/// the pass has found invalid count as lost. After a pass in which parity restored a hash block the image is scanned again, if
-/// `write` is set. Returns whether all of the image is known to be valid at the end.
+/// Repairs an image as `repair_image` does, and restores each block that no other source has by the parity of its round; all
+/// blocks of the round that the pass found corrupt count as lost. If `write` is set, the image is scanned again after each pass
+/// in which parity restored a hash block.
 ///
-/// It keeps 32 bytes for each invalid block.
+/// Returns whether all of the image is known to be valid at the end. It needs 32 bytes of memory for each corrupt block.
+///
+/// # Errors
+///
+/// - `Image` if there is no superblock, a device is too small, a write failed, or an allocation was refused.
+/// - `Write` if a line can't be written.
 pub fn repair_with_parity<D: BlockDev, H: BlockDev, C: BlockDev, P: BlockDev, W: Write>(
     alloc: Global,
     image: &mut DamagedImage<D, H, C>,
@@ -55,8 +60,8 @@ pub fn repair_with_parity<D: BlockDev, H: BlockDev, C: BlockDev, P: BlockDev, W:
     Ok(outcome_of(all, sure, blocks))
 }
 
-// Goes over the image until no hash block comes back by parity. Each further pass follows one in which one did, so there
-// are at most as many as hash blocks. Tells whether all of the image is good by then.
+// Runs passes until one restores no hash block by parity. Each further pass follows one that restored a hash block, so there
+// are at most as many passes as hash blocks and one more. Returns whether all of the image is valid at the end.
 fn run_passes<D: BlockDev, H: BlockDev, C: BlockDev, P: BlockDev, W: Write>(
     repair: &Repair,
     layout: &Layout,
@@ -83,8 +88,8 @@ fn run_passes<D: BlockDev, H: BlockDev, C: BlockDev, P: BlockDev, W: Write>(
     Ok(came.all)
 }
 
-// Scans the image, and then the lost blocks. Returns whether a hash block was restored and written, so that the image has to
-// be scanned again, and whether all of it is valid by then.
+// Runs a pass over the image, then restores lost blocks. Returns whether a hash block was restored and written, so that another
+// pass is needed, and whether all of the image is valid.
 fn run_pass<D: BlockDev, H: BlockDev, C: BlockDev, P: BlockDev, W: Write>(
     repair: &Repair,
     layout: &Layout,

@@ -1,4 +1,4 @@
-//! Blocks of an image by their places, and what is repaired.
+//! Blocks by height and index, and the parameters of a repair.
 ghost use Rattle.std.specs.Prelude.{◌≡◌, ◌≤◌, ◌^◌};
 ghost use Rattle.tree_shape.specs.Shape.{levels};
 ghost use Rattle.tree_path.specs.Unused.{digests_in};
@@ -7,10 +7,11 @@ ghost use Rattle.tree_repair.specs.Runs.{size_at};
 use std::alloc::Global;
 use tree_shape::{Digest, Salt, Shape};
 
-/// How many bytes a visit works in: room for a block and one of each height beneath it.
+/// The size of a visit's buffer in bytes: a block, and one of each height below it.
 pub(crate) const ROOM: usize = 65536;
 
-/// Where memory comes from, a tree, the sector at which hash blocks begin on a copy, whether anything may be written, and whether there is parity.
+/// The allocator, the tree, the sector at which hash blocks begin on a copy, whether the repair may write, and whether there is
+/// parity.
 #[derive(Drop)]
 pub(crate) struct Repair {
     pub(crate) alloc: Global,
@@ -22,16 +23,15 @@ pub(crate) struct Repair {
     pub(crate) parity: bool,
 }
 
-/// A block: a data block has height 0, a hash block of level l height l + 1. Its index is that of the first data block
-/// beneath it.
+/// A block. A data block has height 0, a hash block of level l height l + 1. Its index is that of the first data block below
+/// it.
 #[derive(Clone, Copy)]
 pub(crate) struct Place {
     pub(crate) height: u32,
     pub(crate) index: u64,
 }
 
-/// The blocks of a height whose digests stand in one hash block: each `step` data blocks there is one, from `first` on
-/// and before `end`.
+/// The blocks of a height whose digests are in one hash block: one every `step` data blocks, from `first` on and before `end`.
 #[derive(Clone, Copy)]
 pub(crate) struct Row {
     pub(crate) height: u32,
@@ -40,7 +40,7 @@ pub(crate) struct Row {
     pub(crate) step: u64,
 }
 
-/// How many bytes a block of that height has.
+/// Returns the size of a block of that height in bytes.
 pub(crate) fn block_size(shape: &Shape, height: u32) -> usize
     ensures { result ≡ size_at shape.now height }
 {
@@ -50,7 +50,7 @@ pub(crate) fn block_size(shape: &Shape, height: u32) -> usize
     shape.hash_block() as usize
 }
 
-/// How many blocks of that height there are.
+/// Returns how many blocks of that height there are.
 pub(crate) fn count_at(shape: &Shape, height: u32) -> u64
     requires { height ≤ levels shape.now }
     ensures value { result ≡ digests_in shape.now height }

@@ -1,4 +1,4 @@
-//! Blocks restored by parity, written at their offsets.
+//! Writes blocks that parity restored.
 ghost use Rattle.std.specs.Prelude.{◌≡◌, ◌<◌, ◌≤◌, ◌+◌, ◌/◌, false, IfOk, IsTrue, OnErr, length, IfErr};
 ghost use Rattle.block_device.specs.Device.{IsInside};
 ghost use Rattle.tree_shape.specs.Digests.{digest};
@@ -22,7 +22,7 @@ use std::io::Write;
 use tree_path::TreePath;
 use tree_shape::Digest;
 
-/// A lost block of what is repaired, and the path of the good hash blocks that lead to it.
+/// A lost block, and the path of verified hash blocks that leads to it.
 #[derive(Clone, Copy)]
 pub(crate) struct Missing<'a> {
     pub(crate) path: &'a TreePath,
@@ -30,8 +30,7 @@ pub(crate) struct Missing<'a> {
     pub(crate) place: Place,
 }
 
-/// Puts the bytes of a block where it stands, prints its line, and reads it back; `kept` says no longer that all were read back,
-/// where it wasn't.
+/// Writes the bytes of a block, prints its line, and reads it back. If the block doesn't read back, `kept` is cleared.
 pub(crate) fn put_restored<D: BlockDev, H: BlockDev, C: BlockDev, W: Write>(
     missing: &Missing<'_>,
     image: &mut DamagedImage<D, H, C>,
@@ -70,7 +69,7 @@ pub(crate) fn put_restored<D: BlockDev, H: BlockDev, C: BlockDev, W: Write>(
     Ok(true)
 }
 
-// Puts the bytes of a block where it stands, if it isn't good there.
+// Writes the bytes of a block, unless the block is valid on its device.
 fn put_block<D: BlockDev, H: BlockDev, C: BlockDev>(
     missing: &Missing<'_>,
     image: &mut DamagedImage<D, H, C>,
@@ -98,7 +97,7 @@ fn put_block<D: BlockDev, H: BlockDev, C: BlockDev>(
     replace(&mut image.hash, first, repair, &digest, bytes, block)
 }
 
-/// The first sector of a block on its device.
+/// Returns the first sector of a block on its device.
 pub(crate) fn first_sector(repair: &Repair, place: Place) -> u64
     requires { IsPlace repair.now.shape place.height place.index }
     ensures value { result ≡ sector_at repair.now.shape place.height place.index }
@@ -114,7 +113,7 @@ pub(crate) fn first_sector(repair: &Repair, place: Place) -> u64
     repair.shape.position(level, number) * sectors
 }
 
-// Reads a block of which good bytes are at hand. Where it hasn't its digest they are written, if they may be.
+// Reads a block whose bytes are known. If it doesn't have its digest, the bytes are written if the repair may write.
 fn replace<B: BlockDev>(
     device: &mut B,
     first: u64,

@@ -1,4 +1,4 @@
-//! Hash blocks reconstructed from the blocks beneath them.
+//! Reconstructs hash blocks from the blocks below them.
 ghost use Rattle.std.specs.Prelude.{◌≡◌, ◌≤◌, ◌<◌, ◌+◌, ◌-◌, ◌*◌, ◌/◌, ◌++◌, ◌^◌, false, min, drop, take, IsTrue, length};
 ghost use Rattle.tree_shape.specs.Digests.{digest};
 ghost use Rattle.tree_shape.specs.Shape.{IsShape, level_blocks, levels, per_block, position};
@@ -19,10 +19,10 @@ use block_device::BlockDev;
 use tree_shape::{Digest, Shape};
 use verity_format::is_same;
 
-/// Makes the hash block of a level again that stands on the way to a data block, from the blocks of the height just beneath
-/// it, else from those of the next one, down to the data. Tells whether one that was made has the digest that is sought; it is
-/// in `block` then. Where a block of a height can't be read, none is made from that height. `memory` has 4,096
-/// bytes for each height beneath.
+/// Reconstructs the hash block of a level on the path to a data block: from the blocks one height below it; failing that from
+/// the next height, and so on down to the data. Returns whether a reconstructed block has the digest; the block is in `block`
+/// then. If a block of a height can't be read, no block is made from that height. `memory` has 4,096 bytes for each height
+/// below the block.
 pub(crate) fn remake<D: BlockDev, H: BlockDev, C: BlockDev>(
     sought: &Sought<'_>,
     level: u32,
@@ -60,7 +60,7 @@ pub(crate) fn remake<D: BlockDev, H: BlockDev, C: BlockDev>(
     false
 }
 
-/// A block that is made: its number, and how many steps it stands above the height of those that it is made of.
+/// A block to be made: its index in its height, and how many heights it is above the blocks that it is made from.
 #[derive(Clone, Copy)]
 struct Making {
     from: u32,
@@ -68,7 +68,7 @@ struct Making {
     number: u64,
 }
 
-// Makes a block, and tells whether it has the digest.
+// Makes a block, and returns whether it has the digest.
 fn is_made<D: BlockDev, H: BlockDev, C: BlockDev>(
     repair: &Repair,
     making: Making,
@@ -94,7 +94,7 @@ fn is_made<D: BlockDev, H: BlockDev, C: BlockDev>(
     is_same(&repair.salt.digest(block), expected)
 }
 
-// Makes a block, and tells whether those that it is made of could be read.
+// Makes a block, and returns whether the blocks that it is made from could be read.
 fn make<D: BlockDev, H: BlockDev, C: BlockDev>(
     repair: &Repair,
     making: Making,
@@ -139,14 +139,14 @@ fn make<D: BlockDev, H: BlockDev, C: BlockDev>(
     true
 }
 
-// Blocks of a height: so many, from the first on.
+// A run of blocks of a height.
 #[derive(Clone, Copy)]
 struct Children {
     first: u64,
     count: u64,
 }
 
-// Those of a height whose digests stand in a block of the height above.
+// Returns the blocks of a height whose digests are in one block of the height above.
 fn children_of(shape: &Shape, height: u32, number: u64) -> Children
     requires high { height < levels shape.now }
     requires inside { number < level_blocks shape.now height }
@@ -160,7 +160,7 @@ fn children_of(shape: &Shape, height: u32, number: u64) -> Children
     Children { first, count }
 }
 
-// Puts a digest into its slot of a hash block.
+// Writes a digest to its slot in a hash block.
 fn put_digest(digest: &Digest, slot: u64, block: &mut [u8])
     requires { 32 * slot + 32 ≤ length block.old }
     ensures { block.new ≡ take (32 * slot) block.old ++ digest.now ++ drop (32 * slot + 32) block.old }
@@ -169,7 +169,7 @@ fn put_digest(digest: &Digest, slot: u64, block: &mut [u8])
     block[at..at + Digest::SIZE].copy_from_slice(digest.as_bytes());
 }
 
-// Reads a block of a height as it stands, and tells whether it could be read.
+// Reads a block of a height without verifying it, and returns whether it could be read.
 fn read_at<D: BlockDev, H: BlockDev, C: BlockDev>(
     shape: &Shape,
     height: u32,

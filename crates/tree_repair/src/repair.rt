@@ -1,4 +1,4 @@
-//! An image, repaired from the root down.
+//! Repairs an image from the root down.
 ghost use Rattle.std.specs.Prelude.{◌≡◌, ◌<◌, ◌≤◌, ◌^◌, IfErr, IfOk, OnOk};
 ghost use Rattle.tree_shape.specs.Shape.{IsShape};
 ghost use Rattle.verity_format.specs.Blocks.{IsOnlyRead};
@@ -29,7 +29,7 @@ use std::io::Write;
 use tree_shape::Digest;
 use verity_format::{Superblock, VerifyFault, data_sectors, read_superblock, tree_sectors};
 
-/// The root digest, the sector of 512 bytes at which a copy has the hash image, and whether anything may be written.
+/// The root hash, the sector (of 512 bytes) of a copy at which the hash image begins, and whether the repair may write.
 #[derive(Clone, Copy, Debug, PartialEq, Eq)]
 pub struct Plan {
     pub root: Digest,
@@ -37,12 +37,17 @@ pub struct Plan {
     pub write: bool,
 }
 
-/// Scans an image from the root down, and checks each block to which valid hash blocks lead. An invalid block is sought in
-/// the copies; a hash block that no copy has is reconstructed from the blocks beneath it. Bytes with its digest are written,
-/// if `write` is set. A line is printed for each such block.
+/// Scans an image from the root down, and verifies each block whose hash blocks verify. A corrupt block is sought in the
+/// copies; a hash block that no copy has is reconstructed from the blocks below it. If `write` is set, bytes with the block's
+/// digest are written. A line is printed for each such block.
 ///
-/// Returns whether all of the image is known to be valid at the end. Blocks that were found valid or written aren't read again
-/// for that; after a failed call of the image's devices it isn't known, since a sector that couldn't be read may fail again.
+/// Returns whether all of the image is known to be valid at the end. Blocks that were found valid aren't read again for that.
+/// After a failed call of the image's devices the result is `Partly`, because a sector that couldn't be read may fail again.
+///
+/// # Errors
+///
+/// - `Image` if there is no superblock, a device is too small, a write failed, or an allocation was refused.
+/// - `Write` if a line can't be written.
 pub fn repair_image<D: BlockDev, H: BlockDev, C: BlockDev, W: Write>(
     alloc: Global,
     image: &mut DamagedImage<D, H, C>,
@@ -69,7 +74,7 @@ pub fn repair_image<D: BlockDev, H: BlockDev, C: BlockDev, W: Write>(
     Ok(outcome_of(good, sure, blocks))
 }
 
-/// What is repaired by a plan, with parity or without.
+/// Returns the parameters of a repair.
 pub(crate) fn repair_of(alloc: Global, superblock: &Superblock, plan: &Plan, parity: bool) -> Repair
     ensures job { job result ≡ job_of superblock.now plan.now parity }
     ensures valid { IsShape (shape_of superblock.now) }
@@ -87,7 +92,7 @@ pub(crate) fn repair_of(alloc: Global, superblock: &Superblock, plan: &Plan, par
     }
 }
 
-/// The superblock of the hash device, where data and tree lie on the devices.
+/// Returns the superblock of the hash device, after checking that the data and the tree fit on the devices.
 pub(crate) fn superblock_of<D: BlockDev, H: BlockDev, C: BlockDev>(
     image: &mut DamagedImage<D, H, C>,
 ) -> Result<Superblock, RepairFault>
@@ -100,7 +105,7 @@ pub(crate) fn superblock_of<D: BlockDev, H: BlockDev, C: BlockDev>(
     superblock_on(&image.data, &mut image.hash)
 }
 
-// So on two devices.
+// Returns the superblock of the hash device, after checking that the data and the tree fit on the two devices.
 fn superblock_on<D: BlockDev, H: BlockDev>(
     data_dev: &D,
     hash_dev: &mut H,
@@ -123,7 +128,7 @@ fn superblock_on<D: BlockDev, H: BlockDev>(
     Ok(superblock)
 }
 
-// How many sectors of a device were read, as far as its counter tells.
+// How many sectors of a device were read, by its counter.
 fn count_of_reads<H: BlockDev>(device: &H) -> u64
     ensures value { result ≡ (H.state device.now).reads }
     ensures small { result < 2 ^ 64 }
@@ -131,7 +136,7 @@ fn count_of_reads<H: BlockDev>(device: &H) -> u64
     device.reads()
 }
 
-/// Goes over all heights, from the top one down to the data.
+/// Repairs all heights, from the top down to the data.
 pub(crate) fn repair_heights<D: BlockDev, H: BlockDev, C: BlockDev, W: Write>(
     repair: &Repair,
     image: &mut DamagedImage<D, H, C>,

@@ -1,4 +1,4 @@
-//! A line for each block that was mended.
+//! Prints a line for each repaired block.
 ghost use Rattle.std.specs.Prelude.{◌≡◌, ◌<◌};
 ghost use Rattle.program_io.specs.Counted.{Writes};
 ghost use Rattle.tree_repair.specs.Jobs.{copy_line_at, job, block_lines, parity_line_at};
@@ -9,7 +9,7 @@ use crate::place::{Place, Repair};
 use program_io::{Counted, WriteFault};
 use std::io::Write;
 
-/// Prints the line of a block that was mended, and hands it on at once, since the next one may take long; of another block nothing.
+/// Prints the line of a repaired block and flushes it, because the next block may take long. Prints nothing for other blocks.
 pub(crate) fn say_mended<W: Write>(
     writer: &mut Counted<W>,
     repair: &Repair,

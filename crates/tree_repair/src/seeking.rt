@@ -1,4 +1,4 @@
-//! The bytes of a block, sought by their digest.
+//! Finds the bytes of a block by their digest.
 ghost use Rattle.std.specs.Prelude.{◌≡◌, ◌≤◌, ◌/◌, ◌%◌, ◌+◌, ◌<◌, ◌^◌, false, IfNone, IfSome, IsTrue, length, map};
 ghost use Rattle.block_device.specs.Device.{IsInside};
 ghost use Rattle.verity_format.specs.Blocks.{IsOnlyRead};
@@ -10,7 +10,7 @@ use block_device::BlockDev;
 use tree_shape::{Digest, Salt};
 use verity_format::is_same;
 
-/// Reads the sectors from the first on that fill `block`, and tells whether they have that digest; not so where the read fails.
+/// Reads the sectors from `first` on into `block`, and returns whether they have the digest. Returns `false` if the read fails.
 pub(crate) fn is_there<B: BlockDev>(
     device: &mut B,
     first: u64,
@@ -32,7 +32,7 @@ pub(crate) fn is_there<B: BlockDev>(
     }
 }
 
-/// The same where the device may end before.
+/// Returns the same as `is_there`, and `false` if the device ends before the block's end.
 fn has<B: BlockDev>(
     device: &mut B,
     first: u64,
@@ -55,7 +55,7 @@ fn has<B: BlockDev>(
     is_there(device, first, salt, digest, block)
 }
 
-/// The number of the first copy, counted from 1, in which the sectors from that one on have the digest; they are in `block`
+/// Returns the number of the first copy, counted from 1, whose sectors from `first` on have the digest. They are in `block`
 /// then.
 pub(crate) fn seek<C: BlockDev>(
     copies: &mut Vec<C>,
@@ -75,7 +75,7 @@ pub(crate) fn seek<C: BlockDev>(
     seek_copies(copies.as_mut_slice(), first, salt, digest, block)
 }
 
-// So in a slice of them.
+// Searches a slice of copies.
 fn seek_copies<C: BlockDev>(
     copies: &mut [C],
     first: u64,

@@ -9,8 +9,8 @@ use block_device::BlockDev;
 use tree_path::TreePath;
 use tree_shape::Shape;
 
-/// The hash blocks on the path to a data block, from the root down to a height, each with the digest that its parent has for it.
-/// They are those of the tree, whatever the hash device holds by now.
+/// The hash blocks on the path to a data block, from the root down to a height, each with the digest that its parent stores.
+/// They are those of the tree, whatever the hash device holds now.
 #[derive(Drop)]
 pub(crate) struct VerifiedPath {
     pub(crate) path: TreePath,
@@ -34,7 +34,11 @@ impl VerifiedPath {
     ghost use Rattle.tree_repair.specs.Tries.{IsOfTree, IsWayOr, path_found};
     ghost use Rattle.tree_repair.specs.Worlds.{IsWorldRead};
 
-    /// The path of which nothing was read yet.
+    /// Returns a path of which nothing was read.
+    ///
+    /// # Errors
+    ///
+    /// `OutOfMemory` if the allocator refused memory for the hash blocks.
     pub(crate) fn new(repair: &Repair) -> Result<VerifiedPath, OutOfMemory>
         requires { IsShape repair.now.shape }
         ensures ok { IfOk result (λ v. IsOfTree (job repair.now).tree v.path) }
@@ -49,8 +53,8 @@ impl VerifiedPath {
         })
     }
 
-    /// Goes on to the path to another data block, down to a height: reads the hash blocks that it doesn't share with the last
-    /// one. Returns whether all are valid.
+    /// Moves to the path to another data block, down to a height. It reads the hash blocks that the last path doesn't share.
+    /// Returns whether all hash blocks of the path verify.
     pub(crate) fn reach<D: BlockDev, H: BlockDev, C: BlockDev>(
         &mut self,
         repair: &Repair,
@@ -69,7 +73,7 @@ impl VerifiedPath {
         self.reach_on(repair, &mut image.hash, index, height)
     }
 
-    // So on a hash device.
+    // Moves to the path to another data block on a hash device.
     fn reach_on<H: BlockDev>(
         &mut self,
         repair: &Repair,
@@ -106,7 +110,7 @@ impl VerifiedPath {
         }
     }
 
-    // The level, and at least that height, from which up the path to a data block has these hash blocks.
+    // The level, at least `height`, from which up the path to a data block has these hash blocks.
     fn shared_level(&self, shape: &Shape, index: u64, height: u32) -> u32
         requires shape { self.now.path.shape ≡ shape.now }
         requires place { IsPlace shape.now height index }

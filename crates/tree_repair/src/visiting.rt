@@ -1,4 +1,4 @@
-//! A block of an image, looked at by the digest to which a path leads.
+//! Visits a block of an image: verifies it by the digest that its parent stores, and repairs it.
 ghost use Rattle.std.specs.Prelude.{◌≡◌, ◌≤◌, ◌<◌, ◌+◌, ◌*◌, ◌/◌, ◌^◌, IfOk, IsTrue, OnErr, is_ok, length};
 ghost use Rattle.block_device.specs.Device.{IsInside};
 ghost use Rattle.tree_shape.specs.Shape.{IsShape, levels};
@@ -19,7 +19,11 @@ use crate::remaking::remake;
 use block_device::{BlockDev, DeviceFault};
 use tree_path::TreePath;
 
-/// Looks at a block; `memory` has 64 KiB.
+/// Verifies a block, and repairs it if it is corrupt. `memory` has 64 KiB.
+///
+/// # Errors
+///
+/// `DeviceFault` if a write failed.
 pub(crate) fn visit<D: BlockDev, H: BlockDev, C: BlockDev>(
     path: &TreePath,
     repair: &Repair,
@@ -44,7 +48,7 @@ pub(crate) fn visit<D: BlockDev, H: BlockDev, C: BlockDev>(
     visit_hash(path, repair, height - 1, index, image, block, beneath)
 }
 
-// A data block.
+// Visits a data block.
 fn visit_data<D: BlockDev, H: BlockDev, C: BlockDev>(
     path: &TreePath,
     repair: &Repair,
@@ -73,7 +77,7 @@ fn visit_data<D: BlockDev, H: BlockDev, C: BlockDev>(
     mend(&mut image.data, copies, &sought, block)
 }
 
-// A hash block of that level; `memory` has room for a block of each height beneath it.
+// Visits a hash block of a level. `memory` has room for a block of each height below it.
 fn visit_hash<D: BlockDev, H: BlockDev, C: BlockDev>(
     path: &TreePath,
     repair: &Repair,
@@ -110,7 +114,8 @@ fn visit_hash<D: BlockDev, H: BlockDev, C: BlockDev>(
     }
 }
 
-// Reads a hash block. Where it hasn't its digest it is sought in the copies, and written if it may be.
+// Reads a hash block. If it doesn't have its digest, the copies are searched, and what is found is written if the repair may
+// write.
 fn mend_hash<D: BlockDev, H: BlockDev, C: BlockDev>(
     sought: &Sought<'_>,
     image: &mut DamagedImage<D, H, C>,
@@ -129,7 +134,7 @@ fn mend_hash<D: BlockDev, H: BlockDev, C: BlockDev>(
     mend(&mut image.hash, copies, sought, block)
 }
 
-// Writes a hash block, if it may be written.
+// Writes a hash block if the repair may write.
 fn put_hash<D: BlockDev, H: BlockDev, C: BlockDev>(
     repair: &Repair,
     first: u64,
@@ -143,7 +148,7 @@ fn put_hash<D: BlockDev, H: BlockDev, C: BlockDev>(
     put(&mut image.hash, first, block, repair.write)
 }
 
-// Where a hash block of that level is sought, and by which digest.
+// The sectors and the digest of a hash block of a level.
 fn hash_sought<'a>(
     path: &TreePath,
     repair: &'a Repair,

@@ -1,4 +1,4 @@
--- Runs and counts of data blocks, one block after another.
+-- Runs and counts of data blocks, updated block by block.
 use Rattle.std.specs.Prelude.{◌≡◌, ℕ, suc, ◌+◌, ◌^◌, ◌<◌, List, [], ◌∷◌, Option, Some, None}
 use Rattle.runs.specs.declared.kind.Kind.TheVariants.{Changed, Unknown}
 use Rattle.runs.specs.declared.run.Run.{Run}
@@ -11,7 +11,7 @@ use Rattle.runs.specs.Tallies.{closed_by, listed, opened_by}
 use Rattle.tree_survey.specs.declared.counts.Counts.{Counts}
 use Rattle.tree_survey.specs.declared.counts.Totals.{Totals}
 
--- how many of the blocks are good
+-- how many of the blocks are valid
 abbrev pub good_of : List State → ℕ
 good_of [] = 0
 good_of (None ∷ more) = suc (good_of more)
@@ -20,7 +20,7 @@ good_of (Some kind ∷ more) = good_of more
 abbrev pub totals_of : List State → Totals
 totals_of states = record { good = good_of states; changed = count_of Changed states; unknown = count_of Unknown states }
 
--- the totals with one block more
+-- the totals with one more block
 abbrev pub counted : Totals → State → Totals
 counted totals None = record { good = totals.good + 1; changed = totals.changed; unknown = totals.unknown }
 counted totals (Some Changed) = record { good = totals.good; changed = totals.changed + 1; unknown = totals.unknown }
@@ -32,7 +32,7 @@ pub record AreFew (totals : Totals) : Type 0 where
   pub changed : totals.changed < 2 ^ 54
   pub unknown : totals.unknown < 2 ^ 54
 
--- the runs that don't grow further once a block of that state comes behind, and the one that may
+-- the runs that end when a block of that state follows; `opened_at` is the run that stays open
 abbrev pub closed_at : Option (Run Kind) → ℕ → State → List (Run Kind)
 closed_at last i None = listed last
 closed_at last i (Some kind) = closed_by is_same last (run i 1 kind)
@@ -41,7 +41,7 @@ abbrev pub opened_at : Option (Run Kind) → ℕ → State → Option (Run Kind)
 opened_at last i None = None
 opened_at last i (Some kind) = Some (opened_by is_same last (run i 1 kind))
 
--- what is told of the runs that it ends
+-- what is reported of the runs that end
 abbrev pub lines_at : Tally → ℕ → State → List ℕ
 lines_at tally i state = limited_lines tally.limit (closed_at tally.last i state)
 

@@ -1,18 +1,18 @@
--- Reads of devices that may fail at some sectors.
+-- Reads from devices that may fail at some sectors.
 use Rattle.std.specs.Prelude.{◌≡◌, ◌⊎◌, ℕ, ◌+◌, ◌-◌, ◌/◌, ◌^◌, ◌≤◌, Bool, true, false, IsTrue, List, length}
 use Rattle.std.specs.List.{concat}
 use Rattle.block_device.specs.Device.{Device, HasFailed, run_of}
 use Rattle.verity_format.specs.Blocks.{IsBlockRead, IsFullRead, IsOnlyRead}
 
--- a call failed, and so it is no device that never fails
+-- a call failed, so the device isn't one that never fails
 abbrev pub HasFailedRead : Device → Device → Type 0
 HasFailedRead old new = HasFailed old new × (IsTrue old.never_fails → ⊥)
 
--- at least so many calls failed, or the counter of failures came to its end
+-- at least n calls failed, or the counter of failures reached its maximum
 abbrev pub HasFailedTimes : Device → ℕ → Device → Type 0
 HasFailedTimes old n new = (old.failures + n ≤ new.failures) ⊎ (2 ^ 64 - 1 ≤ new.failures)
 
--- calls of read alone, some of which may have failed: of a device that never fails none did
+-- only reads, some of which may have failed; on a device that never fails none did
 pub record IsReadOver (old new : Device) : Type 0 where
   pub read : IsOnlyRead old new
   pub more : old.failures ≤ new.failures
@@ -23,12 +23,12 @@ pub record IsReadThrough (old : Device) (n : ℕ) (new : Device) : Type 0 where
   pub over : IsReadOver old new
   pub full : IsFullRead old n new ⊎ HasFailedRead old new
 
--- the sectors from one on were read, over a steady device as they stand there
+-- the sectors from the first on were read; on a steady device these are the stored ones
 pub record IsSectorsRead (old : Device) (first : ℕ) (bytes : List ℕ) (new : Device) : Type 0 where
   pub full : IsFullRead old (length bytes / 512) new
   pub bytes_are : IsTrue old.steady → bytes ≡ concat (run_of old.image first (length bytes / 512))
 
--- they were, or the call failed
+-- the sectors were read, or the call failed
 abbrev pub IsAttempt : Device → ℕ → List ℕ → Bool → Device → Type 0
 IsAttempt old first bytes true new = IsSectorsRead old first bytes new
 IsAttempt old first bytes false new = HasFailedRead old new

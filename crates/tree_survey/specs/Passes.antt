@@ -1,4 +1,4 @@
--- What going over an image finds, prints and reads.
+-- What the scan of an image finds, reports and reads.
 use Rattle.std.specs.Prelude.{◌≡◌, ◌⊎◌, ℕ, ◌<◌, ◌≤◌, false, IsTrue, List, [], length, Contains, Option, None}
 use Rattle.std.specs.List.{slice_index_or}
 use Rattle.std.specs.Io.KnownBytes.{Appends}
@@ -22,7 +22,7 @@ use Rattle.tree_survey.specs.Failing.{HasFailedRead, HasFailedTimes, IsReadOver,
 use Rattle.tree_survey.specs.Hashes.{HashBlock, HashesFound, IsUnderOne, hash_lines, is_whole}
 use Rattle.tree_survey.specs.Surveys.{AllStand, IsLedTo, IsContentSeenAs, IsContentStoredAs, IsUnreadAs, Tree}
 
--- two devices before and after, and what was printed, where that is known
+-- two devices before and after, and what was reported, if that is known
 pub record Pass : Type 0 where
   pub data_dev : Device
   pub hash_dev : Device
@@ -38,7 +38,7 @@ pass data_dev hash_dev data_dev' hash_dev' printed printed' =
 abbrev pub tree_in : Sight → Tree
 tree_in w = record { shape = w.path.shape; salt = w.path.salt; root = w.path.root }
 
--- nothing was read of the tree, which lies on the hash device, as the data blocks lie on the data device
+-- nothing was read of the tree; the tree and the data blocks fit on their devices
 pub record CanPass (w : Sight) (salt : List ℕ) (data_dev hash_dev : Device) : Type 0 where
   pub valid : IsShape w.path.shape
   pub shape : w.shape ≡ w.path.shape
@@ -56,19 +56,19 @@ pub record Unreadable : Type 0 where
   pub blocks : List ℕ
   pub hashes : List HashBlock
 
--- for each of them a call of its device failed
+-- for each of these blocks a call of its device failed
 pub record HaveFailed (w : Pass) (lost : Unreadable) : Type 0 where
   pub of_data : HasFailedTimes w.data_dev (length lost.blocks) w.data_dev'
   pub of_hash : HasFailedTimes w.hash_dev (length lost.hashes) w.hash_dev'
 
--- data block i is told as one that isn't good since it is one of those that couldn't be read, or a hash block above it is
+-- data block i counts as not valid because it couldn't be read, or a hash block on its path couldn't be read
 abbrev pub IsHidden : Tree → Pass → Unreadable → ℕ → Type 0 → State → Type 0
 IsHidden t w lost i above_good state =
     IsUnreadAs t above_good (Contains lost.blocks i × HasFailedRead w.data_dev w.data_dev') (IsUnderOne t.shape lost.hashes i × HasFailedRead w.hash_dev w.hash_dev') state
 
--- The states of all data blocks, each with the content that was read and the way that shows it, unless a read failed. One
--- that is good was read. For each block that couldn't be read a call of its device failed. Over a steady data device the contents are the blocks that stand there; over steady devices the
--- states are those of what stands there, again unless a read failed.
+-- The states of all data blocks, each with the content that was read and the path that proves it, unless a read failed. A valid
+-- block was read. For each block that couldn't be read, a call of its device failed. On a steady data device the contents are
+-- the stored blocks; on steady devices the states are those of the stored blocks, again unless a read failed.
 pub record AreSeen (t : Tree) (w : Pass) (states : List State) : Type 0 where
   pub count : length states ≡ t.shape.blocks
   pub lost : Unreadable
@@ -81,7 +81,7 @@ pub record AreSeen (t : Tree) (w : Pass) (states : List State) : Type 0 where
   pub stored : IsTrue w.data_dev.steady → IsTrue w.hash_dev.steady → (i : ℕ) → i < t.shape.blocks
       → IsContentStoredAs t w.data_dev.image w.hash_dev.image i (slice_index_or states i None) ⊎ IsHidden t w lost i (AllStand t w.hash_dev.image i) (slice_index_or states i None)
 
--- Each data block was read once, or a read failed. A line was printed for each longest run of those that aren't good.
+-- Each data block was read once, or a read failed. A line was reported for each longest run of blocks that aren't valid.
 pub record Surveys (t : Tree) (w : Pass) (totals : Totals) : Type 0 where
   pub states : List State
   pub seen : AreSeen t w states
@@ -89,15 +89,15 @@ pub record Surveys (t : Tree) (w : Pass) (totals : Totals) : Type 0 where
   pub printed_are : Appends w.printed w.printed' (runs_text (runs_of is_same 0 states))
   pub data_read : IsReadThrough w.data_dev (data_sectors t.shape) w.data_dev'
 
--- a tree under a root
+-- a tree under a root hash
 abbrev pub tree_under : VerityTree → List ℕ → Tree
 tree_under tree root = record { shape = tree.shape; salt = tree.salt; root = root }
 
--- that of a superblock
+-- the tree of a superblock under a root hash
 abbrev pub super_tree : SuperRecord → List ℕ → Tree
 super_tree s root = tree_under (superblock_tree s) root
 
--- All data blocks and all hash blocks were read. Behind the lines of runs of data blocks come those of hash blocks.
+-- All data blocks and all hash blocks were read. The lines of hash blocks follow the lines of data blocks.
 pub record IsSurvey (tree : VerityTree) (w : Pass) (root : List ℕ) (found : Survey) : Type 0 where
   pub fits : HasRoom tree.shape w.data_dev w.hash_dev
   pub between : Option (List ℕ)
@@ -107,6 +107,6 @@ pub record IsSurvey (tree : VerityTree) (w : Pass) (root : List ℕ) (found : Su
   pub whole : found.whole_tree ≡ is_whole hashes.bad
   pub printed_are : Appends between w.printed' (hash_lines hashes.bad)
 
--- what a proof sees of the devices and of what was told, before and after
+-- the devices and what was reported, before and after, as a proof sees them
 abbrev pub seen_pass : {D H L : Type 0} → (D → Device) → (H → Device) → (L → Option (List ℕ)) → D → H → D → H → L → L → Pass
 seen_pass data_state hash_state told d h d' h' l l' = pass (data_state d) (hash_state h) (data_state d') (hash_state h') (told l) (told l')

@@ -1,4 +1,4 @@
--- Hash blocks that are read on the way down to a data block, of which some may be unreadable.
+-- The hash blocks on the path down to a data block, some of which may be unreadable.
 use Rattle.std.specs.Prelude.{ℕ, ◌+◌, ◌<◌, Bool, IsTrue, Option, Some, None}
 use Rattle.block_device.specs.Device.{Device}
 use Rattle.tree_path.specs.Steps.{IsDown, IsStepLoaded, IsStopped, IsUnloaded, Steps}
@@ -6,19 +6,19 @@ use Rattle.tree_survey.specs.declared.path.Reach.{Reach}
 use Rattle.tree_survey.specs.declared.path.Reach.TheVariants.{All, Bad, Unread}
 use Rattle.tree_survey.specs.Failing.{HasFailedRead}
 
--- a hash block was read, and is good or not; or it couldn't be, from a device that may fail
+-- a hash block was read, and verifies or not; or it couldn't be read, and the device may fail
 abbrev pub IsLoadedOr : Steps → Option Bool → Type 0
 IsLoadedOr w (Some good) = IsStepLoaded w good
 IsLoadedOr w None = IsUnloaded w × (IsTrue w.device.never_fails → ⊥)
 
--- the hash blocks of the levels below `from` down to one are good, and the one beneath that couldn't be read
+-- the hash blocks of the levels below `from` verify down to one, and the hash block below that couldn't be read
 pub record IsWayCutOff (w : Steps) (level : ℕ) : Type 0 where
   pub low : level < w.from
   pub between : Device
   pub down : IsDown (record w { device' = between }) (level + 1) (level + 1)
   pub failed : HasFailedRead w.device w.device'
 
--- all of them are good, or those above one that isn't, or above one that couldn't be read
+-- all of them verify, or those above one that doesn't, or above one that couldn't be read
 abbrev pub HasReached : Steps → Reach → Type 0
 HasReached w All = IsDown w 0 0
 HasReached w (Bad level) = IsStopped w 0 level

@@ -1,4 +1,4 @@
--- The hash blocks on the way to a data block, while data blocks are gone over.
+-- The hash blocks on the path to a data block during a scan of data blocks.
 use Rattle.std.specs.Prelude.{◌≡◌, ◌≢◌, ◌⊎◌, ℕ, ◌-◌, ◌<◌, ◌≤◌, nat_lt, true, false, IsTrue, List, Option, Some, None, if◌then◌else◌}
 use Rattle.std.specs.Str.{bytes_eq}
 use Rattle.block_device.specs.Device.{Device}
@@ -16,20 +16,20 @@ use Rattle.tree_survey.specs.Failing.{HasFailedRead}
 abbrev pub none_read : PathRecord → ShapeRecord → Sight
 none_read path shape = record { path = path; shape = shape; good = levels path.shape; unread = false }
 
--- the level down to which hash blocks were read: that below the good ones, if it could be
+-- the lowest level whose hash block was read: the one below those that verify, if it could be read
 abbrev pub read_to : Sight → ℕ
 read_to w = if w.unread then w.good else w.good - 1
 
--- From a level up the hash blocks on the way to data block i are good, and the one below that level, where there is one and
--- it could be read, isn't. Over a steady device those that were read are those that stand there.
+-- From a level up the hash blocks on the path to data block i verify. The one below that level, if there is one and it could be
+-- read, doesn't. On a steady device the blocks that were read are the stored ones.
 pub record IsOnWay (w : Sight) (device : Device) (i : ℕ) : Type 0 where
   pub few : w.good ≤ levels w.path.shape
   pub leads : LeadsTo w.path i w.good
   pub bad : 0 < w.good → w.unread ≡ false → digest w.path.salt (block_of w.path (w.good - 1)) ≢ digest_on w.path i w.good
   pub stored : IsTrue device.steady → AreStored w.path device.image i (read_to w)
 
--- Data block i is the next one, and the greatest subtree that begins there has `top` levels: the hash blocks of the
--- levels from there up stay. If one of them isn't good, the way ends there as before.
+-- Data block i is the next one, and the greatest subtree that begins there has `top` levels: the hash blocks from that level up
+-- stay on the path. If one of them doesn't verify, the path ends there as before.
 pub record IsReady (w : Sight) (device : Device) (i : ℕ) : Type 0 where
   pub stays : (top : ℕ) → IsTopAt (per_block w.path.shape) (levels w.path.shape) i top → top < w.good → IsOnWay w device i
   pub leads : (top : ℕ) → IsTopAt (per_block w.path.shape) (levels w.path.shape) i top → w.good ≤ top → LeadsTo w.path i top
@@ -41,22 +41,22 @@ pub record CanGoDown (w : Sight) (device : Device) (i : ℕ) : Type 0 where
   pub shape : w.shape ≡ w.path.shape
   pub ready : IsReady w device i
 
--- the hash blocks down to the first that isn't good are those on the way to data block i too, and nothing is read
+-- the hash blocks down to the first that doesn't verify are on the path to data block i too, and nothing is read
 pub record HasStayed (old new : Sight) (i : ℕ) : Type 0 where
   pub is : new ≡ old
   pub top : ℕ
   pub is_top : IsTopAt (per_block old.path.shape) (levels old.path.shape) i top
   pub low : top < old.good
 
--- The hash blocks on the way to data block i were read, down to the first that isn't good. Where that couldn't be read, a
--- read failed here, or it is the one that couldn't be read before.
+-- The hash blocks on the path to data block i were read, down to the first that doesn't verify. If that block couldn't be read,
+-- a read failed in this call, or the block is the one that couldn't be read before.
 pub record HasGone (old new : Sight) (device device' : Device) (i : ℕ) : Type 0 where
   pub same : IsPathOf old.path.shape old.path.salt old.path.root new.path
   pub shape : new.shape ≡ old.shape
   pub on : IsOnWay new device i
   pub failed : new.unread ≡ true → HasStayed old new i ⊎ ((0 < new.good) × HasFailedRead device device')
 
--- what is said of a data block of that digest, if it could be read, to which good hash blocks lead
+-- the state of a data block with that digest, if its hash blocks verify
 abbrev pub state_by : PathRecord → ℕ → List ℕ → State
 state_by p i found = if bytes_eq found (digest_on p i 0) then None else Some Changed
 
@@ -64,6 +64,6 @@ abbrev pub state_with : PathRecord → ℕ → Option (List ℕ) → State
 state_with p i (Some found) = state_by p i found
 state_with p i None = Some Changed
 
--- and to which a sight leads
+-- the state of a data block at the end of a path; none for the digest if the block couldn't be read
 abbrev pub state_at : Sight → ℕ → Option (List ℕ) → State
 state_at w i found = if nat_lt 0 w.good then Some Unknown else state_with w.path i found

@@ -1,4 +1,4 @@
-//! Runs and counts of data blocks, one block after another.
+//! Runs and counts of data blocks, updated block by block.
 ghost use Rattle.std.specs.Prelude.{◌≡◌, ◌^◌, ◌<◌, OnOk};
 ghost use Rattle.runs.specs.Limits.{limit_after};
 ghost use Rattle.runs.specs.Listings.{Tells};
@@ -8,7 +8,7 @@ ghost use Rattle.tree_survey.specs.Counts.{AreFew, IsAdded, closed_at, counted, 
 use program_io::WriteFault;
 use runs::{Kind, Listing, Run, Tally};
 
-/// How many data blocks are good, how many changed, and of how many nothing is known.
+/// How many data blocks are valid, how many changed, and of how many nothing is known.
 #[derive(Clone, Copy, Debug, PartialEq, Eq)]
 pub struct Totals {
     pub good: u64,
@@ -16,7 +16,7 @@ pub struct Totals {
     pub unknown: u64,
 }
 
-/// The run that may still grow, and how many blocks were scanned.
+/// The open run, which may still grow, and the counts so far.
 #[derive(Clone, Copy)]
 pub(crate) struct Counts {
     pub(crate) tally: Tally,
@@ -38,7 +38,7 @@ impl Counts {
         }
     }
 
-    /// Adds the next data block, and tells the run that it ends.
+    /// Adds the next data block, and reports the run that it ends.
     pub(crate) fn add<L: Listing>(
         &mut self,
         listing: &mut L,

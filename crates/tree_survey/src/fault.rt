@@ -12,7 +12,7 @@ use verity_format::VerifyFault;
 pub enum SurveyFault {
     /// There is no superblock, a device is too small or failed, or an allocation was refused.
     Image(VerifyFault),
-    /// A line can't be written.
+    /// A line can't be reported.
     Write,
 }
 

@@ -1,4 +1,4 @@
-//! The hash blocks of a tree, compared with the digests that stand above them, and their unused parts with zeros.
+//! Checks the hash blocks of a tree: each against the hash stored in its parent, and its unused part against zeros.
 ghost use Rattle.std.specs.Prelude.{◌≡◌, ◌&&◌, ◌<◌, ◌≤◌, true, IfErr, IfOk, OnErr};
 ghost use Rattle.tree_shape.specs.Shape.{levels};
 ghost use Rattle.verity_format.specs.Image.{tree_sectors};
@@ -19,14 +19,16 @@ use tree_path::{TreePath, span};
 use tree_shape::{Digest, Shape};
 use verity_format::Superblock;
 
-/// Checks each hash block of a tree, reports a line `hash LEVEL INDEX` for each that is invalid or can't be checked, the top
-/// level first, and returns whether there was none. A hash block is valid if its digest is stored in its parent, the root
-/// hash for the top one, and the block is zero after its last used entry. A block can't be checked if it or its parent can't
-/// be read.
+/// Checks each hash block of a tree, and returns whether all are valid. It reports a line `hash LEVEL INDEX` for each block
+/// that is invalid or can't be checked, the top level first.
+///
+/// A hash block is valid if its digest is stored in its parent (for the top block: is the root hash), and the block is zero
+/// after its last used entry. A block can't be checked if it or its parent can't be read.
 ///
 /// # Errors
 ///
-/// `NoMemory` if an allocation was refused, before anything was read; `Write` if a line can't be reported.
+/// - `NoMemory` if an allocation was refused; nothing was read.
+/// - `Write` if a line can't be reported.
 pub fn survey_hashes<H: BlockDev, L: Listing>(
     alloc: Global,
     device: &mut H,
@@ -45,9 +47,11 @@ pub fn survey_hashes<H: BlockDev, L: Listing>(
     Ok(whole)
 }
 
-/// Tells a line for each hash block that isn't seen to be good, in the order in which they lie on the device, the top level
-/// first, and tells whether there was none. A hash block is good if its digest is stored in its parent and the block is zero
-/// after its last used entry; it isn't seen to be good if one of the two blocks can't be read.
+/// Reports each hash block that isn't valid or can't be checked, in the order of the blocks on the device, the top level first.
+/// Returns whether there was none.
+///
+/// A hash block is valid if its digest is stored in its parent and the block is zero after its last used entry. A block can't
+/// be checked if it or its parent can't be read.
 pub(crate) fn say_hashes<H: BlockDev, L: Listing>(
     path: &mut TreePath,
     shape: &Shape,
@@ -75,7 +79,7 @@ fn both(a: bool, b: bool) -> bool
     a && b
 }
 
-// The same of the hash blocks of a level.
+// Checks the hash blocks of one level.
 fn say_level<H: BlockDev, L: Listing>(
     path: &mut TreePath,
     shape: &Shape,
@@ -101,8 +105,7 @@ fn say_level<H: BlockDev, L: Listing>(
     Ok(whole)
 }
 
-// Reads the hash block of that level on the way to a data block, behind the one above it, and tells whether it was seen to be
-// good.
+// Reads the hash block of a level on the path to a data block, after its parent, and returns whether it was found valid.
 fn is_good<H: BlockDev>(path: &mut TreePath, device: &mut H, level: u32, index: u64) -> bool
     requires inside { index < path.old.shape.blocks }
     requires level { level < levels path.old.shape }
@@ -120,8 +123,8 @@ fn is_good<H: BlockDev>(path: &mut TreePath, device: &mut H, level: u32, index: 
     }
 }
 
-// Reads the hash block above that of a level on the way to a data block, where there is one, and tells whether it could be
-// read; it need not be good.
+// Reads the parent of the hash block of a level, if there is one, and returns whether it could be read. The parent needn't be
+// valid.
 fn read_above<H: BlockDev>(path: &mut TreePath, device: &mut H, level: u32, index: u64) -> bool
     requires inside { index < path.old.shape.blocks }
     requires level { level < levels path.old.shape }

@@ -1,4 +1,4 @@
-//! Hash blocks that are read on the way to a data block, of which some may be unreadable.
+//! The hash blocks on the path to a data block, some of which may be unreadable.
 ghost use Rattle.std.specs.Prelude.{◌≤◌, ◌<◌, ◌*◌, ◌/◌};
 ghost use Rattle.tree_shape.specs.Shape.{levels};
 ghost use Rattle.verity_format.specs.Image.{tree_sectors};
@@ -9,8 +9,8 @@ ghost use Rattle.tree_survey.specs.Paths.{HasReached, IsLoadedOr};
 use block_device::BlockDev;
 use tree_path::TreePath;
 
-/// How far down the hash blocks on the way to a data block are good: all of them, or down to one that isn't, or down to
-/// one that can't be read, by their levels.
+/// How far down the hash blocks on the path to a data block verify: all of them, or down to the level of one that doesn't, or
+/// of one that can't be read.
 #[derive(Clone, Copy)]
 pub(crate) enum Reach {
     All,
@@ -18,8 +18,8 @@ pub(crate) enum Reach {
     Unread(u32),
 }
 
-/// Reads the hash block of a level on the way to a data block, and tells whether its digest stands above it; nothing
-/// where it can't be read.
+/// Reads the hash block of a level on the path to a data block, and returns whether its digest is stored in its parent. Returns
+/// `None` if the block can't be read.
 pub(crate) fn load<H: BlockDev>(
     path: &mut TreePath,
     device: &mut H,
@@ -39,7 +39,8 @@ pub(crate) fn load<H: BlockDev>(
     }
 }
 
-/// Reads the hash blocks below a level on the way to a data block, from the top down, as far as they are good.
+/// Reads the hash blocks below level `from` on the path to a data block, from the top down, up to the first that doesn't verify
+/// or can't be read.
 pub(crate) fn descend<H: BlockDev>(
     path: &mut TreePath,
     device: &mut H,

@@ -1,4 +1,4 @@
-//! Data blocks, read in large pieces and digested.
+//! Reads and digests data blocks in large pieces.
 ghost use Rattle.std.specs.Prelude.{◌≡◌, ◌≤◌, ◌<◌, ◌*◌, IfErr, IfOk, length, take};
 ghost use Rattle.allocation.specs.Asked.{WasRefused};
 ghost use Rattle.verity_format.specs.Premises.{IsBlockOn};
@@ -12,10 +12,14 @@ use hash_tree::digest_blocks;
 use std::alloc::Global;
 use tree_shape::{Digest, Salt, Shape};
 
-/// How many bytes of the data are read in one call.
+/// How many bytes one call reads.
 const PIECE: usize = 1 << 16;
 
-/// Room for the bytes of a piece.
+/// Returns a buffer for a piece.
+///
+/// # Errors
+///
+/// `OutOfMemory` if the allocator refused it.
 pub(crate) fn piece_room(alloc: Global) -> Result<Vec<u8>, OutOfMemory>
     ensures ok { IfOk result (λ v. length v.items ≡ 65536) }
     ensures err { IfErr result (WasRefused 65536) }
@@ -24,7 +28,11 @@ pub(crate) fn piece_room(alloc: Global) -> Result<Vec<u8>, OutOfMemory>
     Ok(room)
 }
 
-/// Room for the digests of a piece of the smallest blocks.
+/// Returns a buffer for the digests of a piece of the smallest blocks.
+///
+/// # Errors
+///
+/// `OutOfMemory` if the allocator refused it.
 pub(crate) fn digest_room(alloc: Global) -> Result<Vec<Digest>, OutOfMemory>
     ensures ok { IfOk result (λ v. length v.items ≡ 128) }
     ensures err { IfErr result (WasRefused 128) }
@@ -33,7 +41,7 @@ pub(crate) fn digest_room(alloc: Global) -> Result<Vec<Digest>, OutOfMemory>
     Ok(room)
 }
 
-/// How many of the data blocks from that one on fill a piece, or all that are left.
+/// Returns how many data blocks from `first` on make up a piece: as many as fit, or all that are left.
 pub(crate) fn blocks_of(shape: &Shape, first: u64) -> usize
     requires { first < shape.now.blocks }
     ensures { result ≡ blocks_of shape.now first }
@@ -43,7 +51,8 @@ pub(crate) fn blocks_of(shape: &Shape, first: u64) -> usize
     (PIECE / size).min(left as usize)
 }
 
-/// Reads so many blocks of that size from one on, writes their digests, and tells whether they could be read.
+/// Reads `count` blocks of `size` bytes from block `first` on, and stores their digests. Returns whether the blocks could be
+/// read.
 pub(crate) fn read_piece<D: BlockDev>(
     device: &mut D,
     salt: &Salt,
@@ -64,7 +73,7 @@ pub(crate) fn read_piece<D: BlockDev>(
     read_run(device, salt, size, first, run, found)
 }
 
-// So where they fill `run`.
+// Reads the blocks that fill `run`, and stores their digests. Returns whether the blocks could be read.
 fn read_run<D: BlockDev>(
     device: &mut D,
     salt: &Salt,
@@ -84,7 +93,8 @@ fn read_run<D: BlockDev>(
     true
 }
 
-/// The digest of a block of that size: the one that is known, where its piece was read whole; else it is read by itself.
+/// Returns the digest of a block: `known` if its piece was read whole. Otherwise the block is read alone; `None` if it can't be
+/// read.
 pub(crate) fn digest_of<D: BlockDev>(
     device: &mut D,
     salt: &Salt,
@@ -105,7 +115,7 @@ pub(crate) fn digest_of<D: BlockDev>(
     read_digest(device, salt, index, &mut piece[..size])
 }
 
-// The digest of a block as long as `block`, if it can be read.
+// Reads a block as long as `block`, and returns its digest. `None` if the block can't be read.
 fn read_digest<D: BlockDev>(
     device: &mut D,
     salt: &Salt,

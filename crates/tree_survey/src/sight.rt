@@ -11,7 +11,8 @@ use tree_path::{TreePath, top_at};
 use tree_shape::{Digest, Shape};
 use verity_format::is_same;
 
-/// A path, its shape, the level from which up its hash blocks are good, and whether the one below that can't be read.
+/// The path, its shape, the level from which up its hash blocks verify, and whether the hash block below that level can't be
+/// read.
 #[derive(Drop)]
 pub(crate) struct Sight {
     pub(crate) path: TreePath,
@@ -21,7 +22,7 @@ pub(crate) struct Sight {
 }
 
 impl Sight {
-    /// Nothing was read.
+    /// Returns a path of which nothing was read.
     pub(crate) fn new(path: TreePath, shape: Shape) -> Sight
         ensures { result ≡ none_read path shape }
     {
@@ -34,8 +35,8 @@ impl Sight {
         }
     }
 
-    /// Goes on to the next data block: reads the hash blocks on the way to it that aren't those of the one before, down
-    /// to the first that isn't good.
+    /// Moves to the next data block. It reads the hash blocks of the new path that aren't on the old one, down to the first
+    /// that doesn't verify or can't be read.
     pub(crate) fn go_to<H: BlockDev>(&mut self, device: &mut H, index: u64)
         requires { CanGoDown self.old (H.state device.old) index }
         ensures over { IsReadOver (H.state device.old) (H.state device.new) }
@@ -52,7 +53,7 @@ impl Sight {
         }
     }
 
-    // The hash blocks are good from that level up.
+    // Records that the hash blocks verify from level `good` up.
     fn end(&mut self, good: u32, unread: bool)
         ensures { self.new ≡ record self.old { good = good; unread = unread } }
     {
@@ -60,7 +61,7 @@ impl Sight {
         self.unread = unread;
     }
 
-    /// What is said of the data block to which it leads, by its digest, if it could be read.
+    /// Returns the state of the current data block by its digest; `None` for the digest if the block couldn't be read.
     pub(crate) fn state(&self, index: u64, found: Option<Digest>) -> Option<Kind>
         ensures { result ≡ state_at self.now index found }
     {
@@ -73,7 +74,7 @@ impl Sight {
         }
     }
 
-    // The same beneath good hash blocks.
+    // The state of a data block whose hash blocks all verify.
     fn state_by(&self, index: u64, digest: &Digest) -> Option<Kind>
         ensures { result ≡ state_by self.now.path index digest.now }
     {

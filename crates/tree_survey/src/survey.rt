@@ -18,23 +18,24 @@ use tree_path::TreePath;
 use tree_shape::{Digest, Salt, Shape};
 use verity_format::{VerifyFault, VerityTree, data_sectors, tree_sectors};
 
-/// What was found of an image: how many data blocks are good, and whether all hash blocks are.
+/// The result of a scan: the counts of data blocks, and whether all hash blocks are valid.
 #[derive(Clone, Copy, Debug, PartialEq, Eq)]
 pub struct Survey {
     pub totals: Totals,
     pub whole_tree: bool,
 }
 
-/// Goes over an image, whose tree is known: tells a line for each longest run of data blocks that aren't good, in rising order, and
-/// then one for each hash block whose digest doesn't stand above it, in the order in which they lie on the hash device.
+/// Scans an image whose tree is known. It reports a line for each longest run of data blocks that aren't valid, in rising
+/// order, and then a line for each hash block that isn't valid, in the order of the blocks on the hash device.
 ///
-/// Data blocks are read once, in large pieces; where a piece can't be read, one by one. A block that can't be read is one that
-/// isn't good.
+/// Data blocks are read once, in large pieces. If a piece can't be read, its blocks are read one by one. A block that can't be
+/// read counts as one that isn't valid.
 ///
 /// # Errors
 ///
-/// `TooSmall` if the data or the tree go past their device, before anything is read; `NoMemory` if an allocation was refused; `Write`
-/// if a line can't be told.
+/// - `TooSmall` if the data or the tree don't fit on their device; nothing was read.
+/// - `NoMemory` if an allocation was refused.
+/// - `Write` if a line can't be reported.
 #[tactic(auto, using(crate::proofs::SurveyLemmas::room_ends, crate::proofs::SurveyLemmas::pass_ends))]
 pub fn survey_image<D: BlockDev, H: BlockDev, L: Listing>(
     alloc: Global,
@@ -57,7 +58,7 @@ pub fn survey_image<D: BlockDev, H: BlockDev, L: Listing>(
     Ok(Survey { totals, whole_tree })
 }
 
-// Checks that data and tree lie on the devices.
+// Checks that the data and the tree fit on their devices.
 fn check_room<D: BlockDev, H: BlockDev>(
     data_dev: &D,
     hash_dev: &H,
@@ -77,7 +78,7 @@ fn check_room<D: BlockDev, H: BlockDev>(
     Ok(())
 }
 
-// Goes over the data blocks, from the first on.
+// Scans the data blocks, from the first on.
 fn survey_data<D: BlockDev, H: BlockDev, L: Listing>(
     alloc: Global,
     sight: &mut Sight,

@@ -1,4 +1,4 @@
-//! What the hash blocks on the way to the last data block hold after their last used entries.
+//! What the last hash blocks of the levels hold after their last used entries.
 ghost use Rattle.std.specs.Prelude.{◌≡◌, ◌*◌, ◌/◌, ◌<◌, ◌≤◌, IfOk, OnErr};
 ghost use Rattle.allocation.specs.Refusal.{IsOutOfMemory};
 ghost use Rattle.tree_shape.specs.Shape.{levels};
@@ -19,25 +19,27 @@ use tree_path::TreePath;
 use tree_shape::Digest;
 use verity_format::Superblock;
 
-/// What the hash blocks on the way to the last data block, which are the last ones of their levels, hold after their last used
-/// entries.
+/// What the last hash blocks of the levels hold after their last used entries. These are the hash blocks on the path to the
+/// last data block.
 #[derive(Clone, Copy, Debug, PartialEq, Eq)]
 pub enum Unused {
-    /// All of them are good, and hold zeros there.
+    /// All of them verify, and hold zeros there.
     Zero,
-    /// Those above one that isn't good, or can't be read, hold zeros there.
+    /// Some verify and hold zeros there; the next doesn't verify or can't be read.
     Unknown,
-    /// A good one holds something else there: the digests of a longer image.
+    /// One that verifies holds something else there: the digests of a longer image.
     Nonzero,
 }
 
-/// Reads the hash blocks on the way to the last data block, from the top down and as far as they are good under the root, and
-/// tells what they hold after their last used entries. Those of a tree that was formatted with this superblock hold zeros. A
-/// block that isn't good says nothing of the image that was formatted, nor do those beneath it.
+/// Reads the hash blocks on the path to the last data block, from the top down as long as they verify under the root. Returns
+/// what they hold after their last used entries.
+///
+/// In a tree that was formatted with this superblock they hold zeros there. A block that doesn't verify says nothing about the
+/// image that was formatted, nor do the blocks below it.
 ///
 /// # Errors
 ///
-/// `OutOfMemory` if the allocator refused room for a hash block of each level; nothing was read.
+/// `OutOfMemory` if the allocator refused memory for a hash block of each level; nothing was read.
 pub fn read_unused<H: BlockDev>(
     alloc: Global,
     hash_dev: &mut H,
@@ -57,7 +59,7 @@ pub fn read_unused<H: BlockDev>(
     Ok(found_from(zeros, good))
 }
 
-// What is known by the hash blocks from a level up, which are good.
+// The result for hash blocks that verify from level `good` up.
 fn found_from(zeros: bool, good: u32) -> Unused
     ensures { result ≡ found_from zeros good }
 {
@@ -70,7 +72,7 @@ fn found_from(zeros: bool, good: u32) -> Unused
     Unused::Zero
 }
 
-// Reads the hash blocks on the way to a data block from the top down, and tells from which level up they are good.
+// Reads the hash blocks on the path to a data block from the top down, and returns the level from which up they verify.
 fn read_down<H: BlockDev>(path: &mut TreePath, device: &mut H, index: u64) -> u32
     requires inside { index < path.old.shape.blocks }
     requires fits { tree_sectors path.old.shape ≤ (H.state device.old).size }
@@ -86,7 +88,7 @@ fn read_down<H: BlockDev>(path: &mut TreePath, device: &mut H, index: u64) -> u3
     }
 }
 
-// Whether the hash blocks of a path from that level up are zero after their last used entries.
+// Whether the hash blocks of a path from level `good` up are zero after their last used entries.
 fn are_zero_from(path: &TreePath, index: u64, good: u32) -> bool
     requires { index < path.now.shape.blocks }
     ensures { AreZeroFrom path.now index good result }
