@@ -1,7 +1,7 @@
 """The commands: what their words invoke, what is opened in which order, what is printed, with which status."""
 
 from configuration import Configuration, Leaf, Refused, check_leaves
-from files import WHOLE, Files, Stop
+from files import WHOLE, Files, Noted, Stop
 from images import Drawn, run_diff, run_dump, run_format, run_partitions, run_table, run_verify
 from nbd import Service
 from recovery import check_size, facts_of as lost_facts, lines_of, looked_up, recovered, with_map
@@ -288,7 +288,7 @@ def run(words, given, files, features, cuts=()):
     """The lines on standard output, or the bytes to a client or of a device, and the status.
 
     `files` is as the command leaves it."""
-    files.opened, files.cuts, files.counts = [], cuts, []
+    files.opened, files.cuts, files.counts, warnings = [], cuts, [], []
     try:
         if not all(map(is_utf8, words)):
             raise Usage
@@ -296,15 +296,15 @@ def run(words, given, files, features, cuts=()):
     except Usage:
         line, status = b"usage", USAGE
     except Stop as stop:
-        line, status = stop.line, stop.status
+        line, status, warnings = stop.line, stop.status, stop.warnings
     except (TextFault, Refused, ImageFault) as refusal:
-        line, status = refusal.text().encode(), REFUSED
+        line, status, warnings = refusal.text().encode(), REFUSED, getattr(refusal, "warnings", [])
     except Fault as fault:
         line, status = fault.text.encode(), FAULT
     name = b"".join(words[:1]).decode("latin-1")
     if name in OUTPUT_IS_DATA and name in features["commands"]:
         return Octets(b"", line), status
-    return [line], status
+    return Noted([line], warnings), status
 
 
 def is_utf8(word):

@@ -15,6 +15,15 @@ class Stop(Exception):
     def __init__(self, line, status=REFUSED):
         super().__init__(line)
         self.line, self.status = line, status
+        self.warnings = []
+
+
+class Noted(list):
+    """Lines of the output, beside lines of warnings on standard error."""
+
+    def __init__(self, lines, warnings):
+        super().__init__(lines)
+        self.warnings = warnings
 
 
 def not_opened(kind, path):

@@ -3,8 +3,8 @@
 from uuid import UUID
 
 from differences import Stored, compared, longest_runs, run_lines, unlike
-from files import WHOLE, Stop
-from partitions import lines_of, root_lines, stack_lines, table_facts, table_of
+from files import WHOLE, Noted, Stop
+from partitions import lines_of, root_lines, stack_lines, table_facts, table_of, warning_lines
 from protection import check_aligned, check_one_size, check_parity_of, compared_parity, found, measured, protect
 from replies import Json
 from stack import SECTOR
@@ -184,12 +184,17 @@ def run_partitions(options, words, files, _given, _features):
     path, size, root = read_partitions(options, words)
     image = bytes(files.image(path, False))
     table = table_of(image, size)
-    if root is not None:
-        lines = root_lines(image, table.partitions, table.size, root)
-    elif b"stack" in options:
-        lines = stack_lines(image, table.partitions, table.size)
-    elif b"json" in options:
-        lines = [Json(table_facts(table.partitions, table.copies))]
-    else:
-        lines = lines_of(table.partitions, table.copies)
-    return lines, DONE
+    warnings = warning_lines(image, table)
+    try:
+        if root is not None:
+            lines = root_lines(image, table.partitions, table.size, root)
+        elif b"stack" in options:
+            lines = stack_lines(image, table.partitions, table.size)
+        elif b"json" in options:
+            lines = [Json(table_facts(table.partitions, table.copies))]
+        else:
+            lines = lines_of(table.partitions, table.copies)
+    except (Stop, ImageFault) as end:
+        end.warnings = warnings
+        raise
+    return Noted(lines, warnings), DONE

@@ -116,10 +116,10 @@ def master_record(image):
     records = [image[at:at + 16] for at in range(446, 510, 16)]
     used = [it for it in records if it[4] != 0]
     if image[510:512] != b"\x55\xaa" or not used:
-        return ["no protective MBR"]
+        return ["there is no protective MBR"]
     protective = [it for it in records if it[4] == 0xEE and it[8:12] == b"\1\0\0\0"]
     is_alone = len(protective) == 1 and sum(it == bytes(16) for it in records) == 3
-    return [] if is_alone else ["the MBR isn't protective"]
+    return [] if is_alone else ["the MBR isn't a protective one"]
 
 
 def warnings_of(image, copies, places, sectors):
@@ -127,16 +127,19 @@ def warnings_of(image, copies, places, sectors):
     found = master_record(image)
     primary, backup = copies
     if isinstance(primary, Copy) and isinstance(backup, Copy) and primary.common != backup.common:
-        found.append("copies differ")
-    for name, copy, other in (("primary", primary, places[1]), ("backup", backup, places[0])):
+        found.append("the two copies of the table differ; the primary one is used")
+    for name, copy, other, beyond, elsewhere in (
+            ("primary", primary, places[1], "the disk is smaller than its table states", "the backup lies before the end of the disk"),
+            ("backup", backup, places[0], "the backup places the primary table past the end of the disk",
+             "the backup doesn't place the primary table in sector 1")):
         if not isinstance(copy, Copy):
             continue
         if copy.alternate >= sectors:
-            found.append(name + " copy: the disk is cut short")
+            found.append(beyond)
         elif copy.alternate != other:
-            found.append(name + " copy: another AlternateLBA")
+            found.append(elsewhere)
         if not copy.is_clear:
-            found.append(name + " copy: reserved bytes aren't zeros")
+            found.append("reserved bytes of the %s header aren't zero" % name)
     return found
 
 
@@ -174,6 +177,14 @@ def table_of(image, size):
         return table_with(image, 4096)
     except Stop:
         return table_with(image, size)
+
+
+def warning_lines(image, table):
+    """What is printed on standard error of a table: what is unusual of it, and each partition that ends past the disk's end."""
+    sectors = len(image) // SECTOR
+    past = [it.number for it in table.partitions if (it.first + it.count) * (table.size // SECTOR) > sectors]
+    texts = table.warnings + ["the disk ends before partition %d does" % number for number in past]
+    return [b"dmstack: warning: " + text.encode() for text in texts]
 
 
 def lines_of(partitions, copies):
