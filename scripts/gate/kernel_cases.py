@@ -1,4 +1,6 @@
 """Random stacks of the model's, with writes, and what they are for Linux: tables over numbered devices."""
+import argparse
+import os
 import random
 import re
 import subprocess
@@ -15,6 +17,17 @@ FEATURES = features_without([])
 # More sectors of a device aren't read.
 MOST_READ = 4096
 LARGEST_LEAF = 2600
+PROGRAM = os.path.join(os.path.dirname(os.path.realpath(__file__)), "../../crates/dmstack/out/dmstack")
+
+
+def arguments(description):
+    """The arguments of a script that draws cases: the program, how many, from which seed, or one of them alone."""
+    parser = argparse.ArgumentParser(description=description, formatter_class=argparse.RawDescriptionHelpFormatter)
+    parser.add_argument("program", nargs="?", default=PROGRAM, type=os.path.realpath)
+    parser.add_argument("--cases", type=int, default=400)
+    parser.add_argument("--seed", type=int, default=1)
+    parser.add_argument("--only", type=int)
+    return parser
 
 
 @dataclass

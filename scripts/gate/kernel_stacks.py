@@ -11,7 +11,6 @@ Linux reads them otherwise. `--seed S --only K` runs case K of seed S alone. Tri
 
 If QEMU, a kernel or its modules are missing, that is printed, and the status is 0 (Debian: qemu-system-x86, linux-image-amd64).
 """
-import argparse
 import os
 import re
 import resource
@@ -21,12 +20,11 @@ import tempfile
 
 sys.dont_write_bytecode = True
 HERE = os.path.dirname(os.path.realpath(__file__))
-TOP = os.path.join(HERE, "../..")
 sys.path[1:1] = [os.path.join(HERE, "../model"), os.path.join(HERE, "../lib")]
 
 from checks import Checks  # noqa: E402
 from kernel_answers import Answers, Seen  # noqa: E402
-from kernel_cases import Case, drawn_case, formatted_case  # noqa: E402
+from kernel_cases import Case, arguments, drawn_case, formatted_case  # noqa: E402
 from kernel_machine import Broken, Missing, needed, run_machine  # noqa: E402
 from kernel_rules import may_read  # noqa: E402
 from stack import SECTOR  # noqa: E402
@@ -203,14 +201,9 @@ def compare(words):
 
 
 def main():
-    parser = argparse.ArgumentParser(description=__doc__, formatter_class=argparse.RawDescriptionHelpFormatter)
-    parser.add_argument("program", nargs="?", default=os.path.join(TOP, "crates/dmstack/out/dmstack"))
-    parser.add_argument("--cases", type=int, default=400)
-    parser.add_argument("--seed", type=int, default=1)
-    parser.add_argument("--only", type=int)
+    parser = arguments(__doc__)
     parser.add_argument("--kernel")
     words = parser.parse_args()
-    words.program = os.path.realpath(words.program)
     with tempfile.TemporaryDirectory() as room:
         os.chdir(room)
         try:

@@ -4,7 +4,6 @@
 linux_loads.py [--cases N] [--seed S] [--only K] [PROGRAM]: draws stacks as kernel_stacks.py does. Of each that the model loads, PROGRAM
 must name the first device with a rule, and there the first line and rule, or print what `load` prints if there is none.
 """
-import argparse
 import os
 import subprocess
 import sys
@@ -12,12 +11,11 @@ import tempfile
 
 sys.dont_write_bytecode = True
 HERE = os.path.dirname(os.path.realpath(__file__))
-TOP = os.path.join(HERE, "../..")
 sys.path[1:1] = [os.path.join(HERE, "../model"), os.path.join(HERE, "../lib")]
 
 from checks import Checks  # noqa: E402
 from configuration import LIMIT, Device  # noqa: E402
-from kernel_cases import drawn_case  # noqa: E402
+from kernel_cases import arguments, drawn_case  # noqa: E402
 from kernel_rules import Linux  # noqa: E402
 
 KINDS = ["LinuxSize", "VerityBesideOthers", "SmallBlock", "BeginBeyondDevice", "PartBlock", "DividedBlock", "UnitStart", "DividedChunk",
@@ -85,13 +83,7 @@ def compare(words):
 
 
 def main():
-    parser = argparse.ArgumentParser(description=__doc__, formatter_class=argparse.RawDescriptionHelpFormatter)
-    parser.add_argument("program", nargs="?", default=os.path.join(TOP, "crates/dmstack/out/dmstack"))
-    parser.add_argument("--cases", type=int, default=400)
-    parser.add_argument("--seed", type=int, default=1)
-    parser.add_argument("--only", type=int)
-    words = parser.parse_args()
-    words.program = os.path.realpath(words.program)
+    words = arguments(__doc__).parse_args()
     with tempfile.TemporaryDirectory() as room:
         os.chdir(room)
         status = compare(words)

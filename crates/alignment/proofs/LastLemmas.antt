@@ -26,7 +26,7 @@ module _ (ends : ℕ → Bool) (first : ℕ) where
   unfolding last_end
   last-none = refl
 
-  -- it is one that ends units, none behind it does, and it comes no earlier than another one
+  -- it is one that ends units, none after it does, and it comes no earlier than another one
   pub last-finds : (n k : ℕ) → k < n → ends (first + k) ≡ true → (suc k ≤ last_end ends first n) × (ends (first + (last_end ends first n - 1)) ≡ true)
   unfolding last_end
   last-finds zero k low is = let no : ⊥ = omega (arith, low) in absurd no

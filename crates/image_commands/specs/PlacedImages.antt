@@ -30,8 +30,8 @@ use Rattle.image_commands.specs.Places.{TwoPlaces, before, behind, data_end, is_
 use Rattle.image_commands.specs.SuperblockJson.{dump_text}
 use Rattle.image_commands.specs.TableLines.{placed_line}
 
--- the superblock behind that sector was read, and a text of it written; it has the values of the pin, if there is one, and where it
--- must be, its tree may stand there
+-- the superblock that begins at that sector was read, and a text of it written; it has the values of the pin, if there is one, and
+-- its tree may begin there if that must be so
 pub record SaysPlaced (device : Device) (first : ℕ) (pin : Option Pin) (may : SuperRecord → Bool) (text : SuperRecord → List ℕ) (old new : Option (List ℕ)) : Type 0 where
   pub super : SuperRecord
   pub sector : List ℕ
@@ -52,7 +52,7 @@ IsNoPlacedTree device first pin Unaligned = IsTreeUnaligned (behind device first
 IsNoPlacedTree device first pin (Unpinned mismatch) = IsTreeUnpinned (behind device first) pin mismatch
 IsNoPlacedTree device first pin fault = ⊥
 
--- it isn't read, no tree may stand there, it isn't the pin's, memory ran out, or the text can't be written
+-- it isn't read, no tree may begin there, it doesn't have the pin's values, memory ran out, or the text can't be written
 abbrev pub IsPlacedSuperEnd : Device → ℕ → Option Pin → Bool → ImageFault → Type 0
 IsPlacedSuperEnd device first pin failed fault = ((device' : Device) × IsVerifyEnd (IsReadCause (behind device first) device') failed fault) ⊎ IsNoPlacedTree device first pin fault
 

@@ -57,7 +57,7 @@ abbrev pub is_output_failed : CommandFault → Bool
 is_output_failed (Recovering (Pass fault)) = is_output fault
 is_output_failed fault = false
 
--- the words; whether the writer failed; what stood on the errors' writer and stands there now, and whether that failed
+-- the words; whether the writer failed; what was written to the errors' writer before and by now, and whether that failed
 pub record Told : Type 0 where
   pub words : List (List ℕ)
   pub failed : Bool

@@ -53,7 +53,7 @@ pub record RepairsImage {S D : Type 0} (w : Calls S D) (r : RepairRecord) (old n
   pub told : TellsTrusted (record w { new = between }) r.root found
   pub repairs : RepairsBy r.fec (record w { old = between }) (places r) copies found old new
 
--- the root was told, or the pin that holds it, and then the image isn't gone over to its end, or some of its blocks aren't good
+-- the root was told, or the pin that holds it, and then the image isn't read to its end, or some of its blocks aren't valid
 pub record EndsRepairing {S D : Type 0} (w : Calls S D) (r : RepairRecord) (old new : Option (List ℕ)) (failed : Bool) (fault : CommandFault) : Type 0 where
   pub between : S
   pub found : TrustedRoot
