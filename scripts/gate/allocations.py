@@ -5,12 +5,12 @@
     allocations.py --list   prints the first list as the sources have it
 
 A place is a call of the library that allocates, or its error named `AllocError` or `AllocFailed`. The crate `allocation` has
-such places, tests have, and otherwise only what is listed: crates that aren't converted yet or call libraries that are trusted, with how many places
-each has, functions whose places are trusted for good, each with the reason, and functions that call methods of this repository. More places than listed are refused, and fewer too, so
-the lists only shrink. A crate that is converted loses its line, or has the number that is left.
+such places, tests have, and otherwise only what is listed: crates that call libraries which allocate by themselves and are
+trusted, with how many places each has, functions that are trusted, each with the reason, and functions that call methods of
+this repository. More places than listed are refused, and fewer too, so the lists only shrink.
 
-It shows that a converted crate names no such call and neither error, so what it answers when memory runs out is an `OutOfMemory`
-or a fault made from one; and that no other crate names what makes the evidence (the prover refuses that too, since `Seal` isn't
+It shows that a crate which isn't listed names no such call and neither error, so what it answers when memory runs out is an
+`OutOfMemory` or a fault made from one; and that no other crate names what makes the evidence (the prover refuses that too, since `Seal` isn't
 exported). It goes by names: it doesn't show that a call of another library doesn't allocate, nor what a clause says of a
 refusal. A fault `NoMemory` without evidence is refused by the prover, if the fault's cause asks for it.
 """
@@ -23,8 +23,6 @@ sys.dont_write_bytecode = True
 sys.path.insert(0, os.path.join(os.path.dirname(os.path.realpath(__file__)), "../lib"))
 from sources import TOP, files_of, text_of
 
-NOT_YET = "not converted yet"
-STATED = "its public functions return `AllocError` and state the evidence in a clause, since their callers aren't converted yet"
 PARSER = "`clap`'s table of commands grows within that crate, which makes no evidence"
 CACHE = "kept blocks grow within `lru`, which makes no evidence; a block that isn't kept is read again, so no call fails"
 VALUES = "JSON values and their texts grow within `serde_json`, which makes no evidence"
@@ -32,8 +30,7 @@ VALUES = "JSON values and their texts grow within `serde_json`, which makes no e
 # Of each crate how many places it has, and why.
 PLACES = {
     "command_parser": (11, PARSER),
-    "image_commands": (16, NOT_YET),
-    "image_pin": (2, STATED),
+    "image_commands": (12, VALUES),
     "partition_commands": (15, VALUES),
     "program_io": (4, VALUES),
     "runs": (9, VALUES),
@@ -42,7 +39,6 @@ PLACES = {
     "stack_lines": (2, CACHE),
     "verified_cache": (5, CACHE),
     "verity_commands": (9, VALUES),
-    "verity_format": (3, STATED),
 }
 
 # Of functions that are trusted: their crate and name, how many places each has, and why.
@@ -151,14 +147,13 @@ def main():
     if faults:
         sys.exit(1)
     left = sum(it[0] for it in PLACES.values())
-    rest = sum(count for count, reason in PLACES.values() if reason in (NOT_YET, STATED))
-    print(f"allocations.py: {left} places outside of allocation, all listed, in {len(PLACES)} crates: {left - rest} are trusted, {rest} not converted yet; {len(TRUSTED)} functions are trusted")
+    print(f"allocations.py: {left} places outside of allocation, all listed and trusted, in {len(PLACES)} crates; {len(TRUSTED)} functions are trusted")
 
 
 def reason_of(crate):
-    """The reason of a crate, as the list names it."""
-    reason = PLACES.get(crate, (0, NOT_YET))[1]
-    return next(name for name, text in globals().items() if name.isupper() and text == reason)
+    """The reason of a crate, as the list names it; of a crate that isn't listed one has to be written."""
+    reason = PLACES.get(crate, (0, ""))[1]
+    return next((name for name, text in globals().items() if name.isupper() and text == reason), '""')
 
 
 main()

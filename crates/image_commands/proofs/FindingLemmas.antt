@@ -14,11 +14,11 @@ use Rattle.image_commands.specs.PlacedImages.{IsPlacedSuperEnd}
 use Rattle.image_commands.specs.Places.{behind, tree_start}
 use Rattle.image_commands.specs.TreeImages.{IsTreeComparisonEnd}
 
-pub no-tree-end : (device device' : Device) (first : ℕ) (pin : Option ImagePin) (failed : Bool) (fault : NoTree)
-    → IsNoTree (behind device first) first pin device' fault → IsPlacedSuperEnd device first pin failed (no_tree_fault fault)
-no-tree-end device device' first pin failed (Unread fault) cause = inl (device', cause)
-no-tree-end device device' first pin failed Misplaced cause = inr cause
-no-tree-end device device' first pin failed (Unlike mismatch) cause = inr cause
+pub no-tree-end : (memory : Type 0) (device device' : Device) (first : ℕ) (pin : Option ImagePin) (failed : Bool) (fault : NoTree)
+    → IsNoTree (behind device first) first pin device' fault → IsPlacedSuperEnd memory device first pin failed (no_tree_fault fault)
+no-tree-end memory device device' first pin failed (Unread fault) cause = inl (device', cause)
+no-tree-end memory device device' first pin failed Misplaced cause = inr cause
+no-tree-end memory device device' first pin failed (Unlike mismatch) cause = inr cause
 
 -- of a tree without a superblock
 pub compared-alone : (s : SuperRecord) (d h d' h' : Device) (first : ℕ) (root : List ℕ) (failed : Bool) (fault : ImageFault)

@@ -15,16 +15,16 @@ abbrev pub IsLineUnwritten : Bool → ImageFault → Type 0
 IsLineUnwritten failed Write = failed ≡ true
 IsLineUnwritten failed fault = ⊥
 
--- want of memory, or a line that can't be written
-abbrev pub IsCommonEnd : Bool → ImageFault → Type 0
-IsCommonEnd failed NoMemory = Unit {0}
-IsCommonEnd failed Write = failed ≡ true
-IsCommonEnd failed fault = ⊥
+-- memory ran out for that cause, or a line can't be written
+abbrev pub IsCommonEnd : Type 0 → Bool → ImageFault → Type 0
+IsCommonEnd memory failed NoMemory = memory
+IsCommonEnd memory failed Write = failed ≡ true
+IsCommonEnd memory failed fault = ⊥
 
--- a fault of reading a superblock with its cause, or want of memory, or a line that can't be written
-abbrev pub IsVerifyEnd : (VerifyFault → Type 0) → Bool → ImageFault → Type 0
-IsVerifyEnd Cause failed (Verify fault) = Cause fault
-IsVerifyEnd Cause failed fault = IsCommonEnd failed fault
+-- a fault of reading a superblock with its cause, or one of these
+abbrev pub IsVerifyEnd : Type 0 → (VerifyFault → Type 0) → Bool → ImageFault → Type 0
+IsVerifyEnd memory Cause failed (Verify fault) = Cause fault
+IsVerifyEnd memory Cause failed fault = IsCommonEnd memory failed fault
 
 -- nothing is written ahead of what ends a command, unless it is the writing that fails
 abbrev pub IsQuiet : ImageFault → Option (List ℕ) → Option (List ℕ) → Type 0

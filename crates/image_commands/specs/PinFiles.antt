@@ -1,6 +1,7 @@
 -- Pins in files.
 use Rattle.std.specs.Borrow.{Bor}
 use Rattle.std.specs.Prelude.{◌≡◌, ◌⊎◌, ◌||◌, ℕ, Bool, true, false, List, Option, None, Ok, Err}
+use Rattle.allocation.specs.Refusal.{IsOutOfMemory}
 use Rattle.block_device.specs.declared.file_id.FileId.{FileId}
 use Rattle.block_device.specs.declared.open_fault.OpenFault.{OpenFault}
 use Rattle.block_device.specs.declared.open_fault.OpenFault.TheVariants.{SameFile}
@@ -103,10 +104,10 @@ pub record WritesPin {S D : Type 0} (w : Calls S D) (data_path hash_path path : 
   pub apart : AreApart (record w { new = told }) data_path hash_path path
   pub replaced : w.relations.replaces told path (pin_text pin) (Ok tt) w.new
 
--- it didn't, or memory for the text was refused and nothing was called
+-- it didn't, or an allocation for the text was refused and nothing was called
 abbrev pub IsUnreplaced : {S D : Type 0} → Calls S D → List ℕ → Pin → ImageFault → Type 0
 IsUnreplaced w path pin (image.PinUnwritten fault) = w.relations.replaces w.old path (pin_text pin) (Err fault) w.new
-IsUnreplaced w path pin image.NoMemory = w.new ≡ w.old
+IsUnreplaced w path pin image.NoMemory = (w.new ≡ w.old) × IsOutOfMemory 512
 IsUnreplaced w path pin fault = ⊥
 
 -- it is neither of them, but wasn't replaced

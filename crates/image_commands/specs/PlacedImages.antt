@@ -2,6 +2,7 @@
 use Rattle.std.specs.Borrow.{Bor}
 use Rattle.std.specs.Prelude.{◌≡◌, ◌⊎◌, ℕ, Bool, true, false, List, codes, Option, None}
 use Rattle.std.specs.Io.KnownBytes.{Appends}
+use Rattle.allocation.specs.Refusal.{IsOutOfMemory}
 use Rattle.block_device.specs.Device.{Device}
 use Rattle.program_io.specs.Counted.{CountedRecord}
 use Rattle.command_line.specs.declared.words.dump.DumpForm.{DumpForm}
@@ -10,6 +11,7 @@ use Rattle.image_files.specs.Opened.{Opens, Refuses}
 use Rattle.image_files.specs.Opener.{Calls, Opener, calls}
 use Rattle.verity_format.specs.declared.verifying.Verdict.TheVariants.{Matches}
 use Rattle.verity_format.specs.Blocks.{IsFullRead}
+use Rattle.verity_format.specs.Line.{line_room}
 use Rattle.verity_format.specs.Superblock.{SuperRecord, shape_of}
 use Rattle.verity_format.specs.Trees.{superblock_tree}
 use Rattle.verity_format.specs.Verifying.{IsReadCause, IsReadFrom, IsTreeFound}
@@ -52,17 +54,24 @@ IsNoPlacedTree device first pin Unaligned = IsTreeUnaligned (behind device first
 IsNoPlacedTree device first pin (Unpinned mismatch) = IsTreeUnpinned (behind device first) pin mismatch
 IsNoPlacedTree device first pin fault = ⊥
 
--- it isn't read, no tree may begin there, it doesn't have the pin's values, memory ran out, or the text can't be written
-abbrev pub IsPlacedSuperEnd : Device → ℕ → Option Pin → Bool → ImageFault → Type 0
-IsPlacedSuperEnd device first pin failed fault = ((device' : Device) × IsVerifyEnd (IsReadCause (behind device first) device') failed fault) ⊎ IsNoPlacedTree device first pin fault
+-- it isn't read, no tree may begin there, it doesn't have the pin's values, memory ran out for that cause, or the text can't be written
+abbrev pub IsPlacedSuperEnd : Type 0 → Device → ℕ → Option Pin → Bool → ImageFault → Type 0
+IsPlacedSuperEnd memory device first pin failed fault =
+    ((device' : Device) × IsVerifyEnd memory (IsReadCause (behind device first) device') failed fault) ⊎ IsNoPlacedTree device first pin fault
 
-pub record EndsPlacedSuper {S D : Type 0} (w : Calls S D) (path : List ℕ) (first : ℕ) (pin : Option Pin) (failed : Bool) (fault : ImageFault) : Type 0 where
+-- the superblock was read and has the values of the pin, if there is one, and room for its table line was refused
+pub record RefusesLine (first : ℕ) (data_name hash_name : List ℕ) (trusted : TrustedRoot) (device : Device) : Type 0 where
+  pub super : SuperRecord
+  pub super_read : ReadsSuper (behind device first) first trusted.pin super
+  pub refused : IsOutOfMemory (line_room super data_name hash_name trusted.root (tree_start first super.hash_block 1))
+
+pub record EndsPlacedSuper {S D : Type 0} (w : Calls S D) (path : List ℕ) (first : ℕ) (pin : Option Pin) (memory : Device → Type 0) (failed : Bool) (fault : ImageFault) : Type 0 where
   pub image : OpenImage D
   pub opened : Opens w path false image
-  pub ends : IsPlacedSuperEnd (w.state image.device) first pin failed fault
+  pub ends : IsPlacedSuperEnd (memory (w.state image.device)) (w.state image.device) first pin failed fault
 
-abbrev pub IsPlacedImageEnd : {S D : Type 0} → Calls S D → List ℕ → ℕ → Option Pin → Bool → ImageFault → Type 0
-IsPlacedImageEnd w path first pin failed fault = IsUnopened (Refuses w path false) fault ⊎ EndsPlacedSuper w path first pin failed fault
+abbrev pub IsPlacedImageEnd : {S D : Type 0} → Calls S D → List ℕ → ℕ → Option Pin → (Device → Type 0) → Bool → ImageFault → Type 0
+IsPlacedImageEnd w path first pin memory failed fault = IsUnopened (Refuses w path false) fault ⊎ EndsPlacedSuper w path first pin memory failed fault
 
 -- `verify`: the superblock at that sector was read once and has the values of the pin, if there is one; its tree is valid for what lies
 -- before the data's end, under the root
@@ -93,7 +102,7 @@ pub record EndsMatching (data_dev hash_dev : Device) (end first : ℕ) (trusted 
 
 abbrev pub IsMatchingEnd : Device → Device → ℕ → ℕ → TrustedRoot → Bool → ImageFault → Type 0
 IsMatchingEnd data_dev hash_dev end first trusted failed fault =
-    IsPlacedSuperEnd hash_dev first trusted.pin failed fault ⊎ EndsMatching data_dev hash_dev end first trusted failed fault
+    IsPlacedSuperEnd ⊥ hash_dev first trusted.pin failed fault ⊎ EndsMatching data_dev hash_dev end first trusted failed fault
 
 pub record EndsPlacedMatches {S D : Type 0} (w : Calls S D) (places : TwoPlaces) (trusted : TrustedRoot) (failed : Bool) (fault : ImageFault) : Type 0 where
   pub two : TwoImages D
@@ -114,8 +123,12 @@ abbrev pub PrintsLineAt : {S D W : Type 0} → Opener S D → (D → Device) →
 PrintsLineAt relations state images images' contents writer writer' place name words =
     PrintsPlacedSuper (calls relations state images images') place.path.now place.first words.root.now.pin (λ s. is_aligned place.first s.hash_block) (λ s. placed_line name s words place.first) (contents writer.inner) (contents writer'.inner)
 
-abbrev pub FailsToPrintAt : {S D W : Type 0} → Opener S D → (D → Device) → S → S → CountedRecord W → HashPlace → Option Pin → ImageFault → Type 0
-FailsToPrintAt relations state images images' writer' place pin = IsPlacedImageEnd (calls relations state images images') place.path.now place.first pin writer'.failed
+abbrev pub FailsToPrintAt : {S D W : Type 0} → Opener S D → (D → Device) → S → S → CountedRecord W → HashPlace → Option Pin → (Device → Type 0) → ImageFault → Type 0
+FailsToPrintAt relations state images images' writer' place pin memory = IsPlacedImageEnd (calls relations state images images') place.path.now place.first pin memory writer'.failed
+
+-- room for the line of these words was refused
+abbrev pub RefusesLineOf : ℕ → LineWords → Device → Type 0
+RefusesLineOf first words device = RefusesLine first words.data_name.now words.hash_name.now words.root.now device
 
 -- the same of a device that is open
 abbrev pub SaysFieldsAt : {H W : Type 0} → (H → Device) → H → (W → Option (List ℕ)) → CountedRecord W → CountedRecord W → ℕ → DumpForm → Type 0

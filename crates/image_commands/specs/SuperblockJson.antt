@@ -1,6 +1,7 @@
 -- The fields of a superblock as a JSON object, and in which form they are printed.
 use Rattle.std.specs.Prelude.{ℕ, List, Option, codes}
 use Rattle.std.specs.Io.KnownBytes.{Appends}
+use Rattle.allocation.specs.Refusal.{IsOutOfMemory}
 use Rattle.program_io.specs.Counted.{CountedRecord}
 use Rattle.uuid.specs.Text.{hyphenated_text, lower}
 use Rattle.serde_json.specs.Data.{Data, number, object, string, unsigned, member, no_members}
@@ -35,6 +36,12 @@ abbrev pub dump_text : DumpForm → SuperRecord → List ℕ
 dump_text Lines s = superblock_text s
 dump_text Object s = json_line (superblock_json s)
 dump_text (Pin root) s = pin_text (pin_in root s)
+
+-- why memory runs out: lines need none; an object grows within `serde_json`, which makes no evidence; for a pin an allocation was refused
+abbrev pub RefusesDump : DumpForm → Type 0
+RefusesDump Lines = ⊥
+RefusesDump Object = Unit {0}
+RefusesDump (Pin root) = IsOutOfMemory 512
 
 -- one of these was written
 abbrev pub SaysDump : {W : Type 0} → (W → Option (List ℕ)) → CountedRecord W → CountedRecord W → DumpForm → SuperRecord → Type 0

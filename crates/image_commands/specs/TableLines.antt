@@ -3,7 +3,7 @@ use Rattle.std.specs.Prelude.{ℕ, List, [], ◌++◌, codes, Option, Some, None
 use Rattle.std.specs.Borrow.{Bor}
 use Rattle.std.specs.Io.KnownBytes.{Appends}
 use Rattle.program_io.specs.Counted.{CountedRecord}
-use Rattle.verity_format.specs.Line.{verity_text}
+use Rattle.verity_format.specs.Line.{line_room, verity_text}
 use Rattle.verity_format.specs.Superblock.{SuperRecord}
 use Rattle.image_commands.specs.declared.table.LineWords.{LineWords}
 use Rattle.image_commands.specs.Places.{tree_start}
@@ -16,6 +16,10 @@ entry_head None = []
 -- the line of an image whose tree begins at that block of the hash device, and a newline; with a name the whole entry
 abbrev pub named_line : Option (Bor (List ℕ)) → SuperRecord → LineWords → ℕ → List ℕ
 named_line name s words start = entry_head name ++ (verity_text s words.data_name.now words.hash_name.now words.root.now.root start ++ codes "\n")
+
+-- no allocation for that line asks for more bytes
+abbrev pub words_room : SuperRecord → LineWords → ℕ → ℕ
+words_room s words start = line_room s words.data_name.now words.hash_name.now words.root.now.root start
 
 -- of a tree that follows a superblock at that sector, and of one that begins there itself
 abbrev pub placed_line : Option (Bor (List ℕ)) → SuperRecord → LineWords → ℕ → List ℕ

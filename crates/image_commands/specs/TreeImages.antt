@@ -2,11 +2,13 @@
 use Rattle.std.specs.Prelude.{◌≡◌, ◌⊎◌, ℕ, Bool, false, true, List, codes, Option, None}
 use Rattle.std.specs.Borrow.{Bor}
 use Rattle.std.specs.Io.KnownBytes.{Appends}
+use Rattle.allocation.specs.Refusal.{IsOutOfMemory}
 use Rattle.program_io.specs.Counted.{CountedRecord}
 use Rattle.block_device.specs.Device.{Device}
 use Rattle.tree_shape.specs.Shape.{first_fault}
 use Rattle.verity_format.specs.declared.formatting.FormatOptions.{FormatOptions}
 use Rattle.verity_format.specs.declared.verifying.Verdict.TheVariants.{Matches}
+use Rattle.verity_format.specs.Line.{line_room}
 use Rattle.verity_format.specs.Options.{superblock_with}
 use Rattle.verity_format.specs.Superblock.{SuperRecord, shape_of}
 use Rattle.verity_format.specs.Trees.{shape_alone, tree_alone}
@@ -71,11 +73,15 @@ pub record PrintsTreeLine (first : ℕ) (name : Option (Bor (List ℕ))) (words 
   pub shape : first_fault (shape_of (superblock_with options 0)) ≡ None
   pub printed : Appends old new (tree_line name (superblock_with options 0) words first)
 
--- no hash block begins there, no tree has that shape, memory ran out, or the line can't be written
-abbrev pub IsTreeLineEnd : ℕ → FormatOptions → Bool → ImageFault → Type 0
-IsTreeLineEnd first options failed Unaligned = is_aligned first options.hash_block ≡ false
-IsTreeLineEnd first options failed (Format fault) = HasNoShape (superblock_with options 0) fault
-IsTreeLineEnd first options failed fault = IsCommonEnd failed fault
+-- no allocation for its line asks for more bytes
+abbrev pub tree_room : ℕ → FormatOptions → List ℕ → List ℕ → List ℕ → ℕ
+tree_room first options data_name hash_name root = line_room (superblock_with options 0) data_name hash_name root (tree_start first options.hash_block 0)
+
+-- no hash block begins there, no tree has that shape, room of at most that size was refused, or the line can't be written
+abbrev pub IsTreeLineEnd : ℕ → ℕ → FormatOptions → Bool → ImageFault → Type 0
+IsTreeLineEnd room first options failed Unaligned = is_aligned first options.hash_block ≡ false
+IsTreeLineEnd room first options failed (Format fault) = HasNoShape (superblock_with options 0) fault
+IsTreeLineEnd room first options failed fault = IsCommonEnd (IsOutOfMemory room) failed fault
 
 -- ---- as a call sees them: an opener's relations and what a proof sees of its devices, what gives generators and what a proof sees of one,
 -- and what a proof sees of a writer, each with its value before and after

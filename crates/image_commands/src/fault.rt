@@ -3,10 +3,11 @@ ghost use Rattle.std.specs.Prelude.{◌≡◌};
 ghost use Rattle.image_commands.specs.declared.fault.ImageFault.TheVariants as image_fault;
 
 use crate::finding::NoTree;
+use allocation::OutOfMemory;
 use image_files::{ReplaceFault, UnopenedFile};
 use image_pin::{Mismatch, PinFault};
 use program_io::WriteFault;
-use std::alloc::{AllocError, AllocFailed};
+use std::alloc::AllocError;
 use verity_format::{FormatFault, Verdict, VerifyFault};
 
 /// Why a command on verity images ends early.
@@ -48,10 +49,10 @@ impl From<AllocError> for ImageFault<'_> {
     }
 }
 
-impl<T: Drop> From<AllocFailed<T>> for ImageFault<'_> {
+impl From<OutOfMemory> for ImageFault<'_> {
     ghost from_gives = { λ _ fault. fault ≡ image_fault.NoMemory };
 
-    fn from(_refused: AllocFailed<T>) -> Self {
+    fn from(_error: OutOfMemory) -> Self {
         ImageFault::NoMemory
     }
 }

@@ -1,8 +1,9 @@
 //! The printed table line of a hash image.
 ghost use Rattle.std.specs.Prelude.{◌++◌, codes, IfErr, OnOk};
+ghost use Rattle.allocation.specs.Refusal.{IsOutOfMemory};
 ghost use Rattle.program_io.specs.Counted.{Writes};
 ghost use Rattle.image_commands.specs.Endings.{IsCommonEnd, IsQuiet};
-ghost use Rattle.image_commands.specs.TableLines.{SaysNamedLine, entry_head};
+ghost use Rattle.image_commands.specs.TableLines.{SaysNamedLine, entry_head, words_room};
 
 use crate::fault::ImageFault;
 use crate::table::LineWords;
@@ -23,7 +24,7 @@ pub(crate) fn say_line<'a, W: Write>(
     start: u64,
 ) -> Result<(), ImageFault<'a>>
     ensures ok { OnOk result (SaysNamedLine W.contents writer.old writer.new name.entry superblock.now words.entry start) }
-    ensures err { IfErr result (IsCommonEnd writer.new.failed) }
+    ensures err { IfErr result (IsCommonEnd (IsOutOfMemory (words_room superblock.now words.entry start)) writer.new.failed) }
     ensures quiet { IfErr result (λ fault. IsQuiet fault (W.contents writer.old.inner) (W.contents writer.new.inner)) }
 {
     let LineWords {

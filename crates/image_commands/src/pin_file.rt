@@ -60,7 +60,7 @@ pub(crate) fn pin_in(root: Digest, superblock: &Superblock) -> Pin
 ///
 /// # Errors
 ///
-/// `SameFile`, `NoMemory`, or `PinUnwritten` with the fault of the file that isn't replaced.
+/// `SameFile`, `NoMemory` if an allocation of at most 512 bytes was refused, or `PinUnwritten` with the fault of the file that isn't replaced.
 pub fn write_pin<'a, I: Images>(
     alloc: Global,
     images: &mut I,

@@ -1,7 +1,8 @@
 //! The commands `dump`, `table` and `verify`.
 ghost use Rattle.std.specs.Prelude.{IfErr, None, OnOk};
 ghost use Rattle.image_commands.specs.Endings.{IsQuiet};
-ghost use Rattle.image_commands.specs.PlacedImages.{DumpsImageAt, FailsToMatchAt, FailsToPrintAt, FailsToVerifyAt, IsPlacedSuperEnd, MatchesAt, PrintsLineAt, SaysFieldsAt, SaysLineAt, VerifiesImagesAt};
+ghost use Rattle.image_commands.specs.PlacedImages.{DumpsImageAt, FailsToMatchAt, FailsToPrintAt, FailsToVerifyAt, IsPlacedSuperEnd, MatchesAt, PrintsLineAt, RefusesLineOf, SaysFieldsAt, SaysLineAt, VerifiesImagesAt};
+ghost use Rattle.image_commands.specs.SuperblockJson.{RefusesDump};
 
 use crate::comparing::{compare, place_parts};
 use crate::fault::ImageFault;
@@ -34,7 +35,7 @@ pub fn dump_placed<'a, I: Images, W: Write>(
     writer: &mut Counted<W>,
 ) -> Result<(), ImageFault<'a>>
     ensures ok { OnOk result (DumpsImageAt I.relations I.Dev.state images.old images.new W.contents writer.old writer.new place.entry form) }
-    ensures err { IfErr result (FailsToPrintAt I.relations I.Dev.state images.old images.new writer.new place.entry None) }
+    ensures err { IfErr result (FailsToPrintAt I.relations I.Dev.state images.old images.new writer.new place.entry None (λ device. RefusesDump form)) }
     ensures quiet { IfErr result (λ fault. IsQuiet fault (W.contents writer.old.inner) (W.contents writer.new.inner)) }
 {
     let HashPlace { path, first } = place;
@@ -51,7 +52,7 @@ fn dump_behind<'a, H: BlockDev + Drop, W: Write>(
     writer: &mut Counted<W>,
 ) -> Result<(), ImageFault<'a>>
     ensures ok { OnOk result (SaysFieldsAt H.state hash_dev W.contents writer.old writer.new first form) }
-    ensures err { IfErr result (IsPlacedSuperEnd (H.state hash_dev) first None writer.new.failed) }
+    ensures err { IfErr result (IsPlacedSuperEnd (RefusesDump form) (H.state hash_dev) first None writer.new.failed) }
     ensures quiet { IfErr result (λ fault. IsQuiet fault (W.contents writer.old.inner) (W.contents writer.new.inner)) }
 {
     let mut window = Window::<H, Brand>::behind(hash_dev, first);
@@ -71,7 +72,7 @@ pub fn table_placed<'a, I: Images, W: Write>(
     writer: &mut Counted<W>,
 ) -> Result<(), ImageFault<'a>>
     ensures ok { OnOk result (PrintsLineAt I.relations I.Dev.state images.old images.new W.contents writer.old writer.new place.entry name.entry words.entry) }
-    ensures err { IfErr result (FailsToPrintAt I.relations I.Dev.state images.old images.new writer.new place.entry words.entry.root.now.pin) }
+    ensures err { IfErr result (FailsToPrintAt I.relations I.Dev.state images.old images.new writer.new place.entry words.entry.root.now.pin (RefusesLineOf place.first words.entry)) }
     ensures quiet { IfErr result (λ fault. IsQuiet fault (W.contents writer.old.inner) (W.contents writer.new.inner)) }
 {
     let HashPlace { path, first } = place;
@@ -88,7 +89,7 @@ fn table_behind<'a, H: BlockDev + Drop, W: Write>(
     writer: &mut Counted<W>,
 ) -> Result<(), ImageFault<'a>>
     ensures ok { OnOk result (SaysLineAt H.state placed W.contents writer.old writer.new name.entry words.entry) }
-    ensures err { IfErr result (IsPlacedSuperEnd (H.state placed.0) placed.1 words.entry.root.now.pin writer.new.failed) }
+    ensures err { IfErr result (IsPlacedSuperEnd (RefusesLineOf placed.1 words.entry (H.state placed.0)) (H.state placed.0) placed.1 words.entry.root.now.pin writer.new.failed) }
     ensures quiet { IfErr result (λ fault. IsQuiet fault (W.contents writer.old.inner) (W.contents writer.new.inner)) }
 {
     let (hash_dev, first) = placed;

@@ -1,5 +1,6 @@
 //! The fields of a superblock as a JSON object.
 ghost use Rattle.std.specs.Prelude.{◌≡◌, ◌≤◌, length, string_bytes, IfOk, IfErr, OnOk};
+ghost use Rattle.allocation.specs.Asked.{asked};
 ghost use Rattle.program_io.specs.JsonLines.{json_line};
 ghost use Rattle.uuid.specs.Text.{hyphenated_text, lower};
 ghost use Rattle.serde_json.specs.Data.{string};
@@ -8,11 +9,12 @@ ghost use Rattle.verity_format.specs.Line.{salt_word};
 ghost use Rattle.image_commands.specs.Endings.{IsQuiet, IsCommonEnd};
 ghost use Rattle.image_pin.specs.PinTexts.{pin_text};
 ghost use Rattle.image_commands.specs.PinFiles.{pin_in};
-ghost use Rattle.image_commands.specs.SuperblockJson.{SaysDump, fields_json, superblock_json};
+ghost use Rattle.image_commands.specs.SuperblockJson.{RefusesDump, SaysDump, fields_json, superblock_json};
 
 use crate::fault::ImageFault;
 use crate::pin_file::pin_in;
 use crate::superblock_text::say_superblock;
+use allocation::OutOfMemory;
 use command_line::DumpForm;
 use image_pin::print_pin;
 use program_io::{Counted, line_of};
@@ -32,7 +34,7 @@ pub(crate) fn say_dump<'a, W: Write>(
     form: DumpForm,
 ) -> Result<(), ImageFault<'a>>
     ensures ok { OnOk result (SaysDump W.contents writer.old writer.new form superblock.now) }
-    ensures err { IfErr result (IsCommonEnd writer.new.failed) }
+    ensures err { IfErr result (IsCommonEnd (RefusesDump form) writer.new.failed) }
     ensures quiet { IfErr result (λ fault. IsQuiet fault (W.contents writer.old.inner) (W.contents writer.new.inner)) }
 {
     match form {
@@ -54,12 +56,12 @@ pub(crate) fn say_dump<'a, W: Write>(
 }
 
 // The text of the pin of a root hash with the values of a superblock.
-fn pin_bytes(alloc: Global, root: Digest, superblock: &Superblock) -> Result<Vec<u8>, AllocError>
-    ensures { IfOk result (λ text. text.items ≡ pin_text (pin_in root superblock.now)) }
+fn pin_bytes(alloc: Global, root: Digest, superblock: &Superblock) -> Result<Vec<u8>, OutOfMemory>
+    ensures ok { IfOk result (λ text. text.items ≡ pin_text (pin_in root superblock.now)) }
+    ensures err { IfErr result (λ e. asked e ≤ 512) }
 {
     let pin = pin_in(root, superblock);
-    let text = print_pin(alloc, &pin)?;
-    Ok(text)
+    print_pin(alloc, &pin)
 }
 
 fn superblock_line(alloc: Global, superblock: &Superblock) -> Result<String, AllocError>

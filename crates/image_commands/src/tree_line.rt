@@ -1,7 +1,7 @@
 //! The command `table --no-superblock`: the table line of a tree alone.
 ghost use Rattle.std.specs.Prelude.{◌≡◌, IfErr, OnOk};
 ghost use Rattle.image_commands.specs.Endings.{IsQuiet};
-ghost use Rattle.image_commands.specs.TreeImages.{IsTreeLineEnd, SaysTreeLine};
+ghost use Rattle.image_commands.specs.TreeImages.{IsTreeLineEnd, SaysTreeLine, tree_room};
 
 use crate::fault::ImageFault;
 use crate::line::say_line;
@@ -26,7 +26,7 @@ pub fn print_tree_line<'a, W: Write>(
     writer: &mut Counted<W>,
 ) -> Result<(), ImageFault<'a>>
     ensures ok { OnOk result (SaysTreeLine W.contents writer.old writer.new first name.entry words.entry options) }
-    ensures err { IfErr result (IsTreeLineEnd first options writer.new.failed) }
+    ensures err { IfErr result (IsTreeLineEnd (tree_room first options words.entry.data_name.now words.entry.hash_name.now words.entry.root.now.root) first options writer.new.failed) }
     ensures quiet { IfErr result (λ fault. IsQuiet fault (W.contents writer.old.inner) (W.contents writer.new.inner)) }
 {
     let size = options.hash_block;

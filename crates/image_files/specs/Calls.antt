@@ -1,6 +1,7 @@
 -- What a proof sees of a file system. S is the file system, F a file that was created.
 use Rattle.std.specs.Prelude.{◌≡◌, ◌⊎◌, ℕ, List, Result}
 use Rattle.image_files.specs.declared.calls.CallFault.{CallFault}
+use Rattle.image_files.specs.declared.calls.CreateFault.{CreateFault}
 use Rattle.image_files.specs.declared.texts.ReplaceFault.{ReplaceFault}
 use Rattle.image_files.specs.declared.texts.ReplaceFault.TheVariants.{NoMemory, Write}
 
@@ -13,8 +14,8 @@ IsNoDraft fault = (fault ≡ NoMemory) ⊎ (fault ≡ Write)
 pub record FileRelations (S F : Type 0) : Type 1 where
   -- a path, and the one that its symbolic links lead to, or why they can't be followed
   pub resolves : S → List ℕ → Result (List ℕ) ReplaceFault → S → Type 0
-  -- the name of a file, the path of the one that it is to be like, and the file
-  pub creates : S → List ℕ → List ℕ → F → S → Type 0
+  -- the name of a file, the path of the one that it is to be like, and the file, or why it isn't created
+  pub creates : S → List ℕ → List ℕ → Result F CreateFault → S → Type 0
   -- a file, the bytes that are written, and the file then
   pub writes : S → F → List ℕ → Result (Unit {0}) CallFault → F → S → Type 0
   pub syncs : S → F → Result (Unit {0}) CallFault → S → Type 0

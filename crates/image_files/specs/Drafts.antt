@@ -1,7 +1,8 @@
 -- A text that takes the place of a file's: which calls are made, and in which order.
-use Rattle.std.specs.Prelude.{◌≡◌, ◌⊎◌, ◌+◌, ◌++◌, ◌==◌, ℕ, List, Result, Ok, Err, codes, decimal, length, string_bytes, if◌then◌else◌}
+use Rattle.std.specs.Prelude.{◌≡◌, ◌⊎◌, ◌<◌, ◌+◌, ◌++◌, ◌==◌, ℕ, List, Result, Ok, Err, codes, decimal, length, string_bytes, if◌then◌else◌}
 use Rattle.allocation.specs.Refusal.{IsOutOfMemory}
 use Rattle.image_files.specs.declared.calls.CallFault.{CallFault}
+use Rattle.image_files.specs.declared.calls.CreateFault.TheVariants.{Exists, Failed}
 use Rattle.image_files.specs.declared.draft.Draft.{Draft}
 use Rattle.image_files.specs.declared.texts.ReplaceFault.{ReplaceFault}
 use Rattle.image_files.specs.declared.texts.ReplaceFault.TheVariants.{NoMemory, Write, Sync, Rename}
@@ -17,7 +18,7 @@ pub record IsDraft {S F : Type 0} (r : FileRelations S F) (old : S) (path : List
   pub number : ℕ
   pub resolved : r.resolves old path (Ok (string_bytes draft.target)) between
   pub name_is : string_bytes draft.name ≡ beside (string_bytes draft.target) number
-  pub created : r.creates between (string_bytes draft.name) (string_bytes draft.target) draft.file new
+  pub created : r.creates between (string_bytes draft.name) (string_bytes draft.target) (Ok draft.file) new
 
 -- the text was written into the draft, and synced behind that
 pub record IsFilled {S F : Type 0} (r : FileRelations S F) (old : S) (draft : Draft F) (bytes : List ℕ) (new : S) : Type 0 where
@@ -76,17 +77,30 @@ pub record IsReplaced {S F : Type 0} (r : FileRelations S F) (old : S) (path byt
   pub is_placed : IsPlaced r begun draft bytes placed
   pub listed : r.lists placed (string_bytes draft.target) (Ok tt) new
 
+-- as many names are tried
+abbrev pub most_names : ℕ
+most_names = 64
+
+-- the first names beside a target are taken, each found by a call that changed nothing
+abbrev pub AreTaken : {S F : Type 0} → FileRelations S F → S → List ℕ → ℕ → Type 0
+AreTaken r s target count = (number : ℕ) → number < count → r.creates s (beside target number) target (Err Exists) s
+
+-- all names beside a target are taken, or a file of the first name that isn't can't be created
+abbrev pub HasNoName : {S F : Type 0} → FileRelations S F → S → List ℕ → Type 0
+HasNoName r s target =
+    AreTaken r s target most_names ⊎ ((number : ℕ) × AreTaken r s target number × r.creates s (beside target number) target (Err Failed) s)
+
 -- why no file was created beside a target: an allocation for its name was refused, or the file system created none
-abbrev pub IsUncreated : List ℕ → ReplaceFault → Type 0
-IsUncreated target NoMemory = IsOutOfMemory (length target + 40)
-IsUncreated target Write = Unit {0}
-IsUncreated target Sync = ⊥
-IsUncreated target Rename = ⊥
+abbrev pub IsUncreated : {S F : Type 0} → FileRelations S F → S → List ℕ → ReplaceFault → Type 0
+IsUncreated r s target NoMemory = IsOutOfMemory (length target + 40)
+IsUncreated r s target Write = HasNoName r s target
+IsUncreated r s target Sync = ⊥
+IsUncreated r s target Rename = ⊥
 
 -- no file was created: the path wasn't resolved, or no file created beside what it names
 pub record IsUndrafted {S F : Type 0} (r : FileRelations S F) (old : S) (path : List ℕ) (fault : ReplaceFault) (new : S) : Type 0 where
   pub fault_is : IsNoDraft fault
-  pub cause : ((new ≡ old) × r.resolves old path (Err fault) new) ⊎ ((target : List ℕ) × r.resolves old path (Ok target) new × IsUncreated target fault)
+  pub cause : ((new ≡ old) × r.resolves old path (Err fault) new) ⊎ ((target : List ℕ) × r.resolves old path (Ok target) new × IsUncreated r new target fault)
 
 -- the draft was removed, since its text doesn't take the file's place
 pub record IsWithdrawn {S F : Type 0} (r : FileRelations S F) (old : S) (path bytes : List ℕ) (fault : ReplaceFault) (new : S) : Type 0 where

@@ -4,13 +4,14 @@ use Rattle.std.specs.Prelude.{ℕ, List, Result}
 use Rattle.std.specs.declared.fs.File.{File}
 use Rattle.image_files.specs.Calls.{FileRelations}
 use Rattle.image_files.specs.declared.calls.CallFault.{CallFault}
+use Rattle.image_files.specs.declared.calls.CreateFault.{CreateFault}
 use Rattle.image_files.specs.declared.seal.Seal.{Seal}
 use Rattle.image_files.specs.declared.texts.ReplaceFault.{ReplaceFault}
 
 -- a call, its arguments, and its outcome where it has one
 pub data SystemCall : Type 0 where
   Resolve : List ℕ → Result (List ℕ) ReplaceFault → SystemCall
-  Create : List ℕ → List ℕ → File → SystemCall
+  Create : List ℕ → List ℕ → Result File CreateFault → SystemCall
   Write : File → List ℕ → Result (Unit {0}) CallFault → File → SystemCall
   Sync : File → Result (Unit {0}) CallFault → SystemCall
   Rename : List ℕ → List ℕ → Result (Unit {0}) CallFault → SystemCall
@@ -29,7 +30,7 @@ was-asked old call new seal = tt
 abbrev pub system_relations : {S : Type 0} → FileRelations S File
 system_relations = record {
   resolves = λ old path outcome new. WasAsked old (Resolve path outcome) new;
-  creates = λ old name like file new. WasAsked old (Create name like file) new;
+  creates = λ old name like outcome new. WasAsked old (Create name like outcome) new;
   writes = λ old file bytes result file' new. WasAsked old (Write file bytes result file') new;
   syncs = λ old file result new. WasAsked old (Sync file result) new;
   renames = λ old from to result new. WasAsked old (Rename from to result) new;

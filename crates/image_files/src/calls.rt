@@ -41,7 +41,7 @@ pub trait FileCalls {
 
     /// Creates a file of this name, exclusively, with the owner and the permissions of another one if there is one.
     fn create(&mut self, name: &str, like: &str) -> Result<Self::File, CreateFault>
-        ensures ok { IfOk result (λ file. relations.creates self.old name.now like.now file self.new) }
+        ensures outcome { relations.creates self.old name.now like.now result self.new }
         ensures same { IfErr result (λ fault. self.new ≡ self.old) };
 
     /// Writes all these bytes into a file.

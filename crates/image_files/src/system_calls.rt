@@ -119,6 +119,7 @@ impl<R: Files<File = File> + AllocGlobal> FileCalls for SystemCalls<'_, R> {
     }
 
     // It is created with the permissions that it is to have, so that nobody else can open it before.
+    #[tactic(auto, using(crate::proofs::FileLemmas::asked_of))]
     fn create(&mut self, name: &str, like: &str) -> Result<File, CreateFault> {
         let Some(other) = self.file_under(like)? else {
             return self.create_new(name, NEW_FILE);

@@ -1,7 +1,6 @@
 //! Printing pins.
-ghost use Rattle.std.specs.Prelude.{◌≡◌, ◌≤◌, ◌++◌, Ok, IfErr, IfOk, OnErr, OnOk, decimal, length};
+ghost use Rattle.std.specs.Prelude.{◌≡◌, ◌≤◌, ◌++◌, Ok, IfErr, IfOk, OnOk, decimal, length};
 ghost use Rattle.allocation.specs.Asked.{asked};
-ghost use Rattle.allocation.specs.Refusal.{IsOutOfMemory};
 ghost use Rattle.verity_format.specs.Line.{salt_word};
 ghost use Rattle.hex.specs.Hex.{IsBytes, encode_lower};
 ghost use Rattle.image_pin.specs.PinTexts.{pin_line, pin_of, pin_text};
@@ -10,18 +9,18 @@ use crate::name::PinName;
 use crate::pin::Pin;
 use allocation::{OutOfMemory, append, copied, push};
 use itoa::Buffer;
-use std::alloc::{AllocError, Global};
+use std::alloc::Global;
 
 /// Returns the text of a pin: its header, and one line each for the root hash, the salt, the block sizes and the
 /// number of data blocks.
 ///
 /// # Errors
 ///
-/// `AllocError` if an allocation of at most 512 bytes fails.
-pub fn print_pin(alloc: Global, pin: &Pin) -> Result<Vec<u8>, AllocError>
+/// `OutOfMemory` if an allocation of at most 512 bytes fails.
+pub fn print_pin(alloc: Global, pin: &Pin) -> Result<Vec<u8>, OutOfMemory>
     ensures text { IfOk result (λ text. text.items ≡ pin_text pin.now) }
     ensures reads_back { IfOk result (λ text. pin_of text.items ≡ Ok pin.now) }
-    ensures err { OnErr result (IsOutOfMemory 512) }
+    ensures err { IfErr result (λ e. asked e ≤ 512) }
 {
     let mut text = copied(alloc, b"dmstack-pin 1\n")?;
     push_hex(&mut text, PinName::Root, pin.root.as_bytes())?;

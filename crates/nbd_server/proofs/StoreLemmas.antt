@@ -116,7 +116,7 @@ module _ (w : World) (d first : ℕ) (bytes : List ℕ) (w' : World) where
   put-fails (io.Device i) range some h led p = inl (refl, io.Device i, refl, at-place bytes (Err (io.Device i)) range h p)
   put-fails io.NoMemory range some h led p =
       let count : length bytes / 512 ≡ range.count = ap (λ (r : SectorRange). r.count) (range-is range h) in
-      inr (refl, some refl, record { count = p.0; few = omega (arith, p.1, count); put = record { put = at-place (take (512 * p.0) bytes) (Ok tt) range h p.2; led = led } })
+      inr (refl, some refl, record { count = p.0; few = omega (arith, p.1, count); put = record { put = at-place (take (512 * p.0) bytes) (Ok tt) range h p.2; led = led } }, p.3)
 
   pub unstored : (fault : IoFault) → EncryptsAt w d first bytes fault → BytesWritten w d first bytes (Err fault) w' → FailsToPutAll w d first bytes (error_of fault) w'
   unstored fault some s =
@@ -183,7 +183,7 @@ module _ (w v w' : World) (d first : ℕ) (x y z : List ℕ) (even : length x % 
 
   cause-more : (error : RequestError) → EndsPut v d (first + length x / 512) y error w' ⊎ StopsPut v d (first + length x / 512) y error w' → EndsPut w d first (x ++ (y ++ z)) error w' ⊎ StopsPut w d first (x ++ (y ++ z)) error w'
   cause-more error (inl q) = inl (q.0, q.1, q.2, pieces-end d first x y even p.put z q.1 (no-memory q.1 q.2) q.3)
-  cause-more error (inr q) = inr (q.0, encrypt-more q.1, part-more q.2)
+  cause-more error (inr q) = inr (q.0, encrypt-more q.1, part-more q.2, q.3)
 
   stored-fails : (error : RequestError) → FailsToPutAll v d (first + length x / 512) y error w' → FailsToPutAll w d first (x ++ (y ++ z)) error w'
   stored-fails error q = record { cause = cause-more error q.cause; led = led-then EachPart w v w' p.led q.led }

@@ -6,6 +6,7 @@ use Rattle.stack_meaning.specs.declared.fault.IoFault.{IoFault}
 use Rattle.stack_meaning.specs.declared.fault.IoFault.TheVariants as io
 use Rattle.stack_meaning.specs.Found.{FoundRecord}
 use Rattle.stack_meaning.specs.Meaning.{said_at}
+use Rattle.stack_meaning.specs.Memory.{largest_allocation}
 use Rattle.stack_meaning.specs.Reading.{MeetVerity}
 use Rattle.stack_lines.specs.Writing.{SomeEncrypt}
 use Rattle.stack_engine.specs.Bytes.{IsGoodChain}
@@ -66,7 +67,7 @@ pub record IsPartPut (w : World) (d first : ℕ) (bytes : List ℕ) (w' : World)
 -- an allocation was refused after the first sectors were written; this happens only if some of the sectors are encrypted
 abbrev pub StopsPut : World → ℕ → ℕ → List ℕ → RequestError → World → Type 0
 StopsPut w d first bytes error w' =
-    (error ≡ NoMemory) × SomeEncrypt (said_at w.stack.config (mapped d)) first (length bytes / 512) × IsPartPut w d first bytes w'
+    (error ≡ NoMemory) × SomeEncrypt (said_at w.stack.config (mapped d)) first (length bytes / 512) × IsPartPut w d first bytes w' × IsOutOfMemory largest_allocation
 
 -- not all of the sectors were written
 pub record FailsToPutAll (w : World) (d first : ℕ) (bytes : List ℕ) (error : RequestError) (w' : World) : Type 0 where

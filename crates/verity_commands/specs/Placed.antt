@@ -26,9 +26,9 @@ use Rattle.image_commands.specs.Endings.{IsLineUnwritten}
 use Rattle.image_commands.specs.Formats.{made_text}
 use Rattle.image_commands.specs.PlacedFormats.{IsMakingPlacedEnd, MakesPlaced}
 use Rattle.image_commands.specs.Preparing.{IsPreparingEnd}
-use Rattle.image_commands.specs.PlacedImages.{IsPlacedImageEnd, IsPlacedMatchesEnd, PrintsPlacedMatches, PrintsPlacedSuper}
+use Rattle.image_commands.specs.PlacedImages.{IsPlacedImageEnd, IsPlacedMatchesEnd, PrintsPlacedMatches, PrintsPlacedSuper, RefusesLine}
 use Rattle.image_commands.specs.Places.{TwoPlaces, is_aligned, two_places}
-use Rattle.image_commands.specs.SuperblockJson.{dump_text}
+use Rattle.image_commands.specs.SuperblockJson.{RefusesDump, dump_text}
 use Rattle.image_commands.specs.TableLines.{placed_line}
 use Rattle.image_files.specs.Opener.{Calls, Opener, calls}
 use Rattle.verity_commands.specs.declared.verity_fault.VerityFault.{VerityFault}
@@ -72,7 +72,7 @@ pub record EndsEntry {S D : Type 0} (w : Calls S D) (t : TableRecord) (failed : 
   pub between : S
   pub found : TrustedRoot
   pub told : TellsTrusted (record w { new = between }) t.root found
-  pub ends : IsPlacedImageEnd (record w { old = between }) t.hash_path (t.hash_offset / 512) found.pin failed fault
+  pub ends : IsPlacedImageEnd (record w { old = between }) t.hash_path (t.hash_offset / 512) found.pin (RefusesLine (t.hash_offset / 512) t.data_name t.hash_name found) failed fault
 
 abbrev pub IsEntryEnd : {S D : Type 0} → Calls S D → TableRecord → Bool → ImageFault → Type 0
 IsEntryEnd w t failed fault = IsTrustedEnd w t.root fault ⊎ EndsEntry w t failed fault
@@ -130,7 +130,7 @@ abbrev pub DumpsAt : {S D : Type 0} → Calls S D → DumpRecord → Option (Lis
 DumpsAt w d old new = PrintsPlacedSuper w d.hash_path (d.hash_offset / 512) None (λ s. true) (dump_text d.form) old new
 
 abbrev pub IsDumpEnd : {S D : Type 0} → Calls S D → DumpRecord → Option (List ℕ) → Option (List ℕ) → Bool → VerityFault → Type 0
-IsDumpEnd w d old new failed fault = IsImageEnd (IsPlacedImageEnd w d.hash_path (d.hash_offset / 512) None failed) fault × IsVerityQuiet fault old new
+IsDumpEnd w d old new failed fault = IsImageEnd (IsPlacedImageEnd w d.hash_path (d.hash_offset / 512) None (λ device. RefusesDump d.form) failed) fault × IsVerityQuiet fault old new
 
 abbrev pub IsTableEnd : {S D : Type 0} → Calls S D → TableRecord → Option (List ℕ) → Option (List ℕ) → Bool → VerityFault → Type 0
 IsTableEnd w t old new failed fault = IsImageEnd (IsEntryEnd w t failed) fault × IsVerityQuiet fault old new

@@ -18,7 +18,7 @@ use Rattle.image_commands.specs.declared.table.LineWords.{LineWords}
 use Rattle.image_commands.specs.declared.watching.WatchedPlaces.{WatchedPlaces}
 use Rattle.image_commands.specs.Drawing.{Drawing}
 use Rattle.image_commands.specs.TreeFormats.{IsFormatTreeEnd as IsTreeFormatEnd, PrintsTree}
-use Rattle.image_commands.specs.TreeImages.{IsTreeLineEnd, IsTreeMatchesEnd, PrintsTreeLine, PrintsTreeMatches}
+use Rattle.image_commands.specs.TreeImages.{IsTreeLineEnd, IsTreeMatchesEnd, PrintsTreeLine, PrintsTreeMatches, tree_room}
 use Rattle.image_commands.specs.Places.{TwoPlaces, two_places}
 use Rattle.image_commands.specs.Preparing.{IsPreparingEnd}
 use Rattle.image_commands.specs.TreePlaces.{given_options, unnamed}
@@ -103,7 +103,7 @@ pub record EndsTreeEntry {S D : Type 0} (texts : OptionTexts) (w : Calls S D) (t
   pub found : List ℕ
   pub said : SaysTree texts given
   pub told : TellsRoot w t.root found
-  pub ends : IsTreeLineEnd (t.hash_offset / 512) given failed fault
+  pub ends : IsTreeLineEnd (tree_room (t.hash_offset / 512) given t.data_name t.hash_name found) (t.hash_offset / 512) given failed fault
 
 abbrev pub IsTableTreeEnd : {S D : Type 0} → OptionTexts → Calls S D → TreeTableRecord → Option (List ℕ) → Option (List ℕ) → Bool → VerityFault → Type 0
 IsTableTreeEnd texts w t old new failed fault =

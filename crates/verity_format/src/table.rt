@@ -8,7 +8,7 @@ use crate::Superblock;
 use crate::access::data_sectors;
 use allocation::OutOfMemory;
 use dm_table::{Line, Name, Target, Verity};
-use std::alloc::{AllocError, Global};
+use std::alloc::Global;
 use table_text::print_line;
 use tree_shape::Digest;
 
@@ -17,14 +17,14 @@ use tree_shape::Digest;
 ///
 /// # Errors
 ///
-/// `AllocError` if an allocation of at most the length of the names and the line fails.
+/// `OutOfMemory` if an allocation of at most the length of the names and the line fails.
 pub fn table_line(
     alloc: Global,
     superblock: &Superblock,
     data_name: &[u8],
     hash_name: &[u8],
     root: &Digest,
-) -> Result<Vec<u8>, AllocError>
+) -> Result<Vec<u8>, OutOfMemory>
     ensures ok { IfOk result (λ line. line.items ≡ table_text superblock.now data_name.now hash_name.now root.now) }
     ensures err { OnErr result (IsOutOfMemory (line_room superblock.now data_name.now hash_name.now root.now 1)) }
 {
@@ -35,7 +35,7 @@ pub fn table_line(
 ///
 /// # Errors
 ///
-/// `AllocError` if an allocation of at most the length of the names and the line fails.
+/// `OutOfMemory` if an allocation of at most the length of the names and the line fails.
 pub fn table_line_at(
     alloc: Global,
     superblock: &Superblock,
@@ -43,12 +43,12 @@ pub fn table_line_at(
     hash_name: &[u8],
     root: &Digest,
     start: u64,
-) -> Result<Vec<u8>, AllocError>
+) -> Result<Vec<u8>, OutOfMemory>
     ensures ok { IfOk result (λ text. text.items ≡ verity_text superblock.now data_name.now hash_name.now root.now start) }
     ensures err { OnErr result (IsOutOfMemory (line_room superblock.now data_name.now hash_name.now root.now start)) }
 {
     let line = verity_line(alloc, superblock, data_name, hash_name, root, start)?;
-    Ok(print_line(alloc, &line, true)?)
+    print_line(alloc, &line, true)
 }
 
 fn verity_line(

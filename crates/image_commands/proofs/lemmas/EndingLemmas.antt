@@ -20,18 +20,34 @@ quiet (PinUnwritten fault) bytes = refl
 quiet Random bytes = refl
 quiet Write bytes = tt
 
--- want of memory and a line that can't be written end a command whatever else may
-pub may_end : (Cause : VerifyFault → Type 0) (failed : Bool) (fault : ImageFault) → IsCommonEnd failed fault → IsVerifyEnd Cause failed fault
-may_end Cause failed NoMemory h = h
-may_end Cause failed (Open file) h = h
-may_end Cause failed (Format fault) h = h
-may_end Cause failed (Verify fault) h = absurd h
-may_end Cause failed (Differs verdict) h = h
-may_end Cause failed RootText h = h
-may_end Cause failed Unaligned h = h
-may_end Cause failed DataOverlapsTree h = h
-may_end Cause failed (Pin fault) h = h
-may_end Cause failed (Unpinned mismatch) h = h
-may_end Cause failed (PinUnwritten fault) h = h
-may_end Cause failed Random h = h
-may_end Cause failed Write h = h
+-- memory that runs out and a line that can't be written end a command whatever else may
+pub may_end : (memory : Type 0) (Cause : VerifyFault → Type 0) (failed : Bool) (fault : ImageFault) → IsCommonEnd memory failed fault → IsVerifyEnd memory Cause failed fault
+may_end memory Cause failed NoMemory h = h
+may_end memory Cause failed (Open file) h = h
+may_end memory Cause failed (Format fault) h = h
+may_end memory Cause failed (Verify fault) h = absurd h
+may_end memory Cause failed (Differs verdict) h = h
+may_end memory Cause failed RootText h = h
+may_end memory Cause failed Unaligned h = h
+may_end memory Cause failed DataOverlapsTree h = h
+may_end memory Cause failed (Pin fault) h = h
+may_end memory Cause failed (Unpinned mismatch) h = h
+may_end memory Cause failed (PinUnwritten fault) h = h
+may_end memory Cause failed Random h = h
+may_end memory Cause failed Write h = h
+
+-- another cause of memory that runs out
+pub common-as : {M N : Type 0} (failed : Bool) → (M → N) → (fault : ImageFault) → IsCommonEnd M failed fault → IsCommonEnd N failed fault
+common-as failed f NoMemory h = f h
+common-as failed f (Open file) h = h
+common-as failed f (Format fault) h = h
+common-as failed f (Verify fault) h = h
+common-as failed f (Differs verdict) h = h
+common-as failed f RootText h = h
+common-as failed f Unaligned h = h
+common-as failed f DataOverlapsTree h = h
+common-as failed f (Pin fault) h = h
+common-as failed f (Unpinned mismatch) h = h
+common-as failed f (PinUnwritten fault) h = h
+common-as failed f Random h = h
+common-as failed f Write h = h

@@ -22,7 +22,7 @@ returns-in_err-superblock-clause-err g c =
     let after = windowed (g.H.BlockDev.state new.inner) new.part in
     let fault = c.in_err-superblock.field-0.0 in
     err-from c.from_residual.result _ (no_tree_fault fault) c.from_residual.ensures.1
-    (inl (no-tree-end hash_dev after first c.args.trusted.now.pin _ fault (subst (λ (v : Device). IsNoTree v first c.args.trusted.now.pin after fault) c.place_parts-two.ensures.hash c.in_err-superblock.ensures.err)))
+    (inl (no-tree-end ⊥ hash_dev after first c.args.trusted.now.pin _ fault (subst (λ (v : Device). IsNoTree v first c.args.trusted.now.pin after fault) c.place_parts-two.ensures.hash c.in_err-superblock.ensures.err)))
 
 pub returns-clause-ok : goal.returns-clause-ok
 returns-clause-ok g c =

@@ -21,7 +21,7 @@ returns-in_err-superblock-clause-err g c =
 
 pub returns-clause-err : goal.returns-clause-err
 returns-clause-err g c =
-    IfErr-weaker c.say_dump.result _ _ (λ fault ends. inl (g.H.BlockDev.state c.args.hash_dev, may_end _ c.say_dump.new.writer.failed fault ends)) c.say_dump.ensures.err
+    IfErr-weaker c.say_dump.result _ _ (λ fault ends. inl (g.H.BlockDev.state c.args.hash_dev, may_end _ _ c.say_dump.new.writer.failed fault ends)) c.say_dump.ensures.err
 
 pub returns-clause-ok : goal.returns-clause-ok
 returns-clause-ok g c =

@@ -6,8 +6,10 @@ use Rattle.device_adapters.specs.Parts.{part_behind}
 use Rattle.device_adapters.specs.Windows.{windowed}
 use Rattle.image_commands.specs.Finding.{IsNoTree, ReadsSuper, no_tree_fault}
 use Rattle.image_commands.specs.Places.{tree_start}
-use Rattle.image_commands.specs.TableLines.{named_line}
-use Rattle.image_commands.proofs.lemmas.EndingLemmas.{may_end}
+use Rattle.allocation.specs.Refusal.{IsOutOfMemory}
+use Rattle.image_commands.specs.PlacedImages.{RefusesLineOf}
+use Rattle.image_commands.specs.TableLines.{named_line, words_room}
+use Rattle.image_commands.proofs.lemmas.EndingLemmas.{common-as, may_end}
 use Rattle.image_commands.proofs.FindingLemmas.{no-tree-end}
 use Rattle.image_commands.proofs.OpeningLemmas.{err-from}
 use Rattle.image_commands.proofs.PlacedLemmas.{first-small, windowed-same}
@@ -22,7 +24,7 @@ returns-in_err-superblock-clause-err g c =
     let fault = c.in_err-superblock.field-0.0 in
     let b = windowed-same _ hash_dev _ (part_behind hash_dev first) (ap g.H.BlockDev.state c.behind-window.ensures.inner) c.behind-window.ensures.part in
     err-from c.from_residual.result _ (no_tree_fault fault) c.from_residual.ensures.1
-    (no-tree-end hash_dev after first c.args.words.root.now.pin _ fault (subst (λ (v : Device). IsNoTree v first c.args.words.root.now.pin after fault) b c.in_err-superblock.ensures.err))
+    (no-tree-end _ hash_dev after first c.args.words.root.now.pin _ fault (subst (λ (v : Device). IsNoTree v first c.args.words.root.now.pin after fault) b c.in_err-superblock.ensures.err))
 
 -- there is a sector at the place, so that the device doesn't end before it
 pub tree_start-start-requires : goal.tree_start-start-requires
@@ -33,7 +35,20 @@ tree_start-start-requires g c =
 
 pub returns-clause-err : goal.returns-clause-err
 returns-clause-err g c =
-    IfErr-weaker c.say_line.result _ _ (λ fault ends. inl (g.H.BlockDev.state c.args.placed.0, may_end _ c.say_line.new.writer.failed fault ends)) c.say_line.ensures.err
+    let hash_dev = g.H.BlockDev.state c.args.placed.0 in
+    let first = c.args.placed.1 in
+    let failed = c.say_line.new.writer.failed in
+    let s = c.in_ok-superblock.superblock in
+    let b = windowed-same _ hash_dev _ (part_behind hash_dev first) (ap g.H.BlockDev.state c.behind-window.ensures.inner) c.behind-window.ensures.part in
+    let found = subst (λ (v : Device). ReadsSuper v first c.args.words.root.now.pin s) b c.in_ok-superblock.ensures.ok in
+    let start : c.tree_start-start.result ≡ tree_start first s.hash_block 1 = c.tree_start-start.ensures ∙ ap (λ (n : ℕ). tree_start first n 1) c.hash_block-size.ensures in
+    let refuses : IsOutOfMemory (words_room s c.args.words c.tree_start-start.result) → RefusesLineOf first c.args.words hash_dev =
+    (λ refused. record {
+      super = s;
+      super_read = found;
+      refused = subst (λ (n : ℕ). IsOutOfMemory (words_room s c.args.words n)) start refused;
+    }) in
+    IfErr-weaker c.say_line.result _ _ (λ fault ends. inl (hash_dev, may_end _ _ failed fault (common-as failed refuses fault ends))) c.say_line.ensures.err
 
 pub returns-clause-ok : goal.returns-clause-ok
 returns-clause-ok g c =

@@ -1,23 +1,34 @@
 use Rattle.std.proofs.Common.{◌≡◌, ◌∙◌, ℕ, List, Bool, ap, subst}
 use Rattle.std.proofs.lemmas.Result.{IfErr-weaker, on_ok_weaker}
 use Rattle.std.specs.Io.KnownBytes.{Appends}
+use Rattle.allocation.specs.Refusal.{IsOutOfMemory}
 use Rattle.verity_format.specs.declared.formatting.FormatOptions.{FormatOptions}
 use Rattle.verity_format.specs.Options.{superblock_with}
 use Rattle.verity_format.specs.Superblock.{SuperRecord}
 use Rattle.image_commands.specs.declared.fault.ImageFault.{ImageFault}
 use Rattle.image_commands.specs.declared.fault.ImageFault.TheVariants.{Format, Unaligned}
 use Rattle.image_commands.specs.Endings.{IsCommonEnd}
-use Rattle.image_commands.specs.TableLines.{named_line, tree_line}
+use Rattle.image_commands.specs.Places.{tree_start}
+use Rattle.image_commands.specs.TableLines.{named_line, tree_line, words_room}
 use Rattle.image_commands.specs.TreeImages.{IsTreeLineEnd}
+use Rattle.image_commands.proofs.lemmas.EndingLemmas.{common-as}
 use Rattle.image_commands.proofs.tree_line.print_tree_line.Goals as goal
 
-common-end : (first : ℕ) (options : FormatOptions) (failed : Bool) (fault : ImageFault) → IsCommonEnd failed fault → IsTreeLineEnd first options failed fault
-common-end first options failed Unaligned h = absurd h
-common-end first options failed (Format fault) h = absurd h
-common-end first options failed fault h = h
+common-end : (room first : ℕ) (options : FormatOptions) (failed : Bool) (fault : ImageFault) → IsCommonEnd (IsOutOfMemory room) failed fault → IsTreeLineEnd room first options failed fault
+common-end room first options failed Unaligned h = absurd h
+common-end room first options failed (Format fault) h = absurd h
+common-end room first options failed fault h = h
 
 pub returns-clause-err : goal.returns-clause-err
-returns-clause-err g c = IfErr-weaker c.say_line.result _ _ (common-end c.args.first c.args.options c.say_line.new.writer.failed) c.say_line.ensures.err
+returns-clause-err g c =
+    let s = superblock_with c.args.options 0 in
+    let start = c.tree_start-start.result in
+    let failed = c.say_line.new.writer.failed in
+    let room : words_room c.in_ok-params.params c.args.words start ≡ words_room s c.args.words (tree_start c.args.first c.args.options.hash_block 0) =
+    ap (λ (s : SuperRecord). words_room s c.args.words start) c.in_ok-params.ensures.ok.0 ∙ ap (words_room s c.args.words) c.tree_start-start.ensures in
+    IfErr-weaker c.say_line.result _ _
+    (λ fault ends. common-end _ c.args.first c.args.options failed fault (common-as failed (subst IsOutOfMemory room) fault ends))
+    c.say_line.ensures.err
 
 pub returns-clause-ok : goal.returns-clause-ok
 returns-clause-ok g c =
