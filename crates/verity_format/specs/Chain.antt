@@ -40,10 +40,10 @@ pub record IsPathRead (shape : ShapeRecord) (i : ℕ) (old : Device) (blocks : L
 
 -- ---- calls, from the device states that a proof sees: first those before, then those after
 
--- if both devices are steady, the chain is the stored one
+-- the chain is that of the data block, and if both devices are steady, the stored one
 abbrev pub IsStoredChain : {D H : Type 0} → (D → Device) → (H → Device) → ShapeRecord → D → H → ℕ → ChainRecord → Type 0
 IsStoredChain data_state hash_state shape d h index chain =
-    IsTrue (data_state d).steady → IsTrue (hash_state h).steady → chain ≡ stored_chain shape (data_state d).image (hash_state h).image index
+    (chain.index ≡ index) × (IsTrue (data_state d).steady → IsTrue (hash_state h).steady → chain ≡ stored_chain shape (data_state d).image (hash_state h).image index)
 
 -- the blocks of the chain were read, each once, and no call failed
 abbrev pub ReadsChain : {D H : Type 0} → (D → Device) → (H → Device) → ShapeRecord → D → H → D → H → Type 0

@@ -28,17 +28,20 @@ returns-in_err-path-clause-err g c =
 
 pub returns-clause-ok : goal.returns-clause-ok
 unfolding stored_chain chain_of
-returns-clause-ok g c = λ data_steady hash_steady.
-    let shape = c.args.shape.now in
-    let data_image = (g.D.BlockDev.state c.args.data_dev.now).image in
-    let hash_image = (g.H.BlockDev.state c.args.hash_dev.now).image in
-    let size : length c.deref_mut-2.result.now ≡ shape.data_block =
-    c.deref_mut-2.ensures.len ∙ c.in_ok-content.content.ok.0 ∙ ap length c.in_ok-content.ensures.ok ∙ length-replicate {A = ℕ} c.data_block.result 0 ∙ c.data_block.ensures.value in
-    let content : (with_items c.in_ok-content.content c.read_block.new.block).items ≡ block_at data_image shape.data_block c.args.index =
-    with_items_is c.in_ok-content.content c.read_block.new.block (c.read_block.auto.block ∙ c.deref_mut-2.ensures.len)
-    ∙ c.in_ok-read_block.ensures.ok.bytes data_steady
-    ∙ ap (λ n. block_at data_image n c.args.index) size in
-    let path : map (λ b. b.items) (with_items c.in_ok-path.path c.read_path.new.path).items ≡ stored_path shape hash_image (levels shape) c.args.index =
-    ap (map (λ b. b.items)) (with_items_is c.in_ok-path.path c.read_path.new.path (c.read_path.auto.path ∙ c.deref_mut.ensures.len)) ∙ c.in_ok-read_path.ensures.ok.path hash_steady in
-    ap (λ xs. chain_of c.args.index xs (map (λ b. b.items) (with_items c.in_ok-path.path c.read_path.new.path).items)) content
-    ∙ ap (chain_of c.args.index (block_at data_image shape.data_block c.args.index)) path
+returns-clause-ok g c = (
+  refl,
+  λ data_steady hash_steady.
+      let shape = c.args.shape.now in
+      let data_image = (g.D.BlockDev.state c.args.data_dev.now).image in
+      let hash_image = (g.H.BlockDev.state c.args.hash_dev.now).image in
+      let size : length c.deref_mut-2.result.now ≡ shape.data_block =
+      c.deref_mut-2.ensures.len ∙ c.in_ok-content.content.ok.0 ∙ ap length c.in_ok-content.ensures.ok ∙ length-replicate {A = ℕ} c.data_block.result 0 ∙ c.data_block.ensures.value in
+      let content : (with_items c.in_ok-content.content c.read_block.new.block).items ≡ block_at data_image shape.data_block c.args.index =
+      with_items_is c.in_ok-content.content c.read_block.new.block (c.read_block.auto.block ∙ c.deref_mut-2.ensures.len)
+      ∙ c.in_ok-read_block.ensures.ok.bytes data_steady
+      ∙ ap (λ n. block_at data_image n c.args.index) size in
+      let path : map (λ b. b.items) (with_items c.in_ok-path.path c.read_path.new.path).items ≡ stored_path shape hash_image (levels shape) c.args.index =
+      ap (map (λ b. b.items)) (with_items_is c.in_ok-path.path c.read_path.new.path (c.read_path.auto.path ∙ c.deref_mut.ensures.len)) ∙ c.in_ok-read_path.ensures.ok.path hash_steady in
+      ap (λ xs. chain_of c.args.index xs (map (λ b. b.items) (with_items c.in_ok-path.path c.read_path.new.path).items)) content
+      ∙ ap (chain_of c.args.index (block_at data_image shape.data_block c.args.index)) path,
+)
