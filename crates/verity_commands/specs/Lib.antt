@@ -6,6 +6,7 @@ pub mod Places
 pub mod Texts
 pub mod Trees
 pub mod Openings
+pub mod OpenTrees
 pub mod Objects
 pub mod Diffs
 pub mod CheckedDiffs
