@@ -5,6 +5,7 @@ pub mod Pinned
 pub mod Places
 pub mod Texts
 pub mod Trees
+pub mod TrustedTrees
 pub mod Openings
 pub mod OpenTrees
 pub mod Objects

@@ -19,6 +19,7 @@ mod texts;
 mod tree_fault;
 mod tree_fault_text;
 mod trees;
+mod trusted_trees;
 mod verity_fault;
 
 pub use checked_diff::{CheckedTotals, check_images};
@@ -35,4 +36,5 @@ pub use texts::{say_image_fault, say_verity_fault};
 pub use tree_fault::TreeFault;
 pub use tree_fault_text::{say_tree_fault, tree_status};
 pub use trees::{invoke_format_tree, invoke_table_tree, invoke_verify_tree};
+pub use trusted_trees::both_trusted_in;
 pub use verity_fault::VerityFault;
