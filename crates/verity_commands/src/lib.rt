@@ -25,7 +25,6 @@ mod verity_fault;
 pub use checked_diff::{CheckedTotals, check_images};
 pub use diff::{DiffForm, diff_images};
 pub use invoke::{invoke_diff, invoke_survey};
-pub use open_trees::{OpenTrees, open_trees};
 pub use paths::HashPaths;
 pub use pinned::invoke_format_pinned;
 pub use placed::{invoke_dump, invoke_format, invoke_table, invoke_verify};
