@@ -16,7 +16,7 @@ use Rattle.tree_difference.proofs.difference.compare_trees.Goals as goal
 pub returns-in_err-check_root_block-clause-err : goal.returns-in_err-check_root_block-clause-err
 returns-in_err-check_root_block-clause-err g c =
     let fault = c.in_err-check_root_block.field-0.0 in
-    err-from c.from_residual-in_err-check_root_block.result _ fault c.from_residual-in_err-check_root_block.ensures.1
+    err-from c.from_residual.result _ fault c.from_residual.ensures.1
     (first-cause c.args.pair.now (g.D.BlockDev.state c.args.first.now) (g.D.BlockDev.state c.check_root_block.new.device) (g.E.BlockDev.state c.args.second.now)
     (g.L.Listing.told c.args.listing.now) (g.L.Listing.told c.args.listing.now) (g.L.Listing.failed c.args.listing.now) fault c.in_err-check_root_block.ensures.err)
 

@@ -4,7 +4,7 @@ use Rattle.tree_difference.proofs.trees.read_trees.Goals as goal
 
 pub returns-in_err-one-clause-err : goal.returns-in_err-one-clause-err
 returns-in_err-one-clause-err g c =
-    err-from c.from_residual-in_err-one.result _ c.in_err-one.field-0.0 c.from_residual-in_err-one.ensures.1
+    err-from c.from_residual.result _ c.in_err-one.field-0.0 c.from_residual.ensures.1
     (inl (c.in_err-one.ensures.err, refl))
 
 pub returns-in_err-two-clause-err : goal.returns-in_err-two-clause-err

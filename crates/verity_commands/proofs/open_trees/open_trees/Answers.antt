@@ -4,7 +4,7 @@ use Rattle.verity_commands.proofs.open_trees.open_trees.Goals as goal
 
 pub returns-in_err-two-clause-err : goal.returns-in_err-two-clause-err
 returns-in_err-two-clause-err g c =
-    err-from c.from_residual-in_err-two.result _ (Open c.in_err-two.field-0.0) c.from_residual-in_err-two.ensures.1 c.in_err-two.ensures.err
+    err-from c.from_residual.result _ (Open c.in_err-two.field-0.0) c.from_residual.ensures.1 c.in_err-two.ensures.err
 
 pub returns-in_err-pair-clause-err : goal.returns-in_err-pair-clause-err
 returns-in_err-pair-clause-err g c =
