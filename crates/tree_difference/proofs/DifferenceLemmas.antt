@@ -1,18 +1,15 @@
 -- The walk down the higher tree, and the comparison, one after another.
-use Rattle.std.proofs.Common.{◌≡◌, ◌≢◌, ◌≤◌, ◌<◌, ◌+◌, ◌-◌, ◌*◌, ◌/◌, ◌==◌, ℕ, zero, suc, min, Bool, true, false, not, cond, IsTrue, List, [], length, get_or, Option, Some, None, refl, sym, ap, ◌∙◌, subst, arith, inl, inr, ◌⊎◌}
+use Rattle.std.proofs.Common.{◌≡◌, ◌+◌, ◌-◌, ◌*◌, ◌/◌, ◌==◌, ℕ, Bool, true, false, not, cond, List, [], length, get_or, Option, Some, None, refl, sym, ap, ◌∙◌, subst, arith}
 use Rattle.std.specs.Str.{bytes_eq}
-use Rattle.std.proofs.Math.Nat.{zero-div}
 use Rattle.std.proofs.lemmas.Bool.{eqb-true}
 use Rattle.std.proofs.lemmas.Slice.Eq.{bytes_eq-Decides}
-use Rattle.block_device.specs.Device.{Device, IsSameDevice, HasFailed}
+use Rattle.block_device.specs.Device.{Device}
 use Rattle.tree_shape.specs.Shape.{ShapeRecord, IsShape, levels}
-use Rattle.verity_format.specs.declared.verifying.VerifyFault.{VerifyFault}
 use Rattle.verity_format.specs.declared.verifying.VerifyFault.TheVariants.{Super, TooSmall, Device as DeviceFailed, NoMemory as NoRoom}
 use Rattle.verity_format.specs.Blocks.{IsFullRead, IsOnlyRead}
 use Rattle.verity_format.specs.Image.{tree_sectors}
 use Rattle.verity_format.specs.Superblock.{SuperRecord, shape_of}
-use Rattle.tree_path.specs.Path.{PathRecord, IsPathOf, LeadsTo, AreStored}
-use Rattle.tree_path.specs.Steps.{IsDown, steps}
+use Rattle.tree_path.specs.Path.{PathRecord, LeadsTo, AreStored}
 use Rattle.verity_format.proofs.lemmas.DeviceLemmas.{failed-then, full_read-then, steady-then}
 use Rattle.tree_path.proofs.lemmas.PathLemmas.{leads-down, stored-down}
 use Rattle.runs.specs.Kinds.{State}
@@ -24,14 +21,14 @@ use Rattle.tree_difference.specs.declared.fault.Unlike.TheVariants.{DataBlockSiz
 use Rattle.tree_difference.specs.declared.fault.Which.TheVariants.{First, Second}
 use Rattle.tree_difference.specs.declared.trees.TreePair.{TreePair}
 use Rattle.tree_difference.specs.declared.walk.Walk.{Walk}
-use Rattle.tree_difference.specs.Causes.{IsBadBlock, IsWalkCause}
-use Rattle.tree_difference.specs.Comparisons.{AreStatesSeen, Compares, ReadsDiffering, DifferenceWorld, hash_images, difference_world}
-use Rattle.tree_difference.specs.Differences.{AreShapes, CanCompare, CanCompareTrees, HaveTrees, IsAligned, IsComparisonCause, IsDifference, IsDifferenceCause, IsWalkOf, sectors_before, trees_in, trees_of}
+use Rattle.tree_difference.specs.Causes.{IsWalkCause}
+use Rattle.tree_difference.specs.Comparisons.{AreStatesSeen, Compares, ReadsDiffering, difference_world}
+use Rattle.tree_difference.specs.Differences.{AreShapes, CanCompare, CanCompareTrees, HaveTrees, IsAligned, IsComparisonCause, IsDifferenceCause, IsWalkOf, sectors_before, trees_in, trees_of}
 use Rattle.tree_difference.specs.RootBlocks.{root_sectors}
 use Rattle.tree_difference.specs.Superblocks.{unlike}
 use Rattle.tree_difference.specs.Trees.{Trees, AreComparable, IsStoredAs, common_levels}
-use Rattle.tree_difference.specs.Walks.{AreSameTrees, IsOn, WalkSides, walk_sides}
-use Rattle.tree_difference.proofs.WalkLemmas.{bad-same, cause-then, on-read}
+use Rattle.tree_difference.specs.Walks.{AreSameTrees, IsOn, walk_sides}
+use Rattle.tree_difference.proofs.WalkLemmas.{bad-same, on-read}
 
 -- which field is named, by what is the same
 field_by : Bool → Bool → Bool → Option Field

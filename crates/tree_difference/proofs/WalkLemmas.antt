@@ -1,19 +1,17 @@
 -- The ways down two trees, one step after another.
-use Rattle.std.proofs.Common.{◌≡◌, ◌≢◌, ◌≤◌, ◌<◌, ◌+◌, ◌-◌, ◌*◌, ◌/◌, ℕ, IsTrue, Bool, true, false, List, refl, sym, ap, ◌∙◌, subst, arith, inl, inr}
-use Rattle.std.specs.Str.{bytes_eq}
-use Rattle.std.proofs.lemmas.Bool.{cases_lt, false≢true}
-use Rattle.block_device.specs.Device.{Device, IsSameDevice, HasFailed}
+use Rattle.std.proofs.Common.{◌≡◌, ◌≢◌, ◌<◌, ◌+◌, ℕ, IsTrue, List, refl, sym, ap, ◌∙◌, subst, arith, inl, inr}
+use Rattle.std.proofs.lemmas.Bool.{cases_lt}
+use Rattle.block_device.specs.Device.{Device}
 use Rattle.tree_shape.specs.Shape.{ShapeRecord, levels, ancestor}
 use Rattle.verity_format.specs.declared.verifying.VerifyFault.TheVariants.{Super, TooSmall, Device as DeviceFailed, NoMemory as NoRoom}
-use Rattle.verity_format.specs.Blocks.{IsFullRead, IsOnlyRead}
+use Rattle.verity_format.specs.Blocks.{IsOnlyRead}
 use Rattle.verity_format.specs.Image.{tree_sectors}
 use Rattle.tree_path.specs.Path.{PathRecord, IsPathOf, LeadsTo, AreStored, digest_on}
-use Rattle.tree_path.specs.Steps.{IsDown, IsStopped, steps}
-use Rattle.verity_format.proofs.lemmas.DeviceLemmas.{failed-then, same-then, steady-then}
+use Rattle.tree_path.specs.Steps.{IsStopped, steps}
+use Rattle.verity_format.proofs.lemmas.DeviceLemmas.{failed-then, steady-then}
 use Rattle.tree_path.proofs.lemmas.PathLemmas.{digests-down, leads-down, stored-down}
 use Rattle.tree_difference.specs.declared.fault.DifferenceFault.{DifferenceFault}
 use Rattle.tree_difference.specs.declared.fault.DifferenceFault.TheVariants.{Image, Unpinned, Unlike, Hash, NoMemory, Write}
-use Rattle.tree_difference.specs.declared.fault.Which.{Which}
 use Rattle.tree_difference.specs.declared.fault.Which.TheVariants.{First, Second}
 use Rattle.tree_difference.specs.declared.walk.Walk.{Walk}
 use Rattle.tree_difference.specs.Causes.{IsBadBlock, IsWayCause, IsWalkCause}

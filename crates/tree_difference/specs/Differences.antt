@@ -1,12 +1,12 @@
 -- The trees of two hash images, and why their comparison ends early.
-use Rattle.std.specs.Prelude.{◌≡◌, ◌⊎◌, ℕ, ◌+◌, ◌-◌, ◌*◌, ◌/◌, ◌<◌, ◌≤◌, nat_lt, if◌then◌else◌, Bool, true, List, Option, Some, None}
+use Rattle.std.specs.Prelude.{◌≡◌, ℕ, ◌+◌, ◌-◌, ◌*◌, ◌/◌, ◌≤◌, nat_lt, if◌then◌else◌, Bool, true, List, Option, Some, None}
 use Rattle.allocation.specs.Refusal.{IsOutOfMemory}
 use Rattle.block_device.specs.Device.{Device, HasFailed}
 use Rattle.tree_shape.specs.Shape.{ShapeRecord, IsShape, levels}
 use Rattle.verity_format.specs.Image.{tree_sectors}
 use Rattle.verity_format.specs.Superblock.{shape_of}
 use Rattle.verity_format.specs.declared.verifying.VerifyFault.TheVariants.{Device as DeviceFailed}
-use Rattle.tree_path.specs.Path.{IsPathOf, largest_block}
+use Rattle.tree_path.specs.Path.{largest_block}
 use Rattle.tree_path.specs.Steps.{IsDown, steps}
 use Rattle.runs.specs.declared.kind.Kind.TheVariants.{Removed, Added}
 use Rattle.runs.specs.declared.run.Run.{Run}
@@ -16,7 +16,7 @@ use Rattle.runs.specs.Limits.{limited_lines}
 use Rattle.runs.specs.Runs.{run}
 use Rattle.tree_difference.specs.declared.difference.Totals.{Totals}
 use Rattle.tree_difference.specs.declared.fault.DifferenceFault.{DifferenceFault}
-use Rattle.tree_difference.specs.declared.fault.DifferenceFault.TheVariants.{Image, Unlike, Hash, NoMemory, Write}
+use Rattle.tree_difference.specs.declared.fault.DifferenceFault.TheVariants.{Image, Hash, NoMemory, Write}
 use Rattle.tree_difference.specs.declared.fault.Which.TheVariants.{First, Second}
 use Rattle.tree_difference.specs.declared.trees.TreePair.{TreePair}
 use Rattle.tree_difference.specs.declared.walk.Walk.{Walk}
@@ -26,7 +26,7 @@ use Rattle.tree_difference.specs.Rests.{last_runs}
 use Rattle.tree_difference.specs.RootBlocks.{IsRootRead, root_sectors}
 use Rattle.tree_difference.specs.Superblocks.{unlike}
 use Rattle.tree_difference.specs.Trees.{Trees, AreComparable, common_blocks, common_levels}
-use Rattle.tree_difference.specs.Walks.{HaveBlock, IsOn, WalkSides, walk_sides}
+use Rattle.tree_difference.specs.Walks.{IsOn, WalkSides, walk_sides}
 
 -- the trees of two superblocks and two root hashes
 abbrev pub trees_of : TreePair → Trees

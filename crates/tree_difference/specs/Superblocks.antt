@@ -2,7 +2,6 @@
 use Rattle.std.specs.Prelude.{◌≡◌, ◌⊎◌, ℕ, ◌<◌, ◌≤◌, ◌==◌, not, List, Option, Some, None, IfSome, IsSomeAnd, if◌then◌else◌}
 use Rattle.std.specs.Str.{bytes_eq}
 use Rattle.block_device.specs.Device.{Device}
-use Rattle.image_pin.specs.declared.mismatch.Mismatch.{Mismatch}
 use Rattle.image_pin.specs.declared.pin.Pin.{Pin}
 use Rattle.image_pin.specs.Mismatches.{pin_mismatch}
 use Rattle.verity_format.specs.declared.verifying.VerifyFault.{VerifyFault}

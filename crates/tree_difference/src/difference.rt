@@ -53,7 +53,13 @@ pub fn compare_trees<D: BlockDev, E: BlockDev, L: Listing>(
     ensures err { IfErr result (IsDifferenceCause (seen_world D.state E.state L.told first.old second.old first.new second.new listing.old listing.new) pair.now (L.failed listing.new)) }
 {
     check_root_block(alloc, first, Which::First, &pair.first, pair.roots.first)?;
-    check_root_block(alloc, second, Which::Second, &pair.second, pair.roots.second)?;
+    check_root_block(
+        alloc,
+        second,
+        Which::Second,
+        &pair.second,
+        pair.roots.second,
+    )?;
     let mut walk = begin(alloc, pair)?;
     align(&mut walk, first, second)?;
     compare(&mut walk, first, second, most, listing)
