@@ -1,15 +1,19 @@
 """Two hash trees compared from their roots down."""
 
+from files import Stop
 from verity import ImageFault, digest, read_superblock, SUPERBLOCK_FAULTS
 
 
 class Stored:
-    """A hash image: its superblock, its tree as it stands there, and the root digest that is known of it."""
+    """A hash image: its superblock, its tree as it stands there, and the root digest that is known of it, by itself or in a pin."""
 
-    def __init__(self, image, root, which):
-        self.image, self.root, self.which = image, root, which
+    def __init__(self, image, root, pin, which):
+        self.image, self.root, self.which = image, pin.root if pin else root, which
         try:
             self.superblock = read_superblock(image)
+            mismatch = pin and pin.mismatch(self.superblock)
+            if mismatch:
+                raise Stop(b"refused %s %s" % (mismatch.encode(), which.encode()))
             self.tree = self.superblock.tree()
             if max(self.tree.end_sectors(), 1) > len(image) // 512:
                 raise ImageFault("TooSmall", SUPERBLOCK_FAULTS)

@@ -5,6 +5,7 @@ from uuid import UUID
 from differences import Stored, compared, longest_runs, run_lines, unlike
 from files import WHOLE, Noted, Stop
 from partitions import lines_of, root_lines, stack_lines, table_facts, table_of, warning_lines
+from pins import read_pin
 from protection import check_aligned, check_one_size, check_parity_of, compared_parity, found, measured, protect
 from replies import Json
 from stack import SECTOR
@@ -151,17 +152,16 @@ def run_table(options, words, files, _given, _features):
 
 def run_diff(options, words, files, _given, _features):
     paths, roots, most = read_diff(options, words)
-    old, new = ((files.image(path, False), root, which) for path, root, which in zip(paths, roots, ("first", "second")))
-    # with --all the second tree is checked before anything else is read
-    bad = Stored(*new).bad_hash_blocks() if b"all" in options else []
-    ahead = [] if b"json" in options else [b"hash %d %d" % it for it in bad]
-    try:
-        first, second = Stored(*old), Stored(*new)
-    except ImageFault as fault:
-        return ahead + [fault.text().encode()], REFUSED
+    pins = [read_pin(files, options[name]) if name in options else None for name in (b"old-pin", b"pin")]
+    images = [files.image(path, False) for path in paths]
+    # both superblocks are read and compared before a hash block is read
+    first, second = (Stored(*it) for it in zip(images, roots, pins, ("first", "second")))
     refusal = unlike(first, second)
     if refusal:
-        return ahead + [refusal.encode()], REFUSED
+        return [refusal.encode()], REFUSED
+    # with --all the second tree is checked before both are compared
+    bad = second.bad_hash_blocks() if b"all" in options else []
+    ahead = [] if b"json" in options else [b"hash %d %d" % it for it in bad]
     lines, kinds, fault = compared(first, second, most)
     differ = bad or fault is not None or any(kind is not None for kind in kinds)
     if b"json" in options:

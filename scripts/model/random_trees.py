@@ -2,6 +2,7 @@
 of one to three levels, with damage of data and hash blocks; and pairs of trees that are compared."""
 
 from parity import covered, parity_of
+from pins import Pin
 from random_parts import Dice, Run
 from strange_words import STRANGE_NUMBERS
 from tables import PREFIX
@@ -240,6 +241,17 @@ class Trees(Dice):
             words += unit
         return words
 
+    def drawn_pin(self, it, root):
+        """The text of a tree's pin, in some cases with another value, or no pin."""
+        pin = Pin(root, it.salt, it.data_block, it.hash_block, it.blocks)
+        if self.chance(0.1):
+            setattr(pin, *self.pick([("root", bytes(32)), ("salt", pin.salt + b"x" if len(pin.salt) < 256 else b""),
+                                     ("data_block", 1024), ("hash_block", 2048), ("blocks", pin.blocks + 1)]))
+        lines = pin.text().splitlines(keepends=True)
+        if self.chance(0.05):
+            del lines[self.random.randrange(len(lines))]
+        return b"".join(lines)
+
     def compared_trees(self):
         """Two trees that mostly differ in some blocks, some with a hash block changed."""
         old = Planted(self)
@@ -261,16 +273,22 @@ class Trees(Dice):
             new = Planted(self)
             new.is_bare = False
         pair = [old, new] if self.chance(0.5) else [new, old]
-        words = []
-        for it, name in zip(pair, (b"first", b"second")):
+        words, pins = [], []
+        for it, name, option in zip(pair, (b"first", b"second"), (b"--old-pin", b"--pin")):
             _, area, root = it.made()
+            pin = self.drawn_pin(it, root) if self.chance(0.25) else None
             if self.chance(0.15):
                 area[self.random.randrange(len(area))] ^= 1 << self.random.randrange(8)
             if self.chance(0.05):
                 del area[-self.pick([1, 512, 513]):]
             self.files[name] = bytes(area)
-            words += [name, self.pick([root.hex().encode()] * 20 + [b"0" * 64])]
-        options = [b"--blocks", self.pick([b"1", b"2", b"5", b"0", *STRANGE_NUMBERS])] if self.chance(0.3) else []
+            words.append(name)
+            if pin is None:
+                words.append(self.pick([root.hex().encode()] * 20 + [b"0" * 64]))
+            else:
+                self.files[name + b".pin"] = pin
+                pins += [option, name + self.pick([b".pin"] * 20 + [b".none"])]
+        options = pins + ([b"--blocks", self.pick([b"1", b"2", b"5", b"0", *STRANGE_NUMBERS])] if self.chance(0.3) else [])
         if self.has("forms", "json") and self.chance(0.2):
             options.append(b"--json")
         if self.has("forms", "all") and self.chance(0.3):

@@ -11,6 +11,7 @@ use Rattle.command_line.specs.declared.invocation.Sectors.{Sectors}
 use Rattle.command_line.specs.declared.invocation.Transfer.{Transfer}
 use Rattle.command_line.specs.declared.words.cat.CatWords.{CatWords}
 use Rattle.command_line.specs.declared.words.copy.CopyWords.{CopyWords}
+use Rattle.command_line.specs.declared.words.diff.DiffWords.{DiffWords}
 use Rattle.command_line.specs.declared.words.load.LoadWords.{LoadWords}
 use Rattle.command_line.specs.declared.words.read.ReadWords.{ReadWords}
 use Rattle.command_line.specs.declared.words.repair.RepairWords.{RepairWords}
@@ -21,6 +22,7 @@ use Rattle.command_line.specs.FecFiles.{fec_record}
 use Rattle.command_line.specs.FormatOptions.{text_of}
 use Rattle.command_line.specs.words.Cat.{cat_record}
 use Rattle.command_line.specs.words.Copy.{copy_record}
+use Rattle.command_line.specs.words.Diff.{diff_record}
 use Rattle.command_line.specs.words.Load.{load_record}
 use Rattle.command_line.specs.words.Read.{read_record}
 use Rattle.command_line.specs.words.Repair.{repair_record}
@@ -41,6 +43,7 @@ use Rattle.stack_files.specs.OpenStacks.{stack_words}
 use Rattle.stack_rules.specs.Records.{Configuration}
 use Rattle.stack_commands.specs.declared.desk.Desk.{Desk}
 use Rattle.stack_commands.specs.declared.fault.CommandFault.{CommandFault}
+use Rattle.stack_commands.specs.Diffing.{ComparesImages, IsComparingEnd}
 use Rattle.stack_commands.specs.Endings.{IsEnd, IsSilent}
 use Rattle.stack_commands.specs.Invocations.{CatsSectors, CopiesSectors, IsCatCommandEnd, IsCopyWordsEnd, IsLoadWordsEnd, IsPageEnd, IsReadWordsEnd, IsScanWordsEnd, IsWriteWordsEnd, ListsDevices, PrintsPage, ReadsDevice, ScansSectors, WritesDevice}
 use Rattle.stack_commands.specs.Repairing.{IsParityWordsEnd, IsRepairWordsEnd, RepairsImage}
@@ -120,6 +123,12 @@ module _ {S D T E : Type 0} (relations : Opener S D) (state : D → Device) (con
 
   abbrev pub EndsVerifyAll : VerifyWords → CommandFault → Type 0
   EndsVerifyAll words = IsGoingOverEnd desk_calls (verify_record words) desk_before desk_behind desk_failed
+
+  abbrev pub DoesDiff : DiffWords → Type 0
+  DoesDiff words = ComparesImages desk_calls (diff_record words) desk_before desk_behind
+
+  abbrev pub EndsDiff : DiffWords → CommandFault → Type 0
+  EndsDiff words = IsComparingEnd desk_calls (diff_record words) desk_before desk_behind desk_failed
 
   abbrev pub DoesRepair : RepairWords → Type 0
   DoesRepair words = RepairsImage desk_calls (repair_record words) desk_before desk_behind

@@ -22,9 +22,9 @@ use Rattle.manual_pages.specs.Versions.{version_text}
 use Rattle.partition_commands.specs.declared.fault.PartitionsFault.{PartitionsFault}
 use Rattle.partition_commands.specs.Invocations.{IsListingEnd, ListsPartitions}
 use Rattle.partition_commands.specs.Warnings.{Notes}
-use Rattle.verity_commands.specs.Invocations.{DiffsTrees, IsDiffWordsEnd}
 use Rattle.stack_commands.specs.declared.fault.CommandFault.{CommandFault}
 use Rattle.stack_commands.specs.declared.fault.CommandFault.TheVariants.{Fec, Partitions, Usage}
+use Rattle.stack_commands.specs.Diffing.{ComparesImages, IsComparingEnd}
 use Rattle.stack_commands.specs.Endings.{IsSilent, IsReplyUnwritten}
 use Rattle.transfer_commands.specs.Writes.{PutWords, put_words}
 use Rattle.request_queue.specs.Requests.{a_read, a_write}
@@ -39,10 +39,10 @@ use Rattle.verity_commands.specs.Pinned.{FormatsByPin, IsPinFormatEnd}
 use Rattle.verity_commands.specs.Placed.{DumpsAt, FormatsAt, IsDumpEnd, IsSaidFormatEnd, IsTableEnd, PrintsEntry}
 use Rattle.verity_commands.specs.Trees.{FormatsSaidTree, IsSaidFormatTreeEnd, IsTableTreeEnd, IsVerifyTreeEnd, PrintsTreeEntry, VerifiesSaidTree}
 use Rattle.stack_commands.specs.Repairing.{IsRepairWordsEnd, RepairsImage}
-use Rattle.stack_commands.specs.Uses.{IsRecoveringEnd, IsStreamEnd, IsTreesEnd, IsVerityEnd, Uses}
+use Rattle.stack_commands.specs.Uses.{IsRecoveringEnd, IsStreamEnd, IsVerityEnd, Uses}
 use Rattle.stack_commands.specs.Verifying.{ChecksImage, IsCheckCommandEnd}
 
--- ---- partitions, and trees that are compared
+-- ---- partitions
 
 abbrev pub IsPartitionsEnd : (PartitionsFault → Type 0) → CommandFault → Type 0
 IsPartitionsEnd Ends (Partitions fault) = Ends fault
@@ -181,7 +181,7 @@ Succeeds texts (verify v) u = ChecksImage u.images v u.old.output u.new.output
 Succeeds texts (dump d) u = DumpsAt u.images d u.old.output u.new.output
 Succeeds texts (table t) u = PrintsEntry u.images t u.old.output u.new.output
 Succeeds texts (partitions p) u = ListsPartitions u.images p u.old.output u.new.output u.notes
-Succeeds texts (diff d) u = DiffsTrees u.images d u.old.output u.new.output
+Succeeds texts (diff d) u = ComparesImages u.images d u.old.output u.new.output
 Succeeds texts (repair r) u = RepairsImage u.images r u.old.output u.new.output
 Succeeds texts (format_tree f) u = FormatsSaidTree texts u.images u.drawing f u.old.output u.new.output
 Succeeds texts (verify_tree v) u = VerifiesSaidTree texts u.images v u.old.output u.new.output
@@ -209,7 +209,7 @@ FailsCommand texts (verify v) u failed fault = IsCheckCommandEnd u.images v u.ol
 FailsCommand texts (dump d) u failed fault = IsVerityEnd (IsDumpEnd u.images d u.old.output u.new.output failed) fault
 FailsCommand texts (table t) u failed fault = IsVerityEnd (IsTableEnd u.images t u.old.output u.new.output failed) fault
 FailsCommand texts (partitions p) u failed fault = IsPartitionsEnd (IsListingEnd u.images p failed u.notes) fault
-FailsCommand texts (diff d) u failed fault = IsTreesEnd (IsDiffWordsEnd u.images d u.old.output u.new.output failed) fault
+FailsCommand texts (diff d) u failed fault = IsComparingEnd u.images d u.old.output u.new.output failed fault
 FailsCommand texts (repair r) u failed fault = IsRepairWordsEnd u.images r u.old.output u.new.output failed fault
 FailsCommand texts (format_tree f) u failed fault = IsVerityEnd (IsSaidFormatTreeEnd texts u.images u.drawing f u.old.output u.new.output failed) fault
 FailsCommand texts (verify_tree v) u failed fault = IsVerityEnd (IsVerifyTreeEnd texts u.images v u.old.output u.new.output failed) fault

@@ -1,5 +1,6 @@
 pub mod Commands
 pub mod Desks
+pub mod Diffing
 pub mod Endings
 pub mod FaultTexts
 pub mod Invocations

@@ -7,6 +7,7 @@ ghost use Rattle.stack_commands.specs.Lines.{DoesLine, EndsLine, NotesLine};
 
 use crate::copy::invoke_copy;
 use crate::desk::Desk;
+use crate::diff::compare_images;
 use crate::fault::CommandFault;
 use crate::load::invoke_load;
 use crate::nbd::{invoke_exports, invoke_nbd};
@@ -29,8 +30,8 @@ use program_io::Counted;
 use std::alloc::Global;
 use std::io::{Read, Write};
 use verity_commands::{
-    invoke_diff, invoke_dump, invoke_format, invoke_format_pinned, invoke_format_tree,
-    invoke_table, invoke_table_tree, invoke_verify_tree,
+    invoke_dump, invoke_format, invoke_format_pinned, invoke_format_tree, invoke_table,
+    invoke_table_tree, invoke_verify_tree,
 };
 
 /// Runs a command; the options are those that say what an image is.
@@ -75,7 +76,7 @@ pub fn invoke<'a, I: Images, G: Generators + Progress + Watchers, S: Read, W: Wr
         Invocation::Partitions(words) => {
             Ok(invoke_partitions(alloc, images, words, writer, errors)?)
         }
-        Invocation::Diff(words) => Ok(invoke_diff(alloc, images, words, writer)?),
+        Invocation::Diff(words) => compare_images(alloc, Desk { images, writer }, &words),
         Invocation::Repair(words) => {
             repair_image(alloc, Desk { images, writer }, generators, &words)
         }

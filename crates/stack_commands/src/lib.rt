@@ -3,6 +3,7 @@
 
 mod copy;
 mod desk;
+mod diff;
 mod ending;
 mod fault;
 mod fault_texts;

@@ -1,5 +1,5 @@
 -- Data blocks that have the same hash blocks above them.
-use Rattle.std.proofs.Common.{◌≡◌, ◌≢◌, ◌≤◌, ◌<◌, ◌+◌, ◌-◌, ◌*◌, ◌/◌, ◌%◌, ◌^◌, ℕ, zero, suc, min, IsTrue, List, refl, sym, ap, ◌∙◌, subst, arith, inl, inr, ◌⊎◌}
+use Rattle.std.proofs.Common.{◌≡◌, ◌≢◌, ◌≤◌, ◌<◌, ◌+◌, ◌-◌, ◌*◌, ◌/◌, ◌%◌, ◌^◌, ℕ, suc, refl, sym, ap, ◌∙◌, arith, inl, inr, ◌⊎◌}
 use Rattle.std.proofs.Math.Nat.{zero-mul}
 use Rattle.std.proofs.lemmas.Nat.{div-add-mod', div-mul-add, mod_below}
 use Rattle.std.proofs.lemmas.Bool.{cases_lt}
@@ -8,9 +8,8 @@ use Rattle.tree_shape.specs.Shape.{ShapeRecord, IsShape, levels, ancestor, per_b
 use Rattle.tree_shape.proofs.lemmas.ShapeFactLemmas.{quotient-le, two}
 use Rattle.tree_shape.proofs.lemmas.ShapeLemmas.{pow_pos}
 use Rattle.hash_tree.proofs.lemmas.LawLemmas.{levels-least}
-use Rattle.tree_path.specs.Path.{PathRecord, LeadsTo, AreStored, digest_on}
 use Rattle.tree_path.proofs.lemmas.PathLemmas.{digest_on-along, leads-along, leads-higher, stored-along, stored-higher}
-use Rattle.tree_path.proofs.lemmas.SpanLemmas.{along, behind, lower-mod, whole, whole-mod, power-least}
+use Rattle.tree_path.proofs.lemmas.SpanLemmas.{behind, lower-mod, whole, whole-mod, power-least}
 use Rattle.tree_difference.specs.declared.walk.Walk.{Walk}
 use Rattle.tree_difference.specs.Walks.{IsOn}
 

@@ -1,38 +1,34 @@
--- The superblocks, the walk down the higher tree, and the comparison, one after another.
-use Rattle.std.proofs.Common.{◌≡◌, ◌≢◌, ◌≤◌, ◌<◌, ◌+◌, ◌-◌, ◌*◌, ◌/◌, ◌==◌, ℕ, zero, suc, min, Bool, true, false, not, cond, IsTrue, List, [], length, get_or, Option, Some, None, refl, sym, ap, ◌∙◌, subst, arith, inl, inr, ◌⊎◌}
+-- The walk down the higher tree, and the comparison, one after another.
+use Rattle.std.proofs.Common.{◌≡◌, ◌+◌, ◌-◌, ◌*◌, ◌/◌, ◌==◌, ℕ, Bool, true, false, not, cond, List, [], length, get_or, Option, Some, None, refl, sym, ap, ◌∙◌, subst, arith}
 use Rattle.std.specs.Str.{bytes_eq}
-use Rattle.std.proofs.Math.Nat.{zero-div}
 use Rattle.std.proofs.lemmas.Bool.{eqb-true}
 use Rattle.std.proofs.lemmas.Slice.Eq.{bytes_eq-Decides}
-use Rattle.block_device.specs.Device.{Device, IsSameDevice, HasFailed}
+use Rattle.block_device.specs.Device.{Device}
 use Rattle.tree_shape.specs.Shape.{ShapeRecord, IsShape, levels}
-use Rattle.verity_format.specs.declared.verifying.VerifyFault.{VerifyFault}
 use Rattle.verity_format.specs.declared.verifying.VerifyFault.TheVariants.{Super, TooSmall, Device as DeviceFailed, NoMemory as NoRoom}
 use Rattle.verity_format.specs.Blocks.{IsFullRead, IsOnlyRead}
 use Rattle.verity_format.specs.Image.{tree_sectors}
 use Rattle.verity_format.specs.Superblock.{SuperRecord, shape_of}
-use Rattle.verity_format.specs.Verifying.{IsReadFrom}
-use Rattle.tree_path.specs.Path.{PathRecord, IsPathOf, LeadsTo, AreStored}
-use Rattle.tree_path.specs.Steps.{IsDown, steps}
+use Rattle.tree_path.specs.Path.{PathRecord, LeadsTo, AreStored}
 use Rattle.verity_format.proofs.lemmas.DeviceLemmas.{failed-then, full_read-then, steady-then}
 use Rattle.tree_path.proofs.lemmas.PathLemmas.{leads-down, stored-down}
 use Rattle.runs.specs.Kinds.{State}
-use Rattle.tree_difference.specs.declared.difference.Roots.{Roots}
 use Rattle.tree_difference.specs.declared.difference.Totals.{Totals}
 use Rattle.tree_difference.specs.declared.fault.DifferenceFault.{DifferenceFault}
-use Rattle.tree_difference.specs.declared.fault.DifferenceFault.TheVariants.{Image, Unlike, Hash, NoMemory, Write}
+use Rattle.tree_difference.specs.declared.fault.DifferenceFault.TheVariants.{Image, Unpinned, Unlike, Hash, NoMemory, Write}
 use Rattle.tree_difference.specs.declared.fault.Unlike.{Unlike as Field}
 use Rattle.tree_difference.specs.declared.fault.Unlike.TheVariants.{DataBlockSize, HashBlockSize, Salt}
 use Rattle.tree_difference.specs.declared.fault.Which.TheVariants.{First, Second}
+use Rattle.tree_difference.specs.declared.trees.TreePair.{TreePair}
 use Rattle.tree_difference.specs.declared.walk.Walk.{Walk}
-use Rattle.tree_difference.specs.Causes.{IsBadBlock, IsWalkCause}
-use Rattle.tree_difference.specs.Comparisons.{AreStatesSeen, Compares, ReadsDiffering, DifferenceWorld, hash_images, difference_world}
-use Rattle.tree_difference.specs.Differences.{CanCompare, HaveTrees, IsAligned, IsComparisonCause, IsDifference, IsDifferenceCause, IsWalkOf, sectors_before, trees_in, trees_of}
+use Rattle.tree_difference.specs.Causes.{IsWalkCause}
+use Rattle.tree_difference.specs.Comparisons.{AreStatesSeen, Compares, ReadsDiffering, difference_world}
+use Rattle.tree_difference.specs.Differences.{AreShapes, CanCompare, CanCompareTrees, HaveTrees, IsAligned, IsComparisonCause, IsDifferenceCause, IsWalkOf, sectors_before, trees_in, trees_of}
 use Rattle.tree_difference.specs.RootBlocks.{root_sectors}
-use Rattle.tree_difference.specs.Superblocks.{IsOneImageCause, IsImageRead, unlike}
+use Rattle.tree_difference.specs.Superblocks.{unlike}
 use Rattle.tree_difference.specs.Trees.{Trees, AreComparable, IsStoredAs, common_levels}
-use Rattle.tree_difference.specs.Walks.{AreSameTrees, IsOn, WalkSides, walk_sides}
-use Rattle.tree_difference.proofs.WalkLemmas.{bad-same, cause-then, on-read}
+use Rattle.tree_difference.specs.Walks.{AreSameTrees, IsOn, walk_sides}
+use Rattle.tree_difference.proofs.WalkLemmas.{bad-same, on-read}
 
 -- which field is named, by what is the same
 field_by : Bool → Bool → Bool → Option Field
@@ -45,9 +41,11 @@ all-same false y z e = let clash : Some DataBlockSize ≡ None = e in cc
 all-same true false z e = let clash : Some HashBlockSize ≡ None = e in cc
 all-same true true false e = let clash : Some Salt ≡ None = e in cc
 
-pub alike-of : (a b : SuperRecord) (roots : Roots) → unlike a b ≡ None → AreComparable (trees_of a b roots)
+pub alike-of : (pair : TreePair) → unlike pair.first pair.second ≡ None → AreComparable (trees_of pair)
 unfolding field_by
-alike-of a b roots none =
+alike-of pair none =
+    let a : SuperRecord = pair.first in
+    let b : SuperRecord = pair.second in
     let parts = all-same (a.data_block == b.data_block) (a.hash_block == b.hash_block) (bytes_eq a.salt b.salt) none in
     record {
       data_block = sym (eqb-true a.data_block b.data_block parts.0);
@@ -56,18 +54,17 @@ alike-of a b roots none =
     }
 
 -- both trees lie on the devices
-pub have-trees : (a b : SuperRecord) (roots : Roots) (w : Walk) (d d' e e' : Device) → IsWalkOf (trees_of a b roots) w → unlike a b ≡ None → IsImageRead d a → IsImageRead e b → d'.size ≡ d.size → e'.size ≡ e.size → HaveTrees w d' e'
-have-trees a b roots w d d' e e' of none first second ds es =
-    let t : Trees = trees_of a b roots in
-    let first_shape : w.first.shape ≡ shape_of a = ap (λ (x : Trees). x.first) of.trees in
-    let second_shape : w.second.shape ≡ shape_of b = ap (λ (x : Trees). x.second) of.trees in
+pub have-trees : (pair : TreePair) (w : Walk) (d d' e e' : Device) → IsWalkOf (trees_of pair) w → CanCompareTrees pair d e → AreShapes (trees_of pair) → d'.size ≡ d.size → e'.size ≡ e.size → HaveTrees w d' e'
+have-trees pair w d d' e e' of can valid ds es =
+    let first_shape : w.first.shape ≡ shape_of pair.first = ap (λ (x : Trees). x.first) of.trees in
+    let second_shape : w.second.shape ≡ shape_of pair.second = ap (λ (x : Trees). x.second) of.trees in
     record {
       of = subst (λ (x : Trees). IsWalkOf x w) (sym of.trees) of;
-      alike = subst AreComparable (sym of.trees) (alike-of a b roots none);
-      first_valid = subst IsShape (sym first_shape) first.from.carried.valid.shape;
-      second_valid = subst IsShape (sym second_shape) second.from.carried.valid.shape;
-      first_fits = omega (arith, first.fits, ds, ap tree_sectors first_shape);
-      second_fits = omega (arith, second.fits, es, ap tree_sectors second_shape);
+      alike = subst AreComparable (sym of.trees) (alike-of pair can.alike);
+      first_valid = subst IsShape (sym first_shape) valid.0;
+      second_valid = subst IsShape (sym second_shape) valid.1;
+      first_fits = omega (arith, can.first_fits, ds, ap tree_sectors first_shape);
+      second_fits = omega (arith, can.second_fits, es, ap tree_sectors second_shape);
     }
 
 module _ (w w' : Walk) (d e d' e' : Device) (have : HaveTrees w d e) (h : IsAligned (walk_sides w w' d e d' e')) where
@@ -147,78 +144,50 @@ reads-was t d e d' e' d'' e'' old new n m p q r = record {
 
 -- ---- causes
 
-pub image-second : (i : DifferenceWorld) (roots : Roots) (failed : Bool) (fault : DifferenceFault) → IsOneImageCause i.second i.second' Second fault → IsDifferenceCause i roots failed fault
-image-second i roots failed (Image Second f) h = h.1
-image-second i roots failed (Image First f) h = let clash : First ≡ Second = h.0 in absurd (cc)
-image-second i roots failed (Unlike f) h = absurd h
-image-second i roots failed (Hash tree level number) h = absurd h
-image-second i roots failed NoMemory h = absurd h
-image-second i roots failed Write h = absurd h
-
-module _ (a b : SuperRecord) (roots : Roots) (w : Walk) (d d' e e' d'' e'' : Device) (old new : Option (List ℕ)) (failed : Bool) (first : IsImageRead d a) (second : IsImageRead e b) (of : trees_in w ≡ trees_of a b roots) (p : IsOnlyRead d d') (q : IsOnlyRead e e') (df : d'.failures ≡ d.failures) (ef : e'.failures ≡ e.failures) where
+module _ (pair : TreePair) (w : Walk) (d d' e e' d'' e'' : Device) (old new : Option (List ℕ)) (failed : Bool) (of : trees_in w ≡ trees_of pair) (p : IsOnlyRead d d') (q : IsOnlyRead e e') (df : d'.failures ≡ d.failures) (ef : e'.failures ≡ e.failures) where
   first-path : PathRecord
-  first-path = record { shape = shape_of a; salt = a.salt; root = roots.first; blocks = [] }
+  first-path = record { shape = shape_of pair.first; salt = pair.first.salt; root = pair.roots.first; blocks = [] }
 
   second-path : PathRecord
-  second-path = record { shape = shape_of b; salt = b.salt; root = roots.second; blocks = [] }
+  second-path = record { shape = shape_of pair.second; salt = pair.second.salt; root = pair.roots.second; blocks = [] }
 
-  pub walk-cause : (fault : DifferenceFault) → IsWalkCause w d' e' d'' e'' fault → IsDifferenceCause (difference_world d e d'' e'' old new) roots failed fault
+  pub walk-cause : (fault : DifferenceFault) → IsWalkCause w d' e' d'' e'' fault → IsDifferenceCause (difference_world d e d'' e'' old new) pair failed fault
   unfolding first-path second-path
-  walk-cause (Hash First level number) h = (
-    a,
-    (
-      b,
-      (
-        first,
-        (
-          second,
-          bad-same first-path w.first d d' level number
-              (record { shape_is = ap (λ (x : Trees). x.first) of; salt_is = ap (λ (x : Trees). x.first_salt) of; root_is = ap (λ (x : Trees). x.first_root) of }) p h,
-        ),
-      ),
-    ),
-  )
-  walk-cause (Hash Second level number) h = (
-    a,
-    (
-      b,
-      (
-        first,
-        (
-          second,
-          bad-same second-path w.second e e' level number
-              (record { shape_is = ap (λ (x : Trees). x.second) of; salt_is = ap (λ (x : Trees). x.second_salt) of; root_is = ap (λ (x : Trees). x.second_root) of }) q h,
-        ),
-      ),
-    ),
-  )
-  walk-cause (Image First DeviceFailed) h = inl (failed-then d d' d'' df h)
-  walk-cause (Image Second DeviceFailed) h = inl (failed-then e e' e'' ef h)
+  walk-cause (Hash First level number) h =
+      bad-same first-path w.first d d' level number
+      (record { shape_is = ap (λ (x : Trees). x.first) of; salt_is = ap (λ (x : Trees). x.first_salt) of; root_is = ap (λ (x : Trees). x.first_root) of }) p h
+  walk-cause (Hash Second level number) h =
+      bad-same second-path w.second e e' level number
+      (record { shape_is = ap (λ (x : Trees). x.second) of; salt_is = ap (λ (x : Trees). x.second_salt) of; root_is = ap (λ (x : Trees). x.second_root) of }) q h
+  walk-cause (Image First DeviceFailed) h = failed-then d d' d'' df h
+  walk-cause (Image Second DeviceFailed) h = failed-then e e' e'' ef h
   walk-cause (Image First (Super f)) h = absurd h
   walk-cause (Image First TooSmall) h = absurd h
   walk-cause (Image First NoRoom) h = absurd h
   walk-cause (Image Second (Super f)) h = absurd h
   walk-cause (Image Second TooSmall) h = absurd h
   walk-cause (Image Second NoRoom) h = absurd h
+  walk-cause (Unpinned tree mismatch) h = absurd h
   walk-cause (Unlike f) h = absurd h
   walk-cause NoMemory h = absurd h
   walk-cause Write h = absurd h
 
-  pub comparison-cause : (fault : DifferenceFault) → IsComparisonCause w d' e' d'' e'' failed fault → IsDifferenceCause (difference_world d e d'' e'' old new) roots failed fault
+  pub comparison-cause : (fault : DifferenceFault) → IsComparisonCause w d' e' d'' e'' failed fault → IsDifferenceCause (difference_world d e d'' e'' old new) pair failed fault
   comparison-cause Write h = h
   comparison-cause (Hash tree level number) h = walk-cause (Hash tree level number) h
   comparison-cause (Image tree f) h = walk-cause (Image tree f) h
+  comparison-cause (Unpinned tree mismatch) h = absurd h
   comparison-cause (Unlike f) h = absurd h
   comparison-cause NoMemory h = absurd h
 
 -- ---- what was read beside the pairs
 
-pub aligned-read : (w w' : Walk) (d0 d d' e e' : Device) (s : ShapeRecord) (t : Trees) → IsFullRead d0 (1 + root_sectors s) d → w.first.shape ≡ s → w.levels ≡ common_levels t → IsAligned (walk_sides w w' d e d' e') → IsFullRead d0 (sectors_before s t) d'
+pub aligned-read : (w w' : Walk) (d0 d d' e e' : Device) (s : ShapeRecord) (t : Trees) → IsFullRead d0 (root_sectors s) d → w.first.shape ≡ s → w.levels ≡ common_levels t → IsAligned (walk_sides w w' d e d' e') → IsFullRead d0 (sectors_before s t) d'
 aligned-read w w' d0 d d' e e' s t p shape few h =
-    full_read-then (1 + root_sectors s) ((levels s - common_levels t) * (s.hash_block / 512)) (sectors_before s t) p
+    full_read-then (root_sectors s) ((levels s - common_levels t) * (s.hash_block / 512)) (sectors_before s t) p
     (subst (λ (n : ℕ). IsFullRead d ((levels s - n) * (s.hash_block / 512)) d') few (subst (λ (x : ShapeRecord). IsFullRead d ((levels x - w.levels) * (x.hash_block / 512)) d') shape h.first.full)) (omega arith)
 
-pub aligned-read-second : (w w' : Walk) (e0 d d' e e' : Device) (s : ShapeRecord) (t : Trees) → IsFullRead e0 (1 + root_sectors s) e → w.second.shape ≡ s → w.levels ≡ common_levels t → IsAligned (walk_sides w w' d e d' e') → IsFullRead e0 (sectors_before s t) e'
+pub aligned-read-second : (w w' : Walk) (e0 d d' e e' : Device) (s : ShapeRecord) (t : Trees) → IsFullRead e0 (root_sectors s) e → w.second.shape ≡ s → w.levels ≡ common_levels t → IsAligned (walk_sides w w' d e d' e') → IsFullRead e0 (sectors_before s t) e'
 aligned-read-second w w' e0 d d' e e' s t p shape few h =
-    full_read-then (1 + root_sectors s) ((levels s - common_levels t) * (s.hash_block / 512)) (sectors_before s t) p
+    full_read-then (root_sectors s) ((levels s - common_levels t) * (s.hash_block / 512)) (sectors_before s t) p
     (subst (λ (n : ℕ). IsFullRead e ((levels s - n) * (s.hash_block / 512)) e') few (subst (λ (x : ShapeRecord). IsFullRead e ((levels x - w.levels) * (x.hash_block / 512)) e') shape h.second.full)) (omega arith)

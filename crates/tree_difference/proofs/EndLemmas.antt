@@ -1,12 +1,11 @@
 -- The loop's calls, and its end.
-use Rattle.std.proofs.Common.{◌≡◌, ◌≢◌, ◌≤◌, ◌<◌, ◌+◌, ◌-◌, ◌*◌, ◌/◌, ◌^◌, ℕ, zero, suc, min, Bool, true, false, IsTrue, List, [], ◌∷◌, ◌++◌, length, replicate, Option, Some, None, refl, sym, ap, ◌∙◌, subst, arith}
+use Rattle.std.proofs.Common.{◌≡◌, ◌≤◌, ◌<◌, ◌+◌, ◌-◌, ◌*◌, ◌/◌, ◌^◌, ℕ, min, Bool, true, false, List, [], ◌∷◌, length, Option, sym, ap, ◌∙◌, subst, arith}
 use Rattle.std.specs.Io.KnownBytes.{Appends}
 use Rattle.block_device.specs.Device.{Device}
-use Rattle.tree_shape.specs.Shape.{ShapeRecord, levels, per_block}
+use Rattle.tree_shape.specs.Shape.{ShapeRecord, per_block}
 use Rattle.tree_shape.proofs.lemmas.ShapeFactLemmas.{two}
 use Rattle.tree_shape.proofs.lemmas.ShapeFaultLemmas.{blocks-le}
 use Rattle.tree_shape.proofs.lemmas.ShapeLemmas.{pow_pos}
-use Rattle.verity_format.specs.declared.verifying.VerifyFault.TheVariants.{Super, TooSmall, Device as DeviceFailed, NoMemory as NoRoom}
 use Rattle.verity_format.specs.Blocks.{IsFullRead}
 use Rattle.tree_path.specs.Spans.{IsTopAt}
 use Rattle.runs.specs.declared.kind.Kind.{Kind}
@@ -14,11 +13,9 @@ use Rattle.runs.specs.declared.kind.Kind.TheVariants.{Changed}
 use Rattle.runs.specs.declared.run.Run.{Run}
 use Rattle.runs.specs.Limits.{limited_lines}
 use Rattle.runs.specs.Kinds.{State, count_of, is_state, one_if}
-use Rattle.runs.proofs.lemmas.ListingLemmas.{IsListed}
 use Rattle.tree_difference.specs.declared.difference.Totals.{Totals}
 use Rattle.tree_difference.specs.declared.fault.DifferenceFault.{DifferenceFault}
-use Rattle.tree_difference.specs.declared.fault.DifferenceFault.TheVariants.{Image, Unlike, Hash, NoMemory, Write}
-use Rattle.tree_difference.specs.declared.fault.Which.TheVariants.{First, Second}
+use Rattle.tree_difference.specs.declared.fault.DifferenceFault.TheVariants.{Image, Unpinned, Unlike, Hash, NoMemory, Write}
 use Rattle.tree_difference.specs.declared.walk.Walk.{Walk}
 use Rattle.tree_difference.specs.Causes.{IsWalkCause}
 use Rattle.tree_difference.specs.Comparisons.{Compares, ReadsDiffering, DifferenceWorld, compared_totals}
@@ -40,6 +37,7 @@ count_of-most kind (x ∷ xs) = omega (arith, weight-most (is_state kind x), cou
 pub walk-comparison : (w : Walk) (d e d' e' : Device) (failed : Bool) (fault : DifferenceFault) → IsWalkCause w d e d' e' fault → IsComparisonCause w d e d' e' failed fault
 walk-comparison w d e d' e' failed (Hash tree level number) h = h
 walk-comparison w d e d' e' failed (Image tree f) h = h
+walk-comparison w d e d' e' failed (Unpinned tree mismatch) h = absurd h
 walk-comparison w d e d' e' failed (Unlike f) h = absurd h
 walk-comparison w d e d' e' failed NoMemory h = absurd h
 walk-comparison w d e d' e' failed Write h = absurd h

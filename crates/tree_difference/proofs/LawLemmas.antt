@@ -1,16 +1,14 @@
 -- What a comparison says of all data under the two roots.
-use Rattle.std.proofs.Common.{◌≡◌, ◌≢◌, ◌≤◌, ◌<◌, ℕ, List, [], ◌∷◌, length, map, refl, sym, ap, ◌∙◌, subst, arith, inl, inr, ◌⊎◌}
-use Rattle.std.specs.List.{slice_index_or}
+use Rattle.std.proofs.Common.{◌≡◌, ◌≢◌, ◌<◌, ℕ, List, [], ◌∷◌, length, refl, sym, ap, ◌∙◌, subst, arith, inl, inr, ◌⊎◌}
 use Rattle.tree_shape.specs.Digests.{digest}
 use Rattle.tree_shape.specs.Shape.{ShapeRecord, levels}
 use Rattle.hash_tree.specs.Chain.{ChainRecord, HangsFrom, IsGood, formed}
-use Rattle.hash_tree.specs.Laws.{AreBlocks, FormedChainsAreGood}
-use Rattle.hash_tree.specs.Tree.{root}
+use Rattle.hash_tree.specs.Laws.{FormedChainsAreGood}
 use Rattle.tree_path.specs.Laws.{Collide}
-use Rattle.tree_path.specs.Path.{PathRecord, IsPathOf, LeadsTo, digest_on}
+use Rattle.tree_path.specs.Path.{PathRecord, IsPathOf, digest_on}
 use Rattle.tree_path.proofs.lemmas.ChainLemmas.{Ends, hangs-on, hang-together}
 use Rattle.tree_difference.specs.Laws.{AreChains, AreBothContents, SameBlocksAreSame, ChangedChainsDiffer, SameContentsAreSame, ChangedListsDiffer}
-use Rattle.tree_difference.specs.Trees.{Trees, AreComparable, AreWays, common_blocks, common_levels}
+use Rattle.tree_difference.specs.Trees.{Trees, AreComparable, AreWays, common_blocks}
 
 good-of : (s : ShapeRecord) (salt r : List ℕ) (p : PathRecord) (c : ChainRecord) → IsPathOf s salt r p → IsGood s salt r c → IsGood p.shape p.salt p.root c
 good-of s salt r p c is good =

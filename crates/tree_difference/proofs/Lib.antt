@@ -5,5 +5,6 @@ pub mod ErrLemmas
 pub mod RootLemmas
 pub mod LawLemmas
 pub mod RestLemmas
+pub mod SuperblockLemmas
 pub mod UnderwayLemmas
 pub mod WalkLemmas

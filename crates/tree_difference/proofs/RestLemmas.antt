@@ -1,24 +1,18 @@
 -- The data blocks that one of the two trees alone has.
-use Rattle.std.proofs.Common.{◌≡◌, ◌≤◌, ◌<◌, ◌-◌, ◌+◌, ℕ, zero, min, Bool, true, false, cond, List, [], ◌++◌, length, replicate, Option, Some, None, refl, sym, ap, ◌∙◌, subst, arith, inl, inr, ltb}
+use Rattle.std.proofs.Common.{◌≡◌, ◌-◌, ℕ, min, Bool, cond, List, [], ◌++◌, length, replicate, Option, Some, None, sym, ap, ◌∙◌, subst, arith, inl, inr, ltb}
 use Rattle.std.specs.Io.KnownBytes.{Appends}
 use Rattle.std.proofs.lemmas.Bool.{cases_lt, le-ltb, lt-ltb}
 use Rattle.std.proofs.lemmas.List.{append-nil}
-use Rattle.tree_shape.specs.Shape.{ShapeRecord}
 use Rattle.runs.specs.declared.run.Run.{Run}
 use Rattle.runs.specs.declared.kind.Kind.{Kind}
-use Rattle.runs.specs.declared.kind.Kind.TheVariants.{Changed, Removed, Added}
+use Rattle.runs.specs.declared.kind.Kind.TheVariants.{Removed, Added}
 use Rattle.runs.specs.declared.tally.Tally.{Tally}
 use Rattle.runs.specs.Limits.{limited_lines}
 use Rattle.runs.specs.Runs.{run, runs_of}
 use Rattle.runs.specs.Kinds.{is_same, State}
-use Rattle.runs.specs.Tallies.{closed_by, listed, opened_by}
 use Rattle.runs.specs.Texts.{listing_text}
 use Rattle.runs.proofs.lemmas.ListingLemmas.{IsListed, listed-all, listed-last}
-use Rattle.tree_difference.specs.declared.walk.Walk.{Walk}
-use Rattle.tree_difference.specs.Comparisons.{rest_states}
-use Rattle.tree_difference.specs.Differences.{rest_run}
 use Rattle.tree_difference.specs.Rests.{last_runs}
-use Rattle.tree_difference.specs.Trees.{Trees, common_blocks}
 
 -- which run comes last, by the numbers of data blocks
 abbrev pub rest_by : ℕ → ℕ → ℕ → Option (Run Kind)

@@ -1,33 +1,29 @@
 -- Two trees that are compared, while data blocks are left.
-use Rattle.std.proofs.Common.{◌≡◌, ◌≢◌, ◌≤◌, ◌<◌, ◌+◌, ◌-◌, ◌*◌, ◌/◌, ◌%◌, ◌^◌, ℕ, zero, suc, min, Bool, true, false, IsTrue, List, [], ◌∷◌, ◌++◌, length, get_or, replicate, Option, Some, None, refl, sym, ap, ◌∙◌, subst, arith, inl, inr, ◌⊎◌}
+use Rattle.std.proofs.Common.{◌≡◌, ◌≢◌, ◌≤◌, ◌<◌, ◌+◌, ◌-◌, ◌*◌, ◌/◌, ◌%◌, ◌^◌, ℕ, zero, suc, min, Bool, IsTrue, List, [], ◌∷◌, ◌++◌, length, get_or, replicate, Option, Some, None, refl, sym, ap, ◌∙◌, subst, arith, inl, inr}
 use Rattle.std.specs.Prelude.{All}
-use Rattle.std.specs.Str.{bytes_eq}
-use Rattle.std.specs.Io.KnownBytes.{Appends}
 use Rattle.std.proofs.Math.Nat.{zero-mod, zero-mul}
-use Rattle.std.proofs.lemmas.Bool.{cases_lt, false≢true}
-use Rattle.std.proofs.lemmas.List.{length-append, length-replicate, get_or_append_left, get_or-append-add, get_or-replicate, append-nil}
+use Rattle.std.proofs.lemmas.Bool.{cases_lt}
+use Rattle.std.proofs.lemmas.List.{length-append, length-replicate, get_or_append_left, get_or-append-add, get_or-replicate}
 use Rattle.std.proofs.lemmas.List.Elements.{All-nil, All-cons, All-head, All-tail, All-weaker}
-use Rattle.std.proofs.lemmas.Slice.Eq.{bytes_eq-Decides}
 use Rattle.block_device.specs.Device.{Device}
 use Rattle.tree_shape.specs.Shape.{ShapeRecord, levels, per_block}
 use Rattle.verity_format.specs.Blocks.{IsFullRead, IsOnlyRead}
-use Rattle.tree_path.specs.Path.{PathRecord, IsPathOf, digest_on, stored_digest}
+use Rattle.tree_path.specs.Path.{digest_on, stored_digest}
 use Rattle.tree_path.specs.Spans.{IsTopAt}
 use Rattle.verity_format.proofs.lemmas.DeviceLemmas.{full_read-none, full_read-then}
-use Rattle.tree_path.proofs.lemmas.PathLemmas.{digest_on-along, digest_on-stored, leads-higher}
+use Rattle.tree_path.proofs.lemmas.PathLemmas.{digest_on-along, digest_on-stored}
 use Rattle.tree_path.proofs.lemmas.SpanLemmas.{along, lower-mod}
 use Rattle.tree_shape.proofs.lemmas.ShapeFactLemmas.{two}
 use Rattle.tree_shape.proofs.lemmas.ShapeLemmas.{pow_pos}
-use Rattle.runs.specs.declared.kind.Kind.{Kind}
 use Rattle.runs.specs.declared.kind.Kind.TheVariants.{Changed}
 use Rattle.runs.specs.declared.tally.Tally.{Tally}
 use Rattle.runs.specs.Kinds.{State, count_of}
 use Rattle.runs.proofs.lemmas.ListingLemmas.{IsListed}
 use Rattle.tree_difference.specs.declared.walk.Walk.{Walk}
-use Rattle.tree_difference.specs.Comparisons.{AreDistinctPairs, AreBehind, AreEntered, AreStatesSeen, HashPair, IsReadAfter, IsEntered, DifferenceWorld, hash_images}
-use Rattle.tree_difference.specs.Differences.{CanCompare, HaveTrees, IsWalkOf, trees_in}
-use Rattle.tree_difference.specs.Trees.{Trees, AreWays, IsSeenAs, IsStoredAs, common_blocks, common_levels, first_digest, second_digest}
-use Rattle.tree_difference.specs.Walks.{AreSameTrees, HasStopped, HaveBlock, IsOn, WalkSides, walk_sides}
+use Rattle.tree_difference.specs.Comparisons.{AreDistinctPairs, AreBehind, AreEntered, AreStatesSeen, HashPair, IsEntered, DifferenceWorld, hash_images}
+use Rattle.tree_difference.specs.Differences.{CanCompare, HaveTrees, trees_in}
+use Rattle.tree_difference.specs.Trees.{Trees, AreWays, IsSeenAs, IsStoredAs, first_digest, second_digest}
+use Rattle.tree_difference.specs.Walks.{AreSameTrees, HasStopped, HaveBlock, IsOn, walk_sides}
 use Rattle.tree_difference.proofs.AlongLemmas.{HasWidth, IsTop, first-same, next-same, none-above, on-along, on-higher, second-same}
 use Rattle.tree_difference.proofs.WalkLemmas.{have-then, on-was, trees-none, trees-then}
 

@@ -1,19 +1,17 @@
 -- The ways down two trees, one step after another.
-use Rattle.std.proofs.Common.{◌≡◌, ◌≢◌, ◌≤◌, ◌<◌, ◌+◌, ◌-◌, ◌*◌, ◌/◌, ℕ, IsTrue, Bool, true, false, List, refl, sym, ap, ◌∙◌, subst, arith, inl, inr}
-use Rattle.std.specs.Str.{bytes_eq}
-use Rattle.std.proofs.lemmas.Bool.{cases_lt, false≢true}
-use Rattle.block_device.specs.Device.{Device, IsSameDevice, HasFailed}
+use Rattle.std.proofs.Common.{◌≡◌, ◌≢◌, ◌<◌, ◌+◌, ℕ, IsTrue, List, refl, sym, ap, ◌∙◌, subst, arith, inl, inr}
+use Rattle.std.proofs.lemmas.Bool.{cases_lt}
+use Rattle.block_device.specs.Device.{Device}
 use Rattle.tree_shape.specs.Shape.{ShapeRecord, levels, ancestor}
 use Rattle.verity_format.specs.declared.verifying.VerifyFault.TheVariants.{Super, TooSmall, Device as DeviceFailed, NoMemory as NoRoom}
-use Rattle.verity_format.specs.Blocks.{IsFullRead, IsOnlyRead}
+use Rattle.verity_format.specs.Blocks.{IsOnlyRead}
 use Rattle.verity_format.specs.Image.{tree_sectors}
 use Rattle.tree_path.specs.Path.{PathRecord, IsPathOf, LeadsTo, AreStored, digest_on}
-use Rattle.tree_path.specs.Steps.{IsDown, IsStopped, steps}
-use Rattle.verity_format.proofs.lemmas.DeviceLemmas.{failed-then, same-then, steady-then}
+use Rattle.tree_path.specs.Steps.{IsStopped, steps}
+use Rattle.verity_format.proofs.lemmas.DeviceLemmas.{failed-then, steady-then}
 use Rattle.tree_path.proofs.lemmas.PathLemmas.{digests-down, leads-down, stored-down}
 use Rattle.tree_difference.specs.declared.fault.DifferenceFault.{DifferenceFault}
-use Rattle.tree_difference.specs.declared.fault.DifferenceFault.TheVariants.{Image, Unlike, Hash, NoMemory, Write}
-use Rattle.tree_difference.specs.declared.fault.Which.{Which}
+use Rattle.tree_difference.specs.declared.fault.DifferenceFault.TheVariants.{Image, Unpinned, Unlike, Hash, NoMemory, Write}
 use Rattle.tree_difference.specs.declared.fault.Which.TheVariants.{First, Second}
 use Rattle.tree_difference.specs.declared.walk.Walk.{Walk}
 use Rattle.tree_difference.specs.Causes.{IsBadBlock, IsWayCause, IsWalkCause}
@@ -130,6 +128,7 @@ cause-then w w' d e dm em d' e' (Image First NoRoom) t p q df ef h = absurd h
 cause-then w w' d e dm em d' e' (Image Second (Super f)) t p q df ef h = absurd h
 cause-then w w' d e dm em d' e' (Image Second TooSmall) t p q df ef h = absurd h
 cause-then w w' d e dm em d' e' (Image Second NoRoom) t p q df ef h = absurd h
+cause-then w w' d e dm em d' e' (Unpinned tree mismatch) t p q df ef h = absurd h
 cause-then w w' d e dm em d' e' (Unlike f) t p q df ef h = absurd h
 cause-then w w' d e dm em d' e' NoMemory t p q df ef h = absurd h
 cause-then w w' d e dm em d' e' Write t p q df ef h = absurd h
@@ -146,6 +145,7 @@ entering-first w q d e d' i level (Image First NoRoom) can h = absurd h
 entering-first w q d e d' i level (Image Second (Super f)) can h = absurd h
 entering-first w q d e d' i level (Image Second TooSmall) can h = absurd h
 entering-first w q d e d' i level (Image Second NoRoom) can h = absurd h
+entering-first w q d e d' i level (Unpinned tree mismatch) can h = absurd h
 entering-first w q d e d' i level (Unlike f) can h = absurd h
 entering-first w q d e d' i level NoMemory can h = absurd h
 entering-first w q d e d' i level Write can h = absurd h
@@ -161,6 +161,7 @@ entering-second w q d e d' e' i level (Image First NoRoom) can h = absurd h
 entering-second w q d e d' e' i level (Image Second (Super f)) can h = absurd h
 entering-second w q d e d' e' i level (Image Second TooSmall) can h = absurd h
 entering-second w q d e d' e' i level (Image Second NoRoom) can h = absurd h
+entering-second w q d e d' e' i level (Unpinned tree mismatch) can h = absurd h
 entering-second w q d e d' e' i level (Unlike f) can h = absurd h
 entering-second w q d e d' e' i level NoMemory can h = absurd h
 entering-second w q d e d' e' i level Write can h = absurd h

@@ -1,19 +1,13 @@
 -- Why a comparison of two trees ends early.
-use Rattle.std.specs.Prelude.{◌≡◌, ◌≢◌, ◌⊎◌, ℕ, ◌+◌, ◌<◌, ◌≤◌, Bool, true, IsTrue, List}
+use Rattle.std.specs.Prelude.{◌≡◌, ◌≢◌, ℕ, ◌+◌, ◌<◌, IsTrue, List}
 use Rattle.block_device.specs.Device.{Device, HasFailed}
 use Rattle.tree_shape.specs.Digests.{digest}
 use Rattle.tree_shape.specs.Shape.{ShapeRecord, ancestor, levels}
-use Rattle.verity_format.specs.declared.verifying.VerifyFault.{VerifyFault}
-use Rattle.verity_format.specs.declared.verifying.VerifyFault.TheVariants.{Super, TooSmall, Device as DeviceFailed, NoMemory as NoRoom}
-use Rattle.verity_format.specs.Image.{tree_sectors}
-use Rattle.verity_format.specs.Superblock.{SuperRecord, shape_of}
-use Rattle.verity_format.specs.Verifying.{IsReadCause, IsReadFrom}
+use Rattle.verity_format.specs.declared.verifying.VerifyFault.TheVariants.{Device as DeviceFailed}
 use Rattle.tree_path.specs.Path.{PathRecord, IsPathOf, LeadsTo, AreStored, block_of, digest_on}
 use Rattle.tree_path.specs.Steps.{Steps, IsStopped, steps}
 use Rattle.tree_difference.specs.declared.fault.DifferenceFault.{DifferenceFault}
-use Rattle.tree_difference.specs.declared.fault.DifferenceFault.TheVariants.{Image, Unlike, Hash, NoMemory, Write}
-use Rattle.tree_difference.specs.declared.fault.Unlike.{Unlike as Field}
-use Rattle.tree_difference.specs.declared.fault.Unlike.TheVariants.{DataBlockSize, HashBlockSize, Salt}
+use Rattle.tree_difference.specs.declared.fault.DifferenceFault.TheVariants.{Image, Hash}
 use Rattle.tree_difference.specs.declared.fault.Which.{Which}
 use Rattle.tree_difference.specs.declared.fault.Which.TheVariants.{First, Second}
 use Rattle.tree_difference.specs.declared.walk.Walk.{Walk}

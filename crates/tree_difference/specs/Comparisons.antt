@@ -1,9 +1,9 @@
 -- What a comparison of two trees finds, reports and reads.
-use Rattle.std.specs.Prelude.{◌≡◌, ◌≢◌, ◌⊎◌, ℕ, suc, ◌+◌, ◌-◌, ◌*◌, ◌/◌, ◌%◌, ◌^◌, ◌<◌, ◌≤◌, IsTrue, List, [], ◌∷◌, ◌++◌, length, replicate, Option, Some, None, All}
+use Rattle.std.specs.Prelude.{◌≡◌, ◌≢◌, ◌⊎◌, ℕ, ◌+◌, ◌-◌, ◌*◌, ◌/◌, ◌%◌, ◌^◌, ◌<◌, IsTrue, List, [], ◌∷◌, ◌++◌, length, replicate, Option, Some, None, All}
 use Rattle.std.specs.List.{slice_index_or}
 use Rattle.std.specs.Io.KnownBytes.{Appends}
 use Rattle.block_device.specs.Device.{Device}
-use Rattle.tree_shape.specs.Shape.{ShapeRecord, levels, per_block}
+use Rattle.tree_shape.specs.Shape.{per_block}
 use Rattle.verity_format.specs.Blocks.{IsFullRead}
 use Rattle.tree_path.specs.Path.{PathRecord, digest_on}
 use Rattle.runs.specs.declared.kind.Kind.TheVariants.{Changed, Removed, Added}
@@ -11,7 +11,7 @@ use Rattle.runs.specs.Runs.{runs_of}
 use Rattle.runs.specs.Kinds.{is_same, State, count_of}
 use Rattle.runs.specs.Texts.{listing_text}
 use Rattle.tree_difference.specs.declared.difference.Totals.{Totals}
-use Rattle.tree_difference.specs.Trees.{Trees, HashImages, AreWays, IsSeenAs, IsStoredAs, common_blocks, common_levels}
+use Rattle.tree_difference.specs.Trees.{Trees, HashImages, AreWays, IsSeenAs, IsStoredAs, common_blocks}
 
 -- two devices before and after, and what was reported, if that is known
 pub record DifferenceWorld : Type 0 where

@@ -1,12 +1,12 @@
 -- The trees of two hash images, and why their comparison ends early.
-use Rattle.std.specs.Prelude.{◌≡◌, ◌⊎◌, ℕ, ◌+◌, ◌-◌, ◌*◌, ◌/◌, ◌<◌, ◌≤◌, nat_lt, if◌then◌else◌, Bool, true, List, Option, Some, None}
+use Rattle.std.specs.Prelude.{◌≡◌, ℕ, ◌+◌, ◌-◌, ◌*◌, ◌/◌, ◌≤◌, nat_lt, if◌then◌else◌, Bool, true, List, Option, Some, None}
 use Rattle.allocation.specs.Refusal.{IsOutOfMemory}
 use Rattle.block_device.specs.Device.{Device, HasFailed}
 use Rattle.tree_shape.specs.Shape.{ShapeRecord, IsShape, levels}
 use Rattle.verity_format.specs.Image.{tree_sectors}
-use Rattle.verity_format.specs.Superblock.{SuperRecord, shape_of}
-use Rattle.verity_format.specs.Verifying.{IsReadCause}
-use Rattle.tree_path.specs.Path.{IsPathOf, largest_block}
+use Rattle.verity_format.specs.Superblock.{shape_of}
+use Rattle.verity_format.specs.declared.verifying.VerifyFault.TheVariants.{Device as DeviceFailed}
+use Rattle.tree_path.specs.Path.{largest_block}
 use Rattle.tree_path.specs.Steps.{IsDown, steps}
 use Rattle.runs.specs.declared.kind.Kind.TheVariants.{Removed, Added}
 use Rattle.runs.specs.declared.run.Run.{Run}
@@ -14,23 +14,40 @@ use Rattle.runs.specs.declared.kind.Kind.{Kind}
 use Rattle.runs.specs.declared.tally.Tally.{Tally}
 use Rattle.runs.specs.Limits.{limited_lines}
 use Rattle.runs.specs.Runs.{run}
-use Rattle.tree_difference.specs.declared.difference.Roots.{Roots}
 use Rattle.tree_difference.specs.declared.difference.Totals.{Totals}
 use Rattle.tree_difference.specs.declared.fault.DifferenceFault.{DifferenceFault}
-use Rattle.tree_difference.specs.declared.fault.DifferenceFault.TheVariants.{Image, Unlike, Hash, NoMemory, Write}
+use Rattle.tree_difference.specs.declared.fault.DifferenceFault.TheVariants.{Image, Hash, NoMemory, Write}
 use Rattle.tree_difference.specs.declared.fault.Which.TheVariants.{First, Second}
+use Rattle.tree_difference.specs.declared.trees.TreePair.{TreePair}
 use Rattle.tree_difference.specs.declared.walk.Walk.{Walk}
 use Rattle.tree_difference.specs.Causes.{IsBadBlock, IsWalkCause}
 use Rattle.tree_difference.specs.Comparisons.{Compares, ReadsDiffering, DifferenceWorld, difference_world}
 use Rattle.tree_difference.specs.Rests.{last_runs}
 use Rattle.tree_difference.specs.RootBlocks.{IsRootRead, root_sectors}
-use Rattle.tree_difference.specs.Superblocks.{IsTreeCut, IsImageRead, unlike}
+use Rattle.tree_difference.specs.Superblocks.{unlike}
 use Rattle.tree_difference.specs.Trees.{Trees, AreComparable, common_blocks, common_levels}
-use Rattle.tree_difference.specs.Walks.{HaveBlock, IsOn, WalkSides, walk_sides}
+use Rattle.tree_difference.specs.Walks.{IsOn, WalkSides, walk_sides}
 
 -- the trees of two superblocks and two root hashes
-abbrev pub trees_of : SuperRecord → SuperRecord → Roots → Trees
-trees_of a b roots = record { first = shape_of a; second = shape_of b; first_salt = a.salt; second_salt = b.salt; first_root = roots.first; second_root = roots.second }
+abbrev pub trees_of : TreePair → Trees
+trees_of pair = record {
+  first = shape_of pair.first;
+  second = shape_of pair.second;
+  first_salt = pair.first.salt;
+  second_salt = pair.second.salt;
+  first_root = pair.roots.first;
+  second_root = pair.roots.second;
+}
+
+-- the trees can be compared, and fit on the devices
+pub record CanCompareTrees (pair : TreePair) (first second : Device) : Type 0 where
+  pub alike : unlike pair.first pair.second ≡ None
+  pub first_fits : tree_sectors (shape_of pair.first) ≤ first.size
+  pub second_fits : tree_sectors (shape_of pair.second) ≤ second.size
+
+-- both shapes are valid
+abbrev pub AreShapes : Trees → Type 0
+AreShapes t = IsShape t.first × IsShape t.second
 
 -- the trees of a walk
 abbrev pub trees_in : Walk → Trees
@@ -84,36 +101,27 @@ abbrev pub IsComparisonCause : Walk → Device → Device → Device → Device 
 IsComparisonCause w first second first' second' failed Write = failed ≡ true
 IsComparisonCause w first second first' second' failed fault = IsWalkCause w first second first' second' fault
 
--- how many sectors of an image are read besides the pairs of hash blocks that differ: the superblock, the root hash block,
--- which is checked first, and the first hash block of each level that the other tree doesn't have
+-- how many sectors of an image are read besides the pairs of hash blocks that differ: the root hash block, which is checked
+-- first, and the first hash block of each level that the other tree doesn't have
 abbrev pub sectors_before : ShapeRecord → Trees → ℕ
-sectors_before s t = 1 + root_sectors s + (levels s - common_levels t) * (s.hash_block / 512)
+sectors_before s t = root_sectors s + (levels s - common_levels t) * (s.hash_block / 512)
 
--- both superblocks and both root hash blocks were read, and the trees compared
-pub record IsDifference (w : DifferenceWorld) (roots : Roots) (most : Option ℕ) (totals : Totals) : Type 0 where
-  pub a : SuperRecord
-  pub b : SuperRecord
-  pub first_image : IsImageRead w.first a
-  pub second_image : IsImageRead w.second b
-  pub alike : unlike a b ≡ None
-  pub first_root : IsRootRead (shape_of a) a.salt roots.first w.first
-  pub second_root : IsRootRead (shape_of b) b.salt roots.second w.second
-  pub compares : Compares (trees_of a b roots) w most totals
-  pub reads : ReadsDiffering (trees_of a b roots) w (sectors_before (shape_of a) (trees_of a b roots)) (sectors_before (shape_of b) (trees_of a b roots))
+-- both root hash blocks were read, and the trees compared
+pub record IsDifference (w : DifferenceWorld) (pair : TreePair) (most : Option ℕ) (totals : Totals) : Type 0 where
+  pub first_root : IsRootRead (shape_of pair.first) pair.first.salt pair.roots.first w.first
+  pub second_root : IsRootRead (shape_of pair.second) pair.second.salt pair.roots.second w.second
+  pub compares : Compares (trees_of pair) w most totals
+  pub reads : ReadsDiffering (trees_of pair) w (sectors_before (shape_of pair.first) (trees_of pair)) (sectors_before (shape_of pair.second) (trees_of pair))
 
--- both superblocks were read, and P holds of them
-abbrev pub AreSuperblocksRead : DifferenceWorld → (SuperRecord → SuperRecord → Type 0) → Type 0
-AreSuperblocksRead w P = (a : SuperRecord) × ((b : SuperRecord) × (IsImageRead w.first a × (IsImageRead w.second b × P a b)))
-
--- why two images weren't compared to the end
-abbrev pub IsDifferenceCause : DifferenceWorld → Roots → Bool → DifferenceFault → Type 0
-IsDifferenceCause w roots failed (Image First fault) = IsReadCause w.first w.first' fault ⊎ IsTreeCut w.first fault
-IsDifferenceCause w roots failed (Image Second fault) = IsReadCause w.second w.second' fault ⊎ IsTreeCut w.second fault
-IsDifferenceCause w roots failed (Unlike field) = AreSuperblocksRead w (λ a b. unlike a b ≡ Some field)
-IsDifferenceCause w roots failed (Hash First level number) = AreSuperblocksRead w (λ a b. IsBadBlock (shape_of a) a.salt roots.first w.first level number)
-IsDifferenceCause w roots failed (Hash Second level number) = AreSuperblocksRead w (λ a b. IsBadBlock (shape_of b) b.salt roots.second w.second level number)
-IsDifferenceCause w roots failed NoMemory = (w.first'.failures ≡ w.first.failures) × (w.second'.failures ≡ w.second.failures) × IsOutOfMemory largest_block
-IsDifferenceCause w roots failed Write = failed ≡ true
+-- why two trees weren't compared to the end
+abbrev pub IsDifferenceCause : DifferenceWorld → TreePair → Bool → DifferenceFault → Type 0
+IsDifferenceCause w pair failed (Image First DeviceFailed) = HasFailed w.first w.first'
+IsDifferenceCause w pair failed (Image Second DeviceFailed) = HasFailed w.second w.second'
+IsDifferenceCause w pair failed (Hash First level number) = IsBadBlock (shape_of pair.first) pair.first.salt pair.roots.first w.first level number
+IsDifferenceCause w pair failed (Hash Second level number) = IsBadBlock (shape_of pair.second) pair.second.salt pair.roots.second w.second level number
+IsDifferenceCause w pair failed NoMemory = (w.first'.failures ≡ w.first.failures) × (w.second'.failures ≡ w.second.failures) × IsOutOfMemory largest_block
+IsDifferenceCause w pair failed Write = failed ≡ true
+IsDifferenceCause w pair failed fault = ⊥
 
 -- ---- relations for calls: the two devices before and after, as a proof sees them
 

@@ -1,5 +1,5 @@
 -- The last runs of a comparison.
-use Rattle.std.specs.Prelude.{List, [], ◌∷◌, ◌++◌, Option, Some, None}
+use Rattle.std.specs.Prelude.{List, ◌++◌, Option, Some, None}
 use Rattle.runs.specs.declared.run.Run.{Run}
 use Rattle.runs.specs.declared.kind.Kind.{Kind}
 use Rattle.runs.specs.Tallies.{closed_by, listed, opened_by}

@@ -1,8 +1,7 @@
 -- Two hash trees that are compared, and what proves that a data block is the same in both.
-use Rattle.std.specs.Prelude.{◌≡◌, ◌≢◌, ℕ, ◌+◌, ◌<◌, ◌≤◌, min, Option, Some, None, List}
+use Rattle.std.specs.Prelude.{◌≡◌, ◌≢◌, ℕ, ◌≤◌, min, Some, None, List}
 use Rattle.tree_shape.specs.Shape.{ShapeRecord, levels}
 use Rattle.tree_path.specs.Path.{PathRecord, IsPathOf, LeadsTo, digest_on, stored_digest}
-use Rattle.runs.specs.declared.kind.Kind.{Kind}
 use Rattle.runs.specs.declared.kind.Kind.TheVariants.{Changed}
 use Rattle.runs.specs.Kinds.{State}
 

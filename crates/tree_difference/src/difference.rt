@@ -5,12 +5,12 @@ ghost use Rattle.tree_path.specs.Path.{largest_block};
 ghost use Rattle.runs.specs.Listings.{Tells};
 ghost use Rattle.runs.specs.Tallies.{EndsAt};
 ghost use Rattle.tree_difference.specs.Causes.{EndsWalk};
-ghost use Rattle.tree_difference.specs.Differences.{Aligns, CanCompare, EndsDifference, HaveTrees, IsDifference, IsDifferenceCause, IsWalkOf, ReadsPairs, ComparesBlocks, last_lines, rest_run, seen_world, totals_in, trees_of};
+ghost use Rattle.tree_difference.specs.Differences.{Aligns, AreShapes, CanCompare, CanCompareTrees, EndsDifference, HaveTrees, IsDifference, IsDifferenceCause, IsWalkOf, ReadsPairs, ComparesBlocks, last_lines, rest_run, seen_world, totals_in, trees_of};
 
 use crate::fault::{DifferenceFault, Which};
 use crate::reading::read_down;
 use crate::root_block::check_root_block;
-use crate::superblocks::{check_alike, superblock_of};
+use crate::trees::TreePair;
 use crate::walk::Walk;
 use allocation::OutOfMemory;
 use block_device::BlockDev;
@@ -18,15 +18,6 @@ use program_io::WriteFault;
 use runs::{Kind, Listing, Run, Tally};
 use std::alloc::Global;
 use tree_path::{TreePath, span, top_at};
-use tree_shape::Digest;
-use verity_format::Superblock;
-
-/// The root hashes of two trees.
-#[derive(Clone, Copy, Debug, PartialEq, Eq)]
-pub struct Roots {
-    pub first: Digest,
-    pub second: Digest,
-}
 
 /// How many data blocks have the same digest in both trees, how many have different ones, and how many are in one tree only.
 #[derive(Clone, Copy, Debug, PartialEq, Eq)]
@@ -37,16 +28,15 @@ pub struct Totals {
     pub added: u64,
 }
 
-/// Compares the trees of two hash images from their roots down. It reports a line for each longest run of data blocks that
-/// differ, in rising order: at most `most` lines, then `more`.
+/// Compares two trees from their roots down, whose superblocks were read. It reports a line for each longest run of data blocks
+/// that differ, in rising order: at most `most` lines, then `more`.
 ///
 /// Both root hash blocks are read and checked, even if the root hashes are equal. Below them a subtree is read only if its
 /// digests differ. Each hash block that is read is checked against the hash stored in its parent.
 ///
 /// # Errors
 ///
-/// - `Image` if a hash image has no superblock, is too small for its tree, or failed.
-/// - `Unlike` if the superblocks make the trees incomparable.
+/// - `Image` if a device failed.
 /// - `Hash` if a hash block fails verification.
 /// - `NoMemory` if an allocation was refused.
 /// - `Write` if a line can't be reported.
@@ -54,40 +44,37 @@ pub fn compare_trees<D: BlockDev, E: BlockDev, L: Listing>(
     alloc: Global,
     first: &mut D,
     second: &mut E,
-    roots: Roots,
+    pair: &TreePair,
     most: Option<u64>,
     listing: &mut L,
 ) -> Result<Totals, DifferenceFault>
-    ensures ok { IfOk result (IsDifference (seen_world D.state E.state L.told first.old second.old first.new second.new listing.old listing.new) roots most) }
-    ensures err { IfErr result (IsDifferenceCause (seen_world D.state E.state L.told first.old second.old first.new second.new listing.old listing.new) roots (L.failed listing.new)) }
+    requires { CanCompareTrees pair.now (D.state first.old) (E.state second.old) }
+    ensures ok { IfOk result (IsDifference (seen_world D.state E.state L.told first.old second.old first.new second.new listing.old listing.new) pair.now most) }
+    ensures err { IfErr result (IsDifferenceCause (seen_world D.state E.state L.told first.old second.old first.new second.new listing.old listing.new) pair.now (L.failed listing.new)) }
 {
-    let one = superblock_of(first, Which::First)?;
-    let two = superblock_of(second, Which::Second)?;
-    match check_alike(&one, &two) {
-        Some(field) => return Err(DifferenceFault::Unlike(field)),
-        None => {}
-    }
-    check_root_block(alloc, first, Which::First, &one, roots.first)?;
-    check_root_block(alloc, second, Which::Second, &two, roots.second)?;
-    let mut walk = begin(alloc, &one, &two, roots)?;
+    check_root_block(alloc, first, Which::First, &pair.first, pair.roots.first)?;
+    check_root_block(
+        alloc,
+        second,
+        Which::Second,
+        &pair.second,
+        pair.roots.second,
+    )?;
+    let mut walk = begin(alloc, pair)?;
     align(&mut walk, first, second)?;
     compare(&mut walk, first, second, most, listing)
 }
 
 // Returns the paths of two trees, of which nothing was read.
-fn begin(
-    alloc: Global,
-    one: &Superblock,
-    two: &Superblock,
-    roots: Roots,
-) -> Result<Walk, OutOfMemory>
-    ensures ok { IfOk result (IsWalkOf (trees_of one.now two.now roots)) }
+fn begin(alloc: Global, pair: &TreePair) -> Result<Walk, OutOfMemory>
+    ensures valid { AreShapes (trees_of pair.now) }
+    ensures ok { IfOk result (IsWalkOf (trees_of pair.now)) }
     ensures err { OnErr result (IsOutOfMemory largest_block) }
 {
-    let shape = one.shape();
-    let other = two.shape();
-    let first = TreePath::new(alloc, shape, one.salt(), roots.first)?;
-    let second = TreePath::new(alloc, other, two.salt(), roots.second)?;
+    let shape = pair.first.shape();
+    let other = pair.second.shape();
+    let first = TreePath::new(alloc, shape, pair.first.salt(), pair.roots.first)?;
+    let second = TreePath::new(alloc, other, pair.second.salt(), pair.roots.second)?;
     Ok(Walk {
         first,
         second,

@@ -3,6 +3,7 @@ ghost use Rattle.std.specs.Prelude.{◌≡◌};
 ghost use Rattle.tree_difference.specs.declared.fault.DifferenceFault.TheVariants as difference_fault;
 
 use allocation::OutOfMemory;
+use image_pin::Mismatch;
 use program_io::WriteFault;
 use verity_format::VerifyFault;
 
@@ -26,6 +27,8 @@ pub enum Unlike {
 pub enum DifferenceFault {
     /// A hash image has no superblock, is too small for its tree, or failed.
     Image(Which, VerifyFault),
+    /// A superblock differs from its pin.
+    Unpinned(Which, Mismatch),
     /// The superblocks make the trees incomparable.
     Unlike(Unlike),
     /// The hash block of a level, by its index, fails verification: its digest isn't stored in its parent.

@@ -7,8 +7,9 @@ pub mod laws;
 mod reading;
 mod root_block;
 mod superblocks;
+mod trees;
 mod walk;
 
-pub use difference::{Roots, Totals, compare_trees};
+pub use difference::{Totals, compare_trees};
 pub use fault::{DifferenceFault, Unlike, Which};
-pub use superblocks::superblock_of;
+pub use trees::{Roots, TreePair, TrustedTrees, read_trees};

@@ -1,11 +1,12 @@
 //! The superblocks of two hash images.
 ghost use Rattle.std.specs.Prelude.{◌≡◌, OnOk, IfOk, IfErr};
 ghost use Rattle.std.specs.Str.{bytes_eq};
-ghost use Rattle.verity_format.specs.Blocks.{IsOnlyRead, IsFullRead};
-ghost use Rattle.tree_difference.specs.Superblocks.{IsOneImageCause, IsImageRead, unlike};
+ghost use Rattle.verity_format.specs.Blocks.{IsOnlyRead};
+ghost use Rattle.tree_difference.specs.Superblocks.{IsOneImageCause, IsPinned, IsTreeRead, IsUnpinned, unlike};
 
 use crate::fault::{DifferenceFault, Unlike, Which};
 use block_device::BlockDev;
+use image_pin::{Pin, check_superblock};
 use tree_shape::Salt;
 use verity_format::{Superblock, VerifyFault, read_superblock, tree_sectors};
 
@@ -13,24 +14,44 @@ use verity_format::{Superblock, VerifyFault, read_superblock, tree_sectors};
 ///
 /// # Errors
 ///
-/// `Image` if there is no valid superblock, the device is too small for the tree, or the device failed.
-pub fn superblock_of<H: BlockDev>(
+/// - `Image` if there is no valid superblock, the device is too small for the tree, or the device failed.
+/// - `Unpinned` if the superblock differs from the pin.
+pub(crate) fn superblock_of<H: BlockDev>(
     device: &mut H,
     which: Which,
+    pin: &Option<Pin>,
 ) -> Result<Superblock, DifferenceFault>
     ensures read { IsOnlyRead (H.state device.old) (H.state device.new) }
-    ensures found { IfOk result (IsImageRead (H.state device.old)) }
-    ensures full { OnOk result (IsFullRead (H.state device.old) 1 (H.state device.new)) }
-    ensures err { IfErr result (IsOneImageCause (H.state device.old) (H.state device.new) which) }
+    ensures ok { IfOk result (IsTreeRead (H.state device.old) (H.state device.new) pin.now) }
+    ensures err { IfErr result (IsOneImageCause (H.state device.old) (H.state device.new) pin.now which) }
 {
     let superblock = match read_superblock(device) {
         Ok(superblock) => superblock,
         Err(fault) => return Err(DifferenceFault::Image(which, fault)),
     };
+    check_pin(which, pin, &superblock)?;
     if device.sectors() < tree_sectors(&superblock.shape()) {
         return Err(DifferenceFault::Image(which, VerifyFault::TooSmall));
     }
     Ok(superblock)
+}
+
+// Checks that the superblock has the values of the pin, if there is one.
+fn check_pin(
+    which: Which,
+    pin: &Option<Pin>,
+    superblock: &Superblock,
+) -> Result<(), DifferenceFault>
+    ensures ok { OnOk result (IsPinned pin.now superblock.now) }
+    ensures err { IfErr result (IsUnpinned which pin.now superblock.now) }
+{
+    match pin {
+        Some(pin) => match check_superblock(pin, superblock) {
+            Ok(()) => Ok(()),
+            Err(mismatch) => Err(DifferenceFault::Unpinned(which, mismatch)),
+        },
+        None => Ok(()),
+    }
 }
 
 /// Returns the first difference of two superblocks that makes their trees incomparable.

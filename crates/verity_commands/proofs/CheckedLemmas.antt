@@ -2,10 +2,10 @@
 use Rattle.std.proofs.Common.{inl, inr, ℕ, Bool, false, List, Option}
 use Rattle.block_device.specs.Device.{Device}
 use Rattle.verity_format.specs.declared.verifying.VerifyFault.TheVariants as verify
-use Rattle.tree_difference.specs.declared.difference.Roots.{Roots}
 use Rattle.tree_difference.specs.declared.fault.DifferenceFault.{DifferenceFault}
 use Rattle.tree_difference.specs.declared.fault.DifferenceFault.TheVariants as difference
 use Rattle.tree_difference.specs.declared.fault.Which.TheVariants.{First, Second}
+use Rattle.tree_difference.specs.declared.trees.TreePair.{TreePair}
 use Rattle.tree_difference.specs.Comparisons.{DifferenceWorld, difference_world}
 use Rattle.tree_difference.specs.Differences.{IsDifferenceCause}
 use Rattle.tree_survey.specs.declared.fault.SurveyFault.{SurveyFault}
@@ -26,45 +26,50 @@ check_cause d d' failed (survey.Image verify.NoMemory) h = h
 check_cause d d' failed survey.Write h = h
 
 -- a cause that doesn't depend on whether a line could be written
-unfailed : (w : DifferenceWorld) (roots : Roots) (failed : Bool) (fault : DifferenceFault)
+unfailed : (w : DifferenceWorld) (pair : TreePair) (failed : Bool) (fault : DifferenceFault)
     → ((d d' : Device) → IsCheckCause d d' failed fault → IsCheckCause d d' false fault)
-    → ((v : DifferenceWorld) → IsDifferenceCause v roots failed fault → IsDifferenceCause v roots false fault)
-    → IsCheckedCause w roots failed fault → IsCheckedCause w roots false fault
-unfailed w roots failed fault check compare (inl (inl h)) = inl (inl h)
-unfailed w roots failed fault check compare (inl (inr e)) =
-    inl (inr (record { super = e.super; read_dev = e.read_dev; image = e.image; one = e.one; cause = check e.read_dev w.second' e.cause }))
-unfailed w roots failed fault check compare (inr e) =
+    → ((v : DifferenceWorld) → IsDifferenceCause v pair failed fault → IsDifferenceCause v pair false fault)
+    → IsCheckedCause w pair failed fault → IsCheckedCause w pair false fault
+unfailed w pair failed fault check compare (inl h) = inl (check w.second w.second' h)
+unfailed w pair failed fault check compare (inr e) =
     inr (record { whole = e.whole; middle = e.middle; between = e.between; checks = e.checks; cause = compare (record w { second = e.middle; printed = e.between }) e.cause })
 
-pub kept_check : (d e d' e' : Device) (old new : Option (List ℕ)) (roots : Roots) (failed : Bool) (fault : DifferenceFault) → IsCheckedCause (difference_world d e d' e' old new) roots failed fault → IsKeptCheckCause d e d' e' roots (unkept_difference fault)
-kept_check d e d' e' old new roots failed (difference.Image First f) h = (old, (new, unfailed (difference_world d e d' e' old new) roots failed (difference.Image First f) (λ a a' c. c) (λ v c. c) h))
-kept_check d e d' e' old new roots failed (difference.Image Second f) h = (old, (new, unfailed (difference_world d e d' e' old new) roots failed (difference.Image Second f) (λ a a' c. c) (λ v c. c) h))
-kept_check d e d' e' old new roots failed (difference.Unlike field) h = (old, (new, unfailed (difference_world d e d' e' old new) roots failed (difference.Unlike field) (λ a a' c. c) (λ v c. c) h))
-kept_check d e d' e' old new roots failed (difference.Hash First level n) h = (old, (new, unfailed (difference_world d e d' e' old new) roots failed (difference.Hash First level n) (λ a a' c. c) (λ v c. c) h))
-kept_check d e d' e' old new roots failed (difference.Hash Second level n) h = (old, (new, unfailed (difference_world d e d' e' old new) roots failed (difference.Hash Second level n) (λ a a' c. c) (λ v c. c) h))
-kept_check d e d' e' old new roots failed difference.NoMemory h = tt
-kept_check d e d' e' old new roots failed difference.Write h = tt
+pub kept_check : (d e d' e' : Device) (old new : Option (List ℕ)) (pair : TreePair) (failed : Bool) (fault : DifferenceFault) → IsCheckedCause (difference_world d e d' e' old new) pair failed fault → IsKeptCheckCause d e d' e' pair (unkept_difference fault)
+kept_check d e d' e' old new pair failed (difference.Image First (verify.Super f)) h = (old, (new, unfailed (difference_world d e d' e' old new) pair failed (difference.Image First (verify.Super f)) (λ a a' c. c) (λ v c. c) h))
+kept_check d e d' e' old new pair failed (difference.Image First verify.TooSmall) h = (old, (new, unfailed (difference_world d e d' e' old new) pair failed (difference.Image First verify.TooSmall) (λ a a' c. c) (λ v c. c) h))
+kept_check d e d' e' old new pair failed (difference.Image First verify.Device) h = (old, (new, unfailed (difference_world d e d' e' old new) pair failed (difference.Image First verify.Device) (λ a a' c. c) (λ v c. c) h))
+kept_check d e d' e' old new pair failed (difference.Image First verify.NoMemory) h = (old, (new, unfailed (difference_world d e d' e' old new) pair failed (difference.Image First verify.NoMemory) (λ a a' c. c) (λ v c. c) h))
+kept_check d e d' e' old new pair failed (difference.Image Second (verify.Super f)) h = (old, (new, unfailed (difference_world d e d' e' old new) pair failed (difference.Image Second (verify.Super f)) (λ a a' c. c) (λ v c. c) h))
+kept_check d e d' e' old new pair failed (difference.Image Second verify.TooSmall) h = (old, (new, unfailed (difference_world d e d' e' old new) pair failed (difference.Image Second verify.TooSmall) (λ a a' c. c) (λ v c. c) h))
+kept_check d e d' e' old new pair failed (difference.Image Second verify.Device) h = (old, (new, unfailed (difference_world d e d' e' old new) pair failed (difference.Image Second verify.Device) (λ a a' c. c) (λ v c. c) h))
+kept_check d e d' e' old new pair failed (difference.Image Second verify.NoMemory) h = (old, (new, unfailed (difference_world d e d' e' old new) pair failed (difference.Image Second verify.NoMemory) (λ a a' c. c) (λ v c. c) h))
+kept_check d e d' e' old new pair failed (difference.Unpinned which mismatch) h = (old, (new, unfailed (difference_world d e d' e' old new) pair failed (difference.Unpinned which mismatch) (λ a a' c. c) (λ v c. c) h))
+kept_check d e d' e' old new pair failed (difference.Unlike field) h = (old, (new, unfailed (difference_world d e d' e' old new) pair failed (difference.Unlike field) (λ a a' c. c) (λ v c. c) h))
+kept_check d e d' e' old new pair failed (difference.Hash First level n) h = (old, (new, unfailed (difference_world d e d' e' old new) pair failed (difference.Hash First level n) (λ a a' c. c) (λ v c. c) h))
+kept_check d e d' e' old new pair failed (difference.Hash Second level n) h = (old, (new, unfailed (difference_world d e d' e' old new) pair failed (difference.Hash Second level n) (λ a a' c. c) (λ v c. c) h))
+kept_check d e d' e' old new pair failed difference.NoMemory h = tt
+kept_check d e d' e' old new pair failed difference.Write h = tt
 
 -- how a comparison ends of which all was printed
-pub found-end : (json : Bool) (w : DifferenceWorld) (roots : Roots) (most : Option ℕ) (failed : Bool) (found : CheckedTotals) → SaysChecked json w roots most found → (fault : TreeFault) → IsFoundEnd found fault → IsCheckedEnd json w roots most failed fault
-found-end json w roots most failed found says (tree.Open file) h = absurd h
-found-end json w roots most failed found says (tree.Trees fault) h = absurd h
-found-end json w roots most failed found says tree.Differs h = (found, (says, h))
-found-end json w roots most failed found says (tree.Survey fault) h = absurd h
-found-end json w roots most failed found says tree.Unaligned h = absurd h
-found-end json w roots most failed found says (tree.Unpinned mismatch) h = absurd h
-found-end json w roots most failed found says tree.UnusedEntries h = absurd h
-found-end json w roots most failed found says tree.Damaged h = (found, (says, h))
-found-end json w roots most failed found says tree.Write h = absurd h
+pub found-end : (json : Bool) (w : DifferenceWorld) (pair : TreePair) (most : Option ℕ) (failed : Bool) (found : CheckedTotals) → SaysChecked json w pair most found → (fault : TreeFault) → IsFoundEnd found fault → IsCheckedEnd json w pair most failed fault
+found-end json w pair most failed found says (tree.Open file) h = absurd h
+found-end json w pair most failed found says (tree.Trees fault) h = absurd h
+found-end json w pair most failed found says tree.Differs h = (found, (says, h))
+found-end json w pair most failed found says (tree.Survey fault) h = absurd h
+found-end json w pair most failed found says tree.Unaligned h = absurd h
+found-end json w pair most failed found says (tree.Unpinned mismatch) h = absurd h
+found-end json w pair most failed found says tree.UnusedEntries h = absurd h
+found-end json w pair most failed found says tree.Damaged h = (found, (says, h))
+found-end json w pair most failed found says tree.Write h = absurd h
 
 -- and of which it wasn't
-pub said-end : (json : Bool) (w : DifferenceWorld) (roots : Roots) (most : Option ℕ) (failed : Bool) (fault : TreeFault) → IsSayingEnd json w roots failed fault → IsCheckedEnd json w roots most failed fault
-said-end json w roots most failed (tree.Open file) h = h
-said-end json w roots most failed (tree.Trees fault) h = h
-said-end json w roots most failed tree.Differs h = absurd h
-said-end json w roots most failed (tree.Survey fault) h = h
-said-end json w roots most failed tree.Unaligned h = h
-said-end json w roots most failed (tree.Unpinned mismatch) h = absurd h
-said-end json w roots most failed tree.UnusedEntries h = h
-said-end json w roots most failed tree.Damaged h = absurd h
-said-end json w roots most failed tree.Write h = h
+pub said-end : (json : Bool) (w : DifferenceWorld) (pair : TreePair) (most : Option ℕ) (failed : Bool) (fault : TreeFault) → IsSayingEnd json w pair failed fault → IsCheckedEnd json w pair most failed fault
+said-end json w pair most failed (tree.Open file) h = h
+said-end json w pair most failed (tree.Trees fault) h = h
+said-end json w pair most failed tree.Differs h = absurd h
+said-end json w pair most failed (tree.Survey fault) h = h
+said-end json w pair most failed tree.Unaligned h = h
+said-end json w pair most failed (tree.Unpinned mismatch) h = absurd h
+said-end json w pair most failed tree.UnusedEntries h = h
+said-end json w pair most failed tree.Damaged h = absurd h
+said-end json w pair most failed tree.Write h = h

@@ -8,18 +8,21 @@ use Rattle.program_io.specs.JsonLines.{json_line}
 use Rattle.runs.specs.declared.line.Line.{Line}
 use Rattle.runs.specs.declared.listing.KeptLines.{KeptLines}
 use Rattle.runs.specs.Lines.{lines_text}
-use Rattle.tree_difference.specs.declared.difference.Roots.{Roots}
 use Rattle.tree_difference.specs.declared.fault.DifferenceFault.{DifferenceFault}
 use Rattle.tree_difference.specs.declared.fault.DifferenceFault.TheVariants as difference_fault
 use Rattle.tree_difference.specs.declared.difference.Totals.{Totals}
+use Rattle.tree_difference.specs.declared.trees.TreePair.{TreePair}
+use Rattle.tree_difference.specs.declared.trees.TrustedTrees.{TrustedTrees}
 use Rattle.tree_difference.specs.Comparisons.{DifferenceWorld, difference_world}
-use Rattle.tree_difference.specs.Differences.{IsDifference, IsDifferenceCause}
+use Rattle.tree_difference.specs.Differences.{CanCompareTrees, IsDifference, IsDifferenceCause}
 use Rattle.verity_commands.specs.declared.tree_fault.TreeFault.{TreeFault}
-use Rattle.verity_commands.specs.declared.tree_fault.TreeFault.TheVariants.{Open, Trees, Differs, Write}
+use Rattle.verity_commands.specs.declared.tree_fault.TreeFault.TheVariants.{Trees, Differs, Write}
+use Rattle.verity_commands.specs.declared.diff.DiffForm.{DiffForm}
 use Rattle.verity_commands.specs.declared.paths.HashPaths.{HashPaths}
 use Rattle.verity_commands.specs.declared.paths.TwoHashes.{TwoHashes}
 use Rattle.verity_commands.specs.Objects.{difference_json}
-use Rattle.verity_commands.specs.Openings.{BothPaths, FailsToOpenBoth, OpensBoth, both_paths}
+use Rattle.verity_commands.specs.Openings.{BothPaths, both_paths}
+use Rattle.verity_commands.specs.OpenTrees.{IsOpenTreesEnd, OfTrees}
 
 -- `same N changed N removed N added N`
 unfoldable pub difference_totals : Totals → List ℕ
@@ -30,72 +33,66 @@ abbrev pub is_unchanged : Totals → Bool
 is_unchanged t = (t.changed == 0) && ((t.removed == 0) && (t.added == 0))
 
 -- the trees were compared, their runs and totals printed, and this says whether they are the same
-pub record SaysSame (w : DifferenceWorld) (roots : Roots) (most : Option ℕ) (same : Bool) : Type 0 where
+pub record SaysSame (w : DifferenceWorld) (pair : TreePair) (most : Option ℕ) (same : Bool) : Type 0 where
   pub totals : Totals
   pub between : Option (List ℕ)
-  pub difference : IsDifference (record w { printed' = between }) roots most totals
+  pub difference : IsDifference (record w { printed' = between }) pair most totals
   pub printed_are : Appends between w.printed' (difference_totals totals)
   pub is : is_unchanged totals ≡ same
 
 -- the same, where one object was printed: of the lines and totals that are printed else
-pub record SaysSameObject (w : DifferenceWorld) (roots : Roots) (most : Option ℕ) (same : Bool) : Type 0 where
+pub record SaysSameObject (w : DifferenceWorld) (pair : TreePair) (most : Option ℕ) (same : Bool) : Type 0 where
   pub totals : Totals
   pub lines : List Line
-  pub difference : IsDifference (record w { printed = Some []; printed' = Some (lines_text lines) }) roots most totals
+  pub difference : IsDifference (record w { printed = Some []; printed' = Some (lines_text lines) }) pair most totals
   pub printed_are : Appends w.printed w.printed' (json_line (difference_json lines totals))
   pub is : is_unchanged totals ≡ same
 
 -- as an object, or as lines
-abbrev pub SaysDifference : Bool → DifferenceWorld → Roots → Option ℕ → Bool → Type 0
-SaysDifference true w roots most same = SaysSameObject w roots most same
-SaysDifference false w roots most same = SaysSame w roots most same
+abbrev pub SaysDifference : Bool → DifferenceWorld → TreePair → Option ℕ → Bool → Type 0
+SaysDifference true w pair most same = SaysSameObject w pair most same
+SaysDifference false w pair most same = SaysSame w pair most same
 
 -- a line that isn't kept in memory is want of it
 abbrev pub unkept_difference : DifferenceFault → DifferenceFault
 unkept_difference difference_fault.Write = difference_fault.NoMemory
 unkept_difference difference_fault.NoMemory = difference_fault.NoMemory
 unkept_difference (difference_fault.Image which fault) = difference_fault.Image which fault
+unkept_difference (difference_fault.Unpinned which mismatch) = difference_fault.Unpinned which mismatch
 unkept_difference (difference_fault.Unlike field) = difference_fault.Unlike field
 unkept_difference (difference_fault.Hash which level number) = difference_fault.Hash which level number
 
 -- why two images aren't compared, where lines are kept in memory
-abbrev pub IsTreesCause : Device → Device → Device → Device → Roots → DifferenceFault → Type 0
-IsTreesCause first second first' second' roots difference_fault.NoMemory = Unit {0}
-IsTreesCause first second first' second' roots fault = IsDifferenceCause (difference_world first second first' second' None None) roots false fault
+abbrev pub IsTreesCause : Device → Device → Device → Device → TreePair → DifferenceFault → Type 0
+IsTreesCause first second first' second' pair difference_fault.NoMemory = Unit {0}
+IsTreesCause first second first' second' pair fault = IsDifferenceCause (difference_world first second first' second' None None) pair false fault
 
 -- the same; nothing was printed before where it would be an object
-abbrev pub IsUncompared : Bool → DifferenceWorld → Roots → Bool → DifferenceFault → Type 0
-IsUncompared true w roots failed fault = IsTreesCause w.first w.second w.first' w.second' roots fault × (w.printed' ≡ w.printed)
-IsUncompared false w roots failed fault = IsDifferenceCause w roots failed fault
+abbrev pub IsUncompared : Bool → DifferenceWorld → TreePair → Bool → DifferenceFault → Type 0
+IsUncompared true w pair failed fault = IsTreesCause w.first w.second w.first' w.second' pair fault × (w.printed' ≡ w.printed)
+IsUncompared false w pair failed fault = IsDifferenceCause w pair failed fault
 
 -- they differ, or why they aren't compared, or a line can't be written
-abbrev pub IsDiffEnd : Bool → DifferenceWorld → Roots → Option ℕ → Bool → TreeFault → Type 0
-IsDiffEnd json w roots most failed Differs = SaysDifference json w roots most false
-IsDiffEnd json w roots most failed (Trees fault) = IsUncompared json w roots failed fault
-IsDiffEnd json w roots most failed Write = failed ≡ true
-IsDiffEnd json w roots most failed fault = ⊥
+abbrev pub IsDiffEnd : Bool → DifferenceWorld → TreePair → Option ℕ → Bool → TreeFault → Type 0
+IsDiffEnd json w pair most failed Differs = SaysDifference json w pair most false
+IsDiffEnd json w pair most failed (Trees fault) = IsUncompared json w pair failed fault
+IsDiffEnd json w pair most failed Write = failed ≡ true
+IsDiffEnd json w pair most failed fault = ⊥
 
--- of two images that were opened
-pub record OfBoth {S D : Type 0} (w : Calls S D) (paths : BothPaths) (old new : Option (List ℕ)) (P : DifferenceWorld → Type 0) : Type 0 where
-  pub two : TwoHashes D
-  pub first' : D
-  pub second' : D
-  pub opened : OpensBoth w paths two
-  pub holds : P (difference_world (w.state two.first.device) (w.state two.second.device) (w.state first') (w.state second') old new)
+-- ---- of images that were opened
 
-abbrev pub PrintsSame : {S D : Type 0} → Bool → Calls S D → BothPaths → Roots → Option ℕ → Option (List ℕ) → Option (List ℕ) → Type 0
-PrintsSame json w paths roots most old new = OfBoth w paths old new (λ i. SaysDifference json i roots most true)
+abbrev pub PrintsSame : {S D : Type 0} → Calls S D → BothPaths → TrustedTrees → DiffForm → Option (List ℕ) → Option (List ℕ) → Type 0
+PrintsSame w paths trusted form old new = OfTrees w paths trusted old new (λ pair i. SaysDifference form.json i pair form.most true)
 
--- one of the two isn't opened
-abbrev pub IsEitherUnopened : {S D : Type 0} → Calls S D → BothPaths → TreeFault → Type 0
-IsEitherUnopened w paths (Open file) = FailsToOpenBoth w paths file
-IsEitherUnopened w paths fault = ⊥
-
--- that, or the comparison ends
-abbrev pub IsDiffFilesEnd : {S D : Type 0} → Bool → Calls S D → BothPaths → Roots → Option ℕ → Option (List ℕ) → Option (List ℕ) → Bool → TreeFault → Type 0
-IsDiffFilesEnd json w paths roots most old new failed fault = IsEitherUnopened w paths fault ⊎ OfBoth w paths old new (λ i. IsDiffEnd json i roots most failed fault)
+-- the trees aren't found, and nothing is printed; or the comparison ends so
+abbrev pub IsDiffFilesEnd : {S D : Type 0} → Calls S D → BothPaths → TrustedTrees → DiffForm → Option (List ℕ) → Option (List ℕ) → Bool → TreeFault → Type 0
+IsDiffFilesEnd w paths trusted form old new failed fault = IsOpenTreesEnd w paths trusted old new (λ pair i. IsDiffEnd form.json i pair form.most failed) fault
 
 -- ---- as a call sees them: what a proof sees of devices, an opener or a writer, and these before and after
+
+-- the trees of two images can be compared, and fit on the devices
+abbrev pub CanCompareTwo : {D : Type 0} → (D → Device) → TwoHashes D → TreePair → Type 0
+CanCompareTwo state two pair = CanCompareTrees pair (state two.first.device) (state two.second.device)
 
 -- the devices of two images before and after, and what was printed
 abbrev pub two_devices : {D : Type 0} → (D → Device) → TwoHashes D → TwoHashes D → Option (List ℕ) → Option (List ℕ) → DifferenceWorld
@@ -105,24 +102,24 @@ two_devices state two two' old new = difference_world (state two.first.device) (
 abbrev pub listed_diff : {D : Type 0} → (D → Device) → TwoHashes D → TwoHashes D → KeptLines → KeptLines → DifferenceWorld
 listed_diff state two two' kept kept' = two_devices state two two' (Some (lines_text kept.lines.items)) (Some (lines_text kept'.lines.items))
 
-abbrev pub FailsToListDiff : {D : Type 0} → (D → Device) → TwoHashes D → TwoHashes D → Roots → DifferenceFault → Type 0
-FailsToListDiff state two two' roots = IsTreesCause (state two.first.device) (state two.second.device) (state two'.first.device) (state two'.second.device) roots
+abbrev pub FailsToListDiff : {D : Type 0} → (D → Device) → TwoHashes D → TwoHashes D → TreePair → DifferenceFault → Type 0
+FailsToListDiff state two two' pair = IsTreesCause (state two.first.device) (state two.second.device) (state two'.first.device) (state two'.second.device) pair
 
 -- two images that are open are the same, and that was printed
-abbrev pub FindsSame : {D W : Type 0} → Bool → (D → Device) → TwoHashes D → TwoHashes D → (W → Option (List ℕ)) → CountedRecord W → CountedRecord W → Roots → Option ℕ → Type 0
-FindsSame json state two two' contents writer writer' roots most =
-    SaysDifference json (two_devices state two two' (contents writer.inner) (contents writer'.inner)) roots most true
+abbrev pub FindsSame : {D W : Type 0} → Bool → (D → Device) → TwoHashes D → TwoHashes D → (W → Option (List ℕ)) → CountedRecord W → CountedRecord W → TreePair → Option ℕ → Type 0
+FindsSame json state two two' contents writer writer' pair most =
+    SaysDifference json (two_devices state two two' (contents writer.inner) (contents writer'.inner)) pair most true
 
 -- they aren't, or that isn't known or printed
-abbrev pub FailsDiff : {D W : Type 0} → Bool → (D → Device) → TwoHashes D → TwoHashes D → (W → Option (List ℕ)) → CountedRecord W → CountedRecord W → Roots → Option ℕ → TreeFault → Type 0
-FailsDiff json state two two' contents writer writer' roots most =
-    IsDiffEnd json (two_devices state two two' (contents writer.inner) (contents writer'.inner)) roots most writer'.failed
+abbrev pub FailsDiff : {D W : Type 0} → Bool → (D → Device) → TwoHashes D → TwoHashes D → (W → Option (List ℕ)) → CountedRecord W → CountedRecord W → TreePair → Option ℕ → TreeFault → Type 0
+FailsDiff json state two two' contents writer writer' pair most =
+    IsDiffEnd json (two_devices state two two' (contents writer.inner) (contents writer'.inner)) pair most writer'.failed
 
 -- two images
-abbrev pub DiffsImages : {S D W : Type 0} → Opener S D → (D → Device) → S → S → (W → Option (List ℕ)) → CountedRecord W → CountedRecord W → HashPaths → Roots → Option ℕ → Bool → Type 0
-DiffsImages relations state images images' contents writer writer' paths roots most json =
-    PrintsSame json (calls relations state images images') (both_paths paths) roots most (contents writer.inner) (contents writer'.inner)
+abbrev pub DiffsImages : {S D W : Type 0} → Opener S D → (D → Device) → S → S → (W → Option (List ℕ)) → CountedRecord W → CountedRecord W → HashPaths → TrustedTrees → DiffForm → Type 0
+DiffsImages relations state images images' contents writer writer' paths trusted form =
+    PrintsSame (calls relations state images images') (both_paths paths) trusted form (contents writer.inner) (contents writer'.inner)
 
-abbrev pub FailsToDiff : {S D W : Type 0} → Opener S D → (D → Device) → S → S → (W → Option (List ℕ)) → CountedRecord W → CountedRecord W → HashPaths → Roots → Option ℕ → Bool → TreeFault → Type 0
-FailsToDiff relations state images images' contents writer writer' paths roots most json =
-    IsDiffFilesEnd json (calls relations state images images') (both_paths paths) roots most (contents writer.inner) (contents writer'.inner) writer'.failed
+abbrev pub FailsToDiff : {S D W : Type 0} → Opener S D → (D → Device) → S → S → (W → Option (List ℕ)) → CountedRecord W → CountedRecord W → HashPaths → TrustedTrees → DiffForm → TreeFault → Type 0
+FailsToDiff relations state images images' contents writer writer' paths trusted form =
+    IsDiffFilesEnd (calls relations state images images') (both_paths paths) trusted form (contents writer.inner) (contents writer'.inner) writer'.failed

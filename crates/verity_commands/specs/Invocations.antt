@@ -9,7 +9,8 @@ use Rattle.program_io.specs.Counted.{CountedRecord}
 use Rattle.image_commands.specs.declared.trusted.TrustedRoot.{TrustedRoot}
 use Rattle.image_commands.specs.Places.{TwoPlaces}
 use Rattle.image_files.specs.Opener.{Calls, Opener, calls}
-use Rattle.tree_difference.specs.declared.difference.Roots.{Roots}
+use Rattle.tree_difference.specs.declared.trees.TrustedTrees.{TrustedTrees}
+use Rattle.verity_commands.specs.declared.diff.DiffForm.{DiffForm}
 use Rattle.verity_commands.specs.declared.tree_fault.TreeFault.{TreeFault}
 use Rattle.verity_commands.specs.CheckedDiffs.{IsCheckedFilesEnd, PrintsWhole}
 use Rattle.verity_commands.specs.Diffs.{IsDiffFilesEnd, PrintsSame}
@@ -21,23 +22,23 @@ use Rattle.verity_commands.specs.Surveys.{IsSurveyFilesEnd, PrintsGood}
 abbrev pub diff_paths : DiffRecord → BothPaths
 diff_paths d = record { first_path = d.old_path; second_path = d.new_path }
 
-abbrev pub diff_roots : DiffRecord → Roots
-diff_roots d = record { first = d.old_root; second = d.new_root }
+abbrev pub diff_form : DiffRecord → DiffForm
+diff_form d = record { most = d.blocks; json = d.json }
 
 -- with --all the second tree is checked too
-abbrev pub DiffsBy : {S D : Type 0} → Bool → Calls S D → DiffRecord → Option (List ℕ) → Option (List ℕ) → Type 0
-DiffsBy true w d old new = PrintsWhole d.json w (diff_paths d) (diff_roots d) d.blocks old new
-DiffsBy false w d old new = PrintsSame d.json w (diff_paths d) (diff_roots d) d.blocks old new
+abbrev pub DiffsBy : {S D : Type 0} → Bool → Calls S D → DiffRecord → TrustedTrees → Option (List ℕ) → Option (List ℕ) → Type 0
+DiffsBy true w d trusted old new = PrintsWhole w (diff_paths d) trusted (diff_form d) old new
+DiffsBy false w d trusted old new = PrintsSame w (diff_paths d) trusted (diff_form d) old new
 
-abbrev pub IsDiffEndBy : {S D : Type 0} → Bool → Calls S D → DiffRecord → Option (List ℕ) → Option (List ℕ) → Bool → TreeFault → Type 0
-IsDiffEndBy true w d old new failed fault = IsCheckedFilesEnd d.json w (diff_paths d) (diff_roots d) d.blocks old new failed fault
-IsDiffEndBy false w d old new failed fault = IsDiffFilesEnd d.json w (diff_paths d) (diff_roots d) d.blocks old new failed fault
+abbrev pub IsDiffEndBy : {S D : Type 0} → Bool → Calls S D → DiffRecord → TrustedTrees → Option (List ℕ) → Option (List ℕ) → Bool → TreeFault → Type 0
+IsDiffEndBy true w d trusted old new failed fault = IsCheckedFilesEnd w (diff_paths d) trusted (diff_form d) old new failed fault
+IsDiffEndBy false w d trusted old new failed fault = IsDiffFilesEnd w (diff_paths d) trusted (diff_form d) old new failed fault
 
-abbrev pub DiffsTrees : {S D : Type 0} → Calls S D → DiffRecord → Option (List ℕ) → Option (List ℕ) → Type 0
-DiffsTrees w d old new = DiffsBy d.all w d old new
+abbrev pub DiffsTrees : {S D : Type 0} → Calls S D → DiffRecord → TrustedTrees → Option (List ℕ) → Option (List ℕ) → Type 0
+DiffsTrees w d trusted old new = DiffsBy d.all w d trusted old new
 
-abbrev pub IsDiffWordsEnd : {S D : Type 0} → Calls S D → DiffRecord → Option (List ℕ) → Option (List ℕ) → Bool → TreeFault → Type 0
-IsDiffWordsEnd w d old new failed fault = IsDiffEndBy d.all w d old new failed fault
+abbrev pub IsDiffWordsEnd : {S D : Type 0} → Calls S D → DiffRecord → TrustedTrees → Option (List ℕ) → Option (List ℕ) → Bool → TreeFault → Type 0
+IsDiffWordsEnd w d trusted old new failed fault = IsDiffEndBy d.all w d trusted old new failed fault
 
 -- ---- `verify --all`
 
@@ -52,11 +53,11 @@ IsSurveyWordsEnd w v trusted old new failed fault = IsSurveyFilesEnd v.json w (s
 
 -- ---- as a call sees them, by the program's own words
 
-abbrev pub DiffsByWords : {S D W : Type 0} → Opener S D → (D → Device) → S → S → (W → Option (List ℕ)) → CountedRecord W → CountedRecord W → DiffWords → Type 0
-DiffsByWords relations state images images' contents writer writer' words = DiffsTrees (calls relations state images images') (diff_record words) (contents writer.inner) (contents writer'.inner)
+abbrev pub DiffsByWords : {S D W : Type 0} → Opener S D → (D → Device) → S → S → (W → Option (List ℕ)) → CountedRecord W → CountedRecord W → DiffWords → TrustedTrees → Type 0
+DiffsByWords relations state images images' contents writer writer' words trusted = DiffsTrees (calls relations state images images') (diff_record words) trusted (contents writer.inner) (contents writer'.inner)
 
-abbrev pub FailsDiffByWords : {S D W : Type 0} → Opener S D → (D → Device) → S → S → (W → Option (List ℕ)) → CountedRecord W → CountedRecord W → DiffWords → TreeFault → Type 0
-FailsDiffByWords relations state images images' contents writer writer' words = IsDiffWordsEnd (calls relations state images images') (diff_record words) (contents writer.inner) (contents writer'.inner) writer'.failed
+abbrev pub FailsDiffByWords : {S D W : Type 0} → Opener S D → (D → Device) → S → S → (W → Option (List ℕ)) → CountedRecord W → CountedRecord W → DiffWords → TrustedTrees → TreeFault → Type 0
+FailsDiffByWords relations state images images' contents writer writer' words trusted = IsDiffWordsEnd (calls relations state images images') (diff_record words) trusted (contents writer.inner) (contents writer'.inner) writer'.failed
 
 abbrev pub SurveysByWords : {S D W : Type 0} → Opener S D → (D → Device) → S → S → (W → Option (List ℕ)) → CountedRecord W → CountedRecord W → VerifyWords → TrustedRoot → Type 0
 SurveysByWords relations state images images' contents writer writer' words trusted = SurveysAt (calls relations state images images') (verify_record words) trusted (contents writer.inner) (contents writer'.inner)

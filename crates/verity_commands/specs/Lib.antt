@@ -5,7 +5,9 @@ pub mod Pinned
 pub mod Places
 pub mod Texts
 pub mod Trees
+pub mod TrustedTrees
 pub mod Openings
+pub mod OpenTrees
 pub mod Objects
 pub mod Diffs
 pub mod CheckedDiffs

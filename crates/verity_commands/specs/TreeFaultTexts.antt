@@ -1,5 +1,6 @@
 -- What is printed of commands on hash trees that end early, and their status.
 use Rattle.std.specs.Prelude.{ℕ, List, [], ◌++◌, codes, decimal}
+use Rattle.image_pin.specs.declared.mismatch.Mismatch.{Mismatch}
 use Rattle.image_pin.specs.Mismatches.{mismatch_name, mismatch_number}
 use Rattle.io_fault_text.specs.Opening.{open_text}
 use Rattle.io_fault_text.specs.Texts.{kind_then, no_memory, refused_text}
@@ -28,6 +29,10 @@ abbrev pub hash_image_text : Which → VerifyFault → List ℕ
 hash_image_text of verify.NoMemory = no_memory
 hash_image_text of fault = codes "refused " ++ kind_then (verify_number fault) (verify_name fault) (codes " " ++ (which_name of ++ codes "\n"))
 
+-- one of the superblocks differs from its pin
+abbrev pub unpinned_text : Which → Mismatch → List ℕ
+unpinned_text of mismatch = codes "refused " ++ kind_then (mismatch_number mismatch) (mismatch_name mismatch) (codes " " ++ (which_name of ++ codes "\n"))
+
 abbrev pub unlike_text : Unlike → List ℕ
 unlike_text unlike.DataBlockSize = codes "refused 20 OtherDataBlockSize\n"
 unlike_text unlike.HashBlockSize = codes "refused 21 OtherHashBlockSize\n"
@@ -39,6 +44,7 @@ hash_fault_text of level index = codes "fault hash " ++ (which_name of ++ (codes
 
 abbrev pub difference_text : DifferenceFault → List ℕ
 difference_text (difference.Image of fault) = hash_image_text of fault
+difference_text (difference.Unpinned of mismatch) = unpinned_text of mismatch
 difference_text (difference.Unlike found) = unlike_text found
 difference_text (difference.Hash of level index) = hash_fault_text of level index
 difference_text difference.NoMemory = no_memory

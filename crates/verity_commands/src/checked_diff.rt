@@ -1,11 +1,18 @@
 //! The command `diff --all`: which hash blocks of the second image are invalid, and which data blocks of two images differ.
-ghost use Rattle.std.specs.Prelude.{◌≡◌, false, OnOk, IfErr, IfOk};
-ghost use Rattle.tree_difference.specs.Differences.{seen_world};
-ghost use Rattle.verity_commands.specs.CheckedDiffs.{ChecksDevice, ChecksImages, FailsCheck, FailsToCheckDevice, FailsToCheckImages, FailsToSay, FindsWhole, IsCheckedCause, IsCheckedDifference, IsFoundEnd, IsWholeAndSame, SaysFound, check_fault, second_fault};
+ghost use Rattle.std.specs.Prelude.{◌≡◌, ◌≤◌, false, OnOk, IfErr, IfOk};
+ghost use Rattle.verity_format.specs.Image.{tree_sectors};
+ghost use Rattle.verity_format.specs.Superblock.{shape_of};
+ghost use Rattle.tree_difference.specs.Differences.{CanCompareTrees, seen_world};
+ghost use Rattle.tree_survey.specs.Failing.{IsReadOver};
+ghost use Rattle.tree_survey.specs.Hashes.{TellsTree};
+ghost use Rattle.tree_survey.specs.Passes.{super_tree};
+ghost use Rattle.verity_commands.specs.CheckedDiffs.{ChecksImages, FailsCheck, FailsToCheckDevice, FailsToCheckImages, FailsToSay, FindsWhole, IsCheckedCause, IsCheckedDifference, IsFoundEnd, IsWholeAndSame, SaysFound, check_fault, second_fault};
+ghost use Rattle.verity_commands.specs.Diffs.{CanCompareTwo};
 
 use crate::checked_object::say_object;
-use crate::diff::{is_unchanged, say_totals};
-use crate::paths::{HashPaths, TwoHashes, open_both};
+use crate::diff::{DiffForm, is_unchanged, say_totals};
+use crate::open_trees::{OpenTrees, open_trees};
+use crate::paths::{HashPaths, TwoHashes};
 use crate::tree_fault::TreeFault;
 use block_device::BlockDev;
 use image_files::Images;
@@ -13,17 +20,10 @@ use program_io::Counted;
 use runs::Listing;
 use std::alloc::Global;
 use std::io::Write;
-use tree_difference::{DifferenceFault, Roots, Totals, Which, compare_trees, superblock_of};
+use tree_difference::{DifferenceFault, Totals, TreePair, TrustedTrees, Which, compare_trees};
 use tree_shape::Digest;
 use tree_survey::{SurveyFault, survey_hashes};
-use verity_format::VerifyFault;
-
-/// How many runs are printed at most, and whether one JSON object is printed and no lines.
-#[derive(Clone, Copy, Debug, PartialEq, Eq)]
-pub struct DiffForm {
-    pub most: Option<u64>,
-    pub json: bool,
-}
+use verity_format::{Superblock, VerifyFault};
 
 /// How many data blocks differ, and whether each hash block of the second tree is valid.
 #[derive(Clone, Copy, Debug, PartialEq, Eq)]
@@ -32,9 +32,10 @@ pub struct CheckedTotals {
     pub whole_tree: bool,
 }
 
-/// `diff --all [--blocks N] [--json] HASH1 ROOT1 HASH2 ROOT2`: a line for each invalid hash block of the second tree, one for
-/// each longest run of data blocks that differ, and the totals; or one JSON object of all of them. The hash blocks come
-/// first, since the comparison ends at an invalid one that it reads.
+/// `diff --all [--blocks N] [--json] HASH1 HASH2`, with the root hashes or the pins that are trusted: a line for each invalid hash
+/// block of the second tree, one for each longest run of data blocks that differ, and the totals; or one JSON object of all of
+/// them. Nothing is printed before both superblocks were read and compared. The hash blocks come next, since the comparison ends
+/// at an invalid one that it reads.
 ///
 /// # Errors
 ///
@@ -43,28 +44,29 @@ pub fn check_images<'a, I: Images, W: Write>(
     alloc: Global,
     images: &mut I,
     paths: HashPaths<'a>,
-    roots: Roots,
+    trusted: &TrustedTrees,
     form: DiffForm,
     writer: &mut Counted<W>,
 ) -> Result<(), TreeFault<'a>>
-    ensures ok { OnOk result (ChecksImages I.relations I.Dev.state images.old images.new W.contents writer.old writer.new paths.entry roots form) }
-    ensures err { IfErr result (FailsToCheckImages I.relations I.Dev.state images.old images.new W.contents writer.old writer.new paths.entry roots form) }
+    ensures ok { OnOk result (ChecksImages I.relations I.Dev.state images.old images.new W.contents writer.old writer.new paths.entry trusted.now form) }
+    ensures err { IfErr result (FailsToCheckImages I.relations I.Dev.state images.old images.new W.contents writer.old writer.new paths.entry trusted.now form) }
 {
-    let mut two = open_both(images, paths)?;
-    check(alloc, &mut two, roots, form, writer)
+    let OpenTrees { mut two, pair } = open_trees(images, paths, trusted)?;
+    check(alloc, &mut two, &pair, form, writer)
 }
 
 fn check<'a, D: BlockDev, W: Write>(
     alloc: Global,
     two: &mut TwoHashes<D>,
-    roots: Roots,
+    pair: &TreePair,
     form: DiffForm,
     writer: &mut Counted<W>,
 ) -> Result<(), TreeFault<'a>>
-    ensures ok { OnOk result (FindsWhole D.state two.old two.new W.contents writer.old writer.new roots form) }
-    ensures err { IfErr result (FailsCheck D.state two.old two.new W.contents writer.old writer.new roots form) }
+    requires { CanCompareTwo D.state two.old pair.now }
+    ensures ok { OnOk result (FindsWhole D.state two.old two.new W.contents writer.old writer.new pair.now form) }
+    ensures err { IfErr result (FailsCheck D.state two.old two.new W.contents writer.old writer.new pair.now form) }
 {
-    let found = say_checked(alloc, two, roots, form, writer)?;
+    let found = say_checked(alloc, two, pair, form, writer)?;
     end_of(found)
 }
 
@@ -72,33 +74,35 @@ fn check<'a, D: BlockDev, W: Write>(
 fn say_checked<'a, D: BlockDev, W: Write>(
     alloc: Global,
     two: &mut TwoHashes<D>,
-    roots: Roots,
+    pair: &TreePair,
     form: DiffForm,
     writer: &mut Counted<W>,
 ) -> Result<CheckedTotals, TreeFault<'a>>
-    ensures ok { IfOk result (SaysFound form.json D.state two.old two.new W.contents writer.old writer.new roots form.most) }
-    ensures err { IfErr result (FailsToSay form.json D.state two.old two.new W.contents writer.old writer.new roots) }
+    requires { CanCompareTwo D.state two.old pair.now }
+    ensures ok { IfOk result (SaysFound form.json D.state two.old two.new W.contents writer.old writer.new pair.now form.most) }
+    ensures err { IfErr result (FailsToSay form.json D.state two.old two.new W.contents writer.old writer.new pair.now) }
 {
     let DiffForm { most, json } = form;
     if json {
-        return say_object(alloc, two, roots, most, writer);
+        return say_object(alloc, two, pair, most, writer);
     }
-    say_lines(alloc, two, roots, most, writer)
+    say_lines(alloc, two, pair, most, writer)
 }
 
 fn say_lines<'a, D: BlockDev, W: Write>(
     alloc: Global,
     two: &mut TwoHashes<D>,
-    roots: Roots,
+    pair: &TreePair,
     most: Option<u64>,
     writer: &mut Counted<W>,
 ) -> Result<CheckedTotals, TreeFault<'a>>
-    ensures ok { IfOk result (SaysFound false D.state two.old two.new W.contents writer.old writer.new roots most) }
-    ensures err { IfErr result (FailsToSay false D.state two.old two.new W.contents writer.old writer.new roots) }
+    requires { CanCompareTwo D.state two.old pair.now }
+    ensures ok { IfOk result (SaysFound false D.state two.old two.new W.contents writer.old writer.new pair.now most) }
+    ensures err { IfErr result (FailsToSay false D.state two.old two.new W.contents writer.old writer.new pair.now) }
 {
     let first = &mut two.first.device;
     let second = &mut two.second.device;
-    let found = compare_checked(alloc, first, second, roots, most, writer)?;
+    let found = compare_checked(alloc, first, second, pair, most, writer)?;
     say_totals(writer, found.totals)?;
     Ok(found)
 }
@@ -108,15 +112,16 @@ pub(crate) fn compare_checked<D: BlockDev, E: BlockDev, L: Listing>(
     alloc: Global,
     first: &mut D,
     second: &mut E,
-    roots: Roots,
+    pair: &TreePair,
     most: Option<u64>,
     listing: &mut L,
 ) -> Result<CheckedTotals, DifferenceFault>
-    ensures ok { IfOk result (IsCheckedDifference (seen_world D.state E.state L.told first.old second.old first.new second.new listing.old listing.new) roots most) }
-    ensures err { IfErr result (IsCheckedCause (seen_world D.state E.state L.told first.old second.old first.new second.new listing.old listing.new) roots (L.failed listing.new)) }
+    requires { CanCompareTrees pair.now (D.state first.old) (E.state second.old) }
+    ensures ok { IfOk result (IsCheckedDifference (seen_world D.state E.state L.told first.old second.old first.new second.new listing.old listing.new) pair.now most) }
+    ensures err { IfErr result (IsCheckedCause (seen_world D.state E.state L.told first.old second.old first.new second.new listing.old listing.new) pair.now (L.failed listing.new)) }
 {
-    let whole_tree = check_second(alloc, second, &roots.second, listing)?;
-    let totals = compare_trees(alloc, first, second, roots, most, listing)?;
+    let whole_tree = check_second(alloc, second, &pair.second, &pair.roots.second, listing)?;
+    let totals = compare_trees(alloc, first, second, pair, most, listing)?;
     Ok(CheckedTotals { totals, whole_tree })
 }
 
@@ -124,14 +129,16 @@ pub(crate) fn compare_checked<D: BlockDev, E: BlockDev, L: Listing>(
 fn check_second<H: BlockDev, L: Listing>(
     alloc: Global,
     device: &mut H,
+    superblock: &Superblock,
     root: &Digest,
     listing: &mut L,
 ) -> Result<bool, DifferenceFault>
-    ensures ok { IfOk result (ChecksDevice H.state L.told device.old device.new root.now listing.old listing.new) }
+    requires { tree_sectors (shape_of superblock.now) ≤ (H.state device.old).size }
+    ensures over { IsReadOver (H.state device.old) (H.state device.new) }
+    ensures ok { IfOk result (TellsTree H.state L.told (super_tree superblock.now root.now) device.old device.new listing.old listing.new) }
     ensures err { IfErr result (FailsToCheckDevice H.state device.old device.new (L.failed listing.new)) }
 {
-    let superblock = superblock_of(device, Which::Second)?;
-    match survey_hashes(alloc, device, &superblock, root, listing) {
+    match survey_hashes(alloc, device, superblock, root, listing) {
         Ok(whole) => Ok(whole),
         Err(fault) => Err(check_fault(fault)),
     }

@@ -5,6 +5,7 @@ ghost use Rattle.program_io.specs.JsonLines.{json_line};
 ghost use Rattle.serde_json.specs.View.{view};
 ghost use Rattle.tree_difference.specs.declared.fault.DifferenceFault.TheVariants as difference_fault;
 ghost use Rattle.verity_commands.specs.CheckedDiffs.{FailsToKeepCheck, FailsToSay, IsCheckedDifference, SaysFound, kept_world};
+ghost use Rattle.verity_commands.specs.Diffs.{CanCompareTwo};
 ghost use Rattle.verity_commands.specs.Objects.{checked_json};
 
 use crate::checked_diff::{CheckedTotals, compare_checked};
@@ -17,21 +18,22 @@ use runs::{KeptLines, Line, hashes_value, runs_value, says_more};
 use serde_json::{Value, json};
 use std::alloc::{AllocError, Global};
 use std::io::Write;
-use tree_difference::{DifferenceFault, Roots, Totals};
+use tree_difference::{DifferenceFault, Totals, TreePair};
 
 /// Checks the second tree and compares both, and prints an object at the end.
 pub(crate) fn say_object<'a, D: BlockDev, W: Write>(
     alloc: Global,
     two: &mut TwoHashes<D>,
-    roots: Roots,
+    pair: &TreePair,
     most: Option<u64>,
     writer: &mut Counted<W>,
 ) -> Result<CheckedTotals, TreeFault<'a>>
-    ensures ok { IfOk result (SaysFound true D.state two.old two.new W.contents writer.old writer.new roots most) }
-    ensures err { IfErr result (FailsToSay true D.state two.old two.new W.contents writer.old writer.new roots) }
+    requires { CanCompareTwo D.state two.old pair.now }
+    ensures ok { IfOk result (SaysFound true D.state two.old two.new W.contents writer.old writer.new pair.now most) }
+    ensures err { IfErr result (FailsToSay true D.state two.old two.new W.contents writer.old writer.new pair.now) }
 {
     let mut kept = KeptLines::new(alloc);
-    let found = keep_checked(alloc, two, roots, most, &mut kept)?;
+    let found = keep_checked(alloc, two, pair, most, &mut kept)?;
     let line = checked_line(alloc, kept.lines.as_slice(), found.totals)?;
     writer.put(line.as_bytes())?;
     Ok(found)
@@ -42,16 +44,17 @@ pub(crate) fn say_object<'a, D: BlockDev, W: Write>(
 fn keep_checked<D: BlockDev>(
     alloc: Global,
     two: &mut TwoHashes<D>,
-    roots: Roots,
+    pair: &TreePair,
     most: Option<u64>,
     kept: &mut KeptLines,
 ) -> Result<CheckedTotals, DifferenceFault>
-    ensures ok { IfOk result (IsCheckedDifference (kept_world D.state two.old two.new kept.old kept.new) roots most) }
-    ensures err { IfErr result (FailsToKeepCheck D.state two.old two.new roots) }
+    requires { CanCompareTwo D.state two.old pair.now }
+    ensures ok { IfOk result (IsCheckedDifference (kept_world D.state two.old two.new kept.old kept.new) pair.now most) }
+    ensures err { IfErr result (FailsToKeepCheck D.state two.old two.new pair.now) }
 {
     let first = &mut two.first.device;
     let second = &mut two.second.device;
-    match compare_checked(alloc, first, second, roots, most, kept) {
+    match compare_checked(alloc, first, second, pair, most, kept) {
         Ok(found) => Ok(found),
         Err(fault) => Err(unkept(fault)),
     }

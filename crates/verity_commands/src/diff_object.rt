@@ -4,7 +4,7 @@ ghost use Rattle.program_io.specs.JsonLines.{json_line};
 ghost use Rattle.serde_json.specs.View.{view};
 ghost use Rattle.tree_difference.specs.declared.fault.DifferenceFault.TheVariants as difference_fault;
 ghost use Rattle.tree_difference.specs.Differences.{IsDifference};
-ghost use Rattle.verity_commands.specs.Diffs.{FailsDiff, FailsToListDiff, FindsSame, listed_diff, unkept_difference};
+ghost use Rattle.verity_commands.specs.Diffs.{CanCompareTwo, FailsDiff, FailsToListDiff, FindsSame, listed_diff, unkept_difference};
 ghost use Rattle.verity_commands.specs.Objects.{difference_json};
 
 use crate::diff::is_unchanged;
@@ -16,21 +16,22 @@ use runs::{KeptLines, Line, runs_value, says_more};
 use serde_json::{Value, json};
 use std::alloc::{AllocError, Global};
 use std::io::Write;
-use tree_difference::{DifferenceFault, Roots, Totals, compare_trees};
+use tree_difference::{DifferenceFault, Totals, TreePair, compare_trees};
 
 /// Compares the trees of the two hash images, and prints an object at the end.
 pub(crate) fn diff_object<'a, D: BlockDev, W: Write>(
     alloc: Global,
     two: &mut TwoHashes<D>,
-    roots: Roots,
+    pair: &TreePair,
     most: Option<u64>,
     writer: &mut Counted<W>,
 ) -> Result<(), TreeFault<'a>>
-    ensures ok { OnOk result (FindsSame true D.state two.old two.new W.contents writer.old writer.new roots most) }
-    ensures err { IfErr result (FailsDiff true D.state two.old two.new W.contents writer.old writer.new roots most) }
+    requires { CanCompareTwo D.state two.old pair.now }
+    ensures ok { OnOk result (FindsSame true D.state two.old two.new W.contents writer.old writer.new pair.now most) }
+    ensures err { IfErr result (FailsDiff true D.state two.old two.new W.contents writer.old writer.new pair.now most) }
 {
     let mut kept = KeptLines::new(alloc);
-    let totals = keep_difference(alloc, two, roots, most, &mut kept)?;
+    let totals = keep_difference(alloc, two, pair, most, &mut kept)?;
     let line = difference_line(alloc, kept.lines.as_slice(), totals)?;
     writer.put(line.as_bytes())?;
     if !is_unchanged(totals) {
@@ -44,16 +45,17 @@ pub(crate) fn diff_object<'a, D: BlockDev, W: Write>(
 fn keep_difference<D: BlockDev>(
     alloc: Global,
     two: &mut TwoHashes<D>,
-    roots: Roots,
+    pair: &TreePair,
     most: Option<u64>,
     kept: &mut KeptLines,
 ) -> Result<Totals, DifferenceFault>
-    ensures ok { IfOk result (IsDifference (listed_diff D.state two.old two.new kept.old kept.new) roots most) }
-    ensures err { IfErr result (FailsToListDiff D.state two.old two.new roots) }
+    requires { CanCompareTwo D.state two.old pair.now }
+    ensures ok { IfOk result (IsDifference (listed_diff D.state two.old two.new kept.old kept.new) pair.now most) }
+    ensures err { IfErr result (FailsToListDiff D.state two.old two.new pair.now) }
 {
     let first = &mut two.first.device;
     let second = &mut two.second.device;
-    match compare_trees(alloc, first, second, roots, most, kept) {
+    match compare_trees(alloc, first, second, pair, most, kept) {
         Ok(totals) => Ok(totals),
         Err(fault) => Err(unkept(fault)),
     }
@@ -66,6 +68,7 @@ pub(crate) fn unkept(fault: DifferenceFault) -> DifferenceFault
     match fault {
         DifferenceFault::Write => DifferenceFault::NoMemory,
         DifferenceFault::Image(which, image) => DifferenceFault::Image(which, image),
+        DifferenceFault::Unpinned(which, mismatch) => DifferenceFault::Unpinned(which, mismatch),
         DifferenceFault::Unlike(unlike) => DifferenceFault::Unlike(unlike),
         DifferenceFault::Hash(which, level, index) => DifferenceFault::Hash(which, level, index),
         DifferenceFault::NoMemory => DifferenceFault::NoMemory,

@@ -2,8 +2,8 @@
 ghost use Rattle.std.specs.Prelude.{OnOk, IfErr};
 ghost use Rattle.verity_commands.specs.Invocations.{DiffsByWords, FailsDiffByWords, FailsSurveyByWords, SurveysByWords};
 
-use crate::checked_diff::{DiffForm, check_images};
-use crate::diff::diff_images;
+use crate::checked_diff::check_images;
+use crate::diff::{DiffForm, diff_images};
 use crate::paths::HashPaths;
 use crate::survey::{SurveyOrder, survey_images};
 use crate::tree_fault::TreeFault;
@@ -14,7 +14,7 @@ use image_files::Images;
 use program_io::Counted;
 use std::alloc::Global;
 use std::io::Write;
-use tree_difference::Roots;
+use tree_difference::TrustedTrees;
 
 const SECTOR: u64 = 512;
 
@@ -40,36 +40,27 @@ pub fn invoke_survey<'a, I: Images, S: Watchers, W: Write>(
     survey_images(alloc, images, watchers, order, trusted, writer)
 }
 
-/// `diff [--all] [--blocks N] [--json] HASH1 ROOT1 HASH2 ROOT2`
+/// `diff [--all] [--blocks N] [--json] HASH1 HASH2`, with the root hashes or the pins that are trusted.
 pub fn invoke_diff<'a, I: Images, W: Write>(
     alloc: Global,
     images: &mut I,
-    words: DiffWords<'a>,
+    words: &DiffWords<'a>,
+    trusted: &TrustedTrees,
     writer: &mut Counted<W>,
 ) -> Result<(), TreeFault<'a>>
-    ensures ok { OnOk result (DiffsByWords I.relations I.Dev.state images.old images.new W.contents writer.old writer.new words.entry) }
-    ensures err { IfErr result (FailsDiffByWords I.relations I.Dev.state images.old images.new W.contents writer.old writer.new words.entry) }
+    ensures ok { OnOk result (DiffsByWords I.relations I.Dev.state images.old images.new W.contents writer.old writer.new words.now trusted.now) }
+    ensures err { IfErr result (FailsDiffByWords I.relations I.Dev.state images.old images.new W.contents writer.old writer.new words.now trusted.now) }
 {
-    let DiffWords {
-        old_path,
-        old_root,
-        new_path,
-        new_root,
-        blocks,
-        all,
-        json,
-    } = words;
     let paths = HashPaths {
-        first: old_path,
-        second: new_path,
+        first: words.old_path,
+        second: words.new_path,
     };
-    let roots = Roots {
-        first: old_root,
-        second: new_root,
+    let form = DiffForm {
+        most: words.blocks,
+        json: words.json,
     };
-    if all {
-        let form = DiffForm { most: blocks, json };
-        return check_images(alloc, images, paths, roots, form, writer);
+    if words.all {
+        return check_images(alloc, images, paths, trusted, form, writer);
     }
-    diff_images(alloc, images, paths, roots, blocks, json, writer)
+    diff_images(alloc, images, paths, trusted, form, writer)
 }

@@ -2,9 +2,10 @@
 //! that aren't good.
 ghost use Rattle.std.specs.Prelude.{◌≡◌};
 ghost use Rattle.program_io.specs.Counted.{Writes};
-ghost use Rattle.verity_commands.specs.TreeFaultTexts.{difference_text, hash_image_text, image_fault_text, survey_text, tree_status, tree_fault_text, unlike_text, which_name};
+ghost use Rattle.verity_commands.specs.TreeFaultTexts.{difference_text, hash_image_text, image_fault_text, survey_text, tree_status, tree_fault_text, unlike_text, unpinned_text, which_name};
 
 use crate::tree_fault::TreeFault;
+use image_pin::Mismatch;
 use io_fault_text::{say_no_memory, say_refused, say_unopened};
 use program_io::{Counted, WriteFault};
 use std::io::Write;
@@ -55,6 +56,7 @@ fn say_difference_fault<W: Write>(
 {
     match fault {
         DifferenceFault::Image(which, fault) => say_hash_image(writer, which, fault),
+        DifferenceFault::Unpinned(which, mismatch) => say_unpinned(writer, which, mismatch),
         DifferenceFault::Unlike(unlike) => say_unlike(writer, unlike),
         DifferenceFault::Hash(which, level, index) => {
             let name = which_name(which);
@@ -86,6 +88,19 @@ fn say_hash_image<W: Write>(
         return say_no_memory(writer);
     }
     let (number, name) = (fault.number(), fault.name());
+    let which = which_name(which);
+    writer.print(format_args!("refused {number} {name} {which}\n"))
+}
+
+// `refused K NAME first` or `second`, by the value that differs from the pin's
+fn say_unpinned<W: Write>(
+    writer: &mut Counted<W>,
+    which: Which,
+    mismatch: Mismatch,
+) -> Result<(), WriteFault>
+    ensures { Writes W.contents writer.old writer.new (unpinned_text which mismatch) result }
+{
+    let (number, name) = (mismatch.number(), mismatch.name());
     let which = which_name(which);
     writer.print(format_args!("refused {number} {name} {which}\n"))
 }

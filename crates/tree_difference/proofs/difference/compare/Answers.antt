@@ -1,23 +1,19 @@
-use Rattle.std.proofs.Common.{◌≡◌, ◌≢◌, ◌≤◌, ◌<◌, ◌+◌, ◌-◌, ◌*◌, ◌/◌, ◌^◌, ℕ, zero, min, Bool, true, false, IsTrue, List, [], ◌++◌, length, replicate, Option, None, Some, refl, sym, ap, ◌∙◌, arith, subst}
+use Rattle.std.proofs.Common.{◌≡◌, ◌≢◌, ◌≤◌, ◌<◌, ◌+◌, ◌-◌, ◌^◌, ℕ, min, List, ◌++◌, replicate, Option, None, Some, refl, sym, ap, ◌∙◌, arith, subst}
 use Rattle.std.proofs.lemmas.Bool.{false≢true}
-use Rattle.std.proofs.lemmas.List.{length-replicate}
 use Rattle.std.proofs.lemmas.Slice.Eq.{bytes_eq-Decides}
 use Rattle.block_device.specs.Device.{Device}
 use Rattle.tree_shape.specs.Shape.{ShapeRecord, per_block}
 use Rattle.tree_path.specs.Path.{digest_on}
 use Rattle.tree_path.specs.Spans.{IsTopAt}
 use Rattle.runs.specs.declared.kind.Kind.TheVariants.{Changed}
-use Rattle.runs.specs.declared.tally.Tally.{Tally}
-use Rattle.runs.specs.Kinds.{State, count_of}
-use Rattle.runs.specs.Tallies.{EndsAt}
-use Rattle.runs.proofs.lemmas.ListingLemmas.{listed-ends, listed-had, listed-none, listed-run}
+use Rattle.runs.specs.Kinds.{count_of}
+use Rattle.runs.proofs.lemmas.ListingLemmas.{listed-had, listed-none, listed-run}
 use Rattle.runs.proofs.lemmas.KindLemmas.{count_of-append, count_of-had, count_of-some}
 use Rattle.tree_difference.specs.declared.walk.Walk.{Walk}
 use Rattle.tree_difference.specs.Comparisons.{DifferenceWorld, difference_world}
-use Rattle.tree_difference.specs.Differences.{trees_in}
-use Rattle.tree_difference.proofs.EndLemmas.{span-some, blocks-few, changed-few, reads-all, top-is, underway-all, walk-comparison}
+use Rattle.tree_difference.proofs.EndLemmas.{span-some, blocks-few, changed-few, underway-all, walk-comparison}
 use Rattle.tree_difference.proofs.ErrLemmas.{err-from}
-use Rattle.tree_difference.proofs.UnderwayLemmas.{IsNext, IsUnderway, count-inside, count-some, have-block, next-of, progress, seen-changed, seen-same, stored-changed, stored-same, top-of, underway-next, underway-none, width}
+use Rattle.tree_difference.proofs.UnderwayLemmas.{IsNext, count-some, have-block, next-of, progress, seen-changed, seen-same, stored-changed, stored-same, top-of, underway-next, underway-none, width}
 use Rattle.tree_difference.proofs.WalkLemmas.{cause-then, on-read}
 use Rattle.tree_difference.proofs.difference.compare.Goals as goal
 use Rattle.tree_difference.proofs.difference.compare.Goals.{then-stop+in_ok-close, else-stop+in_ok-add}

@@ -1,21 +1,29 @@
-use Rattle.std.proofs.Common.{inr}
+use Rattle.std.proofs.Common.{inl, inr, refl}
 use Rattle.std.proofs.lemmas.Result.{IfErr-weaker, on_ok_weaker}
+use Rattle.verity_commands.proofs.OpeningLemmas.{err-from, found-can}
 use Rattle.verity_commands.proofs.checked_diff.check_images.Goals as goal
+
+pub check-requires : goal.check-requires
+check-requires g c = found-can _ _ _ _ c.in_ok-open_trees.ensures.ok
+
+pub returns-in_err-open_trees-clause-err : goal.returns-in_err-open_trees-clause-err
+returns-in_err-open_trees-clause-err g c =
+    err-from c.from_residual.result _ c.in_err-open_trees.field-0.0 c.from_residual.ensures.1 (inl (c.in_err-open_trees.ensures.err, refl))
 
 pub returns-clause-ok : goal.returns-clause-ok
 returns-clause-ok g c = on_ok_weaker c.check.result (λ done. record {
-  two = c.in_ok-two.two;
+  found = c.in_ok-open_trees.field-0;
   first' = c.check.new.two.first.device;
   second' = c.check.new.two.second.device;
-  opened = c.in_ok-two.ensures.ok;
+  opened = c.in_ok-open_trees.ensures.ok;
   holds = done;
 }) c.check.ensures.ok
 
 pub returns-clause-err : goal.returns-clause-err
 returns-clause-err g c = IfErr-weaker c.check.result _ _ (λ fault ends. inr (record {
-  two = c.in_ok-two.two;
+  found = c.in_ok-open_trees.field-0;
   first' = c.check.new.two.first.device;
   second' = c.check.new.two.second.device;
-  opened = c.in_ok-two.ensures.ok;
+  opened = c.in_ok-open_trees.ensures.ok;
   holds = ends;
 })) c.check.ensures.err

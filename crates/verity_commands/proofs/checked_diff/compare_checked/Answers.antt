@@ -1,6 +1,13 @@
-use Rattle.std.proofs.Common.{inl, inr}
+use Rattle.std.proofs.Common.{arith, inl, inr}
 use Rattle.verity_commands.proofs.OpeningLemmas.{err-from}
 use Rattle.verity_commands.proofs.checked_diff.compare_checked.Goals as goal
+
+pub compare_trees-requires : goal.compare_trees-requires
+compare_trees-requires g c = record {
+  alike = c.requires.alike;
+  first_fits = c.requires.first_fits;
+  second_fits = omega (arith, c.requires.second_fits, c.check_second.ensures.over.read.same.size);
+}
 
 pub returns-in_err-whole_tree-clause-err : goal.returns-in_err-whole_tree-clause-err
 returns-in_err-whole_tree-clause-err g c =
@@ -14,7 +21,7 @@ returns-in_err-totals-clause-err g c =
       whole = c.in_ok-whole_tree.whole_tree;
       middle = g.E.BlockDev.state c.check_second.new.device;
       between = g.L.Listing.told c.check_second.new.listing;
-      checks = c.in_ok-whole_tree.ensures.ok;
+      checks = record { over = c.check_second.ensures.over; tells = c.in_ok-whole_tree.ensures.ok };
       cause = c.in_err-totals.ensures.err;
     }))
 
@@ -22,6 +29,6 @@ pub returns-clause-ok : goal.returns-clause-ok
 returns-clause-ok g c = record {
   middle = g.E.BlockDev.state c.check_second.new.device;
   between = g.L.Listing.told c.check_second.new.listing;
-  checks = c.in_ok-whole_tree.ensures.ok;
+  checks = record { over = c.check_second.ensures.over; tells = c.in_ok-whole_tree.ensures.ok };
   difference = c.in_ok-totals.ensures.ok;
 }

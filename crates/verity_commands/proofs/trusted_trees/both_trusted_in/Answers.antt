@@ -1,0 +1,18 @@
+use Rattle.std.proofs.Common.{inr, refl}
+use Rattle.verity_commands.proofs.OpeningLemmas.{err-from}
+use Rattle.verity_commands.proofs.trusted_trees.both_trusted_in.Goals as goal
+
+pub returns-in_err-second-clause-err : goal.returns-in_err-second-clause-err
+returns-in_err-second-clause-err g c =
+    err-from c.from_residual-in_err-second.result _ c.in_err-second.field-0.0 c.from_residual-in_err-second.ensures.1
+    (inr (record { between = c.trusted_in.new.images; first = c.in_ok-first.first; first_told = c.in_ok-first.ensures.ok; ends = c.in_err-second.ensures.err }))
+
+pub returns-clause-ok : goal.returns-clause-ok
+returns-clause-ok g c = record {
+  between = c.trusted_in.new.images;
+  first = c.in_ok-first.first;
+  second = c.in_ok-second.second;
+  first_told = c.in_ok-first.ensures.ok;
+  second_told = c.in_ok-second.ensures.ok;
+  is = refl;
+}
