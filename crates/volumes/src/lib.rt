@@ -1,9 +1,17 @@
-//! The door for other programs.
+//! The door for other programs: devices of 512-byte sectors, verity images, stacks of tables, and the NBD service. What is
+//! listed here keeps its name and meaning; each item is documented in the crate that defines it.
 #![tactic(auto)]
 
 mod image;
 
 pub use block_device::{BlockDev, DeviceFault, FileDev, MemoryDev, OpenFault, SyncDev};
 pub use image::{BlockFault, VerityImage};
+pub use nbd_server::{Export, ServiceFault, serve};
+pub use program_io::{Counted, WriteFault};
+pub use request_queue::{BytesFault, Queue, Reply, Request, RunFault};
+pub use stack_config::{Config, DevId, Leaf};
+pub use stack_engine::{Fault, IoFault, Stack};
+pub use stack_loader::{LoadFault, Refusal, config_over};
+pub use table_text::parse_stack;
 pub use tree_shape::{Algorithm, Digest, Salt, Shape};
 pub use verity_format::{FormatFault, FormatOptions, SuperFault, VerityTree, VerifyFault, format_with, image_sectors};
