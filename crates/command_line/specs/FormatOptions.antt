@@ -40,6 +40,7 @@ pub record OptionTexts : Type 0 where
   pub fec : Option (List ℕ)
   pub fec_roots : Option (List ℕ)
   pub pin : Option (List ℕ)
+  pub old_pin : Option (List ℕ)
   pub all : Bool
   pub stack : Bool
   pub no_superblock : Bool
@@ -76,6 +77,7 @@ option_texts words = record {
   fec = text_of words.fec;
   fec_roots = text_of words.fec_roots;
   pin = text_of words.pin;
+  old_pin = text_of words.old_pin;
   all = words.all;
   stack = words.stack;
   no_superblock = words.no_superblock;

@@ -1,5 +1,5 @@
 -- What the values of options say.
-use Rattle.std.specs.Prelude.{ℕ, Bool, true, false, ◌==◌, ◌||◌, ◌%◌, nat_le, List, length, codes, Option, Some, None, Ok, option_map, if◌then◌else◌}
+use Rattle.std.specs.Prelude.{ℕ, Bool, true, false, ◌==◌, ◌||◌, ◌%◌, nat_le, List, length, codes, Option, Some, None, Ok, is_some, option_map, if◌then◌else◌}
 use Rattle.std.specs.Borrow.{Bor}
 use Rattle.std.specs.Result.{result_ok}
 use Rattle.std.specs.Str.{bytes_eq}
@@ -7,10 +7,10 @@ use Rattle.hex.specs.Hex.{decode_sized}
 use Rattle.dm_table.specs.Names.{is_mapped_name}
 use Rattle.dm_table.specs.Numbers.{number, number_if}
 use Rattle.command_line.specs.FormatOptions.{texts_of}
-use Rattle.command_line.specs.Misuses.{Reading, misused, wanted, when}
-use Rattle.command_line.specs.declared.misuse.Cause.TheVariants.{CacheBlocks, FilePath, MappedName, Missing, Number, Offset, RootHash, RunCount, SectorSize, WithRoot, WithStack}
+use Rattle.command_line.specs.Misuses.{Reading, misused, refuse_if, wanted, when}
+use Rattle.command_line.specs.declared.misuse.Cause.TheVariants.{CacheBlocks, FilePath, MappedName, Missing, Number, Offset, RootHash, RunCount, SectorSize, WithPin, WithRoot, WithStack}
 use Rattle.command_line.specs.declared.values.PartitionForm.{PartitionForm}
-use Rattle.command_line.specs.declared.values.PartitionForm.TheVariants.{Lines, Object, Stack, Root}
+use Rattle.command_line.specs.declared.values.PartitionForm.TheVariants.{Lines, Object, Stack, Root, Pin as PinForm}
 use Rattle.command_line.specs.declared.values.RootOrPin.{RootOrPin}
 use Rattle.command_line.specs.declared.values.RootOrPin.TheVariants.{Root as RootAlone, Pin}
 use Rattle.command_line.specs.declared.values.RootWord.{RootWord}
@@ -83,22 +83,41 @@ pub data RootOrPinRecord : Type 0 where
   root_word : RootRecord → RootOrPinRecord
   pin_file : List ℕ → RootOrPinRecord
 
--- how partitions are printed: a line each, as a JSON object, as a stack text, or as the stack text of the partitions of a root
+-- the pin of that option if it is there, or else the root digest of the argument of that name
+unfoldable pub root_or_pin_said : List ℕ → Option (List ℕ) → List ℕ → List ℕ → Reading RootOrPinRecord
+root_or_pin_said option None name word = when (root_said name word) (λ bytes. Ok (root_word (digest bytes)))
+root_or_pin_said option (Some file) name word = when (path_said option file) (λ path. Ok (pin_file path))
+
+-- how partitions are printed: a line each, as a JSON object, as a stack text, or as the stack text of the partitions of a root, or of
+-- the root of a pin's file
 pub data FormRecord : Type 0 where
   lines : FormRecord
   object : FormRecord
   stack : FormRecord
   root : List ℕ → FormRecord
+  pin : List ℕ → FormRecord
 
 -- at most one of `--root ROOT`, `--stack` and `--json` is given
-unfoldable pub form_of : Option (List ℕ) → Bool → Bool → Reading FormRecord
-form_of None false false = Ok lines
-form_of None false true = Ok object
-form_of None true false = Ok stack
-form_of None true true = misused (codes "--json") WithStack
-form_of (Some word) true is_object = misused (codes "--stack") WithRoot
-form_of (Some word) false true = misused (codes "--json") WithRoot
-form_of (Some word) false false = when (root_said (codes "--root") word) (λ bytes. Ok (root bytes))
+unfoldable pub form_without_pin : Option (List ℕ) → Bool → Bool → Reading FormRecord
+form_without_pin None false false = Ok lines
+form_without_pin None false true = Ok object
+form_without_pin None true false = Ok stack
+form_without_pin None true true = misused (codes "--json") WithStack
+form_without_pin (Some word) true is_object = misused (codes "--stack") WithRoot
+form_without_pin (Some word) false true = misused (codes "--json") WithRoot
+form_without_pin (Some word) false false = when (root_said (codes "--root") word) (λ bytes. Ok (root bytes))
+
+-- none of them is given beside `--pin FILE`
+unfoldable pub form_with_pin : List ℕ → Option (List ℕ) → Bool → Bool → Reading FormRecord
+form_with_pin file root is_stack is_object =
+    when (refuse_if (is_some root) (codes "--root") WithPin) (λ a.
+    when (refuse_if is_stack (codes "--stack") WithPin) (λ b.
+    when (refuse_if is_object (codes "--json") WithPin) (λ c. when (path_said (codes "--pin") file) (λ path. Ok (pin path)))))
+
+-- at most one of `--pin FILE`, `--root ROOT`, `--stack` and `--json` is given
+unfoldable pub form_of : Option (List ℕ) → Option (List ℕ) → Bool → Bool → Reading FormRecord
+form_of None root is_stack is_object = form_without_pin root is_stack is_object
+form_of (Some file) root is_stack is_object = form_with_pin file root is_stack is_object
 
 -- what the program's own values say
 abbrev pub root_record : RootWord → RootRecord
@@ -120,3 +139,4 @@ form_record Lines = lines
 form_record Object = object
 form_record Stack = stack
 form_record (Root bytes) = root bytes
+form_record (PinForm path) = pin path.now

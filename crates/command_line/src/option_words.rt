@@ -26,6 +26,7 @@ pub struct OptionWords<'a> {
     pub fec: Option<&'a str>,
     pub fec_roots: Option<&'a str>,
     pub pin: Option<&'a str>,
+    pub old_pin: Option<&'a str>,
     pub all: bool,
     pub stack: bool,
     pub no_superblock: bool,

@@ -1,7 +1,7 @@
 //! The positional arguments, one after the other.
 ghost use Rattle.command_line.specs.FormatOptions.{text_of, texts_of};
 ghost use Rattle.command_line.specs.Misuses.{ReadsValue};
-ghost use Rattle.command_line.specs.Positional.{device_at, device_names, next_number, next_word, no_more, number_at, positional, root_alone, root_first, root_or_pin_alone, root_or_pin_first};
+ghost use Rattle.command_line.specs.Positional.{device_at, device_names, next_number, next_word, no_more, number_at, positional, root_alone, root_first, root_or_pin_alone, root_or_pin_first, word_or_pin};
 ghost use Rattle.command_line.specs.Values.{root_first_record, root_or_pin_first_record, root_or_pin_record, root_record};
 
 use crate::misuse::{Cause, Misuse, refuse_if};
@@ -129,6 +129,21 @@ pub fn root_or_pin_alone<'a>(
             Ok(root)
         }
         Err(misuse) => Err(misuse),
+    }
+}
+
+/// The next positional argument, whose name in the usage is `name`, unless a pin is given in its place, and the arguments after it.
+#[tactic(auto, unfolding(crate::specs::Positional::word_or_pin))]
+pub fn word_or_pin<'a, 'b>(
+    pin: Option<&'a str>,
+    name: &'a str,
+    words: &'b [&'a str],
+) -> Result<(&'a str, &'b [&'a str]), Misuse<'a>>
+    ensures { ReadsValue next_word (word_or_pin (text_of pin.entry) name.now (texts_of words.now)) result }
+{
+    match pin {
+        Some(path) => Ok((path, words)),
+        None => positional(name, words),
     }
 }
 

@@ -2,9 +2,9 @@
 ghost use Rattle.std.specs.Prelude.{◌≡◌};
 ghost use Rattle.command_line.specs.FormatOptions.{text_of};
 ghost use Rattle.command_line.specs.Misuses.{ReadsValue};
-ghost use Rattle.command_line.specs.Values.{cache_said, count_said, first_said, form_of, form_record, map_said, name_said, offset_of, path_said, pin_of, root_of, root_said, runs_said, sector_size_of};
+ghost use Rattle.command_line.specs.Values.{cache_said, count_said, first_said, form_of, form_record, form_with_pin, form_without_pin, map_said, name_said, offset_of, path_said, pin_of, root_of, root_or_pin_record, root_or_pin_said, root_said, runs_said, sector_size_of};
 
-use crate::misuse::{Cause, Misuse};
+use crate::misuse::{Cause, Misuse, refuse_if};
 use dm_table::is_mapped_name;
 use table_text::number;
 use tree_shape::Digest;
@@ -32,13 +32,14 @@ pub enum RootOrPin<'a> {
 }
 
 /// How partitions are printed: a line each, as a JSON object, as a stack text, or as the stack text of the partitions that belong to a
-/// root.
+/// root, or to the root of a pin's file.
 #[derive(Clone, Copy)]
-pub enum PartitionForm {
+pub enum PartitionForm<'a> {
     Lines,
     Object,
     Stack,
     Root(Digest),
+    Pin(&'a str),
 }
 
 /// How many hash blocks are cached: 64 unless the word says another number up to 65,536.
@@ -194,14 +195,48 @@ pub fn root_said<'a>(name: &'a str, word: &str) -> Result<Digest, Misuse<'a>>
     }
 }
 
-/// How partitions are printed, by `--root ROOT`, `--stack` and `--json`, of which at most one is given.
+/// The pin of that option if it is given, or else the root hash of the argument of that name.
+#[tactic(auto, unfolding(crate::specs::Values::root_or_pin_said))]
+pub fn root_or_pin_said<'a>(
+    option: &'a str,
+    pin: Option<&'a str>,
+    name: &'a str,
+    word: &'a str,
+) -> Result<RootOrPin<'a>, Misuse<'a>>
+    ensures { ReadsValue root_or_pin_record (root_or_pin_said option.now (text_of pin.entry) name.now word.now) result }
+{
+    let Some(file) = pin else {
+        let root = root_said(name, word)?;
+        return Ok(RootOrPin::Root(RootWord::Digest(root)));
+    };
+    let path = path_of(option, file)?;
+    Ok(RootOrPin::Pin(path))
+}
+
+/// How partitions are printed, by `--pin FILE`, `--root ROOT`, `--stack` and `--json`, of which at most one is given.
 #[tactic(auto, unfolding(crate::specs::Values::form_of))]
 pub fn form_of<'a>(
+    pin: Option<&'a str>,
     root: Option<&'a str>,
     stack: bool,
     json: bool,
-) -> Result<PartitionForm, Misuse<'a>>
-    ensures { ReadsValue form_record (form_of (text_of root.entry) stack json) result }
+) -> Result<PartitionForm<'a>, Misuse<'a>>
+    ensures { ReadsValue form_record (form_of (text_of pin.entry) (text_of root.entry) stack json) result }
+{
+    match pin {
+        Some(file) => form_with_pin(file, root, stack, json),
+        None => form_without_pin(root, stack, json),
+    }
+}
+
+// The form, by `--root ROOT`, `--stack` and `--json`, of which at most one is given.
+#[tactic(auto, unfolding(crate::specs::Values::form_without_pin))]
+fn form_without_pin<'a>(
+    root: Option<&'a str>,
+    stack: bool,
+    json: bool,
+) -> Result<PartitionForm<'a>, Misuse<'a>>
+    ensures { ReadsValue form_record (form_without_pin (text_of root.entry) stack json) result }
 {
     match (root, stack, json) {
         (None, false, false) => Ok(PartitionForm::Lines),
@@ -215,4 +250,21 @@ pub fn form_of<'a>(
             Ok(PartitionForm::Root(root))
         }
     }
+}
+
+// The form that the pin of that file gives; none of the other options is given beside it.
+#[tactic(auto, unfolding(crate::specs::Values::form_with_pin))]
+fn form_with_pin<'a>(
+    file: &'a str,
+    root: Option<&'a str>,
+    stack: bool,
+    json: bool,
+) -> Result<PartitionForm<'a>, Misuse<'a>>
+    ensures { ReadsValue form_record (form_with_pin file.now (text_of root.entry) stack json) result }
+{
+    refuse_if(root.is_some(), "--root", Cause::WithPin)?;
+    refuse_if(stack, "--stack", Cause::WithPin)?;
+    refuse_if(json, "--json", Cause::WithPin)?;
+    let path = path_of("--pin", file)?;
+    Ok(PartitionForm::Pin(path))
 }

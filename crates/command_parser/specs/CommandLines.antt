@@ -38,6 +38,7 @@ texts_in rows = record {
   fec = first_of (codes "fec") rows;
   fec_roots = first_of (codes "fec-roots") rows;
   pin = first_of (codes "pin") rows;
+  old_pin = first_of (codes "old-pin") rows;
   all = is_there (codes "all") rows;
   stack = is_there (codes "stack") rows;
   no_superblock = is_there (codes "no-superblock") rows;

@@ -85,6 +85,6 @@ stack_commands more =
 unfoldable pub commands : List CommandText
 commands =
     image_commands (stack_commands
-    (command (codes "partitions") (value_option (codes "sector-size") ∷ flag (codes "stack") ∷ value_option (codes "root") ∷ json ∷ [])
-    ∷ command (codes "diff") (flag (codes "all") ∷ value_option (codes "blocks") ∷ json ∷ [])
+    (command (codes "partitions") (value_option (codes "sector-size") ∷ flag (codes "stack") ∷ value_option (codes "root") ∷ json ∷ pin ∷ [])
+    ∷ command (codes "diff") (flag (codes "all") ∷ value_option (codes "blocks") ∷ json ∷ value_option (codes "old-pin") ∷ pin ∷ [])
     ∷ command (codes "manual") [] ∷ command (codes "version") [] ∷ []))

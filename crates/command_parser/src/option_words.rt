@@ -30,6 +30,7 @@ pub fn option_words<'a>(found: &ArgMatches<'a>) -> OptionWords<'a>
         fec: value(found, "fec"),
         fec_roots: value(found, "fec-roots"),
         pin: value(found, "pin"),
+        old_pin: value(found, "old-pin"),
         all: is_there(found, "all"),
         stack: is_there(found, "stack"),
         no_superblock: is_there(found, "no-superblock"),

@@ -117,6 +117,12 @@ const PIN: OptionRow = OptionRow {
     has_value: true,
 };
 
+const OLD_PIN: OptionRow = OptionRow {
+    name: "old-pin",
+    others: &[],
+    has_value: true,
+};
+
 // of `diff`, where it says how many runs are printed
 const RUNS: OptionRow = OptionRow {
     name: "blocks",
@@ -275,11 +281,11 @@ pub static COMMANDS: [CommandRow; 18] = [
     },
     CommandRow {
         name: "partitions",
-        options: &[SECTOR_SIZE, STACK, ROOT, JSON],
+        options: &[SECTOR_SIZE, STACK, ROOT, JSON, PIN],
     },
     CommandRow {
         name: "diff",
-        options: &[ALL, RUNS, JSON],
+        options: &[ALL, RUNS, JSON, OLD_PIN, PIN],
     },
     CommandRow {
         name: "manual",

@@ -1,4 +1,4 @@
--- What `partitions [--sector-size 512|4096] [--json | --stack | --root ROOT] IMAGE` says.
+-- What `partitions [--sector-size 512|4096] [--json | --stack | --root ROOT | --pin FILE] IMAGE` says.
 use Rattle.std.specs.Prelude.{codes, List, Ok, ℕ}
 use Rattle.command_line.specs.FormatOptions.{OptionTexts}
 use Rattle.command_line.specs.Misuses.{Reading, when}
@@ -16,7 +16,7 @@ partitions_said texts words =
     when (positional (codes "IMAGE") words) (λ image.
     when (no_more image.1) (λ none.
     when (sector_size_of texts.sector_size) (λ sector_size.
-    when (form_of texts.root texts.stack texts.json) (λ form.
+    when (form_of texts.pin texts.root texts.stack texts.json) (λ form.
     Ok (record {
       image = image.0;
       sector_size = sector_size;

@@ -1,4 +1,4 @@
-//! `partitions [--sector-size 512|4096] [--json | --stack | --root ROOT] IMAGE`
+//! `partitions [--sector-size 512|4096] [--json | --stack | --root ROOT | --pin FILE] IMAGE`
 ghost use Rattle.command_line.specs.Invocations.{partitions};
 ghost use Rattle.command_line.specs.Reading.{ReadsAs};
 ghost use Rattle.command_line.specs.FormatOptions.{option_texts, texts_of};
@@ -15,10 +15,10 @@ use crate::values::{PartitionForm, form_of, sector_size_of};
 pub struct PartitionsWords<'a> {
     pub image: &'a str,
     pub sector_size: u32,
-    pub form: PartitionForm,
+    pub form: PartitionForm<'a>,
 }
 
-/// `[--sector-size 512|4096] [--json | --stack | --root ROOT] IMAGE`
+/// `[--sector-size 512|4096] [--json | --stack | --root ROOT | --pin FILE] IMAGE`
 #[tactic(auto, unfolding(crate::specs::words::Partitions::partitions_said))]
 pub fn partitions_of<'a>(
     options: &OptionWords<'a>,
@@ -29,7 +29,7 @@ pub fn partitions_of<'a>(
     let (image, words) = positional("IMAGE", words)?;
     no_more(words)?;
     let sector_size = sector_size_of(options.sector_size)?;
-    let form = form_of(options.root, options.stack, options.json)?;
+    let form = form_of(options.pin, options.root, options.stack, options.json)?;
     Ok(Invocation::Partitions(PartitionsWords {
         image,
         sector_size,
