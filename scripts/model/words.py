@@ -22,7 +22,7 @@ OPTIONS = {
     "load": (b"json",), "read": (b"cache",), "write": (b"cache",), "session": (b"cache",), "nbd": (b"cache", b"all"),
     "scan": (b"cache", b"map", b"progress", b"json"), "copy": (b"cache", b"map", b"differing", b"progress"),
     "cat": (b"cache", b"first", b"count", b"progress"), "store": (b"cache", b"first", b"progress"),
-    "partitions": (b"sector-size", b"stack", b"root", b"json"), "diff": (b"all", b"blocks", b"json"),
+    "partitions": (b"sector-size", b"stack", b"root", b"json", b"pin"), "diff": (b"all", b"blocks", b"json", b"old-pin", b"pin"),
     "manual": (), "version": (),
 }
 FLAGS = (b"all", b"stack", b"no-superblock", b"grow", b"json", b"differing", b"progress", b"check")
@@ -210,9 +210,9 @@ def read_repair(options, words):
     return data_path, hash_path, root, read_offset(options), copies, read_fec(options)
 
 
-def check_pin(options):
+def check_pin(options, name=b"pin"):
     """A pin's path isn't empty and no `-`, and pinned are images with a superblock."""
-    if b"pin" in options and (options[b"pin"] in (b"", b"-") or b"no-superblock" in options):
+    if name in options and (options[name] in (b"", b"-") or b"no-superblock" in options):
         raise Usage
 
 
@@ -264,8 +264,9 @@ def read_on_stack(options, words, positional):
 
 
 def read_partitions(options, words):
-    if sum(name in options for name in (b"root", b"stack", b"json")) > 1:
+    if sum(name in options for name in (b"pin", b"root", b"stack", b"json")) > 1:
         raise Usage
+    check_pin(options)
     size = the_number(options.get(b"sector-size", b"512"))
     if size not in (512, 4096):
         raise Usage
@@ -273,10 +274,22 @@ def read_partitions(options, words):
     return *exactly(words, 1), size, root
 
 
+def read_tree(options, words, pin):
+    """A tree's path and its root, which is None if its pin is given, and the words behind them."""
+    (path,), words = at_least(words, 1)
+    check_pin(options, pin)
+    if pin in options:
+        return path, None, words
+    (root,), words = at_least(words, 1)
+    return path, the_root(root), words
+
+
 def read_diff(options, words):
     """Both paths, both roots, and how many runs are printed at most, or None."""
-    old_path, old_root, new_path, new_root = exactly(words, 4)
+    old_path, old_root, words = read_tree(options, words, b"old-pin")
+    new_path, new_root, words = read_tree(options, words, b"pin")
+    exactly(words, 0)
     most = the_number(options[b"blocks"]) if b"blocks" in options else None
     if most == 0:
         raise Usage
-    return (old_path, new_path), (the_root(old_root), the_root(new_root)), most
+    return (old_path, new_path), (old_root, new_root), most

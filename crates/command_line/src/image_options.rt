@@ -1,5 +1,5 @@
 //! What the options that say what an image is say.
-ghost use Rattle.std.specs.Prelude.{◌≡◌, ◌/◌, IfErr, IfOk, Some, codes, length, option_map};
+ghost use Rattle.std.specs.Prelude.{◌≡◌, ◌/◌, IfErr, IfOk, Ok, Some, codes, length, option_map};
 ghost use Rattle.std.specs.Result.{result_ok};
 ghost use Rattle.hex.specs.Hex.{decode_of};
 ghost use Rattle.uuid.specs.Text.{parsed};
@@ -44,6 +44,7 @@ pub fn options_of<'a>(
     words: &OptionWords<'a>,
 ) -> Result<ImageOptions, WordsFault<'a>>
     ensures ok { IfOk result (λ options. AreSaid (option_texts words.now) options) }
+    ensures read { IfOk result (λ options. options_read (option_texts words.now) ≡ Ok tt) }
     ensures err { IfErr result (RefusesWords (options_read (option_texts words.now))) }
 {
     let data_block = block_size_of("--data-block", words.data_block)?;
@@ -90,6 +91,7 @@ fn count_of<'a>(word: Option<&'a str>) -> Result<Option<u64>, Misuse<'a>>
 // `-` for an empty salt, or 2 to 512 hexadecimal digits.
 fn salt_of<'a>(alloc: Global, word: Option<&'a str>) -> Result<Option<Salt>, WordsFault<'a>>
     ensures ok { IfOk result (λ salt. option_map salt_of (text_of word.entry) ≡ option_map Some salt) }
+    ensures read { IfOk result (λ salt. wanted_if (codes "--salt") cause.Salt (option_map short_salt (text_of word.entry)) ≡ Ok salt) }
     ensures err { IfErr result (RefusesWords (wanted_if (codes "--salt") cause.Salt (option_map short_salt (text_of word.entry)))) }
 {
     let Some(word) = word else {

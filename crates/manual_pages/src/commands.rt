@@ -39,7 +39,7 @@ const REPAIR_USAGE: &str =
     "dmstack repair [--hash-offset BYTES] [--root-hash-file FILE] [--check] [--fec FILE] [--fec-roots N] [--pin FILE] DATA HASH ROOT [DATACOPY HASHCOPY]...";
 
 const PARTITIONS_USAGE: &str =
-    "dmstack partitions [--sector-size 512|4096] [--json] [--stack] [--root ROOT | --pin FILE] IMAGE";
+    "dmstack partitions [--sector-size 512|4096] [--json] [--stack] [--root ROOT] [--pin FILE] IMAGE";
 
 const DIFF_USAGE: &str =
     "dmstack diff [--all] [--blocks N] [--json] [--old-pin FILE] [--pin FILE] HASH1 [ROOT1] HASH2 [ROOT2]";
