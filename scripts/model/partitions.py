@@ -5,6 +5,7 @@ import zlib
 from dataclasses import dataclass
 from uuid import UUID
 
+from configuration import MOST_DEVICES
 from files import Stop
 from stack import SECTOR
 from tables import is_mapped_name
@@ -129,7 +130,8 @@ def warnings_of(image, copies, places, sectors):
     if isinstance(primary, Copy) and isinstance(backup, Copy) and primary.common != backup.common:
         found.append("the two copies of the table differ; the primary one is used")
     for name, copy, other, beyond, elsewhere in (
-            ("primary", primary, places[1], "the disk is smaller than its table states", "the backup lies before the end of the disk"),
+            ("primary", primary, places[1], "the primary header places the backup past the end of the disk",
+             "the primary header places the backup before the last sector"),
             ("backup", backup, places[0], "the backup places the primary table past the end of the disk",
              "the backup doesn't place the primary table in sector 1")):
         if not isinstance(copy, Copy):
@@ -229,6 +231,8 @@ def check_end(image, one, size):
 def stack_lines(image, partitions, size):
     for it in partitions:
         check_end(image, it, size)
+    if len(partitions) > MOST_DEVICES:
+        raise Stop(b"refused 46 NotLoadable")
     return [linear(name_of(partitions, it), it, size) for it in partitions]
 
 

@@ -20,7 +20,8 @@ class Disks(Trees):
             root, parts = self.verity_parts(size)
         at = 64
         placed = []
-        for own, content in parts + [(self.random.randbytes(16), b"") for _ in range(self.random.randrange(4))]:
+        others = self.pick([63, 64, 65]) - len(parts) if self.chance(0.05) else self.random.randrange(4)
+        for own, content in parts + [(self.random.randbytes(16), b"") for _ in range(others)]:
             at += self.pick([0, 0, 1, 5])
             count = max(1, -(-len(content) // size) + self.pick([0, 0, 0, 3]))
             placed.append((own, at, at + count - 1, content))
