@@ -1,6 +1,6 @@
 -- How commands on partitions end early.
-use Rattle.std.proofs.Common.{◌≡◌, ◌+◌, ◌≤◌, ℕ, List, Bool, sym, subst, Result, Ok, Err, arith}
-use Rattle.std.specs.Prelude.{IfErr, IsErrAnd, OnErr}
+use Rattle.std.proofs.Common.{◌≡◌, ◌+◌, ◌≤◌, ℕ, List, Bool, sym, subst, Result, Ok, Err, arith, refl}
+use Rattle.std.specs.Prelude.{IfErr, IsErrAnd}
 use Rattle.allocation.specs.Asked.{asked}
 use Rattle.allocation.specs.Refusal.{IsOutOfMemory}
 use Rattle.allocation.specs.declared.out_of_memory.OutOfMemory.{OutOfMemory}
@@ -12,7 +12,7 @@ use Rattle.stack_rules.proofs.lemmas.PassingLemmas.{out_of_memory-more}
 use Rattle.partition_commands.specs.declared.fault.PartitionsFault.{PartitionsFault}
 use Rattle.partition_commands.specs.declared.fault.PartitionsFault.TheVariants.{NoMemory, NotLoadable, Open, Pin, Refused, Write}
 use Rattle.partition_commands.specs.Commands.{EndsUnloadable, IsEntriesEnd}
-use Rattle.partition_commands.specs.Loads.{IsLoadableEnd, IsStackEnd, IsStackUnloadable, stack_room}
+use Rattle.partition_commands.specs.Loads.{IsLoadableEnd, IsRefusedRoom, IsStackEnd, IsStackUnloadable, stack_room}
 use Rattle.partition_commands.specs.RootCommands.{FindsPair, IsRootTextEnd, pair_text}
 use Rattle.partition_commands.specs.RootStacks.{root_room}
 
@@ -21,10 +21,9 @@ pub err-from : {T E : Type 0} (r : Result T E) (P : E → Type 0) (fault : E) �
 err-from (Ok done) P fault is holds = tt
 err-from (Err e) P fault is holds = subst P (sym is) holds
 
--- the exit of a `?` that answers the library's error
-pub exit_room : {A E : Type 0} (r : Result A E) (n : ℕ) (e : OutOfMemory) → asked e ≤ n → OnErr r (IsOutOfMemory n)
-exit_room (Ok x) n e low = tt
-exit_room (Err x) n e low = (e.asked, low, e.refused)
+-- the exit of a `?` that hands on a refused allocation
+pub exit_room : {T : Type 0} (r : Result T PartitionsFault) (n : ℕ) (e : OutOfMemory) → IsErrAnd r (λ fault. fault ≡ NoMemory) → asked e ≤ n → IfErr r (IsRefusedRoom n)
+exit_room r n e is low = err-from r (IsRefusedRoom n) NoMemory is (refl, e.asked, low, e.refused)
 
 -- a text of two partitions that isn't written
 pub say-root : {device : Device} {size : SectorSize} {trusted : TrustedRoot} (pair : FindsPair device size trusted) (failed : Bool) (fault : PartitionsFault)

@@ -23,6 +23,10 @@ pub record Loads (sectors : ℕ) (text : List ℕ) : Type 0 where
   pub short : length text ≤ 2 ^ 20
   pub makes : configuration_of (disk_leaves sectors) text ≡ Ok config
 
+-- memory ran out, as room for at most n elements was refused
+abbrev pub IsRefusedRoom : ℕ → PartitionsFault → Type 0
+IsRefusedRoom n fault = (fault ≡ NoMemory) × IsOutOfMemory n
+
 -- the text is too long for `load`, or has a fault, or the disk or the load is refused
 abbrev pub IsUnloadable : ℕ → List ℕ → Type 0
 IsUnloadable sectors text = (2 ^ 20 < length text) ⊎ ((fault : StackFault) × (configuration_of (disk_leaves sectors) text ≡ Err fault))

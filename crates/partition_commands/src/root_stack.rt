@@ -1,11 +1,11 @@
 //! The commands `partitions --root` and `--pin`: the stack that opens a verity image of two partitions.
-ghost use Rattle.std.specs.Prelude.{◌≡◌, ◌++◌, ◌≤◌, ℕ, List, None, IfErr, IfOk, OnErr, OnOk};
-ghost use Rattle.allocation.specs.Refusal.{IsOutOfMemory};
+ghost use Rattle.std.specs.Prelude.{◌≡◌, ◌++◌, ◌≤◌, ℕ, List, None, IfErr, IfOk, OnOk};
 ghost use Rattle.device_adapters.specs.Parts.{LiesInside};
 ghost use Rattle.device_adapters.specs.Windows.{windowed};
 ghost use Rattle.image_commands.specs.Finding.{mismatch_of};
 ghost use Rattle.verity_format.specs.Verifying.{IsReadFrom};
 ghost use Rattle.partition_commands.specs.Commands.{EndsNoted, NotesImage};
+ghost use Rattle.partition_commands.specs.Loads.{IsRefusedRoom};
 ghost use Rattle.partition_commands.specs.RootCommands.{FailsToFindPinned, FailsToFindRoot, IsFitting, IsPairEnd, IsPartSuperEnd, IsRootTextEnd, NotesPinned, PrintsPinnedOf, PrintsRootOf, SaysRoot};
 ghost use Rattle.partition_commands.specs.RootStacks.{is_unfit, root_room, root_stack_text};
 ghost use Rattle.partition_commands.specs.Warnings.{notes_of};
@@ -23,7 +23,7 @@ use image_files::{Images, open_image};
 use image_pin::Pin;
 use partition_table::SectorSize;
 use program_io::Counted;
-use std::alloc::{AllocError, Global};
+use std::alloc::Global;
 use std::io::Write;
 use std::marker::Brand;
 use tree_shape::Digest;
@@ -157,15 +157,15 @@ fn superblock_in<D: BlockDev + Drop>(
 
 // The two partitions, and the data blocks over both.
 #[tactic(auto, unfolding(crate::specs::RootStacks::root_stack_text, crate::specs::RootStacks::root_entry))]
-fn root_text(
+fn root_text<'a>(
     alloc: Global,
     size: SectorSize,
     both: &ImagePartitions,
     superblock: &Superblock,
     root: &Digest,
-) -> Result<Vec<u8>, AllocError>
+) -> Result<Vec<u8>, PartitionsFault<'a>>
     ensures ok { IfOk result (λ text. text.items ≡ root_stack_text size both.now superblock.now root.now) }
-    ensures err { OnErr result (IsOutOfMemory (root_room superblock.now root.now)) }
+    ensures err { IfErr result (IsRefusedRoom (root_room superblock.now root.now)) }
 {
     let line = table_line(
         alloc,

@@ -50,7 +50,7 @@ returns-in_err-text-clause-err g c =
       super = c.in_ok-superblock.superblock;
       fitting = c.in_ok-superblock.ensures.ok;
     } in
-    err-from c.from_residual-in_err-text.result _ NoMemory c.from_residual-in_err-text.ensures.1 (record { pair = pair; refused = c.in_err-text.ensures.err })
+    err-from c.from_residual-in_err-text.result _ NoMemory (rw c.in_err-text.ensures.err.0 at c.from_residual-in_err-text.ensures.1) (record { pair = pair; refused = c.in_err-text.ensures.err.1 })
 
 pub returns-clause-ok : goal.returns-clause-ok
 returns-clause-ok g c =
