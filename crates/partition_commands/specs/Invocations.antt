@@ -12,6 +12,7 @@ use Rattle.partition_table.specs.declared.sector_size.SectorSize.TheVariants.{By
 use Rattle.partition_commands.specs.declared.fault.PartitionsFault.{PartitionsFault}
 use Rattle.partition_commands.specs.Commands.{AreImageNotes, IsEntriesEnd, IsLinesEnd, IsObjectEnd, IsOpenedEnd, PrintsEntriesOfImage, PrintsOfImage}
 use Rattle.partition_commands.specs.Lines.{listed_text}
+use Rattle.partition_commands.specs.Loads.{IsQuiet}
 use Rattle.partition_commands.specs.Objects.{object_text}
 use Rattle.partition_commands.specs.RootCommands.{ArePinnedNotes, IsPinnedEnd, IsRootOfImageEnd, PrintsPinned, PrintsRootOfImage}
 use Rattle.partition_commands.specs.Warnings.{Notes}
@@ -43,6 +44,11 @@ abbrev pub AreFormNotes : {S D : Type 0} → Calls S D → List ℕ → SectorSi
 AreFormNotes w path size (pin file) notes fault = ArePinnedNotes w path size notes fault
 AreFormNotes w path size form notes fault = AreImageNotes w path size notes fault
 
+-- printed before it ended: nothing, but of the lines those before the fault, or if the writer failed
+abbrev pub IsFormQuiet : FormRecord → Option (List ℕ) → Option (List ℕ) → PartitionsFault → Type 0
+IsFormQuiet lines old new fault = Unit {0}
+IsFormQuiet form old new fault = IsQuiet old new fault
+
 abbrev pub ListsPartitions : {S D : Type 0} → Calls S D → PartitionsRecord → Option (List ℕ) → Option (List ℕ) → Notes → Type 0
 ListsPartitions w p old new notes = PrintsForm w p.image (size_of p.sector_size) p.form old new notes
 
@@ -58,3 +64,6 @@ ListsByWords relations state images images' contents writer writer' words notes 
 
 abbrev pub FailsToList : {S D W : Type 0} → Opener S D → (D → Device) → S → S → CountedRecord W → PartitionsWords → Notes → PartitionsFault → Type 0
 FailsToList relations state images images' writer' words notes = IsListingEnd (calls relations state images images') (partitions_record words) writer'.failed notes
+
+abbrev pub EndsFormQuiet : {W : Type 0} → (W → Option (List ℕ)) → CountedRecord W → CountedRecord W → PartitionsWords → PartitionsFault → Type 0
+EndsFormQuiet contents writer writer' words = IsFormQuiet (partitions_record words).form (contents writer.inner) (contents writer'.inner)

@@ -51,6 +51,10 @@ IsTextEnd memory unloadable failed NotLoadable = unloadable
 IsTextEnd memory unloadable failed Write = failed ≡ true
 IsTextEnd memory unloadable failed fault = ⊥
 
+-- a command that ends early printed nothing, unless its writer failed
+abbrev pub IsQuiet : Option (List ℕ) → Option (List ℕ) → PartitionsFault → Type 0
+IsQuiet old new fault = (fault ≡ Write) ⊎ (new ≡ old)
+
 -- of a text
 abbrev pub IsLoadableEnd : ℕ → List ℕ → Bool → PartitionsFault → Type 0
 IsLoadableEnd sectors text failed fault = IsTextEnd (IsOutOfMemory stack_room) (IsUnloadable sectors text) failed fault
@@ -59,8 +63,11 @@ IsLoadableEnd sectors text failed fault = IsTextEnd (IsOutOfMemory stack_room) (
 abbrev pub IsStackEnd : ℕ → SectorSize → List Partition → Bool → PartitionsFault → Type 0
 IsStackEnd sectors size partitions failed fault = IsTextEnd (IsOutOfMemory stack_room) (IsStackUnloadable sectors size partitions) failed fault
 
--- ---- as a call sees it
+-- ---- as a call sees them
 
 -- the text loads and was written
 abbrev pub SaysLoadable : {W : Type 0} → (W → Option (List ℕ)) → CountedRecord W → CountedRecord W → ℕ → List ℕ → Type 0
 SaysLoadable contents writer writer' sectors text = Loads sectors text × Appends (contents writer.inner) (contents writer'.inner) text
+
+abbrev pub EndsQuiet : {W : Type 0} → (W → Option (List ℕ)) → CountedRecord W → CountedRecord W → PartitionsFault → Type 0
+EndsQuiet contents writer writer' = IsQuiet (contents writer.inner) (contents writer'.inner)

@@ -3,7 +3,7 @@ ghost use Rattle.std.specs.Prelude.{◌≡◌, ◌≤◌, ◌++◌, IfErr, IfOk,
 ghost use Rattle.allocation.specs.Asked.{asked};
 ghost use Rattle.partition_commands.specs.Commands.{EndsNoted, FailsToPrint, FailsToPrintObject, FailsToStack, IsEntriesEnd, IsLinesEnd, IsObjectEnd, NotesImage, Prints, PrintsEntriesOf, PrintsImage, PrintsStackOf};
 ghost use Rattle.partition_commands.specs.Lines.{listed_text};
-ghost use Rattle.partition_commands.specs.Loads.{IsStackEnd, SaysLoadable, stack_room};
+ghost use Rattle.partition_commands.specs.Loads.{EndsQuiet, IsStackEnd, SaysLoadable, stack_room};
 ghost use Rattle.partition_commands.specs.Objects.{object_text};
 ghost use Rattle.partition_commands.specs.Stacks.{partition_entry, stack_text};
 ghost use Rattle.partition_commands.specs.Warnings.{notes_of};
@@ -76,6 +76,7 @@ pub fn object_of_image<'a, I: Images, W: Write, E: Write>(
     ensures ok { OnOk result (PrintsImage I.relations I.Dev.state images.old images.new W.contents writer.old writer.new path.now size object_text (notes_of E.contents errors.old errors.new)) }
     ensures err { IfErr result (FailsToPrintObject I.relations I.Dev.state images.old images.new writer.new path.now size) }
     ensures noted { IfErr result (NotesImage I.relations I.Dev.state images.old images.new path.now size (notes_of E.contents errors.old errors.new)) }
+    ensures quiet { IfErr result (EndsQuiet W.contents writer.old writer.new) }
 {
     let mut image = open_image(images, path, false)?;
     list_object(alloc, &mut image.device, size, writer, errors)
@@ -92,6 +93,7 @@ fn list_object<'a, D: BlockDev, W: Write, E: Write>(
     ensures ok { OnOk result (Prints D.state device.old device.new W.contents writer.old writer.new size object_text (notes_of E.contents errors.old errors.new)) }
     ensures err { IfErr result (IsObjectEnd (D.state device.old) (D.state device.new) size writer.new.failed) }
     ensures noted { IfErr result (EndsNoted (D.state device.old) size (notes_of E.contents errors.old errors.new)) }
+    ensures quiet { IfErr result (EndsQuiet W.contents writer.old writer.new) }
 {
     let table = find_noted(alloc, device, size, errors)?;
     let line = table_line(alloc, &table)?;
@@ -112,6 +114,7 @@ pub fn stack_of_image<'a, I: Images, W: Write, E: Write>(
     ensures ok { OnOk result (PrintsStackOf I.relations I.Dev.state images.old images.new W.contents writer.old writer.new path.now size (notes_of E.contents errors.old errors.new)) }
     ensures err { IfErr result (FailsToStack I.relations I.Dev.state images.old images.new writer.new path.now size) }
     ensures noted { IfErr result (NotesImage I.relations I.Dev.state images.old images.new path.now size (notes_of E.contents errors.old errors.new)) }
+    ensures quiet { IfErr result (EndsQuiet W.contents writer.old writer.new) }
 {
     let mut image = open_image(images, path, false)?;
     list_entries(alloc, &mut image.device, size, writer, errors)
@@ -128,6 +131,7 @@ fn list_entries<'a, D: BlockDev, W: Write, E: Write>(
     ensures ok { OnOk result (PrintsEntriesOf D.state device.old device.new W.contents writer.old writer.new size (notes_of E.contents errors.old errors.new)) }
     ensures err { IfErr result (IsEntriesEnd (D.state device.old) (D.state device.new) size writer.new.failed) }
     ensures noted { IfErr result (EndsNoted (D.state device.old) size (notes_of E.contents errors.old errors.new)) }
+    ensures quiet { IfErr result (EndsQuiet W.contents writer.old writer.new) }
 {
     let table = find_noted(alloc, device, size, errors)?;
     if !are_within(device, table.size, &table.partitions) {
@@ -147,6 +151,7 @@ fn say_stack<'a, W: Write>(
 ) -> Result<(), PartitionsFault<'a>>
     ensures ok { OnOk result (SaysLoadable W.contents writer.old writer.new sectors (stack_text size partitions.now)) }
     ensures err { IfErr result (IsStackEnd sectors size partitions.now writer.new.failed) }
+    ensures quiet { IfErr result (EndsQuiet W.contents writer.old writer.new) }
 {
     if partitions.len() > MOST_DEVICES {
         return Err(PartitionsFault::NotLoadable);

@@ -1,6 +1,6 @@
 //! The command `partitions` by its words.
 ghost use Rattle.std.specs.Prelude.{◌≡◌, OnOk, IfErr};
-ghost use Rattle.partition_commands.specs.Invocations.{FailsToList, ListsByWords, size_of};
+ghost use Rattle.partition_commands.specs.Invocations.{EndsFormQuiet, FailsToList, ListsByWords, size_of};
 ghost use Rattle.partition_commands.specs.Warnings.{notes_of};
 
 use crate::fault::PartitionsFault;
@@ -37,6 +37,7 @@ pub fn invoke_partitions<'a, I: Images, W: Write, E: Write>(
 ) -> Result<(), PartitionsFault<'a>>
     ensures ok { OnOk result (ListsByWords I.relations I.Dev.state images.old images.new W.contents writer.old writer.new words.entry (notes_of E.contents errors.old errors.new)) }
     ensures err { IfErr result (FailsToList I.relations I.Dev.state images.old images.new writer.new words.entry (notes_of E.contents errors.old errors.new)) }
+    ensures quiet { IfErr result (EndsFormQuiet W.contents writer.old writer.new words.entry) }
 {
     let PartitionsWords {
         image,

@@ -1,7 +1,7 @@
 //! Stack texts over the disk alone, printed only if `load` takes them.
 ghost use Rattle.std.specs.Prelude.{◌≡◌, ◌≤◌, IfErr, IfOk, OnOk};
 ghost use Rattle.allocation.specs.Asked.{asked};
-ghost use Rattle.partition_commands.specs.Loads.{IsLoadableEnd, SaysLoadable, disk_leaves, load_end, stack_room};
+ghost use Rattle.partition_commands.specs.Loads.{EndsQuiet, IsLoadableEnd, SaysLoadable, disk_leaves, load_end, stack_room};
 
 use crate::PartitionsFault;
 use allocation::{OutOfMemory, copied, push};
@@ -28,6 +28,7 @@ pub(crate) fn say_loadable<'a, W: Write>(
 ) -> Result<(), PartitionsFault<'a>>
     ensures ok { OnOk result (SaysLoadable W.contents writer.old writer.new sectors text.now) }
     ensures err { IfErr result (IsLoadableEnd sectors text.now writer.new.failed) }
+    ensures quiet { IfErr result (EndsQuiet W.contents writer.old writer.new) }
 {
     if text.len() > MOST_TEXT {
         return Err(PartitionsFault::NotLoadable);

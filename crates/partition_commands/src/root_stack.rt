@@ -5,7 +5,7 @@ ghost use Rattle.device_adapters.specs.Windows.{windowed};
 ghost use Rattle.image_commands.specs.Finding.{mismatch_of};
 ghost use Rattle.verity_format.specs.Verifying.{IsReadFrom};
 ghost use Rattle.partition_commands.specs.Commands.{EndsNoted, NotesImage};
-ghost use Rattle.partition_commands.specs.Loads.{IsRefusedRoom};
+ghost use Rattle.partition_commands.specs.Loads.{EndsQuiet, IsRefusedRoom};
 ghost use Rattle.partition_commands.specs.RootCommands.{FailsToFindPinned, FailsToFindRoot, IsFitting, IsPairEnd, IsPartSuperEnd, IsRootTextEnd, NotesPinned, PrintsPinnedOf, PrintsRootOf, SaysRoot};
 ghost use Rattle.partition_commands.specs.RootStacks.{is_unfit, root_room, root_stack_text};
 ghost use Rattle.partition_commands.specs.Warnings.{notes_of};
@@ -50,6 +50,7 @@ pub fn pinned_stack_of_image<'a, I: Images, W: Write, E: Write>(
     ensures ok { OnOk result (PrintsPinnedOf I.relations I.Dev.state images.old images.new W.contents writer.old writer.new pin.now path.now size (notes_of E.contents errors.old errors.new)) }
     ensures err { IfErr result (FailsToFindPinned I.relations I.Dev.state images.old images.new writer.new pin.now path.now size) }
     ensures noted { IfErr result (NotesPinned I.relations I.Dev.state images.old images.new path.now size (notes_of E.contents errors.old errors.new)) }
+    ensures quiet { IfErr result (EndsQuiet W.contents writer.old writer.new) }
 {
     let trusted = trusted_in(images, &RootOrPin::Pin(pin))?;
     root_stack_of_image(alloc, images, path, size, &trusted, writer, errors)
@@ -78,6 +79,7 @@ pub fn root_stack_of_image<'a, I: Images, W: Write, E: Write>(
     ensures ok { OnOk result (PrintsRootOf I.relations I.Dev.state images.old images.new W.contents writer.old writer.new path.now size trusted.now (notes_of E.contents errors.old errors.new)) }
     ensures err { IfErr result (FailsToFindRoot I.relations I.Dev.state images.old images.new writer.new path.now size trusted.now) }
     ensures noted { IfErr result (NotesImage I.relations I.Dev.state images.old images.new path.now size (notes_of E.contents errors.old errors.new)) }
+    ensures quiet { IfErr result (EndsQuiet W.contents writer.old writer.new) }
 {
     let image = open_image(images, path, false)?;
     print_root_stack(alloc, image.device, size, trusted, writer, errors)
@@ -95,6 +97,7 @@ fn print_root_stack<'a, D: BlockDev + Drop, W: Write, E: Write>(
     ensures ok { OnOk result (SaysRoot D.state device W.contents writer.old writer.new size trusted.now (notes_of E.contents errors.old errors.new)) }
     ensures err { IfErr result (IsRootTextEnd size trusted.now writer.new.failed (D.state device)) }
     ensures noted { IfErr result (EndsNoted (D.state device) size (notes_of E.contents errors.old errors.new)) }
+    ensures quiet { IfErr result (EndsQuiet W.contents writer.old writer.new) }
 {
     let mut device = device;
     let table = find_noted(alloc, &mut device, size, errors)?;

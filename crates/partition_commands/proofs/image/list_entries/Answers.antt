@@ -1,4 +1,4 @@
-use Rattle.std.proofs.Common.{sym, ◌∙◌, inl, inr}
+use Rattle.std.proofs.Common.{sym, ◌∙◌, inl, inr, refl}
 use Rattle.std.proofs.lemmas.Result.{IfErr-weaker, on_ok_weaker}
 use Rattle.partition_commands.specs.declared.fault.PartitionsFault.TheVariants.{Refused}
 use Rattle.partition_commands.specs.declared.refusal.PartitionRefusal.TheVariants.{Table}
@@ -45,3 +45,6 @@ returns-then-not-are_within-clause-noted g c = inr (g.D.BlockDev.state c.find_no
 
 pub returns-clause-noted : goal.returns-clause-noted
 returns-clause-noted g c = on_err-any c.say_stack.result _ (λ fault. inr (g.D.BlockDev.state c.find_noted.new.device, c.in_ok-table.table, c.in_ok-table.ensures.ok))
+
+pub returns-in_err-table-clause-quiet : goal.returns-in_err-table-clause-quiet
+returns-in_err-table-clause-quiet g c = on_err-any c.from_residual.result _ (λ fault. inr refl)

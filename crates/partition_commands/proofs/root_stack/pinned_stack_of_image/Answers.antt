@@ -2,6 +2,7 @@ use Rattle.std.proofs.Common.{refl, inl, inr}
 use Rattle.std.proofs.lemmas.Result.{IfErr-weaker, on_ok_weaker}
 use Rattle.partition_commands.specs.declared.fault.PartitionsFault.TheVariants.{Pin}
 use Rattle.partition_commands.proofs.EndingLemmas.{err-from}
+use Rattle.partition_commands.proofs.NoteLemmas.{on_err-any}
 use Rattle.partition_commands.proofs.root_stack.pinned_stack_of_image.Goals as goal
 
 pub returns-clause-ok : goal.returns-clause-ok
@@ -31,3 +32,6 @@ returns-clause-noted g c =
       | inr some ↦ inr (c.trusted_in.new.images, some)
     ])
     c.root_stack_of_image.ensures.noted
+
+pub returns-in_err-trusted-clause-quiet : goal.returns-in_err-trusted-clause-quiet
+returns-in_err-trusted-clause-quiet g c = on_err-any c.from_residual.result _ (λ fault. inr refl)

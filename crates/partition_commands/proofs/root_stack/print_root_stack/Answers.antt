@@ -95,3 +95,15 @@ returns-in_err-text-clause-noted g c = on_err-any c.from_residual-in_err-text.re
 
 pub returns-clause-noted : goal.returns-clause-noted
 returns-clause-noted g c = on_err-any c.say_loadable.result _ (λ fault. inr (g.D.BlockDev.state c.find_noted.new.device, c.in_ok-table.table, c.in_ok-table.ensures.ok))
+
+pub returns-in_err-table-clause-quiet : goal.returns-in_err-table-clause-quiet
+returns-in_err-table-clause-quiet g c = on_err-any c.from_residual.result _ (λ fault. inr refl)
+
+pub returns-in_err-both-clause-quiet : goal.returns-in_err-both-clause-quiet
+returns-in_err-both-clause-quiet g c = on_err-any c.from_residual-in_err-both.result _ (λ fault. inr refl)
+
+pub returns-in_err-superblock-clause-quiet : goal.returns-in_err-superblock-clause-quiet
+returns-in_err-superblock-clause-quiet g c = on_err-any c.from_residual-in_err-superblock.result _ (λ fault. inr refl)
+
+pub returns-in_err-text-clause-quiet : goal.returns-in_err-text-clause-quiet
+returns-in_err-text-clause-quiet g c = on_err-any c.from_residual-in_err-text.result _ (λ fault. inr refl)
