@@ -7,6 +7,7 @@ from uuid import UUID
 
 from configuration import MOST_DEVICES
 from files import Stop
+from pins import check_pinned
 from stack import SECTOR
 from tables import is_mapped_name
 from verity import check_sizes, read_superblock, table_line
@@ -244,14 +245,16 @@ def the_one(partitions, octets, kinds):
     return found[0]
 
 
-def root_lines(image, partitions, size, root):
-    """The stack of the two partitions whose own UUIDs are the halves of the root digest."""
+def root_lines(image, partitions, size, root, pin):
+    """The stack of the two partitions whose own UUIDs are the halves of the root digest; the superblock is the pin's, if there is one."""
     data = the_one(partitions, root[:16], ((13, b"NoDataPartition"), (14, b"TwoDataPartitions")))
     tree = the_one(partitions, root[16:], ((15, b"NoVerityPartition"), (16, b"TwoVerityPartitions")))
     check_end(image, data, size)
     check_end(image, tree, size)
     octets = [image[it.first * size:(it.last + 1) * size] for it in (data, tree)]
     superblock = read_superblock(octets[1])
+    if pin is not None:
+        check_pinned(superblock, pin)
     check_sizes(superblock.tree(), *octets)
     line = table_line(superblock, root, b"/dev/mapper/data", b"/dev/mapper/hash")
     return [linear(b"data", data, size), linear(b"hash", tree, size), b"root,,,ro,%s;" % line]
