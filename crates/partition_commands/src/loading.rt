@@ -34,10 +34,10 @@ pub(crate) fn say_loadable<'a, W: Write>(
         return Err(PartitionsFault::NotLoadable);
     }
     let leaves = disk_leaves(alloc, sectors)?;
-    match configuration_of(alloc, leaves, text) {
-        Ok(config) => drop(config),
+    let _config = match configuration_of(alloc, leaves, text) {
+        Ok(config) => config,
         Err(fault) => return Err(load_end(fault)),
-    }
+    };
     writer.put(text)?;
     Ok(())
 }
