@@ -61,6 +61,16 @@ start=112, size=4, type=0FC63DAF-8483-4772-8E79-3D69D8477DE4, uuid=00000000-0000
 TABLE
 keep partition_stacks labels.img
 
+# 65 partitions without labels, one more than a stack has devices. The disk is cut short after the last one.
+words=()
+for ((k = 1; k <= 65; k++)); do
+    words+=(-n "$k:$((39 + k)):$((39 + k))" -u "$k:$(printf %08d "$k")-0000-0000-0000-000000000000")
+done
+truncate -s $((160 * 512)) many.img
+sgdisk -a 1 -o -U "$identifier" "${words[@]}" many.img > /dev/null
+truncate -s $((120 * 512)) many.img
+keep partition_stacks many.img
+
 # A disk whose copies differ: the backup is that of a disk with another label. One with a hybrid master boot record. The rows of
 # partition_copies cut the first one short, and take its master boot record away.
 disk() {

@@ -182,12 +182,16 @@ def difference_facts(kinds, most):
 
 def run_partitions(options, words, files, _given, _features):
     path, size, root = read_partitions(options, words)
+    pin = None
+    if b"pin" in options:
+        pin = read_pin(files, options[b"pin"])
+        root = pin.root
     image = bytes(files.image(path, False))
     table = table_of(image, size)
     warnings = warning_lines(image, table)
     try:
         if root is not None:
-            lines = root_lines(image, table.partitions, table.size, root)
+            lines = root_lines(image, table.partitions, table.size, root, pin)
         elif b"stack" in options:
             lines = stack_lines(image, table.partitions, table.size)
         elif b"json" in options:

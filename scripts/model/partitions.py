@@ -5,6 +5,7 @@ import zlib
 from dataclasses import dataclass
 from uuid import UUID
 
+from configuration import MOST_DEVICES
 from files import Stop
 from stack import SECTOR
 from tables import is_mapped_name
@@ -129,7 +130,8 @@ def warnings_of(image, copies, places, sectors):
     if isinstance(primary, Copy) and isinstance(backup, Copy) and primary.common != backup.common:
         found.append("the two copies of the table differ; the primary one is used")
     for name, copy, other, beyond, elsewhere in (
-            ("primary", primary, places[1], "the disk is smaller than its table states", "the backup lies before the end of the disk"),
+            ("primary", primary, places[1], "the primary header places the backup past the end of the disk",
+             "the primary header places the backup before the last sector"),
             ("backup", backup, places[0], "the backup places the primary table past the end of the disk",
              "the backup doesn't place the primary table in sector 1")):
         if not isinstance(copy, Copy):
@@ -229,6 +231,8 @@ def check_end(image, one, size):
 def stack_lines(image, partitions, size):
     for it in partitions:
         check_end(image, it, size)
+    if len(partitions) > MOST_DEVICES:
+        raise Stop(b"refused 46 NotLoadable")
     return [linear(name_of(partitions, it), it, size) for it in partitions]
 
 
@@ -240,14 +244,16 @@ def the_one(partitions, octets, kinds):
     return found[0]
 
 
-def root_lines(image, partitions, size, root):
-    """The stack of the two partitions whose own UUIDs are the halves of the root digest."""
+def root_lines(image, partitions, size, root, pin):
+    """The stack of the two partitions whose own UUIDs are the halves of the root digest; the superblock is the pin's, if there is one."""
     data = the_one(partitions, root[:16], ((13, b"NoDataPartition"), (14, b"TwoDataPartitions")))
     tree = the_one(partitions, root[16:], ((15, b"NoVerityPartition"), (16, b"TwoVerityPartitions")))
     check_end(image, data, size)
     check_end(image, tree, size)
     octets = [image[it.first * size:(it.last + 1) * size] for it in (data, tree)]
     superblock = read_superblock(octets[1])
+    if pin is not None:
+        pin.check(superblock)
     check_sizes(superblock.tree(), *octets)
     line = table_line(superblock, root, b"/dev/mapper/data", b"/dev/mapper/hash")
     return [linear(b"data", data, size), linear(b"hash", tree, size), b"root,,,ro,%s;" % line]

@@ -4,7 +4,6 @@ from dataclasses import dataclass
 
 from files import Stop
 from tables import digits_of, number, salt_of
-from verity import BLOCK_SIZES
 
 FIRST_LINE = b"dmstack-pin 1"
 MOST = 4096
@@ -30,18 +29,18 @@ class Pin:
                 return kind
         return None
 
-
-def size_of(word):
-    value = number(word, 2**32)
-    return value if value in BLOCK_SIZES else None
+    def check(self, superblock):
+        mismatch = self.mismatch(superblock)
+        if mismatch:
+            raise Stop(b"refused " + mismatch.encode())
 
 
 # What each line says, in the order in which a missing one is named.
 LINES = {
     b"root": lambda word: digits_of(word, 64, 64),
     b"salt": salt_of,
-    b"data_block_size": size_of,
-    b"hash_block_size": size_of,
+    b"data_block_size": lambda word: number(word, 2**32),
+    b"hash_block_size": lambda word: number(word, 2**32),
     b"data_blocks": lambda word: number(word, 2**64),
 }
 

@@ -5,8 +5,10 @@ import zlib
 from uuid import UUID
 
 from partitions import KINDS
+from pins import Pin
 from random_parts import Run
 from random_trees import Planted, Trees
+from verity import read_superblock
 
 LABELS = ["", "a", "system", "p1", "p2", "p9", "a b", "x/y", "\u00e9", "\U0001f600", "tab\there", "n" * 36, "\x7f", "-", "-x"]
 OTHER = "01234567-89ab-cdef-0123-456789abcdef"
@@ -20,7 +22,8 @@ class Disks(Trees):
             root, parts = self.verity_parts(size)
         at = 64
         placed = []
-        for own, content in parts + [(self.random.randbytes(16), b"") for _ in range(self.random.randrange(4))]:
+        others = self.pick([63, 64, 65]) - len(parts) if self.chance(0.05) else self.random.randrange(4)
+        for own, content in parts + [(self.random.randbytes(16), b"") for _ in range(others)]:
             at += self.pick([0, 0, 1, 5])
             count = max(1, -(-len(content) // size) + self.pick([0, 0, 0, 3]))
             placed.append((own, at, at + count - 1, content))
@@ -36,6 +39,7 @@ class Disks(Trees):
         it = Planted(self)
         it.is_bare = False
         _, area, root = it.made()
+        self.files[b"pin"] = self.pin(root, read_superblock(area))
         if self.chance(0.1):
             area[self.random.randrange(512)] ^= 1
         halves = [root[:16], root[16:]]
@@ -46,6 +50,17 @@ class Disks(Trees):
             parts.append((self.pick(halves), b""))
         self.random.shuffle(parts)
         return root, parts
+
+    def pin(self, root, superblock):
+        """The pin of an image, of which a value or the text may be changed."""
+        if self.chance(0.1):
+            superblock.blocks += self.pick([-1, 1])
+        if self.chance(0.1):
+            superblock.salt = self.random.randbytes(self.pick([0, 1, 32]))
+        text = Pin(root, superblock.salt, superblock.data_block, superblock.hash_block, superblock.blocks).text()
+        if self.chance(0.1):
+            text = text.replace(*self.pick([(b"salt", b"salt "), (b"salt", b"sal"), (b"root", b"root 0"), (b" 1", b" 2"), (b"\n", b"\n\n")]))
+        return text
 
     def disk(self, size, sectors, placed):
         count, entry = self.pick([(128, 128), (128, 128), (16, 256), (len(placed) or 1, 128)])
@@ -118,6 +133,8 @@ class Disks(Trees):
         form = self.random.randrange(4)
         if form == 1:
             words.append(b"--stack")
+        elif form == 2 and b"pin" in self.files and self.chance(0.5):
+            words += [b"--pin", self.pick([b"pin"] * 9 + [b"disk"])]
         elif form == 2:
             word = root or self.random.randbytes(32)
             words += [b"--root", word.hex().encode()]

@@ -1,13 +1,19 @@
 -- How commands on partitions end early.
-use Rattle.std.proofs.Common.{◌≡◌, ℕ, List, Bool, sym, subst, Result, Ok, Err}
+use Rattle.std.proofs.Common.{◌≡◌, ◌+◌, ◌≤◌, ℕ, List, Bool, sym, subst, Result, Ok, Err, arith, refl}
 use Rattle.std.specs.Prelude.{IfErr, IsErrAnd}
+use Rattle.allocation.specs.Asked.{asked}
 use Rattle.allocation.specs.Refusal.{IsOutOfMemory}
+use Rattle.allocation.specs.declared.out_of_memory.OutOfMemory.{OutOfMemory}
 use Rattle.block_device.specs.Device.{Device}
+use Rattle.image_commands.specs.declared.trusted.TrustedRoot.{TrustedRoot}
 use Rattle.partition_table.specs.declared.sector_size.SectorSize.{SectorSize}
+use Rattle.partition_table.specs.declared.table.PartitionTable.{PartitionTable}
+use Rattle.stack_rules.proofs.lemmas.PassingLemmas.{out_of_memory-more}
 use Rattle.partition_commands.specs.declared.fault.PartitionsFault.{PartitionsFault}
-use Rattle.partition_commands.specs.declared.fault.PartitionsFault.TheVariants.{NoMemory, Open, Refused, Write}
-use Rattle.verity_format.specs.Superblock.{SuperRecord}
-use Rattle.partition_commands.specs.Commands.{IsEntriesEnd, IsRootSayFault, IsRootTextEnd, IsSayFault, RefusesLine}
+use Rattle.partition_commands.specs.declared.fault.PartitionsFault.TheVariants.{NoMemory, NotLoadable, Open, Pin, Refused, Write}
+use Rattle.partition_commands.specs.Commands.{EndsUnloadable, IsEntriesEnd}
+use Rattle.partition_commands.specs.Loads.{IsLoadableEnd, IsRefusedRoom, IsStackEnd, IsStackUnloadable, stack_room}
+use Rattle.partition_commands.specs.RootCommands.{FindsPair, IsRootTextEnd, pair_text}
 use Rattle.partition_commands.specs.RootStacks.{root_room}
 
 -- what holds of a fault holds of the result that hands it on
@@ -15,16 +21,26 @@ pub err-from : {T E : Type 0} (r : Result T E) (P : E → Type 0) (fault : E) �
 err-from (Ok done) P fault is holds = tt
 err-from (Err e) P fault is holds = subst P (sym is) holds
 
--- a text that isn't written
-pub say-root : (size : SectorSize) (root : List ℕ) (super : SuperRecord) (failed : Bool) (device : Device) → (IsOutOfMemory (root_room super root) → RefusesLine device size root)
-    → (fault : PartitionsFault) → IsRootSayFault super root failed fault → IsRootTextEnd size root failed device fault
-say-root size root super failed device refuses NoMemory ends = refuses ends
-say-root size root super failed device refuses Write ends = ends
-say-root size root super failed device refuses (Open file) ends = absurd ends
-say-root size root super failed device refuses (Refused refusal) ends = absurd ends
+-- the exit of a `?` that hands on a refused allocation
+pub exit_room : {T : Type 0} (r : Result T PartitionsFault) (n : ℕ) (e : OutOfMemory) → IsErrAnd r (λ fault. fault ≡ NoMemory) → asked e ≤ n → IfErr r (IsRefusedRoom n)
+exit_room r n e is low = err-from r (IsRefusedRoom n) NoMemory is (refl, e.asked, low, e.refused)
 
-pub say-entries : (old new : Device) (size : SectorSize) (failed : Bool) (fault : PartitionsFault) → IsSayFault failed fault → IsEntriesEnd old new size failed fault
-say-entries old new size failed NoMemory ends = ends
-say-entries old new size failed Write ends = ends
-say-entries old new size failed (Open file) ends = absurd ends
-say-entries old new size failed (Refused refusal) ends = absurd ends
+-- a text of two partitions that isn't written
+pub say-root : {device : Device} {size : SectorSize} {trusted : TrustedRoot} (pair : FindsPair device size trusted) (failed : Bool) (fault : PartitionsFault)
+    → IsLoadableEnd pair.read_device.size (pair_text pair) failed fault → IsRootTextEnd size trusted failed device fault
+say-root {device} {size} {trusted} pair failed NoMemory ends = record { pair = pair; refused = out_of_memory-more stack_room (root_room pair.super trusted.root) (omega arith) ends }
+say-root pair failed NotLoadable ends = record { pair = pair; unloadable = ends }
+say-root pair failed Write ends = ends
+say-root pair failed (Open file) ends = absurd ends
+say-root pair failed (Pin cause) ends = absurd ends
+say-root pair failed (Refused refusal) ends = absurd ends
+
+-- a text of all partitions that isn't
+pub say-entries : (old new : Device) (size : SectorSize) (table : PartitionTable) (failed : Bool) (fault : PartitionsFault)
+    → (IsStackUnloadable new.size table.size table.partitions.items → EndsUnloadable old new size) → IsStackEnd new.size table.size table.partitions.items failed fault → IsEntriesEnd old new size failed fault
+say-entries old new size table failed NoMemory refused ends = ends
+say-entries old new size table failed NotLoadable refused ends = refused ends
+say-entries old new size table failed Write refused ends = ends
+say-entries old new size table failed (Open file) refused ends = absurd ends
+say-entries old new size table failed (Pin cause) refused ends = absurd ends
+say-entries old new size table failed (Refused refusal) refused ends = absurd ends

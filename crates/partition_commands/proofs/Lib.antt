@@ -1,5 +1,6 @@
 mod EndingLemmas
 mod LabelLemmas
+mod LoadLemmas
 mod NameLemmas
 mod NoteLemmas
 mod ObjectLemmas

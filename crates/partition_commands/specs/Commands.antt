@@ -1,32 +1,22 @@
--- What the commands on the partitions of an image print where they succeed, and how they end early.
-use Rattle.std.specs.Prelude.{◌≡◌, ◌⊎◌, ℕ, Bool, true, false, List, Option, Ok, Err}
+-- What `partitions`, `--json` and `--stack` print of an image where they succeed, and how commands on partitions end early.
+use Rattle.std.specs.Prelude.{◌≡◌, ◌⊎◌, ℕ, Bool, true, false, List, Option}
 use Rattle.std.specs.Io.KnownBytes.{Appends}
 use Rattle.allocation.specs.Refusal.{IsOutOfMemory}
 use Rattle.block_device.specs.Device.{Device}
 use Rattle.program_io.specs.Counted.{CountedRecord}
-use Rattle.device_adapters.specs.declared.part.Part.{Part}
-use Rattle.device_adapters.specs.Parts.{LiesInside}
-use Rattle.device_adapters.specs.Windows.{windowed}
 use Rattle.image_files.specs.declared.images.OpenImage.{OpenImage}
 use Rattle.image_files.specs.declared.opening.UnopenedFile.{UnopenedFile}
 use Rattle.image_files.specs.Opened.{Opens, Refuses}
 use Rattle.image_files.specs.Opener.{Calls, Opener, calls}
 use Rattle.partition_table.specs.declared.sector_size.SectorSize.{SectorSize}
-use Rattle.partition_table.specs.declared.table.NoTable.{NoTable}
 use Rattle.partition_table.specs.declared.table.PartitionTable.{PartitionTable}
 use Rattle.partition_table.specs.Tables.{IsNoSizedTable, IsSizedTable}
-use Rattle.verity_format.specs.declared.verifying.VerifyFault.TheVariants.{TooSmall}
-use Rattle.verity_format.specs.Superblock.{SuperRecord}
-use Rattle.verity_format.specs.Verifying.{IsReadCause, IsReadFrom}
 use Rattle.partition_commands.specs.declared.fault.PartitionsFault.{PartitionsFault}
-use Rattle.partition_commands.specs.declared.fault.PartitionsFault.TheVariants.{NoMemory, Open, Refused, Write}
-use Rattle.partition_commands.specs.declared.refusal.PartitionRefusal.{PartitionRefusal}
-use Rattle.partition_commands.specs.declared.refusal.PartitionRefusal.TheVariants.{OutsideDevice, Superblock, Table}
-use Rattle.partition_commands.specs.declared.root.ImagePartitions.{ImagePartitions}
+use Rattle.partition_commands.specs.declared.fault.PartitionsFault.TheVariants.{NoMemory, NotLoadable, Open, Pin, Refused, Write}
+use Rattle.partition_commands.specs.declared.refusal.PartitionRefusal.TheVariants.{OutsideDevice, Table}
 use Rattle.partition_commands.specs.Labels.{name_room}
-use Rattle.partition_commands.specs.Parts.{are_within, is_within, part_of}
-use Rattle.partition_commands.specs.RootStacks.{is_unfit, root_room, root_stack_text}
-use Rattle.partition_commands.specs.Roots.{image_partitions}
+use Rattle.partition_commands.specs.Loads.{IsStackUnloadable, Loads, stack_room}
+use Rattle.partition_commands.specs.Parts.{are_within}
 use Rattle.partition_commands.specs.Stacks.{entries_text}
 use Rattle.partition_commands.specs.Warnings.{AreNotes, IsNoted, Notes, warning_text}
 
@@ -37,11 +27,12 @@ pub record PrintsPartitions (old new : Device) (size : SectorSize) (text : Parti
   pub printed : Appends written now_written (text table)
   pub noted : IsNoted notes (warning_text new table)
 
--- the stack text of a table whose partitions all end on the device
+-- the stack text of a table whose partitions all end on the device; it loads over the disk
 pub record PrintsEntries (old new : Device) (size : SectorSize) (written now_written : Option (List ℕ)) (notes : Notes) : Type 0 where
   pub table : PartitionTable
   pub found : IsSizedTable old new size table
   pub within : are_within new table.size table.partitions.items ≡ true
+  pub loads : Loads new.size (entries_text table)
   pub printed : Appends written now_written (entries_text table)
   pub noted : IsNoted notes (warning_text new table)
 
@@ -79,25 +70,21 @@ pub record EndsOutside (old new : Device) (size : SectorSize) : Type 0 where
   pub found : IsSizedTable old new size table
   pub outside : are_within new table.size table.partitions.items ≡ false
 
--- the same of a stack text: there is no table, a partition ends past the end, room for a name was refused, or an entry can't be written
+-- a table was found, and `load` would refuse its stack text over the disk
+pub record EndsUnloadable (old new : Device) (size : SectorSize) : Type 0 where
+  pub table : PartitionTable
+  pub found : IsSizedTable old new size table
+  pub unloadable : IsStackUnloadable new.size table.size table.partitions.items
+
+-- the same of a stack text: there is no table, a partition ends past the end, the text doesn't load, room was refused, or the
+-- text can't be written
 abbrev pub IsEntriesEnd : Device → Device → SectorSize → Bool → PartitionsFault → Type 0
-IsEntriesEnd old new size failed NoMemory = IsOutOfMemory name_room
+IsEntriesEnd old new size failed NoMemory = IsOutOfMemory stack_room
 IsEntriesEnd old new size failed Write = failed ≡ true
+IsEntriesEnd old new size failed NotLoadable = EndsUnloadable old new size
 IsEntriesEnd old new size failed (Refused (Table fault)) = IsNoSizedTable old new size fault
 IsEntriesEnd old new size failed (Refused OutsideDevice) = EndsOutside old new size
 IsEntriesEnd old new size failed fault = ⊥
-
--- room for a name was refused, or an entry can't be written
-abbrev pub IsSayFault : Bool → PartitionsFault → Type 0
-IsSayFault failed NoMemory = IsOutOfMemory name_room
-IsSayFault failed Write = failed ≡ true
-IsSayFault failed fault = ⊥
-
--- the same of the entries of a root, whose line needs room
-abbrev pub IsRootSayFault : SuperRecord → List ℕ → Bool → PartitionsFault → Type 0
-IsRootSayFault super root failed NoMemory = IsOutOfMemory (root_room super root)
-IsRootSayFault super root failed Write = failed ≡ true
-IsRootSayFault super root failed fault = ⊥
 
 -- an image isn't opened, as is said of it
 abbrev pub IsImageUnopened : (UnopenedFile → Type 0) → PartitionsFault → Type 0
@@ -114,35 +101,10 @@ pub record EndsOfImage {S D : Type 0} (w : Calls S D) (path : List ℕ) (ends : 
 abbrev pub IsOpenedEnd : {S D : Type 0} → Calls S D → List ℕ → (Device → Device → PartitionsFault → Type 0) → PartitionsFault → Type 0
 IsOpenedEnd w path ends fault = IsImageUnopened (Refuses w path false) fault ⊎ EndsOfImage w path ends fault
 
--- both partitions lie inside the device, the superblock was read in the verity partition, and they have the sectors of its
--- data blocks and of its tree
-pub record IsFitting (device : Device) (size : SectorSize) (both : ImagePartitions) (super : SuperRecord) : Type 0 where
-  pub sector : List ℕ
-  pub within : is_within device (part_of size both.data) ≡ true
-  pub inside : LiesInside device (part_of size both.verity)
-  pub read : IsReadFrom (windowed device (part_of size both.verity)) sector super
-  pub fits : is_unfit size both super ≡ false
-
--- the two partitions of the root were found on the device, and the superblock in the verity partition
-pub record PrintsRoot (device : Device) (size : SectorSize) (root : List ℕ) (old new : Option (List ℕ)) (notes : Notes) : Type 0 where
-  pub table : PartitionTable
-  pub read_device : Device
-  pub found : IsSizedTable device read_device size table
-  pub both : ImagePartitions
-  pub both_is : image_partitions table.partitions.items root ≡ Ok both
-  pub super : SuperRecord
-  pub fitting : IsFitting read_device table.size both super
-  pub printed : Appends old new (root_stack_text table.size both super root)
-  pub noted : IsNoted notes (warning_text read_device table)
-
-pub record PrintsRootOfImage {S D : Type 0} (w : Calls S D) (path : List ℕ) (size : SectorSize) (root : List ℕ) (old new : Option (List ℕ)) (notes : Notes) : Type 0 where
-  pub image : OpenImage D
-  pub opened : Opens w path false image
-  pub prints : PrintsRoot (w.state image.device) size root old new notes
-
--- the command ended before there was a table
+-- the command ended before there was a table, maybe since a pin wasn't read
 abbrev pub EndsTableless : PartitionsFault → Type 0
 EndsTableless (Open file) = Unit {0}
+EndsTableless (Pin fault) = Unit {0}
 EndsTableless (Refused (Table fault)) = Unit {0}
 EndsTableless fault = ⊥
 
@@ -158,76 +120,6 @@ pub record NotesOfImage {S D : Type 0} (w : Calls S D) (path : List ℕ) (size :
 
 abbrev pub AreImageNotes : {S D : Type 0} → Calls S D → List ℕ → SectorSize → Notes → PartitionsFault → Type 0
 AreImageNotes w path size notes fault = (EndsTableless fault × (notes.new ≡ notes.old)) ⊎ NotesOfImage w path size notes fault
-
--- a table was found, but not the two partitions
-pub record LacksPartitions (device : Device) (size : SectorSize) (root : List ℕ) (refusal : PartitionRefusal) : Type 0 where
-  pub table : PartitionTable
-  pub read_device : Device
-  pub found : IsSizedTable device read_device size table
-  pub refused : image_partitions table.partitions.items root ≡ Err refusal
-
--- why there is no superblock in a part of a device
-abbrev pub IsPartSuperEnd : Device → Device → Part → PartitionRefusal → Type 0
-IsPartSuperEnd old new part OutsideDevice = LiesInside old part → ⊥
-IsPartSuperEnd old new part (Superblock fault) = IsReadCause (windowed old part) (windowed new part) fault
-IsPartSuperEnd old new part refusal = ⊥
-
--- the superblock was read, and a partition has fewer sectors than its data blocks or its tree
-pub record IsUnfitting (device : Device) (size : SectorSize) (both : ImagePartitions) : Type 0 where
-  pub super : SuperRecord
-  pub sector : List ℕ
-  pub read : IsReadFrom (windowed device (part_of size both.verity)) sector super
-  pub unfit : is_unfit size both super ≡ true
-
--- why the two partitions don't hold an image: that of the data ends past the end of the device, there is no superblock in
--- that of the tree, or one of both is too small
-abbrev pub IsPairEnd : Device → Device → SectorSize → ImagePartitions → PartitionRefusal → Type 0
-IsPairEnd old new size both refusal =
-    ((refusal ≡ OutsideDevice) × (is_within old (part_of size both.data) ≡ false))
-    ⊎ (IsPartSuperEnd old new (part_of size both.verity) refusal ⊎ ((refusal ≡ Superblock TooSmall) × IsUnfitting old size both))
-
--- both were found, but don't hold an image
-pub record LacksSuperblock (device device' : Device) (size : SectorSize) (root : List ℕ) (refusal : PartitionRefusal) : Type 0 where
-  pub table : PartitionTable
-  pub read_device : Device
-  pub found : IsSizedTable device read_device size table
-  pub both : ImagePartitions
-  pub both_is : image_partitions table.partitions.items root ≡ Ok both
-  pub ends : IsPairEnd read_device device' table.size both refusal
-
--- there is no table
-pub record LacksTable (device : Device) (size : SectorSize) (refusal : PartitionRefusal) : Type 0 where
-  pub fault : NoTable
-  pub read_device : Device
-  pub none : IsNoSizedTable device read_device size fault
-  pub is : refusal ≡ Table fault
-
--- both hold an image, and room for its line was refused
-pub record RefusesLine (device : Device) (size : SectorSize) (root : List ℕ) : Type 0 where
-  pub table : PartitionTable
-  pub read_device : Device
-  pub found : IsSizedTable device read_device size table
-  pub both : ImagePartitions
-  pub both_is : image_partitions table.partitions.items root ≡ Ok both
-  pub super : SuperRecord
-  pub fitting : IsFitting read_device table.size both super
-  pub refused : IsOutOfMemory (root_room super root)
-
--- one of these, or the text can't be written
-abbrev pub IsRootTextEnd : SectorSize → List ℕ → Bool → Device → PartitionsFault → Type 0
-IsRootTextEnd size root failed device NoMemory = RefusesLine device size root
-IsRootTextEnd size root failed device Write = failed ≡ true
-IsRootTextEnd size root failed device (Open file) = ⊥
-IsRootTextEnd size root failed device (Refused refusal) =
-    LacksTable device size refusal ⊎ (LacksPartitions device size root refusal ⊎ ((device' : Device) × LacksSuperblock device device' size root refusal))
-
-pub record EndsRoot {S D : Type 0} (w : Calls S D) (path : List ℕ) (size : SectorSize) (root : List ℕ) (failed : Bool) (fault : PartitionsFault) : Type 0 where
-  pub image : OpenImage D
-  pub opened : Opens w path false image
-  pub ended : IsRootTextEnd size root failed (w.state image.device) fault
-
-abbrev pub IsRootOfImageEnd : {S D : Type 0} → Calls S D → List ℕ → SectorSize → List ℕ → Bool → PartitionsFault → Type 0
-IsRootOfImageEnd w path size root failed fault = IsImageUnopened (Refuses w path false) fault ⊎ EndsRoot w path size root failed fault
 
 -- ---- as a call sees them: what a proof sees of an opener, a device or a writer, and these before and after
 
@@ -256,17 +148,6 @@ FailsToPrintObject relations state images images' writer' path size = IsOpenedEn
 
 abbrev pub FailsToStack : {S D W : Type 0} → Opener S D → (D → Device) → S → S → CountedRecord W → List ℕ → SectorSize → PartitionsFault → Type 0
 FailsToStack relations state images images' writer' path size = IsOpenedEnd (calls relations state images images') path (λ old new. IsEntriesEnd old new size writer'.failed)
-
--- the stack text of a root
-abbrev pub SaysRoot : {D W : Type 0} → (D → Device) → D → (W → Option (List ℕ)) → CountedRecord W → CountedRecord W → SectorSize → List ℕ → Notes → Type 0
-SaysRoot state device contents writer writer' size root notes = PrintsRoot (state device) size root (contents writer.inner) (contents writer'.inner) notes
-
-abbrev pub PrintsRootOf : {S D W : Type 0} → Opener S D → (D → Device) → S → S → (W → Option (List ℕ)) → CountedRecord W → CountedRecord W → List ℕ → SectorSize → List ℕ → Notes → Type 0
-PrintsRootOf relations state images images' contents writer writer' path size root notes =
-    PrintsRootOfImage (calls relations state images images') path size root (contents writer.inner) (contents writer'.inner) notes
-
-abbrev pub FailsToFindRoot : {S D W : Type 0} → Opener S D → (D → Device) → S → S → CountedRecord W → List ℕ → SectorSize → List ℕ → PartitionsFault → Type 0
-FailsToFindRoot relations state images images' writer' path size root = IsRootOfImageEnd (calls relations state images images') path size root writer'.failed
 
 -- what was printed among the errors
 abbrev pub NotesImage : {S D : Type 0} → Opener S D → (D → Device) → S → S → List ℕ → SectorSize → Notes → PartitionsFault → Type 0

@@ -4,11 +4,13 @@ pub mod Invocations
 pub mod Kinds
 pub mod Labels
 pub mod Lines
+pub mod Loads
 pub mod Names
 pub mod Objects
 pub mod Parts
 pub mod Prints
 pub mod RefusalNames
+pub mod RootCommands
 pub mod RootStacks
 pub mod Roots
 pub mod Stacks

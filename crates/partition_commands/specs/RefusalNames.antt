@@ -3,12 +3,13 @@ use Rattle.std.specs.Prelude.{ℕ, List, ◌++◌, codes, decimal}
 use Rattle.partition_table.specs.declared.read_fault.ReadFault.{ReadFault}
 use Rattle.partition_table.specs.declared.table.NoTable.TheVariants.{TooSmall, Damaged}
 use Rattle.partition_table.specs.FaultNames.{read_name, read_partition}
+use Rattle.image_pin.specs.Mismatches.{mismatch_name, mismatch_number}
 use Rattle.verity_format.specs.FaultNames.{verify_name, verify_number}
 use Rattle.partition_commands.specs.declared.refusal.PartitionRefusal.{PartitionRefusal}
-use Rattle.partition_commands.specs.declared.refusal.PartitionRefusal.TheVariants.{Table, NoDataPartition, TwoDataPartitions, NoVerityPartition, TwoVerityPartitions, OutsideDevice, Superblock}
+use Rattle.partition_commands.specs.declared.refusal.PartitionRefusal.TheVariants.{Table, NoDataPartition, TwoDataPartitions, NoVerityPartition, TwoVerityPartitions, OutsideDevice, Superblock, Unpinned}
 use Rattle.partition_commands.specs.Lines.{number_word}
 
--- a superblock's fault has that one's number, from 1 to 11
+-- a superblock's fault has its own number, from 1 to 11, as has a value that differs from the pin's
 abbrev pub refusal_number : PartitionRefusal → ℕ
 refusal_number (Table fault) = 12
 refusal_number NoDataPartition = 13
@@ -17,6 +18,7 @@ refusal_number NoVerityPartition = 15
 refusal_number TwoVerityPartitions = 16
 refusal_number OutsideDevice = 17
 refusal_number (Superblock fault) = verify_number fault
+refusal_number (Unpinned mismatch) = mismatch_number mismatch
 
 abbrev pub refusal_name : PartitionRefusal → List ℕ
 refusal_name (Table fault) = codes "NoTable"
@@ -26,6 +28,7 @@ refusal_name NoVerityPartition = codes "NoVerityPartition"
 refusal_name TwoVerityPartitions = codes "TwoVerityPartitions"
 refusal_name OutsideDevice = codes "OutsideDevice"
 refusal_name (Superblock fault) = verify_name fault
+refusal_name (Unpinned mismatch) = mismatch_name mismatch
 
 -- why a copy isn't taken, and of which partition
 unfoldable pub cause_text : ReadFault → List ℕ

@@ -1,12 +1,11 @@
 -- The stack text that opens a verity image of two partitions.
-use Rattle.std.specs.Prelude.{ℕ, List, ◌++◌, ◌||◌, nat_lt, Bool, codes, Option}
-use Rattle.program_io.specs.Counted.{CountedRecord}
+use Rattle.std.specs.Prelude.{ℕ, ◌+◌, List, ◌++◌, ◌||◌, nat_lt, Bool, codes}
 use Rattle.partition_table.specs.declared.sector_size.SectorSize.{SectorSize}
 use Rattle.verity_format.specs.Line.{line_room, table_text}
 use Rattle.verity_format.specs.Image.{data_sectors, tree_sectors}
 use Rattle.verity_format.specs.Superblock.{SuperRecord, shape_of}
 use Rattle.partition_commands.specs.declared.root.ImagePartitions.{ImagePartitions}
-use Rattle.partition_commands.specs.Lines.{SaysText}
+use Rattle.partition_commands.specs.Loads.{stack_room}
 use Rattle.partition_commands.specs.Parts.{part_of}
 use Rattle.partition_commands.specs.Stacks.{entry_text, linear_line}
 
@@ -14,9 +13,9 @@ use Rattle.partition_commands.specs.Stacks.{entry_text, linear_line}
 unfoldable pub root_entry : SuperRecord → List ℕ → List ℕ
 root_entry s root = entry_text (codes "root") (table_text s (codes "/dev/mapper/data") (codes "/dev/mapper/hash") root)
 
--- no allocation for it asks for more bytes
+-- no allocation for the text, or for its check, asks for more bytes
 abbrev pub root_room : SuperRecord → List ℕ → ℕ
-root_room s root = line_room s (codes "/dev/mapper/data") (codes "/dev/mapper/hash") root 1
+root_room s root = stack_room + line_room s (codes "/dev/mapper/data") (codes "/dev/mapper/hash") root 1
 
 -- `data` and `hash`, the two partitions, and `root` over them
 unfoldable pub root_stack_text : SectorSize → ImagePartitions → SuperRecord → List ℕ → List ℕ
@@ -27,9 +26,3 @@ root_stack_text size both s root =
 -- the loader would refuse the line `root` as one beyond its devices
 abbrev pub is_unfit : SectorSize → ImagePartitions → SuperRecord → Bool
 is_unfit size both s = nat_lt (part_of size both.data).count (data_sectors (shape_of s)) || nat_lt (part_of size both.verity).count (tree_sectors (shape_of s))
-
--- ---- as a call sees it
-
--- the stack of the two partitions was written
-abbrev pub SaysRootStack : {W : Type 0} → (W → Option (List ℕ)) → CountedRecord W → CountedRecord W → SectorSize → ImagePartitions → SuperRecord → List ℕ → Type 0
-SaysRootStack contents writer writer' size both s root = SaysText contents writer writer' (root_stack_text size both s root)

@@ -1,12 +1,10 @@
 -- The stack texts that are printed of a table: an entry for each partition, over the leaf DISK.
-use Rattle.std.specs.Prelude.{ℕ, List, ◌++◌, codes, decimal, Option}
+use Rattle.std.specs.Prelude.{ℕ, List, ◌++◌, codes, decimal}
 use Rattle.std.specs.List.{flat_map}
-use Rattle.program_io.specs.Counted.{CountedRecord}
 use Rattle.device_adapters.specs.declared.part.Part.{Part}
 use Rattle.partition_table.specs.declared.partition.Partition.{Partition}
 use Rattle.partition_table.specs.declared.sector_size.SectorSize.{SectorSize}
 use Rattle.partition_table.specs.declared.table.PartitionTable.{PartitionTable}
-use Rattle.partition_commands.specs.Lines.{SaysText}
 use Rattle.partition_commands.specs.Names.{partition_name}
 use Rattle.partition_commands.specs.Parts.{part_of}
 
@@ -27,9 +25,3 @@ stack_text size partitions = flat_map (partition_entry size partitions) partitio
 
 abbrev pub entries_text : PartitionTable → List ℕ
 entries_text table = stack_text table.size table.partitions.items
-
--- ---- as a call sees it
-
--- the entry of a partition was written
-abbrev pub SaysEntry : {W : Type 0} → (W → Option (List ℕ)) → CountedRecord W → CountedRecord W → SectorSize → List Partition → Partition → Type 0
-SaysEntry contents writer writer' size partitions partition = SaysText contents writer writer' (partition_entry size partitions partition)

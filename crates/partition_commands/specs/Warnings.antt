@@ -39,11 +39,14 @@ differ_warning source = codes ""
 unfoldable pub sector_warning : CopyWarnings → List ℕ → List ℕ → List ℕ
 sector_warning w past elsewhere = if w.cut_short then warning_line past else warning_if w.alternate elsewhere
 
+-- of the sector that the primary header names as the backup's, whether a backup is in the last sector or not
+unfoldable pub backup_sector_warning : CopyWarnings → List ℕ
+backup_sector_warning w =
+    sector_warning w (codes "the primary header places the backup past the end of the disk") (codes "the primary header places the backup before the last sector")
+
 -- of each copy
 unfoldable pub primary_warnings : CopyWarnings → List ℕ
-primary_warnings w =
-    sector_warning w (codes "the disk is smaller than its table states") (codes "the backup lies before the end of the disk")
-    ++ warning_if w.reserved (codes "reserved bytes of the primary header aren't zero")
+primary_warnings w = backup_sector_warning w ++ warning_if w.reserved (codes "reserved bytes of the primary header aren't zero")
 
 unfoldable pub backup_warnings : CopyWarnings → List ℕ
 backup_warnings w =

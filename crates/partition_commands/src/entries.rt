@@ -1,47 +1,61 @@
 //! The entries of stack texts, each of one line.
-ghost use Rattle.std.specs.Prelude.{◌++◌, codes};
-ghost use Rattle.program_io.specs.Counted.{Writes};
+ghost use Rattle.std.specs.Prelude.{◌≡◌, ◌≤◌, ◌+◌, ◌++◌, IfErr, OnOk, codes, decimal, length};
+ghost use Rattle.allocation.specs.Asked.{asked};
+ghost use Rattle.dm_table.specs.Names.{most_name};
+ghost use Rattle.partition_commands.specs.Loads.{stack_room};
 ghost use Rattle.partition_commands.specs.Stacks.{entry_text, linear_line};
 
+use allocation::{OutOfMemory, append};
 use device_adapters::Part;
-use program_io::{Counted, WriteFault};
-use std::io::Write;
+use itoa::Buffer;
 
-/// A read-only device of that name over a part of the leaf DISK.
+/// Appends the entry of a read-only device of that name over a part of the leaf DISK.
 #[tactic(auto, unfolding(crate::specs::Stacks::entry_text))]
-pub(crate) fn say_linear_entry<W: Write>(
-    writer: &mut Counted<W>,
+pub(crate) fn push_linear_entry(
+    text: &mut Vec<u8>,
     name: &[u8],
     part: Part,
-) -> Result<(), WriteFault>
-    ensures { Writes W.contents writer.old writer.new (entry_text name.now (linear_line part)) result }
+) -> Result<(), OutOfMemory>
+    requires { length name.now ≤ most_name }
+    ensures ok { OnOk result (text.new.items ≡ text.old.items ++ entry_text name.now (linear_line part)) }
+    ensures err { IfErr result (λ e. asked e ≤ stack_room) }
 {
-    writer.put(name)?;
-    writer.put(b",,,ro,")?;
-    say_linear(writer, part)?;
-    writer.put(b";\n")
+    append(text, name)?;
+    append(text, b",,,ro,")?;
+    push_linear(text, part)?;
+    append(text, b";\n")?;
+    Ok(())
 }
 
 #[tactic(auto, unfolding(crate::specs::Stacks::linear_line))]
-fn say_linear<W: Write>(writer: &mut Counted<W>, part: Part) -> Result<(), WriteFault>
-    ensures { Writes W.contents writer.old writer.new (linear_line part) result }
+fn push_linear(text: &mut Vec<u8>, part: Part) -> Result<(), OutOfMemory>
+    ensures ok { OnOk result (text.new.items ≡ text.old.items ++ linear_line part) }
+    ensures err { IfErr result (λ e. asked e ≤ stack_room) }
 {
-    let first = part.first;
-    let count = part.count;
-    writer.print(format_args!("0 {count} linear DISK {first}"))
+    append(text, b"0 ")?;
+    push_number(text, part.count)?;
+    append(text, b" linear DISK ")?;
+    push_number(text, part.first)?;
+    Ok(())
 }
 
-/// `NAME,,,ro,LINE;`
-#[tactic(auto, unfolding(crate::specs::Stacks::entry_text))]
-pub(crate) fn say_entry<W: Write>(
-    writer: &mut Counted<W>,
-    name: &[u8],
-    line: &[u8],
-) -> Result<(), WriteFault>
-    ensures { Writes W.contents writer.old writer.new (entry_text name.now line.now) result }
+fn push_number(text: &mut Vec<u8>, number: u64) -> Result<(), OutOfMemory>
+    ensures ok { OnOk result (text.new.items ≡ text.old.items ++ decimal number) }
+    ensures err { IfErr result (λ e. asked e ≤ stack_room) }
 {
-    writer.put(name)?;
-    writer.put(b",,,ro,")?;
-    writer.put(line)?;
-    writer.put(b";\n")
+    let mut digits = Buffer::new();
+    append(text, digits.format(number).as_bytes())?;
+    Ok(())
+}
+
+/// Appends the entry of a read-only device `root` with that line.
+#[tactic(auto, unfolding(crate::specs::Stacks::entry_text))]
+pub(crate) fn push_root(text: &mut Vec<u8>, line: &[u8]) -> Result<(), OutOfMemory>
+    ensures ok { OnOk result (text.new.items ≡ text.old.items ++ entry_text (codes "root") line.now) }
+    ensures err { IfErr result (λ e. asked e ≤ stack_room + length line.now) }
+{
+    append(text, b"root,,,ro,")?;
+    append(text, line)?;
+    append(text, b";\n")?;
+    Ok(())
 }

@@ -6,6 +6,7 @@ ghost use Rattle.partition_commands.specs.declared.refusal.PartitionRefusal.TheV
 
 use crate::PartitionRefusal;
 use allocation::OutOfMemory;
+use image_commands::ImageFault;
 use image_files::UnopenedFile;
 use partition_table::NoTable;
 use program_io::WriteFault;
@@ -53,8 +54,12 @@ pub enum PartitionsFault<'a> {
     NoMemory,
     /// The image isn't opened.
     Open(UnopenedFile<'a>),
+    /// The pin isn't read.
+    Pin(ImageFault<'a>),
     /// Its partitions can't serve.
     Refused(PartitionRefusal),
+    /// `load` would refuse the stack over the image.
+    NotLoadable,
     /// A line can't be written.
     Write,
 }
@@ -80,6 +85,14 @@ impl<'a> From<UnopenedFile<'a>> for PartitionsFault<'a> {
 
     fn from(file: UnopenedFile<'a>) -> Self {
         PartitionsFault::Open(file)
+    }
+}
+
+impl<'a> From<ImageFault<'a>> for PartitionsFault<'a> {
+    ghost from_gives = { λ fault given. given ≡ partitions_fault.Pin fault };
+
+    fn from(fault: ImageFault<'a>) -> Self {
+        PartitionsFault::Pin(fault)
     }
 }
 

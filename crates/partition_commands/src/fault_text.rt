@@ -5,9 +5,10 @@ ghost use Rattle.partition_commands.specs.FaultTexts.{partitions_status, partiti
 
 use crate::fault::PartitionsFault;
 use crate::refusal::say_refusal;
-use io_fault_text::{say_no_memory, say_unopened};
+use io_fault_text::{say_no_memory, say_refused, say_unopened};
 use program_io::{Counted, WriteFault};
 use std::io::Write;
+use verity_commands::say_image_fault;
 
 const REFUSED: u8 = 1;
 
@@ -21,7 +22,9 @@ pub fn say_partitions_fault<W: Write>(
     match fault {
         PartitionsFault::NoMemory => say_no_memory(writer),
         PartitionsFault::Open(file) => say_unopened(writer, file),
+        PartitionsFault::Pin(fault) => say_image_fault(writer, fault),
         PartitionsFault::Refused(refusal) => say_refusal(writer, refusal),
+        PartitionsFault::NotLoadable => say_refused(writer, 46, "NotLoadable"),
         PartitionsFault::Write => Ok(()),
     }
 }

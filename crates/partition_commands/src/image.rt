@@ -1,24 +1,31 @@
 //! The commands `partitions`, `partitions --json` and `partitions --stack`, of an image.
-ghost use Rattle.std.specs.Prelude.{IfErr, OnOk};
-ghost use Rattle.partition_commands.specs.Commands.{EndsNoted, FailsToPrint, FailsToPrintObject, FailsToStack, IsEntriesEnd, IsLinesEnd, IsObjectEnd, IsSayFault, NotesImage, Prints, PrintsEntriesOf, PrintsImage, PrintsStackOf};
-ghost use Rattle.partition_commands.specs.Lines.{SaysText, listed_text};
+ghost use Rattle.std.specs.Prelude.{◌≡◌, ◌≤◌, ◌++◌, IfErr, IfOk, OnOk};
+ghost use Rattle.allocation.specs.Asked.{asked};
+ghost use Rattle.partition_commands.specs.Commands.{EndsNoted, FailsToPrint, FailsToPrintObject, FailsToStack, IsEntriesEnd, IsLinesEnd, IsObjectEnd, NotesImage, Prints, PrintsEntriesOf, PrintsImage, PrintsStackOf};
+ghost use Rattle.partition_commands.specs.Lines.{listed_text};
+ghost use Rattle.partition_commands.specs.Loads.{EndsQuiet, IsStackEnd, SaysLoadable, stack_room};
 ghost use Rattle.partition_commands.specs.Objects.{object_text};
-ghost use Rattle.partition_commands.specs.Stacks.{SaysEntry, stack_text};
+ghost use Rattle.partition_commands.specs.Stacks.{partition_entry, stack_text};
 ghost use Rattle.partition_commands.specs.Warnings.{notes_of};
 
-use crate::entries::say_linear_entry;
+use crate::entries::push_linear_entry;
+use crate::loading::say_loadable;
 use crate::object::table_line;
 use crate::parts::are_within;
 use crate::warnings::find_noted;
 use crate::{
     PartitionRefusal, PartitionsFault, PrintFault, part_of, partition_name, print_partitions,
 };
+use allocation::OutOfMemory;
 use block_device::BlockDev;
 use image_files::{Images, open_image};
 use partition_table::{Partition, SectorSize};
 use program_io::Counted;
 use std::alloc::Global;
 use std::io::Write;
+
+// More devices no stack has.
+const MOST_DEVICES: usize = 64;
 
 /// `partitions IMAGE`: which copies of the image's table are good, and a line for each partition.
 pub fn partitions_of_image<'a, I: Images, W: Write, E: Write>(
@@ -69,6 +76,7 @@ pub fn object_of_image<'a, I: Images, W: Write, E: Write>(
     ensures ok { OnOk result (PrintsImage I.relations I.Dev.state images.old images.new W.contents writer.old writer.new path.now size object_text (notes_of E.contents errors.old errors.new)) }
     ensures err { IfErr result (FailsToPrintObject I.relations I.Dev.state images.old images.new writer.new path.now size) }
     ensures noted { IfErr result (NotesImage I.relations I.Dev.state images.old images.new path.now size (notes_of E.contents errors.old errors.new)) }
+    ensures quiet { IfErr result (EndsQuiet W.contents writer.old writer.new) }
 {
     let mut image = open_image(images, path, false)?;
     list_object(alloc, &mut image.device, size, writer, errors)
@@ -85,6 +93,7 @@ fn list_object<'a, D: BlockDev, W: Write, E: Write>(
     ensures ok { OnOk result (Prints D.state device.old device.new W.contents writer.old writer.new size object_text (notes_of E.contents errors.old errors.new)) }
     ensures err { IfErr result (IsObjectEnd (D.state device.old) (D.state device.new) size writer.new.failed) }
     ensures noted { IfErr result (EndsNoted (D.state device.old) size (notes_of E.contents errors.old errors.new)) }
+    ensures quiet { IfErr result (EndsQuiet W.contents writer.old writer.new) }
 {
     let table = find_noted(alloc, device, size, errors)?;
     let line = table_line(alloc, &table)?;
@@ -92,7 +101,8 @@ fn list_object<'a, D: BlockDev, W: Write, E: Write>(
     Ok(())
 }
 
-/// `partitions --stack IMAGE`: the text of a stack with a read-only device for each partition, over the leaf DISK.
+/// `partitions --stack IMAGE`: prints the text of a stack with a read-only device for each partition, over the leaf DISK.
+/// `load` takes it.
 pub fn stack_of_image<'a, I: Images, W: Write, E: Write>(
     alloc: Global,
     images: &mut I,
@@ -104,6 +114,7 @@ pub fn stack_of_image<'a, I: Images, W: Write, E: Write>(
     ensures ok { OnOk result (PrintsStackOf I.relations I.Dev.state images.old images.new W.contents writer.old writer.new path.now size (notes_of E.contents errors.old errors.new)) }
     ensures err { IfErr result (FailsToStack I.relations I.Dev.state images.old images.new writer.new path.now size) }
     ensures noted { IfErr result (NotesImage I.relations I.Dev.state images.old images.new path.now size (notes_of E.contents errors.old errors.new)) }
+    ensures quiet { IfErr result (EndsQuiet W.contents writer.old writer.new) }
 {
     let mut image = open_image(images, path, false)?;
     list_entries(alloc, &mut image.device, size, writer, errors)
@@ -120,42 +131,61 @@ fn list_entries<'a, D: BlockDev, W: Write, E: Write>(
     ensures ok { OnOk result (PrintsEntriesOf D.state device.old device.new W.contents writer.old writer.new size (notes_of E.contents errors.old errors.new)) }
     ensures err { IfErr result (IsEntriesEnd (D.state device.old) (D.state device.new) size writer.new.failed) }
     ensures noted { IfErr result (EndsNoted (D.state device.old) size (notes_of E.contents errors.old errors.new)) }
+    ensures quiet { IfErr result (EndsQuiet W.contents writer.old writer.new) }
 {
     let table = find_noted(alloc, device, size, errors)?;
     if !are_within(device, table.size, &table.partitions) {
         return Err(PartitionsFault::Refused(PartitionRefusal::OutsideDevice));
     }
-    say_entries(alloc, writer, table.size, &table.partitions)
+    let sectors = device.sectors();
+    say_stack(alloc, writer, sectors, table.size, &table.partitions)
 }
 
 // An entry for each partition.
-fn say_entries<'a, W: Write>(
+fn say_stack<'a, W: Write>(
     alloc: Global,
     writer: &mut Counted<W>,
+    sectors: u64,
     size: SectorSize,
     partitions: &[Partition],
 ) -> Result<(), PartitionsFault<'a>>
-    ensures ok { OnOk result (SaysText W.contents writer.old writer.new (stack_text size partitions.now)) }
-    ensures err { IfErr result (IsSayFault writer.new.failed) }
+    ensures ok { OnOk result (SaysLoadable W.contents writer.old writer.new sectors (stack_text size partitions.now)) }
+    ensures err { IfErr result (IsStackEnd sectors size partitions.now writer.new.failed) }
+    ensures quiet { IfErr result (EndsQuiet W.contents writer.old writer.new) }
 {
-    for partition in partitions {
-        say_partition_entry(alloc, writer, size, partitions, partition)?;
+    if partitions.len() > MOST_DEVICES {
+        return Err(PartitionsFault::NotLoadable);
     }
-    Ok(())
+    let text = stack_text(alloc, size, partitions)?;
+    say_loadable(alloc, writer, sectors, &text)
+}
+
+fn stack_text(
+    alloc: Global,
+    size: SectorSize,
+    partitions: &[Partition],
+) -> Result<Vec<u8>, OutOfMemory>
+    ensures ok { IfOk result (λ text. text.items ≡ stack_text size partitions.now) }
+    ensures err { IfErr result (λ e. asked e ≤ stack_room) }
+{
+    let mut text = Vec::new(alloc);
+    for partition in partitions {
+        push_partition_entry(alloc, &mut text, size, partitions, partition)?;
+    }
+    Ok(text)
 }
 
 #[tactic(auto, unfolding(crate::specs::Stacks::partition_entry))]
-fn say_partition_entry<'a, W: Write>(
+fn push_partition_entry(
     alloc: Global,
-    writer: &mut Counted<W>,
+    text: &mut Vec<u8>,
     size: SectorSize,
     partitions: &[Partition],
     partition: &Partition,
-) -> Result<(), PartitionsFault<'a>>
-    ensures ok { OnOk result (SaysEntry W.contents writer.old writer.new size partitions.now partition.now) }
-    ensures err { IfErr result (IsSayFault writer.new.failed) }
+) -> Result<(), OutOfMemory>
+    ensures ok { OnOk result (text.new.items ≡ text.old.items ++ partition_entry size partitions.now partition.now) }
+    ensures err { IfErr result (λ e. asked e ≤ stack_room) }
 {
     let name = partition_name(alloc, partitions, partition)?;
-    say_linear_entry(writer, name.as_bytes(), part_of(size, partition))?;
-    Ok(())
+    push_linear_entry(text, name.as_bytes(), part_of(size, partition))
 }

@@ -1,12 +1,13 @@
 //! The command `partitions` by its words.
 ghost use Rattle.std.specs.Prelude.{◌≡◌, OnOk, IfErr};
-ghost use Rattle.partition_commands.specs.Invocations.{FailsToList, ListsByWords, size_of};
+ghost use Rattle.partition_commands.specs.Invocations.{EndsFormQuiet, FailsToList, ListsByWords, size_of};
 ghost use Rattle.partition_commands.specs.Warnings.{notes_of};
 
 use crate::fault::PartitionsFault;
 use crate::image::{object_of_image, partitions_of_image, stack_of_image};
-use crate::root_stack::root_stack_of_image;
+use crate::root_stack::{pinned_stack_of_image, root_stack_of_image};
 use command_line::{PartitionForm, PartitionsWords};
+use image_commands::TrustedRoot;
 use image_files::Images;
 use partition_table::SectorSize;
 use program_io::Counted;
@@ -26,7 +27,7 @@ fn size_of(bytes: u32) -> SectorSize
     }
 }
 
-/// `partitions [--sector-size 512|4096] [--json | --stack | --root ROOT] IMAGE`; what is unusual of the table goes to `errors`.
+/// `partitions [--sector-size 512|4096] [--json | --stack | --root ROOT | --pin FILE] IMAGE`; what is unusual of the table goes to `errors`.
 pub fn invoke_partitions<'a, I: Images, W: Write, E: Write>(
     alloc: Global,
     images: &mut I,
@@ -36,6 +37,7 @@ pub fn invoke_partitions<'a, I: Images, W: Write, E: Write>(
 ) -> Result<(), PartitionsFault<'a>>
     ensures ok { OnOk result (ListsByWords I.relations I.Dev.state images.old images.new W.contents writer.old writer.new words.entry (notes_of E.contents errors.old errors.new)) }
     ensures err { IfErr result (FailsToList I.relations I.Dev.state images.old images.new writer.new words.entry (notes_of E.contents errors.old errors.new)) }
+    ensures quiet { IfErr result (EndsFormQuiet W.contents writer.old writer.new words.entry) }
 {
     let PartitionsWords {
         image,
@@ -48,7 +50,11 @@ pub fn invoke_partitions<'a, I: Images, W: Write, E: Write>(
         PartitionForm::Object => object_of_image(alloc, images, image, size, writer, errors),
         PartitionForm::Stack => stack_of_image(alloc, images, image, size, writer, errors),
         PartitionForm::Root(root) => {
-            root_stack_of_image(alloc, images, image, size, &root, writer, errors)
+            let trusted = TrustedRoot { root, pin: None };
+            root_stack_of_image(alloc, images, image, size, &trusted, writer, errors)
+        }
+        PartitionForm::Pin(pin) => {
+            pinned_stack_of_image(alloc, images, pin, image, size, writer, errors)
         }
     }
 }

@@ -1,8 +1,8 @@
 //! What the mapped device over a partition is called.
-ghost use Rattle.std.specs.Prelude.{◌≡◌, ◌&&◌, ◌||◌, ◌==◌, ◌≤◌, not, IfOk, IfErr, string_bytes};
+ghost use Rattle.std.specs.Prelude.{◌≡◌, ◌&&◌, ◌||◌, ◌==◌, ◌≤◌, not, IfOk, IfErr, length, string_bytes};
 ghost use Rattle.std.specs.Str.{bytes_eq};
 ghost use Rattle.allocation.specs.Asked.{asked};
-ghost use Rattle.dm_table.specs.Names.{is_mapped_name};
+ghost use Rattle.dm_table.specs.Names.{is_mapped_name, most_name};
 ghost use Rattle.partition_commands.specs.Labels.{label_text, name_room};
 ghost use Rattle.partition_commands.specs.Names.{is_option_like, is_taken, is_taken_by, numbered_name, partition_name};
 
@@ -26,6 +26,7 @@ pub fn partition_name(
     partition: &Partition,
 ) -> Result<String, OutOfMemory>
     ensures ok { IfOk result (λ name. string_bytes name ≡ partition_name partitions.now partition.now) }
+    ensures short { IfOk result (λ name. length (string_bytes name) ≤ most_name) }
     ensures err { IfErr result (λ e. asked e ≤ name_room) }
 {
     let label = label_text(alloc, &partition.label)?;
@@ -82,6 +83,7 @@ fn is_taken_by(
 #[tactic(auto, unfolding(crate::specs::Names::numbered_name))]
 fn numbered_name(alloc: Global, number: u32) -> Result<String, OutOfMemory>
     ensures ok { IfOk result (λ name. string_bytes name ≡ numbered_name number) }
+    ensures short { IfOk result (λ name. length (string_bytes name) ≤ most_name) }
     ensures err { IfErr result (λ e. asked e ≤ name_room) }
 {
     let mut digits = Buffer::new();

@@ -4,6 +4,7 @@ ghost use Rattle.program_io.specs.Counted.{Writes};
 ghost use Rattle.partition_commands.specs.RefusalNames.{cause_text, damaged_line, refusal_name, refusal_number, refusal_text, refused_line};
 
 use crate::line::say_number;
+use image_pin::Mismatch;
 use partition_table::{NoTable, ReadFault};
 use program_io::{Counted, WriteFault};
 use std::io::Write;
@@ -26,10 +27,12 @@ pub enum PartitionRefusal {
     OutsideDevice,
     /// There is no good superblock in the verity partition.
     Superblock(VerifyFault),
+    /// The superblock differs from the pin.
+    Unpinned(Mismatch),
 }
 
 impl PartitionRefusal {
-    /// Its number in printed text; of a superblock's fault that one's.
+    /// Returns the number in printed output: that of the superblock's fault, or of the value that differs.
     pub fn number(self) -> u8
         ensures { result ≡ refusal_number self }
     {
@@ -41,10 +44,11 @@ impl PartitionRefusal {
             PartitionRefusal::TwoVerityPartitions => 16,
             PartitionRefusal::OutsideDevice => 17,
             PartitionRefusal::Superblock(fault) => fault.number(),
+            PartitionRefusal::Unpinned(mismatch) => mismatch.number(),
         }
     }
 
-    /// Its name in printed text; of a superblock's fault that one's.
+    /// Returns the name in printed output: that of the superblock's fault, or of the value that differs.
     pub fn name(self) -> &'static str
         ensures { result.now ≡ refusal_name self }
     {
@@ -56,6 +60,7 @@ impl PartitionRefusal {
             PartitionRefusal::TwoVerityPartitions => "TwoVerityPartitions",
             PartitionRefusal::OutsideDevice => "OutsideDevice",
             PartitionRefusal::Superblock(fault) => fault.name(),
+            PartitionRefusal::Unpinned(mismatch) => mismatch.name(),
         }
     }
 }
@@ -97,7 +102,8 @@ pub fn say_refusal<W: Write>(
         | PartitionRefusal::NoVerityPartition
         | PartitionRefusal::TwoVerityPartitions
         | PartitionRefusal::OutsideDevice
-        | PartitionRefusal::Superblock(_) => say_refused(writer, refusal.number(), refusal.name()),
+        | PartitionRefusal::Superblock(_)
+        | PartitionRefusal::Unpinned(_) => say_refused(writer, refusal.number(), refusal.name()),
     }
 }
 

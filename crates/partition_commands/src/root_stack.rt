@@ -1,47 +1,88 @@
-//! The command `partitions --root`: the stack that opens a verity image of two partitions.
-ghost use Rattle.std.specs.Prelude.{◌≡◌, ℕ, List, IfErr, IfOk, OnOk};
+//! The commands `partitions --root` and `--pin`: the stack that opens a verity image of two partitions.
+ghost use Rattle.std.specs.Prelude.{◌≡◌, ◌++◌, ◌≤◌, ℕ, List, None, IfErr, IfOk, OnOk};
 ghost use Rattle.device_adapters.specs.Parts.{LiesInside};
 ghost use Rattle.device_adapters.specs.Windows.{windowed};
+ghost use Rattle.image_commands.specs.Finding.{mismatch_of};
 ghost use Rattle.verity_format.specs.Verifying.{IsReadFrom};
-ghost use Rattle.partition_commands.specs.Commands.{EndsNoted, FailsToFindRoot, IsFitting, IsPairEnd, IsPartSuperEnd, IsRootSayFault, IsRootTextEnd, NotesImage, PrintsRootOf, SaysRoot};
-ghost use Rattle.partition_commands.specs.Lines.{SaysText};
-ghost use Rattle.partition_commands.specs.RootStacks.{SaysRootStack, is_unfit, root_entry};
+ghost use Rattle.partition_commands.specs.Commands.{EndsNoted, NotesImage};
+ghost use Rattle.partition_commands.specs.Loads.{EndsQuiet, IsRefusedRoom};
+ghost use Rattle.partition_commands.specs.RootCommands.{FailsToFindPinned, FailsToFindRoot, IsFitting, IsPairEnd, IsPartSuperEnd, IsRootTextEnd, NotesPinned, PrintsPinnedOf, PrintsRootOf, SaysRoot};
+ghost use Rattle.partition_commands.specs.RootStacks.{is_unfit, root_room, root_stack_text};
 ghost use Rattle.partition_commands.specs.Warnings.{notes_of};
 
-use crate::entries::{say_entry, say_linear_entry};
+use crate::entries::{push_linear_entry, push_root};
+use crate::loading::say_loadable;
 use crate::parts::is_within;
 use crate::warnings::find_noted;
 use crate::{ImagePartitions, PartitionRefusal, PartitionsFault, part_of};
 use block_device::BlockDev;
+use command_line::RootOrPin;
 use device_adapters::{Part, Window};
+use image_commands::{TrustedRoot, mismatch_of};
 use image_files::{Images, open_image};
+use image_pin::Pin;
 use partition_table::SectorSize;
 use program_io::Counted;
 use std::alloc::Global;
 use std::io::Write;
 use std::marker::Brand;
 use tree_shape::Digest;
+use verity_commands::trusted_in;
 use verity_format::{
     Superblock, VerifyFault, data_sectors, read_superblock, table_line, tree_sectors,
 };
 
-/// `partitions --root ROOT IMAGE`: the text of a stack with the devices `data` and `hash` over the two partitions of the
-/// root, and `root`, the data blocks checked.
+/// `partitions --pin FILE IMAGE`: prints the stack of `root_stack_of_image` for the root hash of the pin in a file, which is read
+/// before the image is opened. The superblock must have the values of the pin.
+///
+/// # Errors
+///
+/// `Pin` if the file isn't read or its text is no pin, and the errors of `root_stack_of_image`.
+pub fn pinned_stack_of_image<'a, I: Images, W: Write, E: Write>(
+    alloc: Global,
+    images: &mut I,
+    pin: &'a str,
+    path: &'a str,
+    size: SectorSize,
+    writer: &mut Counted<W>,
+    errors: &mut Counted<E>,
+) -> Result<(), PartitionsFault<'a>>
+    ensures ok { OnOk result (PrintsPinnedOf I.relations I.Dev.state images.old images.new W.contents writer.old writer.new pin.now path.now size (notes_of E.contents errors.old errors.new)) }
+    ensures err { IfErr result (FailsToFindPinned I.relations I.Dev.state images.old images.new writer.new pin.now path.now size) }
+    ensures noted { IfErr result (NotesPinned I.relations I.Dev.state images.old images.new path.now size (notes_of E.contents errors.old errors.new)) }
+    ensures quiet { IfErr result (EndsQuiet W.contents writer.old writer.new) }
+{
+    let trusted = trusted_in(images, &RootOrPin::Pin(pin))?;
+    root_stack_of_image(alloc, images, path, size, &trusted, writer, errors)
+}
+
+/// `partitions --root ROOT IMAGE`: prints the text of a stack with the devices `data` and `hash` over the two partitions of a
+/// root hash, and `root`, the data blocks checked. `load` takes it.
+///
+/// # Errors
+///
+/// - `Open` if the image isn't opened.
+/// - `Refused` if there is no table, not exactly one partition of each half of the root hash, or no image in them; or with a
+///   pin if the superblock has other values.
+/// - `NotLoadable` if `load` would refuse the text.
+/// - `NoMemory` if the line of `root`, or at most 511 elements for the text and its check, were refused room.
+/// - `Write` if the writer failed.
 pub fn root_stack_of_image<'a, I: Images, W: Write, E: Write>(
     alloc: Global,
     images: &mut I,
     path: &'a str,
     size: SectorSize,
-    root: &Digest,
+    trusted: &TrustedRoot,
     writer: &mut Counted<W>,
     errors: &mut Counted<E>,
 ) -> Result<(), PartitionsFault<'a>>
-    ensures ok { OnOk result (PrintsRootOf I.relations I.Dev.state images.old images.new W.contents writer.old writer.new path.now size root.now (notes_of E.contents errors.old errors.new)) }
-    ensures err { IfErr result (FailsToFindRoot I.relations I.Dev.state images.old images.new writer.new path.now size root.now) }
+    ensures ok { OnOk result (PrintsRootOf I.relations I.Dev.state images.old images.new W.contents writer.old writer.new path.now size trusted.now (notes_of E.contents errors.old errors.new)) }
+    ensures err { IfErr result (FailsToFindRoot I.relations I.Dev.state images.old images.new writer.new path.now size trusted.now) }
     ensures noted { IfErr result (NotesImage I.relations I.Dev.state images.old images.new path.now size (notes_of E.contents errors.old errors.new)) }
+    ensures quiet { IfErr result (EndsQuiet W.contents writer.old writer.new) }
 {
     let image = open_image(images, path, false)?;
-    print_root_stack(alloc, image.device, size, root, writer, errors)
+    print_root_stack(alloc, image.device, size, trusted, writer, errors)
 }
 
 // The same of a device.
@@ -49,35 +90,39 @@ fn print_root_stack<'a, D: BlockDev + Drop, W: Write, E: Write>(
     alloc: Global,
     device: D,
     size: SectorSize,
-    root: &Digest,
+    trusted: &TrustedRoot,
     writer: &mut Counted<W>,
     errors: &mut Counted<E>,
 ) -> Result<(), PartitionsFault<'a>>
-    ensures ok { OnOk result (SaysRoot D.state device W.contents writer.old writer.new size root.now (notes_of E.contents errors.old errors.new)) }
-    ensures err { IfErr result (IsRootTextEnd size root.now writer.new.failed (D.state device)) }
+    ensures ok { OnOk result (SaysRoot D.state device W.contents writer.old writer.new size trusted.now (notes_of E.contents errors.old errors.new)) }
+    ensures err { IfErr result (IsRootTextEnd size trusted.now writer.new.failed (D.state device)) }
     ensures noted { IfErr result (EndsNoted (D.state device) size (notes_of E.contents errors.old errors.new)) }
+    ensures quiet { IfErr result (EndsQuiet W.contents writer.old writer.new) }
 {
     let mut device = device;
     let table = find_noted(alloc, &mut device, size, errors)?;
-    let both = ImagePartitions::find(&table.partitions, root)?;
-    let superblock = superblock_of(device, table.size, &both)?;
-    say_root_stack(alloc, writer, table.size, &both, &superblock, root)
+    let both = ImagePartitions::find(&table.partitions, &trusted.root)?;
+    let sectors = device.sectors();
+    let superblock = superblock_of(device, table.size, &both, &trusted.pin)?;
+    let text = root_text(alloc, table.size, &both, &superblock, &trusted.root)?;
+    say_loadable(alloc, writer, sectors, &text)
 }
 
-// The superblock of two partitions that hold an image by it, so that the loader takes the lines over them.
+// The superblock of two partitions that hold an image by it, with the values of the pin, if there is one.
 fn superblock_of<D: BlockDev + Drop>(
     device: D,
     size: SectorSize,
     both: &ImagePartitions,
+    pin: &Option<Pin>,
 ) -> Result<Superblock, PartitionRefusal>
-    ensures ok { IfOk result (IsFitting (D.state device) size both.now) }
-    ensures err { IfErr result (λ refusal. (after : D) × IsPairEnd (D.state device) (D.state after) size both.now refusal) }
+    ensures ok { IfOk result (IsFitting (D.state device) size both.now pin.now) }
+    ensures err { IfErr result (λ refusal. (after : D) × IsPairEnd (D.state device) (D.state after) size both.now pin.now refusal) }
 {
     let data = part_of(size, &both.data);
     if !is_within(&device, data) {
         return Err(PartitionRefusal::OutsideDevice);
     }
-    let superblock = superblock_in(device, part_of(size, &both.verity))?;
+    let superblock = superblock_in(device, part_of(size, &both.verity), pin)?;
     if is_unfit(size, both, &superblock) {
         return Err(PartitionRefusal::Superblock(VerifyFault::TooSmall));
     }
@@ -93,44 +138,37 @@ fn is_unfit(size: SectorSize, both: &ImagePartitions, superblock: &Superblock) -
         || part_of(size, &both.verity).count < tree_sectors(&shape)
 }
 
-// The superblock at the beginning of a part of a device.
-fn superblock_in<D: BlockDev + Drop>(device: D, part: Part) -> Result<Superblock, PartitionRefusal>
-    ensures ok { IfOk result (λ s. LiesInside (D.state device) part × ((sector : List ℕ) × IsReadFrom (windowed (D.state device) part) sector s)) }
-    ensures err { IfErr result (λ refusal. (after : D) × IsPartSuperEnd (D.state device) (D.state after) part refusal) }
+// The superblock at the beginning of a part of a device, with the values of the pin, if there is one.
+fn superblock_in<D: BlockDev + Drop>(
+    device: D,
+    part: Part,
+    pin: &Option<Pin>,
+) -> Result<Superblock, PartitionRefusal>
+    ensures ok { IfOk result (λ s. LiesInside (D.state device) part × ((sector : List ℕ) × IsReadFrom (windowed (D.state device) part) sector s) × (mismatch_of pin.now s ≡ None)) }
+    ensures err { IfErr result (λ refusal. (after : D) × IsPartSuperEnd (D.state device) (D.state after) part pin.now refusal) }
 {
     let mut window = match Window::<D, Brand>::new(device, part) {
         Ok(window) => window,
         Err(_) => return Err(PartitionRefusal::OutsideDevice),
     };
-    Ok(read_superblock(&mut window)?)
+    let superblock = read_superblock(&mut window)?;
+    match mismatch_of(pin, &superblock) {
+        Some(mismatch) => Err(PartitionRefusal::Unpinned(mismatch)),
+        None => Ok(superblock),
+    }
 }
 
 // The two partitions, and the data blocks over both.
-#[tactic(auto, unfolding(crate::specs::RootStacks::root_stack_text))]
-fn say_root_stack<'a, W: Write>(
+#[tactic(auto, unfolding(crate::specs::RootStacks::root_stack_text, crate::specs::RootStacks::root_entry))]
+fn root_text<'a>(
     alloc: Global,
-    writer: &mut Counted<W>,
     size: SectorSize,
     both: &ImagePartitions,
     superblock: &Superblock,
     root: &Digest,
-) -> Result<(), PartitionsFault<'a>>
-    ensures ok { OnOk result (SaysRootStack W.contents writer.old writer.new size both.now superblock.now root.now) }
-    ensures err { IfErr result (IsRootSayFault superblock.now root.now writer.new.failed) }
-{
-    say_linear_entry(writer, b"data", part_of(size, &both.data))?;
-    say_linear_entry(writer, b"hash", part_of(size, &both.verity))?;
-    say_root_entry(alloc, writer, superblock, root)
-}
-
-fn say_root_entry<'a, W: Write>(
-    alloc: Global,
-    writer: &mut Counted<W>,
-    superblock: &Superblock,
-    root: &Digest,
-) -> Result<(), PartitionsFault<'a>>
-    ensures ok { OnOk result (SaysText W.contents writer.old writer.new (root_entry superblock.now root.now)) }
-    ensures err { IfErr result (IsRootSayFault superblock.now root.now writer.new.failed) }
+) -> Result<Vec<u8>, PartitionsFault<'a>>
+    ensures ok { IfOk result (λ text. text.items ≡ root_stack_text size both.now superblock.now root.now) }
+    ensures err { IfErr result (IsRefusedRoom (root_room superblock.now root.now)) }
 {
     let line = table_line(
         alloc,
@@ -139,6 +177,9 @@ fn say_root_entry<'a, W: Write>(
         b"/dev/mapper/hash",
         root,
     )?;
-    say_entry(writer, b"root", &line)?;
-    Ok(())
+    let mut text = Vec::new(alloc);
+    push_linear_entry(&mut text, b"data", part_of(size, &both.data))?;
+    push_linear_entry(&mut text, b"hash", part_of(size, &both.verity))?;
+    push_root(&mut text, &line)?;
+    Ok(text)
 }

@@ -3,7 +3,7 @@ ghost use Rattle.std.specs.Prelude.{◌≡◌, IfErr, IfOk, OnErr};
 ghost use Rattle.partition_table.specs.Reads.{IsReadAtMost};
 ghost use Rattle.partition_table.specs.Tables.{IsNoSizedTable, found_reads};
 ghost use Rattle.program_io.specs.Counted.{Writes};
-ghost use Rattle.partition_commands.specs.Warnings.{FindsNoted, backup_warnings, copies_warnings, differ_warning, end_line, end_warning, end_warnings, mbr_warning, notes_of, primary_warnings, sector_warning, warning_if, warning_line, warning_text};
+ghost use Rattle.partition_commands.specs.Warnings.{FindsNoted, backup_sector_warning, backup_warnings, copies_warnings, differ_warning, end_line, end_warning, end_warnings, mbr_warning, notes_of, primary_warnings, sector_warning, warning_if, warning_line, warning_text};
 
 use crate::part_of;
 use crate::parts::is_within;
@@ -87,16 +87,26 @@ fn say_differ<W: Write>(writer: &mut Counted<W>, source: Source) -> Result<(), W
 fn say_primary<W: Write>(writer: &mut Counted<W>, warnings: CopyWarnings) -> Result<(), WriteFault>
     ensures { Writes W.contents writer.old writer.new (primary_warnings warnings) result }
 {
-    say_sector(
-        writer,
-        warnings,
-        b"the disk is smaller than its table states",
-        b"the backup lies before the end of the disk",
-    )?;
+    say_backup_sector(writer, warnings)?;
     say_if(
         writer,
         warnings.reserved,
         b"reserved bytes of the primary header aren't zero",
+    )
+}
+
+#[tactic(auto, unfolding(crate::specs::Warnings::backup_sector_warning))]
+fn say_backup_sector<W: Write>(
+    writer: &mut Counted<W>,
+    warnings: CopyWarnings,
+) -> Result<(), WriteFault>
+    ensures { Writes W.contents writer.old writer.new (backup_sector_warning warnings) result }
+{
+    say_sector(
+        writer,
+        warnings,
+        b"the primary header places the backup past the end of the disk",
+        b"the primary header places the backup before the last sector",
     )
 }
 

@@ -1,5 +1,5 @@
 -- Sectors of a disk that are read from a device.
-use Rattle.std.specs.Prelude.{◌≡◌, ℕ, ◌+◌, ◌*◌, ◌≤◌, IsTrue, List, length}
+use Rattle.std.specs.Prelude.{◌≡◌, ℕ, ◌+◌, ◌*◌, ◌≤◌, Bool, true, false, IsTrue, List, length}
 use Rattle.std.specs.List.{concat}
 use Rattle.allocation.specs.Refusal.{IsOutOfMemory}
 use Rattle.block_device.specs.Device.{Device, HasFailed, IsSameDevice, run_of}
@@ -25,3 +25,9 @@ abbrev pub IsUnread : Device → Device → ℕ → ReadFault → Type 0
 IsUnread old new n DeviceFailed = HasFailed old new
 IsUnread old new n NoMemory = (new.failures ≡ old.failures) × IsOutOfMemory (512 * n)
 IsUnread old new n (Table fault) = ⊥
+
+-- the copy wasn't read: the device call or an allocation failed
+abbrev pub is_unread : ReadFault → Bool
+is_unread DeviceFailed = true
+is_unread NoMemory = true
+is_unread (Table fault) = false

@@ -1,6 +1,7 @@
 //! Why a copy of a partition table isn't used.
 ghost use Rattle.std.specs.Prelude.{◌≡◌};
 ghost use Rattle.partition_table.specs.FaultNames.{read_name, read_partition};
+ghost use Rattle.partition_table.specs.Reads.{is_unread};
 
 use crate::TableFault;
 use allocation::OutOfMemory;
@@ -40,6 +41,16 @@ impl ReadFault {
         match self {
             ReadFault::Device | ReadFault::NoMemory => None,
             ReadFault::Table(fault) => fault.partition(),
+        }
+    }
+
+    /// Returns whether the copy wasn't read.
+    pub(crate) fn is_unread(self) -> bool
+        ensures { result ≡ is_unread self }
+    {
+        match self {
+            ReadFault::Device | ReadFault::NoMemory => true,
+            ReadFault::Table(_) => false,
         }
     }
 }

@@ -1,15 +1,15 @@
 //! Search for the partition table of a device of unknown sector size.
 ghost use Rattle.std.specs.Prelude.{◌+◌, IfErr, IfOk};
 ghost use Rattle.partition_table.specs.Reads.{IsReadAtMost};
-ghost use Rattle.partition_table.specs.Tables.{IsEitherTable, IsNeitherTable, IsNoSizedTable, IsSizedTable, found_reads};
+ghost use Rattle.partition_table.specs.Tables.{IsEitherTable, IsNoEitherTable, IsNoSizedTable, IsSizedTable, found_reads};
 
 use crate::{NoTable, PartitionTable, SectorSize, read_table};
 use block_device::BlockDev;
 use std::alloc::Global;
 
-/// Returns the partition table of a device with sectors of size `size`. If that is 512 bytes and there is no such
-/// table, returns the one with sectors of 4,096 bytes. If both exist, the table with sectors of 512 bytes is
-/// returned.
+/// Returns the partition table of a device with sectors of size `size`. If that is 512 bytes, both copies were read and
+/// there is no such table, returns the one with sectors of 4,096 bytes. If both exist, the table with sectors of 512
+/// bytes is returned.
 ///
 /// # Errors
 ///
@@ -33,13 +33,18 @@ pub fn find_table<D: BlockDev>(
 fn find_either<D: BlockDev>(alloc: Global, device: &mut D) -> Result<PartitionTable, NoTable>
     ensures read { IsReadAtMost (D.state device.old) found_reads (D.state device.new) }
     ensures ok { IfOk result (IsEitherTable (D.state device.old) (D.state device.new)) }
-    ensures err { IfErr result (IsNeitherTable (D.state device.old) (D.state device.new)) }
+    ensures err { IfErr result (IsNoEitherTable (D.state device.old) (D.state device.new)) }
 {
     match read_table(alloc, device, SectorSize::Bytes512) {
         Ok(table) => Ok(table),
-        Err(fault) => match read_table(alloc, device, SectorSize::Bytes4096) {
-            Ok(table) => Ok(table),
-            Err(_) => Err(fault),
-        },
+        Err(fault) => {
+            if fault.may_hide_table() {
+                return Err(fault);
+            }
+            match read_table(alloc, device, SectorSize::Bytes4096) {
+                Ok(table) => Ok(table),
+                Err(_) => Err(fault),
+            }
+        }
     }
 }

@@ -1,4 +1,4 @@
-use Rattle.std.proofs.Common.{sym, ◌∙◌, inl, inr}
+use Rattle.std.proofs.Common.{sym, ◌∙◌, inl, inr, refl}
 use Rattle.std.proofs.lemmas.Result.{IfErr-weaker, on_ok_weaker}
 use Rattle.partition_commands.specs.declared.fault.PartitionsFault.TheVariants.{Refused}
 use Rattle.partition_commands.specs.declared.refusal.PartitionRefusal.TheVariants.{Table}
@@ -8,15 +8,17 @@ use Rattle.partition_commands.proofs.image.list_entries.Goals as goal
 
 pub returns-clause-ok : goal.returns-clause-ok
 returns-clause-ok g c =
-    on_ok_weaker c.say_entries.result
-    (λ printed. record {
+    let said = rw (c.sectors.ensures, c.deref-2.ensures.value) at c.say_stack.ensures.ok in
+    on_ok_weaker c.say_stack.result
+    (λ both. record {
       table = c.in_ok-table.table;
       found = c.in_ok-table.ensures.ok.found;
       within = rw c.deref.ensures.value at (sym c.are_within.ensures ∙ c.if-not-are_within.false);
-      printed = rw c.deref-2.ensures.value at printed;
+      loads = both.0;
+      printed = both.1;
       noted = c.in_ok-table.ensures.ok.noted;
     })
-    c.say_entries.ensures.ok
+    said
 
 pub returns-then-not-are_within-clause-err : goal.returns-then-not-are_within-clause-err
 returns-then-not-are_within-clause-err g c = record {
@@ -27,7 +29,12 @@ returns-then-not-are_within-clause-err g c = record {
 
 pub returns-clause-err : goal.returns-clause-err
 returns-clause-err g c =
-    IfErr-weaker c.say_entries.result _ _ (say-entries (g.D.BlockDev.state c.args.device.now) (g.D.BlockDev.state c.find_noted.new.device) c.args.size c.say_entries.new.writer.failed) c.say_entries.ensures.err
+    let old = g.D.BlockDev.state c.args.device.now in
+    let new = g.D.BlockDev.state c.find_noted.new.device in
+    let table = c.in_ok-table.table in
+    let ended = rw (c.sectors.ensures, c.deref-2.ensures.value) at c.say_stack.ensures.err in
+    IfErr-weaker c.say_stack.result _ _
+    (λ fault ends. say-entries old new c.args.size table c.say_stack.new.writer.failed fault (λ refused. record { table = table; found = c.in_ok-table.ensures.ok.found; unloadable = refused }) ends) ended
 
 pub returns-in_err-table-clause-noted : goal.returns-in_err-table-clause-noted
 returns-in_err-table-clause-noted g c =
@@ -37,4 +44,7 @@ pub returns-then-not-are_within-clause-noted : goal.returns-then-not-are_within-
 returns-then-not-are_within-clause-noted g c = inr (g.D.BlockDev.state c.find_noted.new.device, c.in_ok-table.table, c.in_ok-table.ensures.ok)
 
 pub returns-clause-noted : goal.returns-clause-noted
-returns-clause-noted g c = on_err-any c.say_entries.result _ (λ fault. inr (g.D.BlockDev.state c.find_noted.new.device, c.in_ok-table.table, c.in_ok-table.ensures.ok))
+returns-clause-noted g c = on_err-any c.say_stack.result _ (λ fault. inr (g.D.BlockDev.state c.find_noted.new.device, c.in_ok-table.table, c.in_ok-table.ensures.ok))
+
+pub returns-in_err-table-clause-quiet : goal.returns-in_err-table-clause-quiet
+returns-in_err-table-clause-quiet g c = on_err-any c.from_residual.result _ (λ fault. inr refl)

@@ -1,6 +1,6 @@
-use Rattle.std.proofs.Common.{◌∙◌, List, ℕ, subst, inl, inr}
+use Rattle.std.proofs.Common.{◌∙◌, List, ℕ, subst, inl, inr, refl}
 use Rattle.std.specs.Io.KnownBytes.{Appends}
-use Rattle.partition_commands.specs.declared.fault.PartitionsFault.TheVariants.{Refused}
+use Rattle.partition_commands.specs.declared.fault.PartitionsFault.TheVariants.{Refused, Write}
 use Rattle.partition_commands.specs.declared.refusal.PartitionRefusal.TheVariants.{Table}
 use Rattle.partition_commands.proofs.EndingLemmas.{err-from}
 use Rattle.partition_commands.proofs.NoteLemmas.{on_err-any}
@@ -26,3 +26,12 @@ returns-in_err-line-clause-noted g c = on_err-any c.from_residual-in_err-line.re
 
 pub returns-in_err-put-clause-noted : goal.returns-in_err-put-clause-noted
 returns-in_err-put-clause-noted g c = on_err-any c.from_residual-in_err-put.result _ (λ fault. inr (g.D.BlockDev.state c.find_noted.new.device, c.in_ok-table.table, c.in_ok-table.ensures.ok))
+
+pub returns-in_err-table-clause-quiet : goal.returns-in_err-table-clause-quiet
+returns-in_err-table-clause-quiet g c = on_err-any c.from_residual.result _ (λ fault. inr refl)
+
+pub returns-in_err-line-clause-quiet : goal.returns-in_err-line-clause-quiet
+returns-in_err-line-clause-quiet g c = on_err-any c.from_residual-in_err-line.result _ (λ fault. inr refl)
+
+pub returns-in_err-put-clause-quiet : goal.returns-in_err-put-clause-quiet
+returns-in_err-put-clause-quiet g c = err-from c.from_residual-in_err-put.result _ Write c.from_residual-in_err-put.ensures.1 (inl refl)

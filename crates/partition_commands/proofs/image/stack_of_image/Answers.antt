@@ -2,6 +2,7 @@ use Rattle.std.proofs.Common.{refl, inl, inr}
 use Rattle.std.proofs.lemmas.Result.{IfErr-weaker, on_ok_weaker}
 use Rattle.partition_commands.specs.declared.fault.PartitionsFault.TheVariants.{Open}
 use Rattle.partition_commands.proofs.EndingLemmas.{err-from}
+use Rattle.partition_commands.proofs.NoteLemmas.{on_err-any}
 use Rattle.partition_commands.proofs.image.stack_of_image.Goals as goal
 
 pub returns-clause-ok : goal.returns-clause-ok
@@ -24,3 +25,6 @@ returns-clause-noted g c =
     IfErr-weaker c.list_entries.result _ _
     (λ fault noted. inr (record { image = c.in_ok-image.image; opened = c.in_ok-image.ensures.ok; noted = noted }))
     c.list_entries.ensures.noted
+
+pub returns-in_err-image-clause-quiet : goal.returns-in_err-image-clause-quiet
+returns-in_err-image-clause-quiet g c = on_err-any c.from_residual.result _ (λ fault. inr refl)

@@ -30,3 +30,9 @@ returns-in-Root-clause-err g c =
     let ends = rw c.size_of-size.ensures at c.root_stack_of_image.ensures.err in
     let noted = rw c.size_of-size.ensures at c.root_stack_of_image.ensures.noted in
     rw c.in-Root.is (on_err-both c.root_stack_of_image.result _ _ ends noted)
+
+pub returns-in-Pin-clause-err : goal.returns-in-Pin-clause-err
+returns-in-Pin-clause-err g c =
+    let ends = rw c.size_of-size.ensures at c.pinned_stack_of_image.ensures.err in
+    let noted = rw c.size_of-size.ensures at c.pinned_stack_of_image.ensures.noted in
+    rw c.in-Pin.is (on_err-both c.pinned_stack_of_image.result _ _ ends noted)

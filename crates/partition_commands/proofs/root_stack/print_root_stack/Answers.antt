@@ -1,8 +1,9 @@
 use Rattle.std.proofs.Common.{List, inl, inr, refl, ap, sym, ◌∙◌}
 use Rattle.std.proofs.lemmas.Result.{IfErr-weaker, on_ok_weaker}
-use Rattle.partition_commands.specs.declared.fault.PartitionsFault.TheVariants.{Refused}
-use Rattle.partition_commands.specs.declared.refusal.PartitionRefusal.TheVariants.{Table}
 use Rattle.partition_table.specs.declared.partition.Partition.{Partition}
+use Rattle.partition_commands.specs.declared.fault.PartitionsFault.TheVariants.{NoMemory, Refused}
+use Rattle.partition_commands.specs.declared.refusal.PartitionRefusal.TheVariants.{Table}
+use Rattle.partition_commands.specs.RootCommands.{FindsPair}
 use Rattle.partition_commands.specs.Roots.{image_partitions}
 use Rattle.partition_commands.proofs.EndingLemmas.{err-from, say-root}
 use Rattle.partition_commands.proofs.NoteLemmas.{on_err-any}
@@ -20,7 +21,7 @@ returns-in_err-both-clause-err g c =
       table = c.in_ok-table.table;
       read_device = g.D.BlockDev.state c.find_noted.new.device;
       found = c.in_ok-table.ensures.ok.found;
-      refused = ap (λ (ps : List Partition). image_partitions ps c.args.root.now) (sym c.deref.ensures.value) ∙ sym c.in_err-both.ensures;
+      refused = ap (λ (ps : List Partition). image_partitions ps c.args.trusted.now.root) (sym c.deref.ensures.value) ∙ sym c.in_err-both.ensures;
     })))
 
 pub returns-in_err-superblock-clause-err : goal.returns-in_err-superblock-clause-err
@@ -33,41 +34,51 @@ returns-in_err-superblock-clause-err g c =
         read_device = g.D.BlockDev.state c.find_noted.new.device;
         found = c.in_ok-table.ensures.ok.found;
         both = c.in_ok-both.both;
-        both_is = ap (λ (ps : List Partition). image_partitions ps c.args.root.now) (sym c.deref.ensures.value) ∙ sym c.in_ok-both.ensures;
+        both_is = ap (λ (ps : List Partition). image_partitions ps c.args.trusted.now.root) (sym c.deref.ensures.value) ∙ sym c.in_ok-both.ensures;
         ends = c.in_err-superblock.ensures.err.1;
       },
     )))
 
-pub returns-clause-ok : goal.returns-clause-ok
-returns-clause-ok g c =
-    on_ok_weaker c.say_root_stack.result
-    (λ printed. record {
+pub returns-in_err-text-clause-err : goal.returns-in_err-text-clause-err
+returns-in_err-text-clause-err g c =
+    let pair : FindsPair (g.D.BlockDev.state c.args.device) c.args.size c.args.trusted.now = record {
       table = c.in_ok-table.table;
       read_device = g.D.BlockDev.state c.find_noted.new.device;
       found = c.in_ok-table.ensures.ok.found;
       both = c.in_ok-both.both;
-      both_is = ap (λ (ps : List Partition). image_partitions ps c.args.root.now) (sym c.deref.ensures.value) ∙ sym c.in_ok-both.ensures;
+      both_is = ap (λ (ps : List Partition). image_partitions ps c.args.trusted.now.root) (sym c.deref.ensures.value) ∙ sym c.in_ok-both.ensures;
       super = c.in_ok-superblock.superblock;
       fitting = c.in_ok-superblock.ensures.ok;
-      printed = printed;
-      noted = c.in_ok-table.ensures.ok.noted;
-    })
-    c.say_root_stack.ensures.ok
+    } in
+    err-from c.from_residual-in_err-text.result _ NoMemory (rw c.in_err-text.ensures.err.0 at c.from_residual-in_err-text.ensures.1) (record { pair = pair; refused = c.in_err-text.ensures.err.1 })
+
+pub returns-clause-ok : goal.returns-clause-ok
+returns-clause-ok g c =
+    let pair : FindsPair (g.D.BlockDev.state c.args.device) c.args.size c.args.trusted.now = record {
+      table = c.in_ok-table.table;
+      read_device = g.D.BlockDev.state c.find_noted.new.device;
+      found = c.in_ok-table.ensures.ok.found;
+      both = c.in_ok-both.both;
+      both_is = ap (λ (ps : List Partition). image_partitions ps c.args.trusted.now.root) (sym c.deref.ensures.value) ∙ sym c.in_ok-both.ensures;
+      super = c.in_ok-superblock.superblock;
+      fitting = c.in_ok-superblock.ensures.ok;
+    } in
+    let said = rw (c.sectors.ensures, c.deref-2.ensures.value, c.in_ok-text.ensures.ok) at c.say_loadable.ensures.ok in
+    on_ok_weaker c.say_loadable.result (λ both. record { pair = pair; loads = both.0; printed = both.1; noted = c.in_ok-table.ensures.ok.noted }) said
 
 pub returns-clause-err : goal.returns-clause-err
 returns-clause-err g c =
-    IfErr-weaker c.say_root_stack.result _ _
-    (say-root c.args.size c.args.root.now c.in_ok-superblock.superblock c.say_root_stack.new.writer.failed (g.D.BlockDev.state c.args.device) (λ refused. record {
+    let pair : FindsPair (g.D.BlockDev.state c.args.device) c.args.size c.args.trusted.now = record {
       table = c.in_ok-table.table;
       read_device = g.D.BlockDev.state c.find_noted.new.device;
       found = c.in_ok-table.ensures.ok.found;
       both = c.in_ok-both.both;
-      both_is = ap (λ (ps : List Partition). image_partitions ps c.args.root.now) (sym c.deref.ensures.value) ∙ sym c.in_ok-both.ensures;
+      both_is = ap (λ (ps : List Partition). image_partitions ps c.args.trusted.now.root) (sym c.deref.ensures.value) ∙ sym c.in_ok-both.ensures;
       super = c.in_ok-superblock.superblock;
       fitting = c.in_ok-superblock.ensures.ok;
-      refused = refused;
-    }))
-    c.say_root_stack.ensures.err
+    } in
+    let ended = rw (c.sectors.ensures, c.deref-2.ensures.value, c.in_ok-text.ensures.ok) at c.say_loadable.ensures.err in
+    IfErr-weaker c.say_loadable.result _ _ (say-root pair c.say_loadable.new.writer.failed) ended
 
 pub returns-in_err-table-clause-noted : goal.returns-in_err-table-clause-noted
 returns-in_err-table-clause-noted g c =
@@ -79,5 +90,20 @@ returns-in_err-both-clause-noted g c = on_err-any c.from_residual-in_err-both.re
 pub returns-in_err-superblock-clause-noted : goal.returns-in_err-superblock-clause-noted
 returns-in_err-superblock-clause-noted g c = on_err-any c.from_residual-in_err-superblock.result _ (λ fault. inr (g.D.BlockDev.state c.find_noted.new.device, c.in_ok-table.table, c.in_ok-table.ensures.ok))
 
+pub returns-in_err-text-clause-noted : goal.returns-in_err-text-clause-noted
+returns-in_err-text-clause-noted g c = on_err-any c.from_residual-in_err-text.result _ (λ fault. inr (g.D.BlockDev.state c.find_noted.new.device, c.in_ok-table.table, c.in_ok-table.ensures.ok))
+
 pub returns-clause-noted : goal.returns-clause-noted
-returns-clause-noted g c = on_err-any c.say_root_stack.result _ (λ fault. inr (g.D.BlockDev.state c.find_noted.new.device, c.in_ok-table.table, c.in_ok-table.ensures.ok))
+returns-clause-noted g c = on_err-any c.say_loadable.result _ (λ fault. inr (g.D.BlockDev.state c.find_noted.new.device, c.in_ok-table.table, c.in_ok-table.ensures.ok))
+
+pub returns-in_err-table-clause-quiet : goal.returns-in_err-table-clause-quiet
+returns-in_err-table-clause-quiet g c = on_err-any c.from_residual.result _ (λ fault. inr refl)
+
+pub returns-in_err-both-clause-quiet : goal.returns-in_err-both-clause-quiet
+returns-in_err-both-clause-quiet g c = on_err-any c.from_residual-in_err-both.result _ (λ fault. inr refl)
+
+pub returns-in_err-superblock-clause-quiet : goal.returns-in_err-superblock-clause-quiet
+returns-in_err-superblock-clause-quiet g c = on_err-any c.from_residual-in_err-superblock.result _ (λ fault. inr refl)
+
+pub returns-in_err-text-clause-quiet : goal.returns-in_err-text-clause-quiet
+returns-in_err-text-clause-quiet g c = on_err-any c.from_residual-in_err-text.result _ (λ fault. inr refl)

@@ -31,5 +31,6 @@ returns-clause-ok g c = record {
   within = rw c.part_of-data.ensures at (sym c.is_within.ensures ∙ c.if-not-is_within.false);
   inside = rw c.part_of.ensures at c.in_ok-superblock.ensures.ok.0;
   read = rw c.part_of.ensures at c.in_ok-superblock.ensures.ok.1.1;
+  pinned = c.in_ok-superblock.ensures.ok.2;
   fits = sym c.is_unfit.ensures ∙ c.if-is_unfit.false;
 }

@@ -1,0 +1,195 @@
+-- What `partitions --root` and `--pin` print of an image where they succeed, and how they end early.
+use Rattle.std.specs.Prelude.{◌≡◌, ◌⊎◌, ℕ, Bool, true, false, List, Option, None, Some, Ok, Err}
+use Rattle.std.specs.Io.KnownBytes.{Appends}
+use Rattle.allocation.specs.Refusal.{IsOutOfMemory}
+use Rattle.block_device.specs.Device.{Device}
+use Rattle.program_io.specs.Counted.{CountedRecord}
+use Rattle.device_adapters.specs.declared.part.Part.{Part}
+use Rattle.device_adapters.specs.Parts.{LiesInside}
+use Rattle.device_adapters.specs.Windows.{windowed}
+use Rattle.image_files.specs.declared.images.OpenImage.{OpenImage}
+use Rattle.image_files.specs.Opened.{Opens, Refuses}
+use Rattle.image_files.specs.Opener.{Calls, Opener, calls}
+use Rattle.image_commands.specs.declared.fault.ImageFault.{ImageFault}
+use Rattle.image_commands.specs.declared.trusted.TrustedRoot.{TrustedRoot}
+use Rattle.image_commands.specs.Finding.{IsTreeUnpinned, mismatch_of}
+use Rattle.image_commands.specs.PinFiles.{IsPinFileEnd}
+use Rattle.image_pin.specs.declared.pin.Pin.{Pin as ImagePin}
+use Rattle.partition_table.specs.declared.sector_size.SectorSize.{SectorSize}
+use Rattle.partition_table.specs.declared.table.NoTable.{NoTable}
+use Rattle.partition_table.specs.declared.table.PartitionTable.{PartitionTable}
+use Rattle.partition_table.specs.Tables.{IsNoSizedTable, IsSizedTable}
+use Rattle.verity_commands.specs.Places.{TellsPin}
+use Rattle.verity_format.specs.declared.verifying.VerifyFault.TheVariants.{TooSmall}
+use Rattle.verity_format.specs.Superblock.{SuperRecord}
+use Rattle.verity_format.specs.Verifying.{IsReadCause, IsReadFrom}
+use Rattle.partition_commands.specs.declared.fault.PartitionsFault.{PartitionsFault}
+use Rattle.partition_commands.specs.declared.fault.PartitionsFault.TheVariants.{NoMemory, NotLoadable, Open, Pin, Refused, Write}
+use Rattle.partition_commands.specs.declared.refusal.PartitionRefusal.{PartitionRefusal}
+use Rattle.partition_commands.specs.declared.refusal.PartitionRefusal.TheVariants.{OutsideDevice, Superblock, Table, Unpinned}
+use Rattle.partition_commands.specs.declared.root.ImagePartitions.{ImagePartitions}
+use Rattle.partition_commands.specs.Commands.{EndsTableless, IsImageUnopened, NotesOfImage}
+use Rattle.partition_commands.specs.Loads.{IsUnloadable, Loads}
+use Rattle.partition_commands.specs.Parts.{is_within, part_of}
+use Rattle.partition_commands.specs.RootStacks.{is_unfit, root_room, root_stack_text}
+use Rattle.partition_commands.specs.Roots.{image_partitions}
+use Rattle.partition_commands.specs.Warnings.{IsNoted, Notes, warning_text}
+
+-- both partitions lie inside the device, the superblock was read in the verity partition, it has the values of the pin, if there
+-- is one, and they have the sectors of its data blocks and of its tree
+pub record IsFitting (device : Device) (size : SectorSize) (both : ImagePartitions) (pin : Option ImagePin) (super : SuperRecord) : Type 0 where
+  pub sector : List ℕ
+  pub within : is_within device (part_of size both.data) ≡ true
+  pub inside : LiesInside device (part_of size both.verity)
+  pub read : IsReadFrom (windowed device (part_of size both.verity)) sector super
+  pub pinned : mismatch_of pin super ≡ None
+  pub fits : is_unfit size both super ≡ false
+
+-- the two partitions of the root were found on the device, and the superblock in the verity partition
+pub record FindsPair (device : Device) (size : SectorSize) (trusted : TrustedRoot) : Type 0 where
+  pub table : PartitionTable
+  pub read_device : Device
+  pub found : IsSizedTable device read_device size table
+  pub both : ImagePartitions
+  pub both_is : image_partitions table.partitions.items trusted.root ≡ Ok both
+  pub super : SuperRecord
+  pub fitting : IsFitting read_device table.size both trusted.pin super
+
+-- the text of the stack over them
+abbrev pub pair_text : {device : Device} {size : SectorSize} {trusted : TrustedRoot} → FindsPair device size trusted → List ℕ
+pair_text {device} {size} {trusted} pair = root_stack_text pair.table.size pair.both pair.super trusted.root
+
+-- they were found, and their text loads and was written
+pub record PrintsRoot (device : Device) (size : SectorSize) (trusted : TrustedRoot) (old new : Option (List ℕ)) (notes : Notes) : Type 0 where
+  pub pair : FindsPair device size trusted
+  pub loads : Loads pair.read_device.size (pair_text pair)
+  pub printed : Appends old new (pair_text pair)
+  pub noted : IsNoted notes (warning_text pair.read_device pair.table)
+
+pub record PrintsRootOfImage {S D : Type 0} (w : Calls S D) (path : List ℕ) (size : SectorSize) (trusted : TrustedRoot) (old new : Option (List ℕ)) (notes : Notes) : Type 0 where
+  pub image : OpenImage D
+  pub opened : Opens w path false image
+  pub prints : PrintsRoot (w.state image.device) size trusted old new notes
+
+-- a table was found, but not the two partitions
+pub record LacksPartitions (device : Device) (size : SectorSize) (root : List ℕ) (refusal : PartitionRefusal) : Type 0 where
+  pub table : PartitionTable
+  pub read_device : Device
+  pub found : IsSizedTable device read_device size table
+  pub refused : image_partitions table.partitions.items root ≡ Err refusal
+
+-- why there is no superblock of a pin in a part of a device
+abbrev pub IsPartSuperEnd : Device → Device → Part → Option ImagePin → PartitionRefusal → Type 0
+IsPartSuperEnd old new part pin OutsideDevice = LiesInside old part → ⊥
+IsPartSuperEnd old new part pin (Superblock fault) = IsReadCause (windowed old part) (windowed new part) fault
+IsPartSuperEnd old new part pin (Unpinned mismatch) = IsTreeUnpinned (windowed old part) pin mismatch
+IsPartSuperEnd old new part pin refusal = ⊥
+
+-- the superblock was read, and a partition has fewer sectors than its data blocks or its tree
+pub record IsUnfitting (device : Device) (size : SectorSize) (both : ImagePartitions) : Type 0 where
+  pub super : SuperRecord
+  pub sector : List ℕ
+  pub read : IsReadFrom (windowed device (part_of size both.verity)) sector super
+  pub unfit : is_unfit size both super ≡ true
+
+-- why the two partitions don't hold an image: that of the data ends past the end of the device, there is no superblock of the pin
+-- in that of the tree, or one of both is too small
+abbrev pub IsPairEnd : Device → Device → SectorSize → ImagePartitions → Option ImagePin → PartitionRefusal → Type 0
+IsPairEnd old new size both pin refusal =
+    ((refusal ≡ OutsideDevice) × (is_within old (part_of size both.data) ≡ false))
+    ⊎ (IsPartSuperEnd old new (part_of size both.verity) pin refusal ⊎ ((refusal ≡ Superblock TooSmall) × IsUnfitting old size both))
+
+-- both were found, but don't hold an image
+pub record LacksSuperblock (device device' : Device) (size : SectorSize) (trusted : TrustedRoot) (refusal : PartitionRefusal) : Type 0 where
+  pub table : PartitionTable
+  pub read_device : Device
+  pub found : IsSizedTable device read_device size table
+  pub both : ImagePartitions
+  pub both_is : image_partitions table.partitions.items trusted.root ≡ Ok both
+  pub ends : IsPairEnd read_device device' table.size both trusted.pin refusal
+
+-- there is no table
+pub record LacksTable (device : Device) (size : SectorSize) (refusal : PartitionRefusal) : Type 0 where
+  pub fault : NoTable
+  pub read_device : Device
+  pub none : IsNoSizedTable device read_device size fault
+  pub is : refusal ≡ Table fault
+
+-- both hold an image, and room for its text, or for the check of it, was refused
+pub record RefusesText (device : Device) (size : SectorSize) (trusted : TrustedRoot) : Type 0 where
+  pub pair : FindsPair device size trusted
+  pub refused : IsOutOfMemory (root_room pair.super trusted.root)
+
+-- both hold an image, and `load` would refuse its text over the disk
+pub record LacksLoad (device : Device) (size : SectorSize) (trusted : TrustedRoot) : Type 0 where
+  pub pair : FindsPair device size trusted
+  pub unloadable : IsUnloadable pair.read_device.size (pair_text pair)
+
+-- one of these, or the text can't be written
+abbrev pub IsRootTextEnd : SectorSize → TrustedRoot → Bool → Device → PartitionsFault → Type 0
+IsRootTextEnd size trusted failed device NoMemory = RefusesText device size trusted
+IsRootTextEnd size trusted failed device Write = failed ≡ true
+IsRootTextEnd size trusted failed device NotLoadable = LacksLoad device size trusted
+IsRootTextEnd size trusted failed device (Open file) = ⊥
+IsRootTextEnd size trusted failed device (Pin fault) = ⊥
+IsRootTextEnd size trusted failed device (Refused refusal) =
+    LacksTable device size refusal ⊎ (LacksPartitions device size trusted.root refusal ⊎ ((device' : Device) × LacksSuperblock device device' size trusted refusal))
+
+pub record EndsRoot {S D : Type 0} (w : Calls S D) (path : List ℕ) (size : SectorSize) (trusted : TrustedRoot) (failed : Bool) (fault : PartitionsFault) : Type 0 where
+  pub image : OpenImage D
+  pub opened : Opens w path false image
+  pub ended : IsRootTextEnd size trusted failed (w.state image.device) fault
+
+abbrev pub IsRootOfImageEnd : {S D : Type 0} → Calls S D → List ℕ → SectorSize → TrustedRoot → Bool → PartitionsFault → Type 0
+IsRootOfImageEnd w path size trusted failed fault = IsImageUnopened (Refuses w path false) fault ⊎ EndsRoot w path size trusted failed fault
+
+-- ---- with a pin
+
+-- the pin of a file was read before the image was opened, and then the stack of its root was printed
+pub record PrintsPinned {S D : Type 0} (w : Calls S D) (pin path : List ℕ) (size : SectorSize) (old new : Option (List ℕ)) (notes : Notes) : Type 0 where
+  pub between : S
+  pub trusted : TrustedRoot
+  pub told : TellsPin (record w { new = between }) pin trusted
+  pub prints : PrintsRootOfImage (record w { old = between }) path size trusted old new notes
+
+-- no pin was read, as is said of it
+abbrev pub IsPinUnread : (ImageFault → Type 0) → PartitionsFault → Type 0
+IsPinUnread Because (Pin fault) = Because fault
+IsPinUnread Because fault = ⊥
+
+-- it was read, and then the command ended early
+pub record EndsPinned {S D : Type 0} (w : Calls S D) (pin path : List ℕ) (size : SectorSize) (failed : Bool) (fault : PartitionsFault) : Type 0 where
+  pub between : S
+  pub trusted : TrustedRoot
+  pub told : TellsPin (record w { new = between }) pin trusted
+  pub ended : IsRootOfImageEnd (record w { old = between }) path size trusted failed fault
+
+abbrev pub IsPinnedEnd : {S D : Type 0} → Calls S D → List ℕ → List ℕ → SectorSize → Bool → PartitionsFault → Type 0
+IsPinnedEnd w pin path size failed fault = IsPinUnread (IsPinFileEnd w pin) fault ⊎ EndsPinned w pin path size failed fault
+
+-- what was printed among the errors: nothing, if there was no table yet
+abbrev pub ArePinnedNotes : {S D : Type 0} → Calls S D → List ℕ → SectorSize → Notes → PartitionsFault → Type 0
+ArePinnedNotes {S} {D} w path size notes fault =
+    (EndsTableless fault × (notes.new ≡ notes.old)) ⊎ ((between : S) × NotesOfImage (record w { old = between }) path size notes fault)
+
+-- ---- as a call sees them
+
+abbrev pub SaysRoot : {D W : Type 0} → (D → Device) → D → (W → Option (List ℕ)) → CountedRecord W → CountedRecord W → SectorSize → TrustedRoot → Notes → Type 0
+SaysRoot state device contents writer writer' size trusted notes = PrintsRoot (state device) size trusted (contents writer.inner) (contents writer'.inner) notes
+
+abbrev pub PrintsRootOf : {S D W : Type 0} → Opener S D → (D → Device) → S → S → (W → Option (List ℕ)) → CountedRecord W → CountedRecord W → List ℕ → SectorSize → TrustedRoot → Notes → Type 0
+PrintsRootOf relations state images images' contents writer writer' path size trusted notes =
+    PrintsRootOfImage (calls relations state images images') path size trusted (contents writer.inner) (contents writer'.inner) notes
+
+abbrev pub FailsToFindRoot : {S D W : Type 0} → Opener S D → (D → Device) → S → S → CountedRecord W → List ℕ → SectorSize → TrustedRoot → PartitionsFault → Type 0
+FailsToFindRoot relations state images images' writer' path size trusted = IsRootOfImageEnd (calls relations state images images') path size trusted writer'.failed
+
+abbrev pub PrintsPinnedOf : {S D W : Type 0} → Opener S D → (D → Device) → S → S → (W → Option (List ℕ)) → CountedRecord W → CountedRecord W → List ℕ → List ℕ → SectorSize → Notes → Type 0
+PrintsPinnedOf relations state images images' contents writer writer' pin path size notes =
+    PrintsPinned (calls relations state images images') pin path size (contents writer.inner) (contents writer'.inner) notes
+
+abbrev pub FailsToFindPinned : {S D W : Type 0} → Opener S D → (D → Device) → S → S → CountedRecord W → List ℕ → List ℕ → SectorSize → PartitionsFault → Type 0
+FailsToFindPinned relations state images images' writer' pin path size = IsPinnedEnd (calls relations state images images') pin path size writer'.failed
+
+abbrev pub NotesPinned : {S D : Type 0} → Opener S D → (D → Device) → S → S → List ℕ → SectorSize → Notes → PartitionsFault → Type 0
+NotesPinned relations state images images' path size notes = ArePinnedNotes (calls relations state images images') path size notes
