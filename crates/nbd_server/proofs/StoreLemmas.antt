@@ -108,7 +108,7 @@ module _ (w : World) (d first : ℕ) (bytes : List ℕ) (w' : World) where
   at-place some result range h p = subst (λ (r : SectorRange). WritesInPieces w.stack r.device.0 r.first some result w'.stack) (sym (range-is range h)) p
 
   pub stored-all : BytesWritten w d first bytes (Ok tt) w' → IsStored w d first bytes w'
-  stored-all s = record { put = at-place bytes (Ok tt) s.range s.admits s.whole; led = steps-led d first w bytes (Ok tt) w' s.steps }
+  stored-all s = record { put = at-place bytes (Ok tt) s.range s.admits s.whole; led = steps-led s.range w bytes (Ok tt) w' s.steps }
 
   put-fails : (fault : IoFault) (range : SectorRange) → EncryptsAt w d first bytes fault → write_range w.stack.config d first bytes ≡ Ok range → IsLed EachPart w w'
       → WritesWhole w.stack range bytes (Err fault) w'.stack → EndsPut w d first bytes (error_of fault) w' ⊎ StopsPut w d first bytes (error_of fault) w'
@@ -120,7 +120,7 @@ module _ (w : World) (d first : ℕ) (bytes : List ℕ) (w' : World) where
 
   pub unstored : (fault : IoFault) → EncryptsAt w d first bytes fault → BytesWritten w d first bytes (Err fault) w' → FailsToPutAll w d first bytes (error_of fault) w'
   unstored fault some s =
-      let led = steps-led d first w bytes (Err fault) w' s.steps in
+      let led = steps-led s.range w bytes (Err fault) w' s.steps in
       record { cause = put-fails fault s.range some s.admits led s.whole; led = led }
 
 -- ---- why none is refused

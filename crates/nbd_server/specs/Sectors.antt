@@ -10,6 +10,7 @@ use Rattle.stack_meaning.specs.Reading.{MeetVerity}
 use Rattle.stack_lines.specs.Writing.{SomeEncrypt}
 use Rattle.stack_engine.specs.Bytes.{IsGoodChain}
 use Rattle.stack_engine.specs.WritePieces.{WritesInPieces}
+use Rattle.request_queue.specs.AtOnce.{ReadsInTurn}
 use Rattle.request_queue.specs.Parts.{EachPart}
 use Rattle.request_queue.specs.Ranges.{range_at}
 use Rattle.request_queue.specs.Runs.{IsLed}
@@ -19,11 +20,13 @@ use Rattle.nbd_protocol.specs.Headers.{error_of}
 use Rattle.nbd_protocol.specs.declared.request_error.RequestError.{RequestError}
 use Rattle.nbd_protocol.specs.declared.request_error.RequestError.TheVariants.{NoMemory, InputOutput}
 
--- Sectors of a mapped device were read, as one read of them all. The bytes are what the lines allow with some hash chains, each
--- of which verifies for its line; over steady backing devices they are what the stack means.
+-- Sectors of a mapped device were read, as one read of them all, and in pieces that split no unit and no data block that fits in
+-- one. The bytes are what the lines allow with some hash chains, each of which verifies for its line; over steady backing devices
+-- they are what the stack means.
 pub record IsFetched (w : World) (d first count : ℕ) (bytes : List ℕ) (w' : World) : Type 0 where
   pub chains : List FoundRecord
   pub read : ReadsWhole w.stack (range_at d first count) (Ok (record { bytes = bytes; chains = chains })) w'.stack
+  pub pieces : ReadsInTurn (range_at d first count) w.stack (Ok bytes) w'.stack
   pub good : All (IsGoodChain w.stack.config) chains
   pub led : IsLed EachPart w w'
 
@@ -37,6 +40,7 @@ pub record EndsIn (w : World) (d first count : ℕ) (error : RequestError) (w' :
   pub told : error ≡ error_of fault
   pub cause : HasCause w d first count fault
   pub read : ReadsWhole w.stack (range_at d first count) (Err fault) w'.stack
+  pub pieces : ReadsInTurn (range_at d first count) w.stack (Err fault) w'.stack
 
 -- the allocation of the buffer was refused, and nothing was read
 abbrev pub HasNoBuffer : World → ℕ → RequestError → World → Type 0
