@@ -33,7 +33,7 @@ returns-in_err-write_piece-clause-steps g c =
     let size : c.piece_bytes.result ≡ end - c.pieces.done = omega arith in
     let next = subst (λ (n : ℕ). IsNextPiece c.pieces.stack.config c.args.device.0 (c.args.first + c.pieces.done / 512) (length c.args.bytes.now - c.pieces.done) n) size c.piece_bytes.ensures in
     rw (p.1, p.2)
-    (steps-end c.args.stack.now c.pieces.stack c.write_piece.new.self c.args.device.0 c.args.first c.args.bytes.now c.pieces.done end b.whole (omega (arith, c.piece_bytes.ensures.some)) (omega (arith, c.piece_bytes.ensures.inside, b.within)) b.can next c.in_err-write_piece.field-0.0 b.steps
+    (steps-end c.args.stack.now c.pieces.stack c.write_piece.new.self c.args.device.0 c.args.first c.args.bytes.now c.pieces.done end b.whole (omega (arith, c.piece_bytes.ensures.some)) (omega (arith, c.piece_bytes.ensures.inside, b.within)) b.can next b.steps c.in_err-write_piece.field-0.0
     (record {
       each = record { piece = c.in_err-write_piece.ensures.piece; any = c.in_err-write_piece.ensures.any; steady = c.in_err-write_piece.ensures.steady };
       wrote = c.in_err-write_piece.ensures.wrote;
