@@ -20,6 +20,7 @@ use Rattle.nbd_server.specs.Service.{BeginsMessage, Conversation, begins, goes_o
 use Rattle.nbd_server.specs.Delivery.{delivery_of}
 use Rattle.nbd_server.specs.declared.delivery.Delivery.{Delivery}
 use Rattle.nbd_server.proofs.DeliveryLemmas.{read-led, delivered-led, pieces-led}
+use Rattle.nbd_server.proofs.ByteLemmas.{once-export}
 use Rattle.nbd_server.proofs.ReadStatusLemmas.{status-led}
 
 stays-led : (w w' : World) → w' ≡ w → IsLed EachPart w w'
@@ -52,7 +53,7 @@ write-led e w offset (byte ∷ more) outcome w' (inr p) = part-led e w offset (b
 
 payload-led : (e : ExportRecord) (w : World) (offset : ℕ) (bytes : List ℕ) (outcome : RequestOutcome) (w' : World) → WritesPayload e w offset bytes outcome w' → IsLed EachPart w w'
 payload-led e w offset [] outcome w' p = stays-led w w' p.1
-payload-led e w offset (byte ∷ more) outcome w' p = bytes-led e w offset (byte ∷ more) outcome w' p
+payload-led e w offset (byte ∷ more) outcome w' p = bytes-led e w offset (byte ∷ more) outcome w' (once-export e w offset (byte ∷ more) outcome w' p)
 
 given-led : (e : ExportRecord) (w : World) (offset : ℕ) (bytes : List ℕ) (outcome : RequestOutcome) (w' : World) → WritesGiven e w offset bytes outcome w' → IsLed EachPart w w'
 given-led e w offset bytes outcome w' (inl p) = stays-led w w' p.1

@@ -10,7 +10,7 @@ use Rattle.stack_meaning.specs.Reading.{MeetVerity}
 use Rattle.stack_lines.specs.Writing.{SomeEncrypt}
 use Rattle.stack_engine.specs.Bytes.{IsGoodChain}
 use Rattle.stack_engine.specs.WritePieces.{WritesInPieces}
-use Rattle.request_queue.specs.AtOnce.{ReadsInTurn}
+use Rattle.request_queue.specs.AtOnce.{ReadsInTurn, WritesInSteps}
 use Rattle.request_queue.specs.Parts.{EachPart}
 use Rattle.request_queue.specs.Ranges.{range_at}
 use Rattle.request_queue.specs.Runs.{IsLed}
@@ -76,6 +76,18 @@ StopsPut w d first bytes error w' =
 pub record FailsToPutAll (w : World) (d first : ℕ) (bytes : List ℕ) (error : RequestError) (w' : World) : Type 0 where
   pub cause : EndsPut w d first bytes error w' ⊎ StopsPut w d first bytes error w'
   pub led : IsLed EachPart w w'
+
+-- they were written by one write of the queue, in pieces that split no unit that fits in one
+pub record IsStoredAtOnce (w : World) (d first : ℕ) (bytes : List ℕ) (w' : World) : Type 0 where
+  pub stored : IsStored w d first bytes w'
+  pub steps : WritesInSteps (range_at d first (length bytes / 512)) w bytes (Ok tt) w'
+
+-- such a write ended in a fault
+pub record FailsToPutAtOnce (w : World) (d first : ℕ) (bytes : List ℕ) (error : RequestError) (w' : World) : Type 0 where
+  pub put : FailsToPutAll w d first bytes error w'
+  pub fault : IoFault
+  pub told : error ≡ error_of fault
+  pub steps : WritesInSteps (range_at d first (length bytes / 512)) w bytes (Err fault) w'
 
 -- the most bytes in a run of zeros: 1 MiB
 abbrev pub most_run_bytes : ℕ
