@@ -60,12 +60,6 @@ pub writes-ended : (e : ExportRecord) (w mid w' : World) (offset : ℕ) (bytes s
 writes-ended e w mid w' offset bytes sectors (Ok done) f ok err = (refl, sectors, mid, f, ok)
 writes-ended e w mid w' offset bytes sectors (Err error) f ok err = inr (sectors, mid, f, err)
 
--- by one write of the queue, or by several
-pub once-export : (e : ExportRecord) (w : World) (offset : ℕ) (bytes : List ℕ) (outcome : RequestOutcome) (w' : World) → WritesAtOnce e w offset bytes outcome w' → WritesExport e w offset bytes outcome w'
-once-export e w offset bytes (Ok content) w' p = (p.0, p.1, p.2, p.3, p.4.stored)
-once-export e w offset bytes (Err error) w' (inl p) = inl p
-once-export e w offset bytes (Err error) w' (inr p) = inr (p.0, p.1, p.2, p.3.put)
-
 -- ---- the bytes behind a request
 
 module _ (offset length : ℕ) (fua : Bool) where

@@ -32,10 +32,9 @@ use Rattle.nbd_protocol.specs.declared.header.Header.{Header}
 use Rattle.nbd_server.specs.Delivery.{delivery_of}
 use Rattle.nbd_server.specs.declared.delivery.Delivery.{Delivery}
 use Rattle.nbd_server.specs.Service.{AnswersOption, BeginsMessage, Conversation, begins, goes_on, EndsMessage, IsInterrupted, IsService, IsLastRequest, IsServedRequest, IsUnanswered, GivesReply, TakesMessage}
-use Rattle.nbd_server.proofs.ByteLemmas.{once-export}
 use Rattle.nbd_server.proofs.DeliveryLemmas.{delivered-config, read-config}
 use Rattle.nbd_server.proofs.ReadStatusLemmas.{status-config}
-use Rattle.nbd_server.proofs.RunLemmas.{begun-led, talk-led}
+use Rattle.nbd_server.proofs.RunLemmas.{begun-led, once-export, talk-led}
 use Rattle.request_queue.proofs.lemmas.LedLemmas.{led-then}
 
 -- the messages so far, and the greeting and their replies

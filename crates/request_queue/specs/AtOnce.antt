@@ -6,6 +6,7 @@ use Rattle.stack_rules.specs.Records.{Configuration}
 use Rattle.stack_meaning.specs.declared.fault.IoFault.{IoFault}
 use Rattle.stack_lines.specs.Budgets.{ReadsAtMost}
 use Rattle.stack_engine.specs.Bytes.{EachBytes}
+use Rattle.stack_engine.specs.KeptBlocks.{ReadKeeps}
 use Rattle.stack_engine.specs.Pieces.{piece_budget}
 use Rattle.stack_engine.specs.Stacks.{StackRecord}
 use Rattle.stack_engine.specs.WritePieces.{PieceNeeded, PieceWrote}
@@ -60,6 +61,12 @@ pub data ReadsInTurn (range : SectorRange) (w : StackRecord) : Result (List ℕ)
   no_read : ReadsInTurn range w (Ok []) w
   a_read : {x y : List ℕ} {v w' : StackRecord} → ReadsInTurn range w (Ok x) v → PieceRead v range.device.0 (sector_after range x) (bytes_after range x) (Ok y) w' → ReadsInTurn range w (Ok (x ++ y)) w'
   last_read : {x : List ℕ} {v w' : StackRecord} {fault : IoFault} → ReadsInTurn range w (Ok x) v → PieceRead v range.device.0 (sector_after range x) (bytes_after range x) (Err fault) w' → ReadsInTurn range w (Err fault) w'
+
+-- a range was read: what that is as a whole, what it leaves of the kept hash blocks, and its pieces
+pub record IsRangeRead (v : StackRecord) (range : SectorRange) (answer : Result (List ℕ) IoFault) (v' : StackRecord) : Type 0 where
+  pub each : EachBytes v range.device.0 range.first range.count answer v'
+  pub kept : ReadKeeps v range.device.0 range.first range.count v'
+  pub pieces : ReadsInTurn range v answer v'
 
 -- so many bytes of mapped device d, from the first sector on, are read so, unless their read is refused
 abbrev pub ReadsInPieces : World → ℕ → ℕ → ℕ → Result (Result (List ℕ) IoFault) SubmitFault → World → Type 0

@@ -27,6 +27,12 @@ abbrev pub whole_unit : Target → ℕ
 whole_unit (Verity v) = block_sectors v
 whole_unit target = 1
 
+-- from sector w of a line on, the rest of a unit and a whole one have so many sectors
+pub record AreUnitLens (target : Target) (w rest whole : ℕ) : Type 0 where
+  pub rest_is : rest ≡ rest_of_unit target w
+  pub whole_is : whole ≡ whole_unit target
+  pub together : AreLostTogether target w rest
+
 -- The sectors that a piece has at most, from sector w of a line on: `most`, down to the end of a unit; but those that are lost
 -- together, and never more than 128.
 abbrev pub longest_piece : Target → ℕ → ℕ → ℕ

@@ -25,13 +25,13 @@ returns c =
     let room = c.min-room.ensures in
     let longest = c.min-longest.ensures in
     let behind : c.saturating_sub.result / c.unit_of-rest.result.whole * c.unit_of-rest.result.whole ≤ c.saturating_sub.result = omega (arith, div-add-mod' c.saturating_sub.result c.unit_of-rest.result.whole) in
-    let together = subst (λ (x : Line). AreLostTogether x.target (c.args.first - x.start) rest) same c.unit_of-rest.ensures.together in
+    let together = subst (λ (x : Line). AreLostTogether x.target (c.args.first - x.start) rest) same c.unit_of-rest.ensures.lens.together in
     let config = c.args.config.now in
     let first : ℕ = c.args.first in
     let most : ℕ = c.args.most in
     let whole : ℕ = c.unit_of-rest.result.whole in
-    let rest_is : rest ≡ rest_of_unit here.line.target (first - here.line.start) = subst (λ (x : Line). rest ≡ rest_of_unit x.target (c.args.first - x.start)) same c.unit_of-rest.ensures.value.0 in
-    let whole_is : whole ≡ whole_unit here.line.target = subst (λ (x : Line). whole ≡ whole_unit x.target) same c.unit_of-rest.ensures.value.1 in
+    let rest_is : rest ≡ rest_of_unit here.line.target (first - here.line.start) = subst (λ (x : Line). rest ≡ rest_of_unit x.target (c.args.first - x.start)) same c.unit_of-rest.ensures.lens.rest_is in
+    let whole_is : whole ≡ whole_unit here.line.target = subst (λ (x : Line). whole ≡ whole_unit x.target) same c.unit_of-rest.ensures.lens.whole_is in
     let after_is : c.saturating_sub.result ≡ most - rest = omega (arith, c.saturating_sub.ensures, c.from-wanted.ensures) in
     let longest_is : c.min-longest.result ≡ longest_piece here.line.target (first - here.line.start) most =
     longest
