@@ -6,7 +6,7 @@ use Rattle.stack_rules.specs.Records.{Configuration}
 use Rattle.stack_meaning.specs.declared.fault.IoFault.{IoFault}
 use Rattle.stack_engine.specs.KeptBlocks.{AreChecked}
 use Rattle.stack_engine.specs.Stacks.{StackRecord}
-use Rattle.stack_engine.specs.WritePieces.{EachWrite, PieceNeeded, PieceWrote}
+use Rattle.stack_engine.specs.WritePieces.{EachWrite}
 use Rattle.request_queue.specs.declared.range.SectorRange.{SectorRange}
 use Rattle.request_queue.specs.AtOnce.{IsNextPiece, IsNextWrite, WritesBeside, WritesInSteps, no_step, a_step, last_step, bytes_after, sector_after}
 use Rattle.request_queue.specs.Flights.{FlightRecord}

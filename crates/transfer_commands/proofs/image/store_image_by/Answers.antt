@@ -1,4 +1,4 @@
-use Rattle.std.proofs.Common.{IsTrue, ◌≡◌, ◌≤◌, ◌+◌, ◌-◌, ◌*◌, ◌/◌, ℕ, Bool, true, not, List, Ok, arith, refl, sym, ◌∙◌, ap, subst, length, take, drop, length-drop, length-append}
+use Rattle.std.proofs.Common.{IsTrue, ◌≡◌, ◌≤◌, ◌+◌, ◌-◌, ◌*◌, ◌/◌, ℕ, Bool, true, not, List, arith, refl, sym, ◌∙◌, ap, subst, length, take, drop, length-drop, length-append}
 use Rattle.std.specs.Prelude.{is_ok}
 use Rattle.std.specs.List.{concat}
 use Rattle.std.proofs.lemmas.List.{length-take-le}

@@ -1,4 +1,4 @@
-use Rattle.std.proofs.Common.{IsTrue, ◌≤◌, ◌≡◌, ◌+◌, ◌-◌, ◌*◌, ◌/◌, ◌%◌, ℕ, List, [], ◌++◌, Option, Ok, Err, arith, refl, sym, ◌∙◌, ap, subst, length, take, drop, append-nil, length-drop, length-append}
+use Rattle.std.proofs.Common.{IsTrue, ◌≤◌, ◌≡◌, ◌+◌, ◌-◌, ◌*◌, ◌/◌, ◌%◌, ℕ, List, [], ◌++◌, Option, Err, arith, refl, sym, ◌∙◌, ap, subst, length, take, drop, append-nil, length-drop, length-append}
 use Rattle.std.specs.Io.KnownBytes.{Consumes, IsAtEnd}
 use Rattle.std.proofs.lemmas.List.{length-take-le, take_all}
 use Rattle.alignment.specs.Lengths.{IsAlignedLen}
