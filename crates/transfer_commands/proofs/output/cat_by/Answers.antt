@@ -63,20 +63,20 @@ pieces-preserved-in-Ok g c =
     let spent_at = subst (λ (m : ℕ). ReadsAtMost (piece_budget c.pieces.stack c.args.d.0 c.pieces.at m) c.pieces.stack.leaves c.read_bytes.new.self.leaves) number c.in-Ok.ensures.spent in
     let spent = subst (λ (s : ℕ). ReadsAtMost (piece_budget c.pieces.stack c.args.d.0 s n) c.pieces.stack.leaves c.read_bytes.new.self.leaves) here spent_at in
     let so_far = before.catting.so_far in
-    let end_is : c.pieces.end ≡ before.catting.so_far.end = sym before.catting.ends in
+    let end_is : (c.args.range.first + c.args.range.count) ≡ before.catting.so_far.end = sym before.catting.ends in
     let aligned : before.catting.so_far.failed ≡ false → EndsAligned c.pieces.stack.config c.args.d.0 (first + k) before.catting.so_far.end 128 n =
     λ unfailed.
     subst (λ (m : ℕ). EndsAligned c.pieces.stack.config c.args.d.0 (first + k) before.catting.so_far.end m n) (before.catting.fresh unfailed).0
     (subst (λ (e : ℕ). EndsAligned c.pieces.stack.config c.args.d.0 (first + k) e c.pieces.pace.most n) end_is
-    (subst (λ (s : ℕ). EndsAligned c.pieces.stack.config c.args.d.0 s c.pieces.end c.pieces.pace.most n) here
-    (subst (λ (x : Configuration). EndsAligned x c.args.d.0 c.pieces.at c.pieces.end c.pieces.pace.most n) c.config-in-pieces.ensures.value c.piece_at-piece.ensures.ends))) in
+    (subst (λ (s : ℕ). EndsAligned c.pieces.stack.config c.args.d.0 s (c.args.range.first + c.args.range.count) c.pieces.pace.most n) here
+    (subst (λ (x : Configuration). EndsAligned x c.args.d.0 c.pieces.at (c.args.range.first + c.args.range.count) c.pieces.pace.most n) c.config-in-pieces.ensures.value c.piece_at-piece.ensures.ends))) in
     let all : IsCat c.args.d.0 first (k + n) old new = cat-had c.args.d.0 first k old now so_far n c.read_bytes.new.self bytes (g.W.Write.contents c.put.new.self.inner) aligned piece spent c.in_ok-put-in-Ok.ensures.writes.ok in
-    let next : IsCatting c.args.d.0 first (k + n) c.pieces.end old new c.after_bytes-pace.result =
+    let next : IsCatting c.args.d.0 first (k + n) (c.args.range.first + c.args.range.count) old new c.after_bytes-pace.result =
     record { so_far = all; ends = before.catting.ends; fresh = λ unfailed. c.after_bytes-pace.ensures.first (before.catting.fresh unfailed) } in
     let count = c.from-count.ensures in
     let sum : k + n ≡ c.pieces.at + c.from-count.result - first = omega (arith, before.from, count) in
-    let summed : IsCatting c.args.d.0 first (c.pieces.at + c.from-count.result - first) c.pieces.end old new c.after_bytes-pace.result =
-    subst (λ (m : ℕ). IsCatting c.args.d.0 first m c.pieces.end old new c.after_bytes-pace.result) sum next in
+    let summed : IsCatting c.args.d.0 first (c.pieces.at + c.from-count.result - first) (c.args.range.first + c.args.range.count) old new c.after_bytes-pace.result =
+    subst (λ (m : ℕ). IsCatting c.args.d.0 first m (c.args.range.first + c.args.range.count) old new c.after_bytes-pace.result) sum next in
     record {
       so_far = summed.so_far;
       catting = summed;
