@@ -15,10 +15,10 @@ use Rattle.nbd_protocol.specs.declared.request_error.RequestError.TheVariants.{N
 use Rattle.nbd_protocol.specs.Exports.{ExportRecord}
 use Rattle.nbd_protocol.specs.Headers.{cache_command, command_of, flush_command, has_fua, has_offered, payload_len, most_length, read_command, status_command, trim_command, write_command, zero_command}
 use Rattle.nbd_server.specs.Premises.{IsBare}
-use Rattle.nbd_server.specs.Sectors.{IsStored, FailsToPutAll, FailsToZero}
+use Rattle.nbd_server.specs.Sectors.{IsStored, IsStoredAtOnce, FailsToPutAtOnce, FailsToZero}
 use Rattle.nbd_server.specs.Replies.{RequestOutcome}
 use Rattle.nbd_server.specs.Status.{touched}
-use Rattle.nbd_server.specs.Transmission.{FailsToReadEnds, Flushes, IsFramed, IsPartInside, IsPart, IsSendable, reply_data, ReadsExport, ReadsEnds, ServesRequest, ServesCommand, Settles, Stays, WritesExport, WritesGiven, WritesPart, WritesAny, room_behind, no_bytes}
+use Rattle.nbd_server.specs.Transmission.{FailsToReadEnds, Flushes, IsFramed, IsPartInside, IsPart, IsSendable, reply_data, ReadsExport, ReadsEnds, ServesRequest, ServesCommand, Settles, Stays, WritesAtOnce, WritesExport, WritesGiven, WritesPart, WritesAny, room_behind, no_bytes}
 
 -- ---- what stands around some bytes
 
@@ -56,7 +56,7 @@ pub ends-unread : (e : ExportRecord) (w mid w' : World) (offset len : ℕ) (befo
 ends-unread e w mid w' offset len before error p q = inr (before, mid, p, q)
 
 pub writes-ended : (e : ExportRecord) (w mid w' : World) (offset : ℕ) (bytes sectors : List ℕ) (result : Result Unit RequestError) → IsFramed e w offset bytes sectors mid
-    → OnOk result (IsStored mid e.device (offset / 512) sectors w') → IfErr result (λ error. FailsToPutAll mid e.device (offset / 512) sectors error w') → WritesExport e w offset bytes (no_bytes result) w'
+    → OnOk result (IsStoredAtOnce mid e.device (offset / 512) sectors w') → IfErr result (λ error. FailsToPutAtOnce mid e.device (offset / 512) sectors error w') → WritesAtOnce e w offset bytes (no_bytes result) w'
 writes-ended e w mid w' offset bytes sectors (Ok done) f ok err = (refl, sectors, mid, f, ok)
 writes-ended e w mid w' offset bytes sectors (Err error) f ok err = inr (sectors, mid, f, err)
 

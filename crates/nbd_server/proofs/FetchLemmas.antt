@@ -19,6 +19,7 @@ use Rattle.request_queue.specs.declared.fault.BytesFault.TheVariants.{Failed}
 use Rattle.request_queue.specs.declared.fault.SubmitFault.{SubmitFault}
 use Rattle.request_queue.specs.declared.fault.SubmitFault.TheVariants.{NoSuchDevice, OutOfRange, Length}
 use Rattle.request_queue.specs.declared.range.SectorRange.{SectorRange}
+use Rattle.request_queue.specs.AtOnce.{ReadsInPieces, ReadsInTurn}
 use Rattle.request_queue.specs.Parts.{EachPart}
 use Rattle.request_queue.specs.Ranges.{bytes_range, range_at}
 use Rattle.request_queue.specs.WholeRuns.{ReadsWhole}
@@ -50,10 +51,12 @@ tests-pass false true e x fault one two three h = let clash : true ≡ false = t
 tests-pass false false false x fault one two three h = let clash : false ≡ true = three in cc
 tests-pass false false true x fault one two three h = let clash : Ok x ≡ Err fault = h in cc
 
-whole-ok : (w w' : World) (d first count len : ℕ) (bytes : List ℕ) → EachBytes w.stack d first count (Ok bytes) w'.stack → ReadKeeps w.stack d first count w'.stack → Step EachPart w (read_bytes d first len (Ok (Ok bytes))) w' → IsFetched w d first count bytes w'
-whole-ok w w' d first count len bytes p kept s = record {
+whole-ok : (w w' : World) (d first count len : ℕ) (bytes : List ℕ) → EachBytes w.stack d first count (Ok bytes) w'.stack → ReadKeeps w.stack d first count w'.stack → ReadsInTurn (range_at d first count) w.stack (Ok bytes) w'.stack
+    → Step EachPart w (read_bytes d first len (Ok (Ok bytes))) w' → IsFetched w d first count bytes w'
+whole-ok w w' d first count len bytes p kept pieces s = record {
   chains = p.any.may.chains;
   read = record { config = p.any.config; capacity = p.any.capacity; moved = p.any.moved; may = p.any.may.read; touches = touches-as (Ok _) tt p.any.touches; fails = p.any.fails; kept = kept; exact = λ steady. (p.steady steady).exact };
+  pieces = pieces;
   good = p.any.may.good;
   led = led-one EachPart w (read_bytes d first len (Ok (Ok bytes))) w' s;
 }
@@ -67,18 +70,21 @@ module _ (w w' : World) (d first count len : ℕ) (all : len ≡ count * 512) wh
   sectors-are : len / 512 ≡ count
   sectors-are = omega (arith, all)
 
-  pub fetched : (bytes : List ℕ) → Step EachPart w (read_bytes d first len (Ok (Ok bytes))) w' → IsFetched w d first count bytes w'
-  fetched bytes s = whole-ok w w' d first count len bytes (subst (λ (n : ℕ). EachBytes w.stack d first n (Ok bytes) w'.stack) sectors-are (bytes-at w d first len (Ok bytes) w' s))
-      (subst (λ (n : ℕ). ReadKeeps w.stack d first n w'.stack) sectors-are (bytes-kept w d first len (Ok bytes) w' s)) s
+  pub fetched : (bytes : List ℕ) → Step EachPart w (read_bytes d first len (Ok (Ok bytes))) w' → ReadsInPieces w d first len (Ok (Ok bytes)) w' → IsFetched w d first count bytes w'
+  fetched bytes s pieces = whole-ok w w' d first count len bytes (subst (λ (n : ℕ). EachBytes w.stack d first n (Ok bytes) w'.stack) sectors-are (bytes-at w d first len (Ok bytes) w' s))
+      (subst (λ (n : ℕ). ReadKeeps w.stack d first n w'.stack) sectors-are (bytes-kept w d first len (Ok bytes) w' s))
+      (subst (λ (n : ℕ). ReadsInTurn (range_at d first n) w.stack (Ok bytes) w'.stack) sectors-are pieces) s
 
-  pub unfetched : (fault : IoFault) → (failed_by fault ≡ failed_by io.NoMemory → MeetVerity (said_at w.stack.config (mapped d)) first (len / 512)) → Step EachPart w (read_bytes d first len (Ok (Err fault))) w' → FailsToFetch w d first count (error_of fault) w'
-  unfetched fault cause s = record {
+  pub unfetched : (fault : IoFault) → (failed_by fault ≡ failed_by io.NoMemory → MeetVerity (said_at w.stack.config (mapped d)) first (len / 512)) → Step EachPart w (read_bytes d first len (Ok (Err fault))) w' → ReadsInPieces w d first len (Ok (Err fault)) w'
+      → FailsToFetch w d first count (error_of fault) w'
+  unfetched fault cause s pieces = record {
     cause = inl (record {
       fault = fault;
       told = refl;
       cause = λ e. subst (λ (n : ℕ). MeetVerity (said_at w.stack.config (mapped d)) first n) sectors-are (cause (ap failed_by e));
       read = whole-err w w' d first count fault (subst (λ (n : ℕ). EachBytes w.stack d first n (Err fault) w'.stack) sectors-are (bytes-at w d first len (Err fault) w' s))
           (subst (λ (n : ℕ). ReadKeeps w.stack d first n w'.stack) sectors-are (bytes-kept w d first len (Err fault) w' s));
+      pieces = subst (λ (n : ℕ). ReadsInTurn (range_at d first n) w.stack (Err fault) w'.stack) sectors-are pieces;
     });
     led = led-one EachPart w (read_bytes d first len (Ok (Err fault))) w' s;
   }

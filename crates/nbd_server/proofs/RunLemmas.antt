@@ -15,7 +15,7 @@ use Rattle.nbd_protocol.specs.declared.request_error.RequestError.{RequestError}
 use Rattle.nbd_protocol.specs.Exports.{ExportRecord, export_at}
 use Rattle.nbd_protocol.specs.Headers.{command_of, header_of}
 use Rattle.nbd_server.specs.Replies.{RequestOutcome}
-use Rattle.nbd_server.specs.Transmission.{FailsToReadEnds, Flushes, IsFramed, ReadsExport, ServesCommand, Settles, WritesExport, WritesGiven, WritesPart, WritesPayload, WritesAny, room_behind}
+use Rattle.nbd_server.specs.Transmission.{FailsToReadEnds, Flushes, IsFramed, ReadsExport, ServesCommand, Settles, WritesAtOnce, WritesExport, WritesGiven, WritesPart, WritesPayload, WritesAny, room_behind}
 use Rattle.nbd_server.specs.Service.{BeginsMessage, Conversation, begins, goes_on, IsLastRequest, IsServedRequest, GivesReply, TakesMessage}
 use Rattle.nbd_server.specs.Delivery.{delivery_of}
 use Rattle.nbd_server.specs.declared.delivery.Delivery.{Delivery}
@@ -50,9 +50,15 @@ write-led e w offset [] outcome w' p = stays-led w w' p.1
 write-led e w offset (byte ∷ more) outcome w' (inl p) = bytes-led e w offset (byte ∷ more) outcome w' p
 write-led e w offset (byte ∷ more) outcome w' (inr p) = part-led e w offset (byte ∷ more) outcome w' p
 
+-- by one write of the queue, or by several
+pub once-export : (e : ExportRecord) (w : World) (offset : ℕ) (bytes : List ℕ) (outcome : RequestOutcome) (w' : World) → WritesAtOnce e w offset bytes outcome w' → WritesExport e w offset bytes outcome w'
+once-export e w offset bytes (Ok content) w' p = (p.0, p.1, p.2, p.3, p.4.stored)
+once-export e w offset bytes (Err error) w' (inl p) = inl p
+once-export e w offset bytes (Err error) w' (inr p) = inr (p.0, p.1, p.2, p.3.put)
+
 payload-led : (e : ExportRecord) (w : World) (offset : ℕ) (bytes : List ℕ) (outcome : RequestOutcome) (w' : World) → WritesPayload e w offset bytes outcome w' → IsLed EachPart w w'
 payload-led e w offset [] outcome w' p = stays-led w w' p.1
-payload-led e w offset (byte ∷ more) outcome w' p = bytes-led e w offset (byte ∷ more) outcome w' p
+payload-led e w offset (byte ∷ more) outcome w' p = bytes-led e w offset (byte ∷ more) outcome w' (once-export e w offset (byte ∷ more) outcome w' p)
 
 given-led : (e : ExportRecord) (w : World) (offset : ℕ) (bytes : List ℕ) (outcome : RequestOutcome) (w' : World) → WritesGiven e w offset bytes outcome w' → IsLed EachPart w w'
 given-led e w offset bytes outcome w' (inl p) = stays-led w w' p.1

@@ -34,7 +34,7 @@ use Rattle.nbd_server.specs.declared.delivery.Delivery.{Delivery}
 use Rattle.nbd_server.specs.Service.{AnswersOption, BeginsMessage, Conversation, begins, goes_on, EndsMessage, IsInterrupted, IsService, IsLastRequest, IsServedRequest, IsUnanswered, GivesReply, TakesMessage}
 use Rattle.nbd_server.proofs.DeliveryLemmas.{delivered-config, read-config}
 use Rattle.nbd_server.proofs.ReadStatusLemmas.{status-config}
-use Rattle.nbd_server.proofs.RunLemmas.{begun-led, talk-led}
+use Rattle.nbd_server.proofs.RunLemmas.{begun-led, once-export, talk-led}
 use Rattle.request_queue.proofs.lemmas.LedLemmas.{led-then}
 
 -- the messages so far, and the greeting and their replies
@@ -238,7 +238,7 @@ write-config e w offset (byte ∷ more) outcome w' (inr p) = part-config e w off
 
 payload-config : (e : ExportRecord) (w : World) (offset : ℕ) (bytes : List ℕ) (outcome : RequestOutcome) (w' : World) → WritesPayload e w offset bytes outcome w' → w'.stack.config ≡ w.stack.config
 payload-config e w offset [] outcome w' p = same-config w w' p.1
-payload-config e w offset (byte ∷ more) outcome w' p = bytes-config e w offset (byte ∷ more) outcome w' p
+payload-config e w offset (byte ∷ more) outcome w' p = bytes-config e w offset (byte ∷ more) outcome w' (once-export e w offset (byte ∷ more) outcome w' p)
 
 given-config : (e : ExportRecord) (w : World) (offset : ℕ) (bytes : List ℕ) (outcome : RequestOutcome) (w' : World) → WritesGiven e w offset bytes outcome w' → w'.stack.config ≡ w.stack.config
 given-config e w offset bytes outcome w' (inl p) = same-config w w' p.1

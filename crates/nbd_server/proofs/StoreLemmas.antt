@@ -20,7 +20,7 @@ use Rattle.request_queue.specs.declared.fault.BytesFault.TheVariants.{Failed}
 use Rattle.request_queue.specs.declared.fault.SubmitFault.{SubmitFault}
 use Rattle.request_queue.specs.declared.fault.SubmitFault.TheVariants.{NoSuchDevice, OutOfRange, Length, ReadOnly}
 use Rattle.request_queue.specs.declared.range.SectorRange.{SectorRange}
-use Rattle.request_queue.specs.AtOnce.{BytesWritten, write_range}
+use Rattle.request_queue.specs.AtOnce.{BytesWritten, WritesInSteps, write_range}
 use Rattle.request_queue.specs.Parts.{EachPart}
 use Rattle.request_queue.specs.Ranges.{bytes_range, range_at}
 use Rattle.request_queue.specs.Requests.{writable_sectors}
@@ -36,7 +36,7 @@ use Rattle.nbd_protocol.specs.declared.request_error.RequestError.TheVariants.{N
 use Rattle.nbd_protocol.specs.Exports.{ExportRecord, IsExport}
 use Rattle.nbd_protocol.specs.Headers.{error_of}
 use Rattle.nbd_server.specs.Premises.{AreExportSectors}
-use Rattle.nbd_server.specs.Sectors.{IsStored, IsPartPut, FailsToPutAll, FailsToZero, EndsPut, StopsPut, most_run_bytes}
+use Rattle.nbd_server.specs.Sectors.{IsStored, IsStoredAtOnce, IsPartPut, FailsToPutAll, FailsToPutAtOnce, FailsToZero, EndsPut, StopsPut, most_run_bytes}
 use Rattle.nbd_server.proofs.FetchLemmas.{named-below}
 
 abbrev pub ended : IoFault → Result Unit IoFault
@@ -89,9 +89,9 @@ stored-none w d first = record { put = write-none w.stack d first; led = led-non
 pub lacks-first : (w : World) (d first : ℕ) (bytes : List ℕ) → 0 < length bytes → IsOutOfMemory most_run_bytes → FailsToZero w d first bytes NoMemory w
 lacks-first w d first bytes some refused = inr (refl, record { count = 0; few = some; put = stored-none w d first }, refused)
 
-pub zero-fails : (w : World) (d first : ℕ) (bytes : List ℕ) (w' : World) (result : Result Unit RequestError) → IfErr result (λ error. FailsToPutAll w d first bytes error w') → IfErr result (λ error. FailsToZero w d first bytes error w')
+pub zero-fails : (w : World) (d first : ℕ) (bytes : List ℕ) (w' : World) (result : Result Unit RequestError) → IfErr result (λ error. FailsToPutAtOnce w d first bytes error w') → IfErr result (λ error. FailsToZero w d first bytes error w')
 zero-fails w d first bytes w' (Ok done) p = tt
-zero-fails w d first bytes w' (Err error) p = inl p
+zero-fails w d first bytes w' (Err error) p = inl p.put
 
 -- memory runs out where some sector is encrypted
 abbrev pub EncryptsAt : World → ℕ → ℕ → List ℕ → IoFault → Type 0
@@ -107,8 +107,14 @@ module _ (w : World) (d first : ℕ) (bytes : List ℕ) (w' : World) where
       → WritesInPieces w.stack range.device.0 range.first some result w'.stack → WritesInPieces w.stack d first some result w'.stack
   at-place some result range h p = subst (λ (r : SectorRange). WritesInPieces w.stack r.device.0 r.first some result w'.stack) (sym (range-is range h)) p
 
-  pub stored-all : BytesWritten w d first bytes (Ok tt) w' → IsStored w d first bytes w'
-  stored-all s = record { put = at-place bytes (Ok tt) s.range s.admits s.whole; led = steps-led d first w bytes (Ok tt) w' s.steps }
+  steps-at : (result : Result Unit IoFault) → BytesWritten w d first bytes result w' → WritesInSteps (range_at d first (length bytes / 512)) w bytes result w'
+  steps-at result s = subst (λ (r : SectorRange). WritesInSteps r w bytes result w') (sym (range-is s.range s.admits)) s.steps
+
+  pub stored-all : BytesWritten w d first bytes (Ok tt) w' → IsStoredAtOnce w d first bytes w'
+  stored-all s = record {
+    stored = record { put = at-place bytes (Ok tt) s.range s.admits s.whole; led = steps-led s.range w bytes (Ok tt) w' s.steps };
+    steps = steps-at (Ok tt) s;
+  }
 
   put-fails : (fault : IoFault) (range : SectorRange) → EncryptsAt w d first bytes fault → write_range w.stack.config d first bytes ≡ Ok range → IsLed EachPart w w'
       → WritesWhole w.stack range bytes (Err fault) w'.stack → EndsPut w d first bytes (error_of fault) w' ⊎ StopsPut w d first bytes (error_of fault) w'
@@ -118,10 +124,15 @@ module _ (w : World) (d first : ℕ) (bytes : List ℕ) (w' : World) where
       let count : length bytes / 512 ≡ range.count = ap (λ (r : SectorRange). r.count) (range-is range h) in
       inr (refl, some refl, record { count = p.0; few = omega (arith, p.1, count); put = record { put = at-place (take (512 * p.0) bytes) (Ok tt) range h p.2; led = led } }, p.3)
 
-  pub unstored : (fault : IoFault) → EncryptsAt w d first bytes fault → BytesWritten w d first bytes (Err fault) w' → FailsToPutAll w d first bytes (error_of fault) w'
+  pub unstored : (fault : IoFault) → EncryptsAt w d first bytes fault → BytesWritten w d first bytes (Err fault) w' → FailsToPutAtOnce w d first bytes (error_of fault) w'
   unstored fault some s =
-      let led = steps-led d first w bytes (Err fault) w' s.steps in
-      record { cause = put-fails fault s.range some s.admits led s.whole; led = led }
+      let led = steps-led s.range w bytes (Err fault) w' s.steps in
+      record { put = record { cause = put-fails fault s.range some s.admits led s.whole; led = led }; fault = fault; told = refl; steps = steps-at (Err fault) s }
+
+  -- a run of zeros is one write
+  pub run-stored : (result : Result Unit RequestError) → OnOk result (IsStoredAtOnce w d first bytes w') → OnOk result (IsStored w d first bytes w')
+  run-stored (Ok done) p = p.stored
+  run-stored (Err error) p = tt
 
 -- ---- why none is refused
 

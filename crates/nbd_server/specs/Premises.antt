@@ -8,7 +8,7 @@ use Rattle.nbd_protocol.specs.declared.header.Command.{Command}
 use Rattle.nbd_protocol.specs.declared.header.Command.TheVariants.{Write}
 use Rattle.request_queue.specs.World.{World}
 use Rattle.nbd_server.specs.Replies.{RequestOutcome}
-use Rattle.nbd_server.specs.Transmission.{ReadsExport, WritesExport, room_behind}
+use Rattle.nbd_server.specs.Transmission.{ReadsExport, WritesAtOnce, room_behind}
 use Rattle.nbd_server.specs.Sectors.{most_run_bytes}
 use Rattle.nbd_server.specs.Zeros.{zeros_of}
 use Rattle.nbd_server.specs.declared.delivery.Delivery.{Delivery}
@@ -73,7 +73,7 @@ ReadsTo e w at count buffer w' = ReadsExport e w at count (Ok (take count (drop 
 
 -- a byte range of the export was written from a buffer, which holds the bytes at their offset in the sectors that they touch
 abbrev pub WritesFrom : ExportRecord → World → ℕ → ℕ → List ℕ → RequestOutcome → World → Type 0
-WritesFrom e w at count buffer outcome w' = WritesExport e w at (take count (drop (at % 512) buffer)) outcome w'
+WritesFrom e w at count buffer outcome w' = WritesAtOnce e w at (take count (drop (at % 512) buffer)) outcome w'
 
 -- what is left of a READ that is answered piece by piece
 pub record IsDeliveryRest (d : Delivery) (p : Progress) : Type 0 where

@@ -11,6 +11,7 @@ use Rattle.stack_meaning.specs.Reading.{MeetVerity}
 use Rattle.stack_lines.specs.Writing.{SomeEncrypt}
 use Rattle.stack_engine.specs.Bytes.{IsGoodChain}
 use Rattle.stack_engine.specs.WritePieces.{WritesInPieces}
+use Rattle.request_queue.specs.AtOnce.{ReadsInTurn, WritesInSteps}
 use Rattle.request_queue.specs.Parts.{EachPart}
 use Rattle.request_queue.specs.Ranges.{range_at}
 use Rattle.request_queue.specs.Runs.{IsLed}
@@ -20,11 +21,13 @@ use Rattle.nbd_protocol.specs.Headers.{error_of}
 use Rattle.nbd_protocol.specs.declared.request_error.RequestError.{RequestError}
 use Rattle.nbd_protocol.specs.declared.request_error.RequestError.TheVariants.{NoMemory, InputOutput}
 
--- Sectors of a mapped device were read, as one read of them all. The bytes are what the lines allow with some hash chains, each
--- of which verifies for its line; over steady backing devices they are what the stack means.
+-- Sectors of a mapped device were read, as one read of them all, and in pieces that split no unit and no data block that fits in
+-- one. The bytes are what the lines allow with some hash chains, each of which verifies for its line; over steady backing devices
+-- they are what the stack means.
 pub record IsFetched (w : World) (d first count : ℕ) (bytes : List ℕ) (w' : World) : Type 0 where
   pub chains : List FoundRecord
   pub read : ReadsWhole w.stack (range_at d first count) (Ok (record { bytes = bytes; chains = chains })) w'.stack
+  pub pieces : ReadsInTurn (range_at d first count) w.stack (Ok bytes) w'.stack
   pub good : All (IsGoodChain w.stack.config) chains
   pub led : IsLed EachPart w w'
 
@@ -38,6 +41,7 @@ pub record EndsIn (w : World) (d first count : ℕ) (error : RequestError) (w' :
   pub told : error ≡ error_of fault
   pub cause : HasCause w d first count fault
   pub read : ReadsWhole w.stack (range_at d first count) (Err fault) w'.stack
+  pub pieces : ReadsInTurn (range_at d first count) w.stack (Err fault) w'.stack
 
 -- the allocation of the buffer was refused, and nothing was read
 abbrev pub HasNoBuffer : World → ℕ → RequestError → World → Type 0
@@ -73,6 +77,18 @@ StopsPut w d first bytes error w' =
 pub record FailsToPutAll (w : World) (d first : ℕ) (bytes : List ℕ) (error : RequestError) (w' : World) : Type 0 where
   pub cause : EndsPut w d first bytes error w' ⊎ StopsPut w d first bytes error w'
   pub led : IsLed EachPart w w'
+
+-- they were written by one write of the queue, in pieces that split no unit that fits in one
+pub record IsStoredAtOnce (w : World) (d first : ℕ) (bytes : List ℕ) (w' : World) : Type 0 where
+  pub stored : IsStored w d first bytes w'
+  pub steps : WritesInSteps (range_at d first (length bytes / 512)) w bytes (Ok tt) w'
+
+-- such a write ended in a fault
+pub record FailsToPutAtOnce (w : World) (d first : ℕ) (bytes : List ℕ) (error : RequestError) (w' : World) : Type 0 where
+  pub put : FailsToPutAll w d first bytes error w'
+  pub fault : IoFault
+  pub told : error ≡ error_of fault
+  pub steps : WritesInSteps (range_at d first (length bytes / 512)) w bytes (Err fault) w'
 
 -- the most bytes in a run of zeros: 1 MiB
 abbrev pub most_run_bytes : ℕ

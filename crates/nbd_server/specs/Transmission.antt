@@ -12,7 +12,7 @@ use Rattle.nbd_protocol.specs.Headers.{command_of, most_length, payload_len}
 use Rattle.nbd_protocol.specs.declared.phase.Agreement.{Agreement}
 use Rattle.nbd_server.specs.Replies.{RequestOutcome}
 use Rattle.nbd_server.specs.Status.{AreReadAsZeros, HasStatus, TouchIgnoring, TouchZeros, touched}
-use Rattle.nbd_server.specs.Sectors.{IsFetched, FailsToFetch, IsStored, IsPartPut, FailsToPutAll, most_run_bytes}
+use Rattle.nbd_server.specs.Sectors.{IsFetched, FailsToFetch, IsStored, IsStoredAtOnce, IsPartPut, FailsToPutAll, FailsToPutAtOnce, most_run_bytes}
 use Rattle.nbd_protocol.specs.declared.header.Header.{Header}
 use Rattle.nbd_protocol.specs.declared.header.Command.{Command}
 use Rattle.nbd_protocol.specs.declared.header.Command.TheVariants.{Read, Write, Zero, Hint, Flush, Status}
@@ -71,10 +71,18 @@ WritesExport e w offset bytes (Err error) w' =
     FailsToReadEnds e w offset (length bytes) w' error
     ⊎ ((sectors : List ℕ) × (mid : World) × IsFramed e w offset bytes sectors mid × FailsToPutAll mid e.device (offset / 512) sectors error w')
 
+-- they were written so by one write of the queue
+abbrev pub WritesAtOnce : ExportRecord → World → ℕ → List ℕ → RequestOutcome → World → Type 0
+WritesAtOnce e w offset bytes (Ok content) w' =
+    (content ≡ []) × (sectors : List ℕ) × (mid : World) × IsFramed e w offset bytes sectors mid × IsStoredAtOnce mid e.device (offset / 512) sectors w'
+WritesAtOnce e w offset bytes (Err error) w' =
+    FailsToReadEnds e w offset (length bytes) w' error
+    ⊎ ((sectors : List ℕ) × (mid : World) × IsFramed e w offset bytes sectors mid × FailsToPutAtOnce mid e.device (offset / 512) sectors error w')
+
 -- a write of no bytes does nothing
 abbrev pub WritesPayload : ExportRecord → World → ℕ → List ℕ → RequestOutcome → World → Type 0
 WritesPayload e w offset [] outcome w' = Stays w outcome w'
-WritesPayload e w offset (byte ∷ more) outcome w' = WritesExport e w offset (byte ∷ more) outcome w'
+WritesPayload e w offset (byte ∷ more) outcome w' = WritesAtOnce e w offset (byte ∷ more) outcome w'
 
 -- an allocation of a run was refused, and the runs before it were written
 abbrev pub WritesPart : ExportRecord → World → ℕ → List ℕ → RequestOutcome → World → Type 0

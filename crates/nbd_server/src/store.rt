@@ -1,6 +1,6 @@
 //! Writes sectors of the export.
 ghost use Rattle.std.specs.Prelude.{◌≡◌, ◌<◌, ◌≤◌, ◌+◌, ◌*◌, ◌/◌, ◌%◌, ◌^◌, length, IfErr, OnOk};
-ghost use Rattle.nbd_server.specs.Sectors.{FailsToPutAll, IsStored};
+ghost use Rattle.nbd_server.specs.Sectors.{FailsToPutAtOnce, IsStored, IsStoredAtOnce};
 ghost use Rattle.nbd_protocol.specs.Exports.{IsExport, export_record};
 ghost use Rattle.nbd_server.specs.Premises.{AreExportSectors, HaveEnds, IsZeroRun};
 ghost use Rattle.nbd_server.specs.Zeros.{FailsToPutZeros, IsRunLen, zeros_of};
@@ -31,8 +31,8 @@ pub(crate) fn store<D: BlockDev>(
 ) -> Result<(), RequestError>
     requires export { IsExport queue.old.stack.config (export_record export.now) }
     requires sectors { AreExportSectors (export_record export.now) first bytes.now }
-    ensures ok { OnOk result (IsStored queue.old export.now.device.0 first bytes.now queue.new) }
-    ensures err { IfErr result (λ error. FailsToPutAll queue.old export.now.device.0 first bytes.now error queue.new) }
+    ensures ok { OnOk result (IsStoredAtOnce queue.old export.now.device.0 first bytes.now queue.new) }
+    ensures err { IfErr result (λ error. FailsToPutAtOnce queue.old export.now.device.0 first bytes.now error queue.new) }
 {
     match queue.write_bytes(export.device, first, bytes) {
         Ok(()) => Ok(()),

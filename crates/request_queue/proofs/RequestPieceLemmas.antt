@@ -1,10 +1,8 @@
--- One piece of a request, a read at once that failed and a sync, as steps of the world.
+-- One piece of a request, a read at once and a sync, as steps of the world.
 use Rattle.std.proofs.Common.{◌≡◌, ◌<◌, ◌≤◌, ◌-◌, ◌/◌, ℕ, List, map, get_or, set, refl, ap, sym, ◌∙◌, subst, arith, Some, Result, Ok, Err}
 use Rattle.std.specs.Prelude.{IfErr, OnOk, position, remove}
 use Rattle.block_device.specs.Device.{synced}
 use Rattle.stack_meaning.specs.declared.fault.IoFault.{IoFault}
-use Rattle.stack_engine.specs.Bytes.{EachBytes}
-use Rattle.stack_engine.specs.KeptBlocks.{ReadKeeps}
 use Rattle.stack_engine.specs.Stacks.{StackRecord, AnswerRecord}
 use Rattle.stack_engine.specs.Syncs.{FailsToSync}
 use Rattle.stack_engine.proofs.lemmas.PieceLemmas.{same-stack}
@@ -13,6 +11,7 @@ use Rattle.request_queue.specs.declared.reply.Progress.TheVariants.{More, Done}
 use Rattle.request_queue.specs.declared.reply.Reply.{Reply}
 use Rattle.request_queue.specs.Flights.{FlightRecord, IsSoundFlight, reply_to, has_ticket}
 use Rattle.request_queue.specs.Parts.{EachPart, AsksPiece, part_of_work, done_of}
+use Rattle.request_queue.specs.AtOnce.{IsRangeRead}
 use Rattle.request_queue.specs.Ranges.{bytes_range, piece_len, range_at}
 use Rattle.request_queue.specs.World.{World, world, BytesRead, Serves, Syncs, IsSoundWorld}
 use Rattle.request_queue.specs.Serving.{NextPiece, FailedPiece}
@@ -87,13 +86,20 @@ sound-done v v' given fs fs' i f f' p r s =
 
 -- ---- a read at once
 
-pub bytes-failed : (v v' : StackRecord) (given : ℕ) (fs : List FlightRecord) (d first size : ℕ) (range : SectorRange) (fault : IoFault) → Ok range ≡ bytes_range v.config d first size
-    → EachBytes v d first (size / 512) (Err fault) v' → ReadKeeps v d first (size / 512) v' → BytesRead EachPart (world v given fs) d first size (Err fault) (world v' given fs)
-bytes-failed v v' given fs d first size range fault found each kept = record {
+pub bytes-done : (v v' : StackRecord) (given : ℕ) (fs : List FlightRecord) (d first size : ℕ) (range : SectorRange) (answer : Result (List ℕ) IoFault) → Ok range ≡ bytes_range v.config d first size
+    → IsRangeRead v (range_at d first (size / 512)) answer v' → BytesRead EachPart (world v given fs) d first size answer (world v' given fs)
+bytes-done v v' given fs d first size range (Ok bytes) found read = record {
   range = range_at d first (size / 512);
   admits = sym found ∙ ap Ok (sym (bytes_range-ok v.config d first size range (sym found)));
   stack = v';
-  asks = record { answered = each; kept = kept };
+  asks = record { answered = read.each; kept = read.kept };
+  leaves = refl;
+}
+bytes-done v v' given fs d first size range (Err fault) found read = record {
+  range = range_at d first (size / 512);
+  admits = sym found ∙ ap Ok (sym (bytes_range-ok v.config d first size range (sym found)));
+  stack = v';
+  asks = record { answered = read.each; kept = read.kept };
   leaves = refl;
 }
 

@@ -2,7 +2,7 @@
 use Rattle.std.proofs.Common.{◌≡◌, ◌≤◌, ℕ, ◌+◌, ◌-◌, ◌*◌, ◌/◌, ◌%◌, List, ◌++◌, length, take, drop, refl, ap, sym, ◌∙◌, subst, arith, Result, Ok, Err}
 use Rattle.std.proofs.lemmas.List.{length-drop, length-take-le, take-append-drop}
 use Rattle.std.proofs.Math.Seq.{take-length, take-add}
-use Rattle.stack_rules.specs.Names.{mapped}
+use Rattle.stack_rules.specs.Names.{mapped, size}
 use Rattle.stack_rules.specs.Records.{Configuration}
 use Rattle.stack_meaning.specs.declared.fault.IoFault.{IoFault}
 use Rattle.stack_meaning.specs.declared.fault.IoFault.TheVariants as io
@@ -11,27 +11,28 @@ use Rattle.stack_meaning.proofs.lemmas.FoundLemmas.{SomeOf-more}
 use Rattle.stack_lines.specs.Writing.{SomeEncrypt}
 use Rattle.stack_engine.specs.KeptBlocks.{AreChecked}
 use Rattle.stack_engine.specs.Stacks.{StackRecord}
-use Rattle.stack_engine.specs.WritePieces.{EachWrite, WritesInPieces}
+use Rattle.stack_engine.specs.WritePieces.{EachWrite, PieceNeeded, PieceWrote, WritesInPieces}
 use Rattle.stack_engine.proofs.lemmas.PieceLemmas.{same-stack}
 use Rattle.stack_engine.proofs.lemmas.WritePieceLemmas.{write-then, write-ends}
-use Rattle.request_queue.specs.AtOnce.{BytesWritten, CanBeWritten, WritesBeside, WritesInSteps, a_step, last_step, write_range}
+use Rattle.request_queue.specs.AtOnce.{BytesWritten, CanBeWritten, IsNextPiece, IsNextWrite, WritesBeside, write_range}
 use Rattle.request_queue.specs.Flights.{FlightRecord}
-use Rattle.request_queue.specs.Parts.{EachPart}
 use Rattle.request_queue.specs.Ranges.{bytes_range, range_at}
 use Rattle.request_queue.specs.declared.range.SectorRange.{SectorRange}
 use Rattle.request_queue.specs.WholeRuns.{WritesWhole}
-use Rattle.request_queue.specs.World.{PieceWritten, world}
+use Rattle.request_queue.specs.World.{world}
 use Rattle.request_queue.proofs.lemmas.AdmissionLemmas.{writable-ok}
 use Rattle.request_queue.proofs.lemmas.BytesLemmas.{bytes_range-ok}
-use Rattle.request_queue.proofs.lemmas.PutLemmas.{ending-same}
+use Rattle.request_queue.proofs.lemmas.AtOnceLemmas.{beside-ends, beside-more}
 
 -- the bytes of the next piece
 abbrev pub next_part : List ℕ → ℕ → ℕ → List ℕ
 next_part bytes done end = take (end - done) (drop done bytes)
 
--- how a piece ended, and what is kept then
+-- how a piece ended, what it moved, and what is kept then
 pub record IsWritten (v : StackRecord) (d first : ℕ) (bytes : List ℕ) (result : Result Unit IoFault) (v' : StackRecord) : Type 0 where
   pub each : EachWrite v d first bytes result v'
+  pub wrote : PieceWrote v d first (length bytes / 512) v'
+  pub needed : PieceNeeded v d first (length bytes / 512) v'
   pub checked : AreChecked v'
 
 module _ (base v v' : StackRecord) (d first : ℕ) (bytes : List ℕ) (done end : ℕ) (even : done % 512 ≡ 0) (more : done + 512 ≤ end) (within : end ≤ length bytes) where
@@ -83,22 +84,28 @@ module _ (base v v' : StackRecord) (d first : ℕ) (bytes : List ℕ) (done end 
         SomeOf-more (λ s. (said_at base.config (mapped d) s).encrypts) first (done / 512) (length (next_part bytes done end) / 512) (length bytes / 512) inside
         (subst (λ (c : Configuration). SomeEncrypt (said_at c (mapped d)) (first + done / 512) (length (next_part bytes done end) / 512)) p.any.config some)
 
-  module _ (can : CanBeWritten v.config d first bytes) where
-    one-step : (result : Result Unit IoFault) → IsWritten v d (first + done / 512) (next_part bytes done end) result v' → (given : ℕ) (fs : List FlightRecord)
-        → PieceWritten EachPart (world v given fs) d (first + length (take done bytes) / 512) (next_part bytes done end) result (world v' given fs)
-    one-step result q given fs = record {
-      inside = omega (arith, part-length, front-length, even, more, within, can.sectors.inside);
-      allowed = can.allowed;
-      stack = v';
-      asks = record { answered = subst (λ r. EachWrite v d (first + length (take done bytes) / 512) (next_part bytes done end) r v') (sym (ending-same result)) (from-start result q.each); kept = q.checked };
-      leaves = refl;
-    }
+  module _ (can : CanBeWritten v.config d first bytes) (next : IsNextPiece v.config d (first + done / 512) (length bytes - done) (end - done)) where
+    part-inside : first + length (take done bytes) / 512 + length (next_part bytes done end) / 512 ≤ size v.config (mapped d)
+    part-inside = omega (arith, part-length, front-length, even, more, within, can.sectors.inside)
 
-    pub steps-more : WritesBeside d first base (take done bytes) (Ok tt) v → IsWritten v d (first + done / 512) (next_part bytes done end) (Ok tt) v' → WritesBeside d first base (take end bytes) (Ok tt) v'
-    steps-more p q = λ given fs. subst (λ l. WritesInSteps d first (world base given fs) l (Ok tt) (world v' given fs)) seam (a_step (p given fs) (one-step (Ok tt) q given fs))
+    next-write : (result : Result Unit IoFault) → IsWritten v d (first + done / 512) (next_part bytes done end) result v'
+        → IsNextWrite v d (first + length (take done bytes) / 512) (512 * (length bytes / 512) - length (take done bytes)) (length (next_part bytes done end)) v'
+    next-write result q =
+        let left : length bytes - done ≡ 512 * (length bytes / 512) - length (take done bytes) = omega (arith, front-length, can.sectors.whole) in
+        subst (λ k. IsNextWrite v d k (512 * (length bytes / 512) - length (take done bytes)) (length (next_part bytes done end)) v') start
+        (subst (λ m. IsNextWrite v d (first + done / 512) m (length (next_part bytes done end)) v') left
+        (record { next = subst (λ n. IsNextPiece v.config d (first + done / 512) (length bytes - done) n) (sym part-length) next; wrote = q.wrote; needed = q.needed }))
 
-    pub steps-end : (fault : IoFault) → WritesBeside d first base (take done bytes) (Ok tt) v → IsWritten v d (first + done / 512) (next_part bytes done end) (Err fault) v' → WritesBeside d first base bytes (Err fault) v'
-    steps-end fault p q = λ given fs. subst (λ l. WritesInSteps d first (world base given fs) l (Err fault) (world v' given fs)) all-is (last_step (drop (end - done) (drop done bytes)) (p given fs) (one-step (Err fault) q given fs))
+    module _ (p : WritesBeside (range_at d first (length bytes / 512)) base (take done bytes) (Ok tt) v) where
+      pub steps-more : IsWritten v d (first + done / 512) (next_part bytes done end) (Ok tt) v' → WritesBeside (range_at d first (length bytes / 512)) base (take end bytes) (Ok tt) v'
+      steps-more q =
+          subst (λ l. WritesBeside (range_at d first (length bytes / 512)) base l (Ok tt) v') seam
+          (beside-more (range_at d first (length bytes / 512)) base v v' (take done bytes) (next_part bytes done end) can.allowed part-inside q.checked (next-write (Ok tt) q) p (from-start (Ok tt) q.each))
+
+      pub steps-end : (fault : IoFault) → IsWritten v d (first + done / 512) (next_part bytes done end) (Err fault) v' → WritesBeside (range_at d first (length bytes / 512)) base bytes (Err fault) v'
+      steps-end fault q =
+          subst (λ l. WritesBeside (range_at d first (length bytes / 512)) base l (Err fault) v') all-is
+          (beside-ends (range_at d first (length bytes / 512)) base v v' (take done bytes) (next_part bytes done end) can.allowed part-inside q.checked (next-write (Err fault) q) p (drop (end - done) (drop done bytes)) fault (from-start (Err fault) q.each))
 
 -- all of them are the first so many
 pub take-all : (bytes : List ℕ) (done : ℕ) → done ≤ length bytes → length bytes ≤ done → take done bytes ≡ bytes
@@ -107,7 +114,7 @@ take-all bytes done within all = let n : done ≡ length bytes = omega (arith, w
 -- ---- a write at once
 
 pub written-bytes : (v v' : StackRecord) (given : ℕ) (fs : List FlightRecord) (d first : ℕ) (bytes : List ℕ) (range : SectorRange) (result : Result Unit IoFault) → Ok range ≡ write_range v.config d first bytes
-    → WritesWhole v (range_at d first (length bytes / 512)) bytes result v' → WritesBeside d first v bytes result v' → BytesWritten (world v given fs) d first bytes result (world v' given fs)
+    → WritesWhole v (range_at d first (length bytes / 512)) bytes result v' → WritesBeside (range_at d first (length bytes / 512)) v bytes result v' → BytesWritten (world v given fs) d first bytes result (world v' given fs)
 written-bytes v v' given fs d first bytes range result found whole steps =
     let range_is = writable-ok v.config bytes (bytes_range v.config d first (length bytes)) range (sym found) in
     let same : range_at d first (length bytes / 512) ≡ range = bytes_range-ok v.config d first (length bytes) range range_is.0 in

@@ -1,17 +1,22 @@
--- Writes at once: which sectors they put, and their pieces as steps.
-use Rattle.std.specs.Prelude.{◌≡◌, ℕ, ◌+◌, ◌*◌, ◌/◌, ◌%◌, ◌≤◌, IsTrue, List, [], ◌++◌, length, Result, Ok, Err}
+-- Reads and writes at once: their pieces, and how each of them ends.
+use Rattle.std.specs.Prelude.{◌≡◌, ℕ, ◌+◌, ◌-◌, ◌*◌, ◌/◌, ◌%◌, ◌≤◌, IsTrue, List, [], ◌++◌, length, Result, Ok, Err}
 use Rattle.alignment.specs.Lengths.{aligned_len}
 use Rattle.stack_rules.specs.Names.{mapped, may_write}
 use Rattle.stack_rules.specs.Records.{Configuration}
 use Rattle.stack_meaning.specs.declared.fault.IoFault.{IoFault}
+use Rattle.stack_lines.specs.Budgets.{ReadsAtMost}
+use Rattle.stack_engine.specs.Bytes.{EachBytes}
+use Rattle.stack_engine.specs.KeptBlocks.{ReadKeeps}
+use Rattle.stack_engine.specs.Pieces.{piece_budget}
 use Rattle.stack_engine.specs.Stacks.{StackRecord}
+use Rattle.stack_engine.specs.WritePieces.{PieceNeeded, PieceWrote}
 use Rattle.request_queue.specs.declared.fault.BytesFault.{BytesFault}
 use Rattle.request_queue.specs.declared.fault.BytesFault.TheVariants.{Refused, Failed}
 use Rattle.request_queue.specs.declared.fault.SubmitFault.{SubmitFault}
 use Rattle.request_queue.specs.declared.range.SectorRange.{SectorRange}
 use Rattle.request_queue.specs.Flights.{FlightRecord}
 use Rattle.request_queue.specs.Parts.{EachPart}
-use Rattle.request_queue.specs.Ranges.{HaveSectors, bytes_range, most_piece}
+use Rattle.request_queue.specs.Ranges.{HaveSectors, bytes_range, most_piece, range_at}
 use Rattle.request_queue.specs.Requests.{writable_sectors}
 use Rattle.request_queue.specs.WholeRuns.{WritesWhole}
 use Rattle.request_queue.specs.World.{World, world, Step, write_piece}
@@ -34,25 +39,68 @@ pub record CanBeWritten (c : Configuration) (d first : ℕ) (bytes : List ℕ) :
   pub sectors : HaveSectors c d first (length bytes)
   pub allowed : IsTrue (may_write c (mapped d))
 
--- Steps that write these bytes piece by piece, each from where the one before it ended, up to the last one or the first
--- that ends by a fault; the bytes behind that one aren't written.
-pub data WritesInSteps (d first : ℕ) (w : World) : List ℕ → Result Unit IoFault → World → Type 0 where
-  no_step : WritesInSteps d first w [] (Ok tt) w
-  a_step : {x y : List ℕ} {v w' : World} → WritesInSteps d first w x (Ok tt) v → Step EachPart v (write_piece d (first + length x / 512) y (Ok tt)) w'
-      → WritesInSteps d first w (x ++ y) (Ok tt) w'
-  last_step : {x y : List ℕ} {v w' : World} {fault : IoFault} (z : List ℕ) → WritesInSteps d first w x (Ok tt) v → Step EachPart v (write_piece d (first + length x / 512) y (Err fault)) w'
-      → WritesInSteps d first w (x ++ (y ++ z)) (Err fault) w'
+-- the sector of a range after these bytes, and how many bytes of the range follow them
+abbrev pub sector_after : SectorRange → List ℕ → ℕ
+sector_after range bytes = range.first + length bytes / 512
+
+abbrev pub bytes_after : SectorRange → List ℕ → ℕ
+bytes_after range bytes = 512 * range.count - length bytes
+
+-- ---- reads
+
+-- The next piece of a read, of so many bytes that are left from the first sector of mapped device d on, ended so. It reads no
+-- more than its units and data blocks cost, each of them once.
+pub record PieceRead (v : StackRecord) (d first left : ℕ) (answer : Result (List ℕ) IoFault) (v' : StackRecord) : Type 0 where
+  pub size : ℕ
+  pub next : IsNextPiece v.config d first left size
+  pub each : EachBytes v d first (size / 512) answer v'
+  pub spent : ReadsAtMost (piece_budget v d first (size / 512)) v.leaves v'.leaves
+
+-- A range is read piece by piece, each from where the one before it ended, up to the last one or the first that ends by a fault.
+pub data ReadsInTurn (range : SectorRange) (w : StackRecord) : Result (List ℕ) IoFault → StackRecord → Type 0 where
+  no_read : ReadsInTurn range w (Ok []) w
+  a_read : {x y : List ℕ} {v w' : StackRecord} → ReadsInTurn range w (Ok x) v → PieceRead v range.device.0 (sector_after range x) (bytes_after range x) (Ok y) w' → ReadsInTurn range w (Ok (x ++ y)) w'
+  last_read : {x : List ℕ} {v w' : StackRecord} {fault : IoFault} → ReadsInTurn range w (Ok x) v → PieceRead v range.device.0 (sector_after range x) (bytes_after range x) (Err fault) w' → ReadsInTurn range w (Err fault) w'
+
+-- a range was read: what that is as a whole, what it leaves of the kept hash blocks, and its pieces
+pub record IsRangeRead (v : StackRecord) (range : SectorRange) (answer : Result (List ℕ) IoFault) (v' : StackRecord) : Type 0 where
+  pub each : EachBytes v range.device.0 range.first range.count answer v'
+  pub kept : ReadKeeps v range.device.0 range.first range.count v'
+  pub pieces : ReadsInTurn range v answer v'
+
+-- so many bytes of mapped device d, from the first sector on, are read so, unless their read is refused
+abbrev pub ReadsInPieces : World → ℕ → ℕ → ℕ → Result (Result (List ℕ) IoFault) SubmitFault → World → Type 0
+ReadsInPieces w d first bytes (Ok answer) w' = ReadsInTurn (range_at d first (bytes / 512)) w.stack answer w'.stack
+ReadsInPieces w d first bytes (Err fault) w' = w'.stack ≡ w.stack
+
+-- ---- writes
+
+-- A piece of n bytes is the next one of a write, of so many bytes that are left from the first sector of mapped device d on. It
+-- writes no more than its units cost, each of them once, and reads no more than those that it splits.
+pub record IsNextWrite (v : StackRecord) (d first left n : ℕ) (v' : StackRecord) : Type 0 where
+  pub next : IsNextPiece v.config d first left n
+  pub wrote : PieceWrote v d first (n / 512) v'
+  pub needed : PieceNeeded v d first (n / 512) v'
+
+-- Steps that write these bytes to a range piece by piece, each from where the one before it ended, up to the last one or the
+-- first that ends by a fault; the bytes after that one aren't written.
+pub data WritesInSteps (range : SectorRange) (w : World) : List ℕ → Result Unit IoFault → World → Type 0 where
+  no_step : WritesInSteps range w [] (Ok tt) w
+  a_step : {x y : List ℕ} {v w' : World} → WritesInSteps range w x (Ok tt) v → IsNextWrite v.stack range.device.0 (sector_after range x) (bytes_after range x) (length y) w'.stack
+      → Step EachPart v (write_piece range.device.0 (sector_after range x) y (Ok tt)) w' → WritesInSteps range w (x ++ y) (Ok tt) w'
+  last_step : {x y : List ℕ} {v w' : World} {fault : IoFault} (z : List ℕ) → WritesInSteps range w x (Ok tt) v → IsNextWrite v.stack range.device.0 (sector_after range x) (bytes_after range x) (length y) w'.stack
+      → Step EachPart v (write_piece range.device.0 (sector_after range x) y (Err fault)) w' → WritesInSteps range w (x ++ (y ++ z)) (Err fault) w'
 
 -- the same of a stack, whatever requests are in flight over it
-abbrev pub WritesBeside : ℕ → ℕ → StackRecord → List ℕ → Result Unit IoFault → StackRecord → Type 0
-WritesBeside d first v bytes result v' = (given : ℕ) (fs : List FlightRecord) → WritesInSteps d first (world v given fs) bytes result (world v' given fs)
+abbrev pub WritesBeside : SectorRange → StackRecord → List ℕ → Result Unit IoFault → StackRecord → Type 0
+WritesBeside range v bytes result v' = (given : ℕ) (fs : List FlightRecord) → WritesInSteps range (world v given fs) bytes result (world v' given fs)
 
 -- these bytes were written to mapped device d from the first sector on: what that is as a whole, and its steps
 pub record BytesWritten (w : World) (d first : ℕ) (bytes : List ℕ) (result : Result Unit IoFault) (w' : World) : Type 0 where
   pub range : SectorRange
   pub admits : write_range w.stack.config d first bytes ≡ Ok range
   pub whole : WritesWhole w.stack range bytes result w'.stack
-  pub steps : WritesInSteps d first w bytes result w'
+  pub steps : WritesInSteps range w bytes result w'
 
 -- they were written, or that ended in a fault, or was refused
 abbrev pub WritesBytes : World → ℕ → ℕ → List ℕ → Result Unit BytesFault → World → Type 0

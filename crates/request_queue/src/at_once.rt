@@ -1,12 +1,10 @@
 //! Sectors that are read or written at once, piece by piece.
 ghost use Rattle.std.specs.Prelude.{◌≡◌, ◌<◌, ◌/◌, Err, length};
 ghost use Rattle.stack_rules.specs.Names.{mapped};
-ghost use Rattle.stack_engine.specs.Bytes.{EachBytes};
-ghost use Rattle.stack_engine.specs.KeptBlocks.{ReadKeeps};
 ghost use Rattle.stack_meaning.specs.Meaning.{said_at};
 ghost use Rattle.stack_meaning.specs.Reading.{MeetVerity, buffer_answer};
 ghost use Rattle.stack_lines.specs.Writing.{SomeEncrypt};
-ghost use Rattle.request_queue.specs.AtOnce.{CanBeWritten, IsNextPiece, WritesBeside};
+ghost use Rattle.request_queue.specs.AtOnce.{CanBeWritten, IsNextPiece, IsRangeRead, WritesBeside};
 ghost use Rattle.request_queue.specs.Ranges.{HaveSectors, range_at};
 ghost use Rattle.request_queue.specs.WholeRuns.{WritesWhole};
 
@@ -35,8 +33,7 @@ pub(crate) fn read_pieces<D: BlockDev>(
     out: &mut [u8],
 ) -> Result<(), IoFault>
     requires { HaveSectors stack.old.config device.0 first (length out.old) }
-    ensures each { EachBytes stack.old device.0 first (length out.old / 512) (buffer_answer result out.new) stack.new }
-    ensures kept { ReadKeeps stack.old device.0 first (length out.old / 512) stack.new }
+    ensures read { IsRangeRead stack.old (range_at device.0 first (length out.old / 512)) (buffer_answer result out.new) stack.new }
     ensures memory { result ≡ Err IoFault.NoMemory → MeetVerity (said_at stack.old.config (mapped device.0)) first (length out.old / 512) }
 {
     // That the blocks that are kept were checked is learned from a call.
@@ -60,7 +57,7 @@ pub(crate) fn write_pieces<D: BlockDev>(
 ) -> Result<(), IoFault>
     requires { CanBeWritten stack.old.config device.0 first bytes.now }
     ensures whole { WritesWhole stack.old (range_at device.0 first (length bytes.now / 512)) bytes.now result stack.new }
-    ensures steps { WritesBeside device.0 first stack.old bytes.now result stack.new }
+    ensures steps { WritesBeside (range_at device.0 first (length bytes.now / 512)) stack.old bytes.now result stack.new }
     ensures memory { result ≡ Err IoFault.NoMemory → SomeEncrypt (said_at stack.old.config (mapped device.0)) first (length bytes.now / 512) }
 {
     let mut done = 0;

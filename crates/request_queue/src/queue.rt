@@ -4,7 +4,7 @@ ghost use Rattle.stack_meaning.specs.Meaning.{said_at};
 ghost use Rattle.stack_meaning.specs.Reading.{MeetVerity};
 ghost use Rattle.stack_lines.specs.Writing.{SomeEncrypt};
 ghost use Rattle.stack_rules.specs.Names.{mapped};
-ghost use Rattle.request_queue.specs.AtOnce.{WritesBytes};
+ghost use Rattle.request_queue.specs.AtOnce.{ReadsInPieces, WritesBytes};
 ghost use Rattle.request_queue.specs.Laws.{QueueLaw};
 ghost use Rattle.request_queue.specs.ListLaws.{ListsLaw};
 ghost use Rattle.request_queue.specs.Parts.{EachPart};
@@ -205,7 +205,7 @@ impl<D: BlockDev> Queue<D> {
     /// Reads sectors of a device, from `first` on, into the slice, at once and whatever requests are in flight. The
     /// slice has room for any number of whole sectors inside the device. No chain is returned: `law` of `new`
     /// states that there are chains which show the bytes. After a fault the slice's content is unspecified. It allocates
-    /// only if a `verity` line is on the way.
+    /// only if a `verity` line is on the way. `pieces` states where its pieces end and what each costs.
     pub fn read_bytes(
         &mut self,
         device: DevId,
@@ -214,6 +214,7 @@ impl<D: BlockDev> Queue<D> {
     ) -> Result<(), BytesFault>
         ensures step { Step EachPart self.old (read_bytes device.0 first (length out.old) (bytes_outcome result out.new)) self.new }
         ensures memory { result ≡ Err (BytesFault.Failed IoFault.NoMemory) → MeetVerity (said_at self.old.stack.config (mapped device.0)) first (length out.old / 512) }
+        ensures pieces { ReadsInPieces self.old device.0 first (length out.old) (bytes_outcome result out.new) self.new }
     {
         bytes_range(self.stack.config(), device, first, out.len())?;
         read_pieces(&mut self.stack, device, first, out)?;
@@ -222,7 +223,8 @@ impl<D: BlockDev> Queue<D> {
 
     /// Writes the bytes of any number of whole sectors inside a device that may be written, from `first` on, at once and
     /// whatever requests are in flight: piece by piece, each a step, up to the first that fails. All pieces before that
-    /// one are written, and nothing after it. It allocates only if a `crypt` line is on the way.
+    /// one are written, and nothing after it. It allocates only if a `crypt` line is on the way. `written` states where its
+    /// pieces end and what each costs.
     pub fn write_bytes(&mut self, device: DevId, first: u64, bytes: &[u8]) -> Result<(), BytesFault>
         ensures written { WritesBytes self.old device.0 first bytes.now result self.new }
         ensures memory { result ≡ Err (BytesFault.Failed IoFault.NoMemory) → SomeEncrypt (said_at self.old.stack.config (mapped device.0)) first (length bytes.now / 512) }

@@ -1,6 +1,7 @@
 //! The lengths of the next pieces of a recovery.
 ghost use Rattle.std.specs.Prelude.{◌≡◌, ◌≤◌, ◌<◌, ◌/◌};
 ghost use Rattle.stack_recovery.specs.Pieces.{IsPace};
+ghost use Rattle.stack_recovery.specs.Paces.{IsFirstPace};
 
 const MOST_PIECE: u32 = 128;
 
@@ -9,13 +10,14 @@ const MOST_PIECE: u32 = 128;
 #[derive(Clone, Copy)]
 pub struct Pace {
     pub most: u32,
-    doubt: u64,
+    pub doubt: u64,
 }
 
 impl Pace {
     /// Returns the pace before any sector is known.
     pub fn new() -> Pace
-        ensures { IsPace result.most }
+        ensures pace { IsPace result.most }
+        ensures first { IsFirstPace result }
     {
         Pace {
             most: MOST_PIECE,
@@ -23,15 +25,17 @@ impl Pace {
         }
     }
 
-    /// Returns the pace after a piece of `count` sectors was read; `at` is the next sector.
+    /// Returns the pace after a piece of `count` sectors was read; `at` is the next sector. As long as no read failed, it stays
+    /// the first one.
     pub fn after_bytes(self, count: u32, at: u64) -> Pace
         requires { IsPace count }
-        ensures { IsPace result.most }
+        ensures pace { IsPace result.most }
+        ensures first { IsFirstPace self → IsFirstPace result }
     {
         let most = if at < self.doubt {
             (count / 2).max(1)
         } else {
-            (count * 2).min(MOST_PIECE)
+            count.max(self.most).min(MOST_PIECE / 2) * 2
         };
         Pace {
             most,

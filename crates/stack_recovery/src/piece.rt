@@ -2,7 +2,7 @@
 ghost use Rattle.std.specs.Prelude.{◌≡◌, ◌+◌, ◌≤◌, ◌<◌, length};
 ghost use Rattle.dm_table.specs.Grammar.{IsTargetOfGrammar};
 ghost use Rattle.stack_rules.specs.Names.{mapped, size};
-ghost use Rattle.stack_recovery.specs.Pieces.{AreLostTogether, IsPace, IsPiece};
+ghost use Rattle.stack_recovery.specs.Pieces.{AreUnitLens, IsPace, IsPiece};
 
 use alignment::aligned_len;
 use dm_table::Target;
@@ -29,7 +29,7 @@ fn unit_of(target: &Target, within: u64) -> Unit
     requires { IsTargetOfGrammar target.now }
     ensures rest { 1 ≤ result.rest }
     ensures whole { 1 ≤ result.whole }
-    ensures together { AreLostTogether target.now within result.rest }
+    ensures lens { AreUnitLens target.now within result.rest result.whole }
 {
     match target {
         Target::Error => Unit {

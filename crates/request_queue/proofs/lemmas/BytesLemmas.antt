@@ -143,7 +143,7 @@ module _ (w v w' : StackRecord) (d first : ℕ) (out : List ℕ) (done end : ℕ
     front-length : length (take done out ++ part) ≡ end
     front-length = omega (arith, length-append (take done out) part, length-take-le done out (omega (arith, above, inside)), part-length, above)
 
-    front-is : take end (put_mid done (end - done) out part) ≡ take done out ++ part
+    pub front-is : take end (put_mid done (end - done) out part) ≡ take done out ++ part
     front-is =
         let rest : List ℕ = post_of done (end - done) out in
         ap (λ l. take end l) (sym (append_assoc (take done out) part rest))

@@ -3,12 +3,12 @@ use Rattle.nbd_server.proofs.FetchLemmas.{fetched, unfetched, named-below, not-r
 use Rattle.nbd_server.proofs.fetch.read_into.Goals as goal
 
 pub returns-in-Ok-clause-ok : goal.returns-in-Ok-clause-ok
-returns-in-Ok-clause-ok g c = fetched c.args.queue.now c.read_bytes.new.self c.args.export.now.device.0 c.args.first c.args.count _ c.requires.room c.read_bytes.new.out c.in-Ok.ensures.step
+returns-in-Ok-clause-ok g c = fetched c.args.queue.now c.read_bytes.new.self c.args.export.now.device.0 c.args.first c.args.count _ c.requires.room c.read_bytes.new.out c.in-Ok.ensures.step c.in-Ok.ensures.pieces
 
 pub returns-in-Err-Failed-clause-err : goal.returns-in-Err-Failed-clause-err
 returns-in-Err-Failed-clause-err g c =
     let ended = rw c.in-Err-Failed.field-0-is at c.in-Err-Failed.ensures in
-    rw c.from.ensures (unfetched c.args.queue.now c.read_bytes.new.self c.args.export.now.device.0 c.args.first c.args.count _ c.requires.room c.in-Err-Failed.fault ended.memory ended.step)
+    rw c.from.ensures (unfetched c.args.queue.now c.read_bytes.new.self c.args.export.now.device.0 c.args.first c.args.count _ c.requires.room c.in-Err-Failed.fault ended.memory ended.step ended.pieces)
 
 pub unreachable-requires : goal.unreachable-requires
 unreachable-requires g c =

@@ -1,7 +1,7 @@
 use Rattle.std.proofs.Common.{◌<◌, arith, length}
 use Rattle.std.proofs.lemmas.Result.{err_from_is_err_and}
 use Rattle.nbd_server.specs.Zeros.{zeros_of}
-use Rattle.nbd_server.proofs.StoreLemmas.{lacks-first, length-zeros, zero-fails}
+use Rattle.nbd_server.proofs.StoreLemmas.{lacks-first, length-zeros, run-stored, zero-fails}
 use Rattle.nbd_server.proofs.store.zero_run.Goals as goal
 
 pub returns-in_err-bytes-clause-err : goal.returns-in_err-bytes-clause-err
@@ -11,6 +11,11 @@ returns-in_err-bytes-clause-err g c =
     let refused = c.in_err-bytes.ensures.err in
     let p = err_from_is_err_and c.from_residual.result c.from_residual.ensures.1 in
     rw (p.1, p.2) (lacks-first c.args.queue.now c.args.export.now.device.0 c.args.first (zeros_of z) some (refused.0, omega (arith, refused.1, c.requires.run.few), refused.2))
+
+pub returns-clause-ok : goal.returns-clause-ok
+returns-clause-ok g c =
+    let stored = rw (c.as_slice.ensures.value, c.in_ok-bytes.ensures.ok) at c.store.ensures.ok in
+    run-stored c.args.queue.now c.args.export.now.device.0 c.args.first (zeros_of c.args.zeros.now) c.store.new.queue c.store.result stored
 
 pub returns-clause-err : goal.returns-clause-err
 returns-clause-err g c =

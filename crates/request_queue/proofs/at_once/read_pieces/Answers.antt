@@ -1,12 +1,27 @@
-use Rattle.std.proofs.Common.{◌≡◌, ◌≤◌, ℕ, ◌+◌, ◌-◌, ◌/◌, ◌%◌, Ok, Err, length, take, drop, ◌∙◌, subst, sym, arith}
+use Rattle.std.proofs.Common.{◌≡◌, ◌≤◌, ℕ, List, ◌+◌, ◌-◌, ◌/◌, ◌%◌, Ok, Err, length, take, drop, refl, ◌∙◌, subst, sym, arith}
 use Rattle.std.proofs.lemmas.List.{length-drop, length-take-le}
 use Rattle.std.proofs.lemmas.Result.{err_from_is_err_and}
 use Rattle.stack_engine.specs.Bytes.{EachBytes}
 use Rattle.stack_rules.specs.Records.{Configuration}
-use Rattle.request_queue.specs.Ranges.{HaveSectors}
-use Rattle.request_queue.proofs.lemmas.BytesLemmas.{slice-end, slice-more, slice-length, piece-within, meets-later}
+use Rattle.stack_engine.specs.KeptBlocks.{ReadKeeps}
+use Rattle.request_queue.specs.AtOnce.{ReadsInTurn, no_read}
+use Rattle.request_queue.specs.Ranges.{HaveSectors, range_at}
+use Rattle.request_queue.proofs.lemmas.BytesLemmas.{bytes-none, front-is, slice-end, slice-more, slice-length, piece-within, meets-later}
 use Rattle.request_queue.proofs.lemmas.KeptLemmas.{keeps-then}
+use Rattle.request_queue.proofs.TurnLemmas.{turn-ends, turn-more}
+use Rattle.request_queue.proofs.WrittenPieceLemmas.{take-all}
 use Rattle.request_queue.proofs.at_once.read_pieces.Goals as goal
+
+pub pieces-init : goal.pieces-init
+pieces-init g c = record {
+  turns = no_read;
+  sectors = c.requires;
+  had = bytes-none c.args.stack.now c.args.device.0 c.args.first;
+  kept = record { same = λ none. refl; checked = c.cached-kept.ensures.checked };
+  whole = refl;
+  within = omega arith;
+  size = refl;
+}
 
 pub piece_bytes-requires-clause-sectors : goal.piece_bytes-requires-clause-sectors
 piece_bytes-requires-clause-sectors g c =
@@ -18,16 +33,26 @@ piece_bytes-requires-clause-sectors g c =
       fits = omega (arith, b.sectors.fits, b.sectors.whole, b.whole, b.size, c.pieces-test.true);
     }
 
-pub returns-in_err-read_bytes-clause-each : goal.returns-in_err-read_bytes-clause-each
-returns-in_err-read_bytes-clause-each g c =
+pub returns-in_err-read_bytes-clause-read : goal.returns-in_err-read_bytes-clause-read
+returns-in_err-read_bytes-clause-read g c =
     let b = c.pieces.invariant in
+    let n = c.piece_bytes.result in
     let end = c.pieces.done + c.piece_bytes.result in
+    let fault = c.in_err-read_bytes.field-0.0 in
     let p = err_from_is_err_and c.from_residual.result c.from_residual.ensures.1 in
     let above : c.pieces.done ≤ end = omega arith in
     let inside : end ≤ length c.pieces.out = omega (arith, c.piece_bytes.ensures.inside, c.pieces-test.true) in
-    let whole = slice-end c.args.stack.now c.pieces.stack c.read_bytes.new.self c.args.device.0 c.args.first c.pieces.out c.pieces.done end b.whole above inside b.had c.in_err-read_bytes.field-0.0
-    (record { any = c.in_err-read_bytes.ensures.any; steady = c.in_err-read_bytes.ensures.steady }) in
-    rw (p.1, p.2) (subst (λ (n : ℕ). EachBytes c.args.stack.now c.args.device.0 c.args.first (n / 512) (Err c.in_err-read_bytes.field-0.0) c.read_bytes.new.self) b.size whole)
+    let piece : EachBytes c.pieces.stack c.args.device.0 (c.args.first + c.pieces.done / 512) (length (take (end - c.pieces.done) (drop c.pieces.done c.pieces.out)) / 512) (Err fault) c.read_bytes.new.self =
+    record { any = c.in_err-read_bytes.ensures.any; steady = c.in_err-read_bytes.ensures.steady } in
+    let whole = slice-end c.args.stack.now c.pieces.stack c.read_bytes.new.self c.args.device.0 c.args.first c.pieces.out c.pieces.done end b.whole above inside b.had fault piece in
+    let few = piece-within c.args.stack.now c.pieces.stack c.read_bytes.new.self c.args.device.0 c.args.first c.pieces.out c.pieces.done end b.whole above inside b.had in
+    rw (p.1, p.2)
+    (record {
+      each = subst (λ (m : ℕ). EachBytes c.args.stack.now c.args.device.0 c.args.first (m / 512) (Err fault) c.read_bytes.new.self) b.size whole;
+      kept = keeps-then c.args.stack.now c.pieces.stack c.read_bytes.new.self c.args.device.0 c.args.first (c.pieces.done / 512) (length (take (end - c.pieces.done) (drop c.pieces.done c.pieces.out)) / 512) (length c.args.out.now / 512)
+          b.had.any.config (omega (arith, few, b.size)) b.kept.same c.in_err-read_bytes.ensures.kept;
+      pieces = turn-ends c.args.stack.now c.pieces.stack c.read_bytes.new.self c.args.device.0 c.args.first (length c.args.out.now) c.pieces.out c.pieces.done n b.whole b.sectors.whole b.size inside c.piece_bytes.ensures b.turns fault piece c.in_err-read_bytes.ensures.spent;
+    })
 
 pub returns-in_err-read_bytes-clause-memory : goal.returns-in_err-read_bytes-clause-memory
 returns-in_err-read_bytes-clause-memory g c =
@@ -41,15 +66,18 @@ returns-in_err-read_bytes-clause-memory g c =
     meets-later c.args.stack.now c.pieces.stack c.args.device.0 c.args.first (c.pieces.done / 512) (length (take (end - c.pieces.done) (drop c.pieces.done c.pieces.out)) / 512) (length c.args.out.now / 512)
     b.had.any.config (omega (arith, few, b.size)) (c.in_err-read_bytes.ensures.memory no))
 
-pub returns-in_err-read_bytes-clause-kept : goal.returns-in_err-read_bytes-clause-kept
-returns-in_err-read_bytes-clause-kept g c =
+pub returns-clause-read : goal.returns-clause-read
+returns-clause-read g c =
     let b = c.pieces.invariant in
-    let end = c.pieces.done + c.piece_bytes.result in
-    let above : c.pieces.done ≤ end = omega arith in
-    let inside : end ≤ length c.pieces.out = omega (arith, c.piece_bytes.ensures.inside, c.pieces-test.true) in
-    let few = piece-within c.args.stack.now c.pieces.stack c.read_bytes.new.self c.args.device.0 c.args.first c.pieces.out c.pieces.done end b.whole above inside b.had in
-    keeps-then c.args.stack.now c.pieces.stack c.read_bytes.new.self c.args.device.0 c.args.first (c.pieces.done / 512) (length (take (end - c.pieces.done) (drop c.pieces.done c.pieces.out)) / 512) (length c.args.out.now / 512)
-    b.had.any.config (omega (arith, few, b.size)) b.kept.same c.in_err-read_bytes.ensures.kept
+    let sectors : ℕ = length c.args.out.now / 512 in
+    let all : take c.pieces.done c.pieces.out ≡ c.pieces.out = take-all c.pieces.out c.pieces.done b.within (omega (arith, c.pieces-test.false)) in
+    let count : c.pieces.done / 512 ≡ length c.args.out.now / 512 = omega (arith, b.within, b.size, c.pieces-test.false) in
+    let had = subst (λ (n : ℕ). EachBytes c.args.stack.now c.args.device.0 c.args.first n (Ok (take c.pieces.done c.pieces.out)) c.pieces.stack) count b.had in
+    record {
+      each = subst (λ (l : List ℕ). EachBytes c.args.stack.now c.args.device.0 c.args.first sectors (Ok l) c.pieces.stack) all had;
+      kept = subst (λ (n : ℕ). ReadKeeps c.args.stack.now c.args.device.0 c.args.first n c.pieces.stack) count b.kept;
+      pieces = subst (λ (l : List ℕ). ReadsInTurn (range_at c.args.device.0 c.args.first sectors) c.args.stack.now (Ok l) c.pieces.stack) all b.turns;
+    }
 
 pub pieces-preserved : goal.pieces-preserved
 pieces-preserved g c =
@@ -64,6 +92,8 @@ pieces-preserved g c =
     omega (arith, length-take-le (end - c.pieces.done) (drop c.pieces.done c.pieces.out) (omega (arith, length-drop c.pieces.done c.pieces.out, inside)), b.whole, above) in
     let size = slice-length c.args.stack.now c.pieces.stack c.read_bytes.new.self c.args.device.0 c.args.first c.pieces.out c.pieces.done end b.whole above inside b.had c.read_bytes.new.out last piece in
     record {
+      turns = turn-more c.args.stack.now c.pieces.stack c.read_bytes.new.self c.args.device.0 c.args.first (length c.args.out.now) c.pieces.out c.pieces.done c.piece_bytes.result b.whole b.sectors.whole b.size inside c.piece_bytes.ensures b.turns c.read_bytes.new.out _
+          (sym (front-is c.args.stack.now c.pieces.stack c.read_bytes.new.self c.args.device.0 c.args.first c.pieces.out c.pieces.done end b.whole above inside b.had c.read_bytes.new.out last piece)) piece c.in_ok-read_bytes.ensures.spent;
       had = slice-more c.args.stack.now c.pieces.stack c.read_bytes.new.self c.args.device.0 c.args.first c.pieces.out c.pieces.done end b.whole above inside b.had c.read_bytes.new.out last piece;
       sectors = subst (λ (k : Configuration). HaveSectors k c.args.device.0 c.args.first (length c.args.out.now)) (sym c.in_ok-read_bytes.ensures.any.config) b.sectors;
       kept = keeps-then c.args.stack.now c.pieces.stack c.read_bytes.new.self c.args.device.0 c.args.first (c.pieces.done / 512) (length (take (end - c.pieces.done) (drop c.pieces.done c.pieces.out)) / 512) (end / 512)

@@ -33,7 +33,7 @@ pieces-init g c =
       within = omega arith;
       all = all;
       few = omega (arith, all, c.requires.few);
-      pace = c.new-pace.ensures;
+      pace = c.new-pace.ensures.pace;
       unfailed = refl;
       noted = refl;
     }
@@ -180,7 +180,7 @@ pieces-preserved-in-Ok g c =
       within = omega (arith, inside, same, c.piece_at-piece.ensures.inside);
       all = u.all;
       few = u.few;
-      pace = c.after_bytes-pace.ensures;
+      pace = c.after_bytes-pace.ensures.pace;
       unfailed = c.in_ok-write-in-Ok.ensures.moved.failures ∙ u.unfailed;
       noted = notes-some c.pieces.noted c.note-in-Ok.new.noted _ c.in_ok-note-in-Ok.ensures.ok ∙ u.noted;
     }
