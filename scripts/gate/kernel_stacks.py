@@ -7,7 +7,8 @@ an image that PROGRAM formats, by the line that its `table` prints. The machine 
 tables, writes the same bytes and reads each device. PROGRAM must load what Linux loads and refuse what Linux refuses. What PROGRAM
 reads by the tables that Linux prints must be the same in every sector, and fail in the same logical blocks; and after the writes the
 backing devices must be equal. kernel_rules.py has the tables that only one of both accepts, and those that aren't compared since
-Linux reads them otherwise. `--seed S --only K` runs case K of seed S alone. Tried with Linux 6.1.
+Linux reads them otherwise. What `load --linux` loads must all be compared; the device that it refuses Linux must refuse or read
+otherwise. `--seed S --only K` runs case K of seed S alone. Tried with Linux 6.1.
 
 If QEMU, a kernel or its modules are missing, that is printed, and the status is 0 (Debian: qemu-system-x86, linux-image-amd64).
 """
@@ -17,6 +18,7 @@ import resource
 import subprocess
 import sys
 import tempfile
+from collections import Counter
 
 sys.dont_write_bytecode = True
 HERE = os.path.dirname(os.path.realpath(__file__))
@@ -30,6 +32,9 @@ from kernel_rules import may_read  # noqa: E402
 from stack import SECTOR  # noqa: E402
 from tables import TextFault  # noqa: E402
 
+# The rules of `load --linux` on what Linux loads and reads otherwise.
+READ_OTHERWISE = ("UnitStart", "DividedChunk")
+
 
 def named(line, names):
     """A line that Linux printed, with the names of a stack text for its devices' numbers."""
@@ -41,8 +46,7 @@ class Program:
 
     def __init__(self, program, case, lines):
         words = [program, "session", *(it.binding() for it in case.leaves)]
-        for leaf in case.leaves:
-            open(leaf.file, "wb").write(leaf.content)
+        case.put_leaves()
         done = subprocess.run(words, input=b"".join(line + b"\n" for line in lines), capture_output=True, timeout=60)
         self.replies = iter(done.stdout.split(b"\n"))
 
@@ -64,6 +68,7 @@ class Comparison:
     def __init__(self, words):
         self.words, self.checks = words, Checks()
         self.tables = self.alone = self.sectors = self.failed = self.refused = self.skipped = 0
+        self.verdicts_of_load = Counter()
 
     def unlike(self, case, what):
         """Prints a difference with what it takes to repeat it."""
@@ -77,18 +82,23 @@ class Comparison:
     def case(self, case, seen):
         """Compares a case; what differs, or None."""
         compared = [] if case.fault else self.compared(case.linux, seen)
-        lines = [b"load " + case.text] + [b"write %s %d %d %02x" % it[:4] for it in case.writes]
-        lines.append(b"load " + self.printed(case, seen, compared))
-        for name in compared:
-            block = seen.made[name][1]
-            lines += [b"read %s %d %d" % (name, at, block) for at in range(0, len(seen.sectors[name]), block)]
+        lines = self.first_lines(case) + [b"load " + self.printed(case, seen, compared)]
+        lines += [line for name in compared for line in self.reads(seen, name)]
         program = Program(self.words.program, case, lines)
         loaded = program.reply()
         if loaded.startswith(b"loaded") == bool(case.fault):
             return f"the program says {loaded.decode()}, and the model {case.fault or 'loads it'}"
         if case.fault:
             return self.refusal(case, seen, loaded)
-        return self.verdicts(case.linux, seen) or self.written(case, seen, program) or self.read(case, seen, program, compared)
+        what = self.verdicts(case.linux, seen) or self.written(case, seen, program) or self.read(case, seen, program, compared)
+        return what or self.load_for_linux(case, seen, compared)
+
+    def first_lines(self, case):
+        return [b"load " + case.text] + [b"write %s %d %d %02x" % it[:4] for it in case.writes]
+
+    def reads(self, seen, name):
+        block = seen.made[name][1]
+        return [b"read %s %d %d" % (name, at, block) for at in range(0, len(seen.sectors[name]), block)]
 
     def compared(self, linux, seen):
         """The devices whose sectors must be equal."""
@@ -134,13 +144,16 @@ class Comparison:
         loaded = program.reply()
         if loaded != b"loaded %d" % len(compared):
             return f"the tables that Linux prints: {loaded.decode()}"
-        for name in compared:
-            block, there = seen.made[name][1], seen.sectors[name]
-            for at in range(0, len(there), block):
-                what = self.unlike_block(case, name, there[at:at + block], program.sectors(block))
-                if what:
-                    return f"{name.decode()} at {at}: {what}"
-        return self.backing(case)
+        unlike = (it for name in compared for it in self.unlike_blocks(case, seen, name, program))
+        return next(unlike, None) or self.backing(case)
+
+    def unlike_blocks(self, case, seen, name, program):
+        """What differs in each logical block of a device in which something does."""
+        block, there = seen.made[name][1], seen.sectors[name]
+        for at in range(0, len(there), block):
+            what = self.unlike_block(case, name, there[at:at + block], program.sectors(block))
+            if what:
+                yield f"{name.decode()} at {at}: {what}"
 
     def unlike_block(self, case, name, there, here):
         """What differs in a logical block of a device, or None; a block fails as a whole."""
@@ -165,11 +178,33 @@ class Comparison:
                     return f"the backing device {leaf.name.decode('latin-1')} at {at} has other bytes after the writes"
         return None
 
+    def load_for_linux(self, case, seen, compared):
+        """What differs between Linux and `load --linux`, or None, if all else is equal."""
+        printed, status = case.load(self.words.program, "--linux")
+        verdict = printed.decode().strip() if status else "loaded"
+        devices = case.linux.configuration.devices
+        self.verdicts_of_load[verdict.split(" ")[2] if status else verdict] += 1
+        if not status:
+            left = [it for it, device in devices.items() if it not in compared and not case.linux.may_refuse(device)]
+            return f"load --linux loads it, and {left[0].decode()} isn't compared" if left else None
+        name = [*devices][int(verdict.split(" ")[4]) - 1]
+        if name not in seen.made:
+            return None
+        if verdict.split(" ")[2] not in READ_OTHERWISE:
+            return f"load --linux prints {verdict}, and Linux loads {name.decode()}"
+        program = Program(self.words.program, case, self.first_lines(case) + self.reads(seen, name))
+        for _ in self.first_lines(case):
+            program.reply()
+        before = self.sectors, self.failed
+        unlike = next(self.unlike_blocks(case, seen, name, program), None)
+        self.sectors, self.failed = before
+        return None if unlike else f"load --linux prints {verdict}, and Linux reads {name.decode()} as the program does"
 
     def end(self, version, count):
         used = sum(sum(resource.getrusage(it)[:2]) for it in (resource.RUSAGE_SELF, resource.RUSAGE_CHILDREN))
         print(f"Linux {version}: {count} stacks of seed {self.words.seed}, {self.refused} of them refused alike; {self.tables} tables in the others, {self.alone} "
               f"refused by Linux alone, by its rules; {self.sectors} sectors compared, {self.failed} fail alike; {self.skipped} stacks or tables not compared ({used:.0f} s of CPU)")
+        print("load --linux: " + ", ".join(f"{it} {self.verdicts_of_load[it]}" for it in sorted(self.verdicts_of_load)))
 
 
 def put_leaves(cases):
