@@ -28,8 +28,8 @@ from checks import Checks  # noqa: E402
 from kernel_answers import Answers, Seen  # noqa: E402
 from kernel_cases import Case, arguments, drawn_case, formatted_case  # noqa: E402
 from kernel_machine import Broken, Missing, needed, run_machine  # noqa: E402
-from kernel_rules import may_read  # noqa: E402
-from stack import SECTOR  # noqa: E402
+from kernel_rules import divides_a_unit, may_read  # noqa: E402
+from stack import SECTOR, Stack  # noqa: E402
 from tables import TextFault  # noqa: E402
 
 # The rules of `load --linux` on what Linux loads and reads otherwise.
@@ -82,8 +82,11 @@ class Comparison:
     def case(self, case, seen):
         """Compares a case; what differs, or None."""
         compared = [] if case.fault else self.compared(case.linux, seen)
-        lines = self.first_lines(case) + [b"load " + self.printed(case, seen, compared)]
-        lines += [line for name in compared for line in self.reads(seen, name)]
+        lines = [b"load " + case.text] + [b"write %s %d %d %02x" % it[:4] for it in case.writes]
+        lines.append(b"load " + self.printed(case, seen, compared))
+        for name in compared:
+            block = seen.made[name][1]
+            lines += [b"read %s %d %d" % (name, at, block) for at in range(0, len(seen.sectors[name]), block)]
         program = Program(self.words.program, case, lines)
         loaded = program.reply()
         if loaded.startswith(b"loaded") == bool(case.fault):
@@ -93,16 +96,9 @@ class Comparison:
         what = self.verdicts(case.linux, seen) or self.written(case, seen, program) or self.read(case, seen, program, compared)
         return what or self.load_for_linux(case, seen, compared)
 
-    def first_lines(self, case):
-        return [b"load " + case.text] + [b"write %s %d %d %02x" % it[:4] for it in case.writes]
-
-    def reads(self, seen, name):
-        block = seen.made[name][1]
-        return [b"read %s %d %d" % (name, at, block) for at in range(0, len(seen.sectors[name]), block)]
-
     def compared(self, linux, seen):
-        """The devices whose sectors must be equal."""
-        return [name for name, it in linux.configuration.devices.items() if name in seen.made and not linux.differs(it) and not linux.refuses(it)]
+        """The devices whose sectors are compared."""
+        return [name for name, it in linux.configuration.devices.items() if name in seen.made and not linux.refuses(it)]
 
     def printed(self, case, seen, compared):
         """The stack text of these devices by the tables that Linux prints."""
@@ -130,7 +126,6 @@ class Comparison:
             if made and made[:2] != (device.sectors, linux.block(device)):
                 return f"{name.decode()} has {made[0]} sectors in blocks of {made[1]}"
             self.alone += made is None
-            self.skipped += made is not None and linux.differs(device)
         return None
 
     def written(self, case, seen, program):
@@ -144,27 +139,32 @@ class Comparison:
         loaded = program.reply()
         if loaded != b"loaded %d" % len(compared):
             return f"the tables that Linux prints: {loaded.decode()}"
-        unlike = (it for name in compared for it in self.unlike_blocks(case, seen, name, program))
-        return next(unlike, None) or self.backing(case)
+        for name in compared:
+            block = seen.made[name][1]
+            for at in range(0, len(seen.sectors[name]), block):
+                what = self.unlike_block(case, seen, name, at, program.sectors(block))
+                if what:
+                    return what
+        return self.backing(case)
 
-    def unlike_blocks(self, case, seen, name, program):
-        """What differs in each logical block of a device in which something does."""
-        block, there = seen.made[name][1], seen.sectors[name]
-        for at in range(0, len(there), block):
-            what = self.unlike_block(case, name, there[at:at + block], program.sectors(block))
-            if what:
-                yield f"{name.decode()} at {at}: {what}"
-
-    def unlike_block(self, case, name, there, here):
+    def unlike_block(self, case, seen, name, at, here):
         """What differs in a logical block of a device, or None; a block fails as a whole."""
-        linux, self.sectors = case.linux, self.sectors + len(there)
+        linux, device = case.linux, case.linux.configuration.devices[name]
+        there = seen.sectors[name][at:at + len(here)]
         is_failed = here[0].startswith(b"fault ")
+        if here != there and not (there[0] is None and is_failed):
+            seen.otherwise.add(name)
+        if linux.differs(device) and divides_a_unit(Stack(linux.configuration, {}), device, at, len(here)):
+            return f"{name.decode()} at {at}: Linux reads a divided unit" if there[0] is not None else None
+        if linux.numbers_units_otherwise(device):
+            return None
+        self.sectors += len(there)
         if there[0] is None and is_failed:
             self.failed += len(there)
-        elif there[0] is None and linux.reads_ignored_blocks(linux.configuration.devices[name]):
+        elif there[0] is None and linux.reads_ignored_blocks(device):
             self.sectors -= len(there)
         elif here != there:
-            return f"{here[0].decode() if is_failed else 'bytes'}, and Linux {'fails' if there[0] is None else 'has others'}"
+            return f"{name.decode()} at {at}: {here[0].decode() if is_failed else 'bytes'}, and Linux {'fails' if there[0] is None else 'has others'}"
         return None
 
     def backing(self, case):
@@ -181,24 +181,18 @@ class Comparison:
     def load_for_linux(self, case, seen, compared):
         """What differs between Linux and `load --linux`, or None, if all else is equal."""
         printed, status = case.load(self.words.program, "--linux")
-        verdict = printed.decode().strip() if status else "loaded"
-        devices = case.linux.configuration.devices
-        self.verdicts_of_load[verdict.split(" ")[2] if status else verdict] += 1
+        linux, devices = case.linux, case.linux.configuration.devices
         if not status:
-            left = [it for it, device in devices.items() if it not in compared and not case.linux.may_refuse(device)]
-            return f"load --linux loads it, and {left[0].decode()} isn't compared" if left else None
-        name = [*devices][int(verdict.split(" ")[4]) - 1]
-        if name not in seen.made:
-            return None
-        if verdict.split(" ")[2] not in READ_OTHERWISE:
-            return f"load --linux prints {verdict}, and Linux loads {name.decode()}"
-        program = Program(self.words.program, case, self.first_lines(case) + self.reads(seen, name))
-        for _ in self.first_lines(case):
-            program.reply()
-        before = self.sectors, self.failed
-        unlike = next(self.unlike_blocks(case, seen, name, program), None)
-        self.sectors, self.failed = before
-        return None if unlike else f"load --linux prints {verdict}, and Linux reads {name.decode()} as the program does"
+            self.verdicts_of_load["loaded"] += 1
+            left = [name for name, it in devices.items() if name not in compared and not linux.may_refuse(it) or linux.differs(it)]
+            return f"load --linux loads it, and Linux refuses {left[0].decode()} or reads it otherwise" if left else None
+        _, _, kind, _, number, *_ = printed.decode().split()
+        name = [*devices][int(number) - 1]
+        is_alike = name in seen.made and name not in seen.otherwise
+        self.verdicts_of_load[kind + " read alike" * is_alike] += 1
+        if name in seen.made and kind not in READ_OTHERWISE:
+            return f"load --linux prints {kind} of {name.decode()}, and Linux loads it"
+        return None
 
     def end(self, version, count):
         used = sum(sum(resource.getrusage(it)[:2]) for it in (resource.RUSAGE_SELF, resource.RUSAGE_CHILDREN))
