@@ -7,7 +7,7 @@ top=$(dirname "$(dirname "$(dirname "$(readlink -f "$0")")")")
 room=$(mktemp -d)
 trap 'rm -rf "$room"' EXIT
 cd "$room"
-"$top/prove"
+"$top/scripts/lib/built.sh" dmstack
 program=$top/crates/dmstack/out/dmstack
 runs=7
 

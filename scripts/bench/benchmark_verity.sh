@@ -21,7 +21,7 @@ put_back() {
 trap put_back EXIT
 trap 'exit 1' INT TERM
 
-"$top/prove"
+"$top/scripts/lib/built.sh" dmstack
 mkdir "$room/kept"
 for it in dmstack bench; do
     [ ! -e "$top/crates/$it/out/$it" ] || find "$top/crates/$it/out" -maxdepth 1 -type f -name "$it*" -exec cp -p {} "$room/kept" \;

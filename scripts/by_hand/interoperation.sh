@@ -11,7 +11,7 @@ step=${1:-7}
 PATH=$PATH:/usr/sbin
 command -v veritysetup > /dev/null || { echo 'veritysetup is not installed'; exit 1; }
 top=$(dirname "$(dirname "$(dirname "$(readlink -f "$0")")")")
-"$top/prove"
+"$top/scripts/lib/built.sh" dmstack
 program=$top/crates/dmstack/out/dmstack
 room=$(mktemp -d)
 trap 'rm -rf "$room"' EXIT

@@ -102,7 +102,7 @@ def wanted_of_changed(which):
         return lambda said: said.startswith("copies backup, primary ") and said.endswith("\n" + LINES) and said.count("\n") == 4
     if which == (1,):
         return lambda said: said.startswith("copies primary, backup ") and said.endswith("\n" + LINES) and said.count("\n") == 4
-    return lambda said: said.startswith("damaged ") and said.count("\n") == 1
+    return lambda said: said.startswith("refused 12 NoTable primary ") and said.count("\n") == 1
 
 
 def with_partitions(*partitions):
@@ -150,7 +150,7 @@ def wanted_of_fields(fault):
         return lambda said: said == "copies both\n" + LINES
     if isinstance(fault, tuple):
         return lambda said: said == f"copies backup, primary {fault[0]}\n"
-    return lambda said: said == f"damaged {fault} / {fault}\n"
+    return lambda said: said == f"refused 12 NoTable primary {fault} backup {fault}\n"
 
 
 def of_tools(folder):

@@ -37,14 +37,16 @@ class Answers:
 
 
 class Seen:
-    """What Linux did with a case: the devices that it made, whether these are all, which writes it did, and what it read."""
+    """What Linux did with a case: the devices that it made, whether these are all, which writes it did, and what it read.
+
+    `otherwise` has the devices that the program reads otherwise, as they are found."""
 
     def __init__(self, case, answers):
         leaves = [answers.device() for _ in case.leaves]
         made = [(name, answers.device()) for name, _, _ in case.entries()]
         self.made = {name: it for name, it in made if it}
         self.is_loaded = all(it for _, it in made)
-        self.writes, self.sectors = [], {}
+        self.writes, self.sectors, self.otherwise = [], {}, set()
         if not case.fault:
             self.writes = [answers.line() == b"written" for _ in case.writes]
             self.sectors = {name: answers.sectors() for name in case.linux.configuration.devices}

@@ -55,6 +55,17 @@ class Case:
     writes: list = field(default_factory=list)
     minors: dict = field(default_factory=dict)
 
+    def put_leaves(self):
+        for leaf in self.leaves:
+            open(leaf.file, "wb").write(leaf.content)
+
+    def load(self, program, *options):
+        """What `load` prints of the text over these leaves, and its status."""
+        self.put_leaves()
+        words = [program, "load", *options, "-", *(it.binding() for it in self.leaves)]
+        done = subprocess.run(words, input=self.text, capture_output=True, timeout=60)
+        return done.stdout, done.returncode
+
     def fields(self):
         return [[it.strip(SPACE) for it in part.split(b",")] for part in self.text.split(b";") if part.strip(SPACE)]
 

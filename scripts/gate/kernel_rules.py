@@ -6,6 +6,7 @@ the largest of the devices beneath, of the units of its `crypt` lines and of the
 from configuration import LIMIT, Leaf
 from stack import SECTOR
 from tables import ZERO_BLOCKS, Crypt, Error, Linear, Striped, Unstriped, Verity
+from verity import Tree
 
 # Faults of a text that Linux needn't have: it has other targets, ciphers, key lengths, digests, hash types and options, and more
 # stripes. It takes the number of stripes for the number of the last one.
@@ -13,6 +14,11 @@ MORE_IN_LINUX = {"Target", "Cipher", "Key", "Algorithm", "Version", "Option", "S
 LONGEST_SALT = 512
 # Refusals that Linux hasn't: limits of dmstack; and Linux opens a read-only device beneath a writable one.
 ONLY_HERE = {"TooMany", "TooDeep", "CostTooLarge", "LowerReadOnly"}
+
+
+def own_block(target):
+    """The sectors of a `crypt` line's unit or of a `verity` line's data block, 1 of another line."""
+    return {Crypt: lambda it: it.unit(), Verity: lambda it: it.data_block // SECTOR}.get(type(target), lambda _: 1)(target)
 
 
 class Linux:
@@ -34,8 +40,7 @@ class Linux:
         return max(map(self.block, lowers), default=1)
 
     def line_block(self, line):
-        own = {Crypt: lambda it: it.unit(), Verity: lambda it: it.data_block // SECTOR}.get(type(line.target), lambda _: 1)
-        return max(self.lower_block(line), own(line.target))
+        return max(self.lower_block(line), own_block(line.target))
 
     def refuses(self, device):
         """Whether Linux refuses a table that dmstack accepts, or one beneath it."""
@@ -92,10 +97,15 @@ class Linux:
 
     def differs(self, device):
         """Whether Linux reads or writes other sectors than dmstack, or none, of a device that both accept, or of one beneath it."""
-        if isinstance(device, Leaf):
-            return False
-        own = (self.cuts_units_otherwise, self.splits_stripes)
-        return any(rule(device) for rule in own) or any(map(self.differs, self.configuration.lowers(device)))
+        return self.numbers_units_otherwise(device) or self.has(device, self.splits_stripes)
+
+    def numbers_units_otherwise(self, device):
+        """Whether Linux may read other bytes."""
+        return self.has(device, self.cuts_units_otherwise)
+
+    def has(self, device, rule):
+        """Whether a rule applies to a device, or to one beneath it."""
+        return not isinstance(device, Leaf) and (rule(device) or any(self.has(it, rule) for it in self.configuration.lowers(device)))
 
     def cuts_units_otherwise(self, device):
         """A `crypt` line begins inside one of its units: Linux cuts units by the device's sectors and numbers them by the line's."""
@@ -152,6 +162,32 @@ def leaf_runs(stack, device, first, count):
         elif isinstance(target, (Linear, Striped, Unstriped)):
             for run in stack.lower_runs(target, at, part):
                 yield from leaf_runs(stack, *run)
+
+
+def runs_beneath(stack, target, at, count):
+    """The runs of sectors of the devices beneath that an access of whole units or blocks of a line meets."""
+    lower = stack.configuration.lower
+    if isinstance(target, (Linear, Striped, Unstriped)):
+        yield from stack.lower_runs(target, at, count)
+    elif isinstance(target, Crypt):
+        yield lower(target.device), target.offset + at, count
+    elif isinstance(target, Verity):
+        yield lower(target.device), at, count
+        tree, size = Tree(target.data_block, target.hash_block, target.blocks, target.start), target.hash_block // SECTOR
+        for block in range(at // own_block(target), (at + count) // own_block(target)):
+            yield from ((lower(target.hash_device), place * size, size) for place, _ in tree.way(block))
+
+
+def divides_a_unit(stack, device, first, count):
+    """Whether a read of these sectors is divided, by lines or chunks, inside a unit of a `crypt` line or a data block of a `verity`
+    line: Linux fails it."""
+    if isinstance(device, Leaf):
+        return False
+    for target, at, part in stack.runs(device, first, count):
+        if first % own_block(target) or part % own_block(target) or any(divides_a_unit(stack, *it) for it in runs_beneath(stack, target, at, part)):
+            return True
+        first += part
+    return False
 
 
 def touches_error(stack, device, first, count):

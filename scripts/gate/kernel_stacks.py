@@ -7,7 +7,8 @@ an image that PROGRAM formats, by the line that its `table` prints. The machine 
 tables, writes the same bytes and reads each device. PROGRAM must load what Linux loads and refuse what Linux refuses. What PROGRAM
 reads by the tables that Linux prints must be the same in every sector, and fail in the same logical blocks; and after the writes the
 backing devices must be equal. kernel_rules.py has the tables that only one of both accepts, and those that aren't compared since
-Linux reads them otherwise. `--seed S --only K` runs case K of seed S alone. Tried with Linux 6.1.
+Linux reads them otherwise. What `load --linux` loads must all be compared; the device that it refuses Linux must refuse or read
+otherwise. `--seed S --only K` runs case K of seed S alone. Tried with Linux 6.1.
 
 If QEMU, a kernel or its modules are missing, that is printed, and the status is 0 (Debian: qemu-system-x86, linux-image-amd64).
 """
@@ -17,6 +18,7 @@ import resource
 import subprocess
 import sys
 import tempfile
+from collections import Counter
 
 sys.dont_write_bytecode = True
 HERE = os.path.dirname(os.path.realpath(__file__))
@@ -26,9 +28,12 @@ from checks import Checks  # noqa: E402
 from kernel_answers import Answers, Seen  # noqa: E402
 from kernel_cases import Case, arguments, drawn_case, formatted_case  # noqa: E402
 from kernel_machine import Broken, Missing, needed, run_machine  # noqa: E402
-from kernel_rules import may_read  # noqa: E402
-from stack import SECTOR  # noqa: E402
+from kernel_rules import divides_a_unit, may_read  # noqa: E402
+from stack import SECTOR, Stack  # noqa: E402
 from tables import TextFault  # noqa: E402
+
+# The rules of `load --linux` on what Linux loads and reads otherwise.
+READ_OTHERWISE = ("UnitStart", "DividedChunk")
 
 
 def named(line, names):
@@ -41,8 +46,7 @@ class Program:
 
     def __init__(self, program, case, lines):
         words = [program, "session", *(it.binding() for it in case.leaves)]
-        for leaf in case.leaves:
-            open(leaf.file, "wb").write(leaf.content)
+        case.put_leaves()
         done = subprocess.run(words, input=b"".join(line + b"\n" for line in lines), capture_output=True, timeout=60)
         self.replies = iter(done.stdout.split(b"\n"))
 
@@ -64,6 +68,7 @@ class Comparison:
     def __init__(self, words):
         self.words, self.checks = words, Checks()
         self.tables = self.alone = self.sectors = self.failed = self.refused = self.skipped = 0
+        self.verdicts_of_load = Counter()
 
     def unlike(self, case, what):
         """Prints a difference with what it takes to repeat it."""
@@ -88,11 +93,12 @@ class Comparison:
             return f"the program says {loaded.decode()}, and the model {case.fault or 'loads it'}"
         if case.fault:
             return self.refusal(case, seen, loaded)
-        return self.verdicts(case.linux, seen) or self.written(case, seen, program) or self.read(case, seen, program, compared)
+        what = self.verdicts(case.linux, seen) or self.written(case, seen, program) or self.read(case, seen, program, compared)
+        return what or self.load_for_linux(case, seen, compared)
 
     def compared(self, linux, seen):
-        """The devices whose sectors must be equal."""
-        return [name for name, it in linux.configuration.devices.items() if name in seen.made and not linux.differs(it) and not linux.refuses(it)]
+        """The devices whose sectors are compared."""
+        return [name for name, it in linux.configuration.devices.items() if name in seen.made and not linux.refuses(it)]
 
     def printed(self, case, seen, compared):
         """The stack text of these devices by the tables that Linux prints."""
@@ -120,7 +126,6 @@ class Comparison:
             if made and made[:2] != (device.sectors, linux.block(device)):
                 return f"{name.decode()} has {made[0]} sectors in blocks of {made[1]}"
             self.alone += made is None
-            self.skipped += made is not None and linux.differs(device)
         return None
 
     def written(self, case, seen, program):
@@ -135,23 +140,31 @@ class Comparison:
         if loaded != b"loaded %d" % len(compared):
             return f"the tables that Linux prints: {loaded.decode()}"
         for name in compared:
-            block, there = seen.made[name][1], seen.sectors[name]
-            for at in range(0, len(there), block):
-                what = self.unlike_block(case, name, there[at:at + block], program.sectors(block))
+            block = seen.made[name][1]
+            for at in range(0, len(seen.sectors[name]), block):
+                what = self.unlike_block(case, seen, name, at, program.sectors(block))
                 if what:
-                    return f"{name.decode()} at {at}: {what}"
+                    return what
         return self.backing(case)
 
-    def unlike_block(self, case, name, there, here):
+    def unlike_block(self, case, seen, name, at, here):
         """What differs in a logical block of a device, or None; a block fails as a whole."""
-        linux, self.sectors = case.linux, self.sectors + len(there)
+        linux, device = case.linux, case.linux.configuration.devices[name]
+        there = seen.sectors[name][at:at + len(here)]
         is_failed = here[0].startswith(b"fault ")
+        if here != there and not (there[0] is None and is_failed):
+            seen.otherwise.add(name)
+        if linux.differs(device) and divides_a_unit(Stack(linux.configuration, {}), device, at, len(here)):
+            return f"{name.decode()} at {at}: Linux reads a divided unit" if there[0] is not None else None
+        if linux.numbers_units_otherwise(device):
+            return None
+        self.sectors += len(there)
         if there[0] is None and is_failed:
             self.failed += len(there)
-        elif there[0] is None and linux.reads_ignored_blocks(linux.configuration.devices[name]):
+        elif there[0] is None and linux.reads_ignored_blocks(device):
             self.sectors -= len(there)
         elif here != there:
-            return f"{here[0].decode() if is_failed else 'bytes'}, and Linux {'fails' if there[0] is None else 'has others'}"
+            return f"{name.decode()} at {at}: {here[0].decode() if is_failed else 'bytes'}, and Linux {'fails' if there[0] is None else 'has others'}"
         return None
 
     def backing(self, case):
@@ -165,11 +178,27 @@ class Comparison:
                     return f"the backing device {leaf.name.decode('latin-1')} at {at} has other bytes after the writes"
         return None
 
+    def load_for_linux(self, case, seen, compared):
+        """What differs between Linux and `load --linux`, or None, if all else is equal."""
+        printed, status = case.load(self.words.program, "--linux")
+        linux, devices = case.linux, case.linux.configuration.devices
+        if not status:
+            self.verdicts_of_load["loaded"] += 1
+            left = [name for name, it in devices.items() if name not in compared and not linux.may_refuse(it) or linux.differs(it)]
+            return f"load --linux loads it, and Linux refuses {left[0].decode()} or reads it otherwise" if left else None
+        _, _, kind, _, number, *_ = printed.decode().split()
+        name = [*devices][int(number) - 1]
+        is_alike = name in seen.made and name not in seen.otherwise
+        self.verdicts_of_load[kind + " read alike" * is_alike] += 1
+        if name in seen.made and kind not in READ_OTHERWISE:
+            return f"load --linux prints {kind} of {name.decode()}, and Linux loads it"
+        return None
 
     def end(self, version, count):
         used = sum(sum(resource.getrusage(it)[:2]) for it in (resource.RUSAGE_SELF, resource.RUSAGE_CHILDREN))
         print(f"Linux {version}: {count} stacks of seed {self.words.seed}, {self.refused} of them refused alike; {self.tables} tables in the others, {self.alone} "
               f"refused by Linux alone, by its rules; {self.sectors} sectors compared, {self.failed} fail alike; {self.skipped} stacks or tables not compared ({used:.0f} s of CPU)")
+        print("load --linux: " + ", ".join(f"{it} {self.verdicts_of_load[it]}" for it in sorted(self.verdicts_of_load)))
 
 
 def put_leaves(cases):

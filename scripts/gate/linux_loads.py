@@ -5,7 +5,6 @@ linux_loads.py [--cases N] [--seed S] [--only K] [PROGRAM]: draws stacks as kern
 must name the first device with a rule, and there the first line and rule, or print what `load` prints if there is none.
 """
 import os
-import subprocess
 import sys
 import tempfile
 
@@ -60,20 +59,12 @@ def refusal(linux):
     return None
 
 
-def run(program, case, *options):
-    words = [program, "load", *options, "-", *(it.binding() for it in case.leaves)]
-    done = subprocess.run(words, input=case.text, capture_output=True, timeout=60)
-    return done.stdout, done.returncode
-
-
 def compare(words):
     checks, kinds = Checks(), {}
     for number in range(words.cases) if words.only is None else [words.only]:
         case = drawn_case(words.seed, number)
-        for leaf in case.leaves:
-            open(leaf.file, "wb").write(leaf.content)
         wanted = None if case.fault else refusal(case.linux)
-        plain, here = run(words.program, case), run(words.program, case, "--linux")
+        plain, here = case.load(words.program), case.load(words.program, "--linux")
         good = here == ((wanted, 1) if wanted else plain)
         checks.count(f"case {number} of seed {words.seed}", good, f"{here[0].decode()!r}, and not {(wanted or plain[0]).decode()!r}\n  {case.text.decode('latin-1')}")
         kind = wanted.split(b" ")[2].decode() if wanted else "a text that isn't loaded" if case.fault else "none"

@@ -32,7 +32,9 @@ def not_opened(kind, path):
 
 
 def is_apart(part, other):
-    return part[0] + part[1] <= other[0] or other[0] + other[1] <= part[0]
+    """Whether two parts of a file have no sector in common; all of a file meets each part of it, an empty one too."""
+    is_disjoint = part[0] + part[1] <= other[0] or other[0] + other[1] <= part[0]
+    return is_disjoint and WHOLE not in (part, other)
 
 
 class Files:
