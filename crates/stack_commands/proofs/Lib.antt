@@ -1,6 +1,7 @@
 pub mod EndingLemmas
 pub mod OpeningLemmas
 mod LinuxLemmas
+mod RefusalLemmas
 mod RepairingLemmas
 pub mod ServeLemmas
 pub mod UsageLemmas

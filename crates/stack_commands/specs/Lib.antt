@@ -5,6 +5,7 @@ pub mod FaultTexts
 pub mod Invocations
 pub mod Lines
 pub mod ManyExports
+pub mod Refusals
 pub mod Repairing
 pub mod Served
 pub mod StackCommands

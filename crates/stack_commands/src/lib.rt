@@ -7,6 +7,7 @@ mod ending;
 mod fault;
 mod fault_texts;
 mod invocation;
+pub mod laws;
 mod load;
 mod nbd;
 mod program;
