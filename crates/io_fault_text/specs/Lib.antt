@@ -1,3 +1,4 @@
 pub mod Texts
 pub mod Opening
 pub mod Paths
+pub mod Refusals

@@ -1,6 +1,7 @@
 //! Printing the fault that ends an access to a stack, refusals, and files that can't be opened.
 #![tactic(auto)]
 
+pub mod laws;
 mod open;
 mod path;
 mod say;

@@ -1,6 +1,8 @@
 pub mod EndingLemmas
+mod EndingObjectLemmas
 pub mod OpeningLemmas
 mod LinuxLemmas
+mod RefusalLemmas
 mod RepairingLemmas
 pub mod ServeLemmas
 pub mod UsageLemmas

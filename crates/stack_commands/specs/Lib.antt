@@ -1,11 +1,15 @@
 pub mod Commands
+pub mod CommandEnds
 pub mod Desks
 pub mod Diffing
+pub mod EndingObjects
+pub mod EndingParts
 pub mod Endings
 pub mod FaultTexts
 pub mod Invocations
 pub mod Lines
 pub mod ManyExports
+pub mod Refusals
 pub mod Repairing
 pub mod Served
 pub mod StackCommands
