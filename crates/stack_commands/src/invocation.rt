@@ -76,9 +76,7 @@ pub fn invoke<'a, I: Images, G: Generators + Progress + Watchers, S: Read, W: Wr
             Ok(invoke_partitions(alloc, images, words, writer, errors)?)
         }
         Invocation::Diff(words) => Ok(invoke_diff(alloc, images, words, writer)?),
-        Invocation::Repair(words) => {
-            repair_image(alloc, Desk { images, writer }, generators, &words)
-        }
+        Invocation::Repair(words) => repair_image(alloc, Desk { images, writer }, &words),
         Invocation::FormatTree(words) => {
             Ok(invoke_format_tree(alloc, images, generators, &words, &options, writer)?)
         }
