@@ -26,10 +26,6 @@ read-as d d' r k = record {
 pub read-alone : (d a b d' : Device) → a ≡ d → b ≡ d' → IsOnlyRead (read_only a) (read_only b) → KeepsFlags d d' → IsReadAlone d d'
 read-alone d a b d' e f r k = read-as d d' (subst₂ (λ (x y : Device). IsOnlyRead (read_only x) (read_only y)) e f r) k
 
--- a device is as it was
-pub flags-same : (o : Option Device) (d former : Device) → d ≡ former → KeepsFlags former d
-flags-same o d former e = record { may_write = ap (λ (v : Device). v.may_write) e; dirty = ap (λ (v : Device). v.dirty) e }
-
 -- the states of two devices
 pub two-same : (d d' h h' : Device) → d ≡ d' → h ≡ h' → surveyed_devices d h ≡ surveyed_devices d' h'
 two-same d d' h h' e f = ap (λ (x : Device). surveyed_devices x h) e ∙ ap (λ (x : Device). surveyed_devices d' x) f
