@@ -54,8 +54,7 @@ pub fn repair_by_parity<'a, I: Images, W: Write>(
         Err(file) => return Err(ParityRepairFault::Tree(TreeFault::Open(file))),
     };
     let first = places.hash_first;
-    let hash_dev = &mut opened.pair.hash_image.device;
-    let found = find_repaired_tree(alloc, hash_dev, first, trusted)?;
+    let found = find_repaired_tree(alloc, &mut opened.pair.hash_image.device, first, trusted)?;
     let laid = lay_out(&found.tree.shape, &opened.pair, parity)?;
     mend_opened(alloc, images, places, opened, &found, laid, writer)?;
     Ok(())

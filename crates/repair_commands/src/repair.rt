@@ -43,8 +43,7 @@ pub fn repair_images<'a, I: Images, W: Write>(
 {
     let mut opened = open_all(alloc, images, places, copies)?;
     let first = places.hash_first;
-    let hash_dev = &mut opened.pair.hash_image.device;
-    let found = find_repaired_tree(alloc, hash_dev, first, trusted)?;
+    let found = find_repaired_tree(alloc, &mut opened.pair.hash_image.device, first, trusted)?;
     mend_opened(alloc, images, places, opened, &found, writer)
 }
 
