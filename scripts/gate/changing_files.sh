@@ -336,6 +336,39 @@ done
 draft=killed/map.dmstack-new
 check "the calls by which a map is replaced, and not$calls" test "$calls" = " create:$draft write:$draft sync:$draft rename:$draft sync:killed"
 
+# The superblock of HASH changes before each read of a repair in turn, to one under which no block verifies. Either the pin refuses
+# that superblock, and nothing is written; or the one that was compared with the pin is the one by which the image is repaired.
+mkdir changed
+(
+    cd changed
+    head -c 4096 /dev/zero | tr '\0' '\6' > whole
+    truncate -s 8192 tree other
+    made=$("$program" format $sizes --fec parity whole tree | sed -n 's/^root //p')
+    "$program" dump --pin "$made" tree > pin
+    "$program" format --data-block=512 --hash-block=512 --salt=ab whole other > /dev/null
+    head -c 512 other > head
+    { head -c 2560 whole; head -c 512 /dev/zero; tail -c 1024 whole; } > damaged
+)
+for source in copy\ 1 parity; do
+    words=(changed/data changed/hash changed/whole changed/tree)
+    [ "$source" != parity ] || words=(--fec changed/parity changed/data changed/hash)
+    for number in $(seq 100); do
+        cp changed/damaged changed/data
+        cp changed/tree changed/hash
+        rm -f met
+        status=0
+        LD_PRELOAD=$room/fail.so FAIL_KIND=changed FAIL=$number FAIL_MET=met FAIL_CHANGED=changed/hash FAIL_TO=changed/head \
+            "$program" repair --pin changed/pin "${words[@]}" > out 2>&1 || status=$?
+        [ -e met ] || break
+        wanted="0 repaired data 5 $source"$'\ngood 8 changed 0 unknown 0' left=changed/whole
+        [ "$number" != 1 ] || { wanted='1 refused 22 OtherSalt' left=changed/damaged; }
+        check "$source, changed before read $number: $wanted, where it is $status $(cat out)" test "$status $(cat out)" = "$wanted"
+        check "$source, changed before read $number: the data" cmp changed/data $left
+        check "$source, changed before read $number: the tree" cmp -i 512 changed/hash changed/tree
+    done
+    check "$source: more than one read was tried" test "$number" -gt 3
+done
+
 # A file system that is full in the midst of a session, where a small one can be mounted: the fault is of the right device,
 # what was written stays, the other image is served, and once there is room again the write succeeds.
 mkdir full

@@ -3,7 +3,8 @@
 // with EIO. `short` and `interrupted` count all of these but the syncs; such a call moves one byte, or is interrupted. `cut`
 // counts the calls that change files and folders, but positioned writes, and the process is killed before that one. The file
 // FAIL_MET then says which call it was, how many whole sectors positioned reads and writes had requested, including it, and of
-// which file. With FAIL_CUT the program is killed in place of the call.
+// which file. With FAIL_CUT the program is killed in place of the call. `changed` counts positioned reads: before that one the file
+// FAIL_CHANGED gets the first bytes of the file FAIL_TO, at most 4,096.
 #define _GNU_SOURCE
 #include <dlfcn.h>
 #include <errno.h>
@@ -92,6 +93,18 @@ static int fails(const char *kind, const char *call, int fd, size_t *count) {
     return 0;
 }
 
+// Writes the first bytes of one file over those of another one, as another process would.
+static void overwrite(const char *path, const char *from) {
+    REAL(ssize_t, "pwrite64", int, const void *, size_t, off64_t);
+    char bytes[4096];
+    int source = real_open(from, O_RDONLY, 0), file = real_open(path, O_WRONLY, 0);
+    ssize_t size = read(source, bytes, sizeof bytes);
+    if (source < 0 || file < 0 || size <= 0 || real(file, bytes, size, 0) != size)
+        abort();
+    close(source);
+    close(file);
+}
+
 static int sync_fails(int fd) {
     may_cut("sync", path_of(fd));
     if (!is_the_call("device", "sync", fd))
@@ -103,6 +116,8 @@ static int sync_fails(int fd) {
 ssize_t pread64(int fd, void *bytes, size_t n, off64_t at) {
     REAL(ssize_t, "pread64", int, void *, size_t, off64_t);
     asked_to_read += n;
+    if (is_the_call("changed", "read", fd))
+        overwrite(getenv("FAIL_CHANGED"), getenv("FAIL_TO"));
     return fails("device", "read", fd, &n) ? -1 : real(fd, bytes, n, at);
 }
 

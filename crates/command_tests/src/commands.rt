@@ -187,33 +187,29 @@ static ROWS: [Row; 31] = [
         ..FORMAT
     },
     REPAIR,
-    // The superblock can't be read: for the check of the hash blocks' unused entries, for the check of its offset, or as the
-    // repair begins. Nothing was written.
+    // The superblock, which is read once, can't be read. Nothing was written.
     Row {
         call: 1,
         status: 1,
         printed: b"refused 10 Device\n",
         ..REPAIR
     },
+    // The sync of the superblock's device fails.
     Row {
         call: 2,
         status: 1,
-        printed: b"refused 10 Device\n",
+        printed: b"repaired data 0 copy 1\nrefused 10 Device\n",
         ..REPAIR
     },
+    // The block can't be written.
     Row {
         call: 3,
         status: 1,
         printed: b"refused 10 Device\n",
         ..REPAIR
     },
-    // The block can't be read back; then the sync of the superblock's device fails.
-    Row {
-        call: 4,
-        status: 1,
-        printed: b"repaired data 0 copy 1\nrefused 10 Device\n",
-        ..REPAIR
-    },
+    // The block can't be read back, and is read again at the end.
+    Row { call: 4, ..REPAIR },
     // The sync of the data fails.
     Row {
         call: 5,

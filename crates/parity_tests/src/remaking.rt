@@ -6,7 +6,7 @@ use std::process::Abort;
 use std::test::Fail;
 use tree_repair::{DamagedImage, Plan, repair_image};
 use tree_shape::{Algorithm, Salt};
-use verity_format::{Superblock, format};
+use verity_format::{Superblock, format, read_superblock};
 
 /// An image over a ramp with some sectors overwritten, and what a repair without copies prints.
 struct Case {
@@ -166,6 +166,7 @@ fn repaired<R: Abort>(rt: &R, alloc: Global, case: &Case) -> Result<(), Fail> {
     lose(rt, &mut wanted, case.still)?;
     let mut writer = Counted::new(Vec::new(alloc));
     let plan = Plan {
+        tree: read_superblock(&mut hash)?.tree(),
         root,
         copy_first: 0,
         write: case.write,
@@ -178,7 +179,7 @@ fn repaired<R: Abort>(rt: &R, alloc: Global, case: &Case) -> Result<(), Fail> {
         data_copies: Vec::new(alloc),
         hash_copies: Vec::new(alloc),
     };
-    let done = repair_image(alloc, &mut image, plan, &mut writer);
+    let done = repair_image(alloc, &mut image, &plan, &mut writer);
     assert!(rt; done.is_ok());
     let DamagedImage {
         data: _,

@@ -95,12 +95,13 @@ fn repairs<R: Abort>(rt: &R, alloc: Global, row: &Damage) -> Result<(), Fail> {
     let copy = damaged.overwritten(alloc, &layout, row.copied)?;
     let mut parity_bytes = parity.into_bytes();
     spoil(&mut parity_bytes, row.spoiled)?;
+    let (data, mut hash) = damaged.into_devices(true);
     let plan = Plan {
+        tree: read_superblock(&mut hash)?.tree(),
         root,
         copy_first: 0,
         write: row.write,
     };
-    let (data, hash) = damaged.into_devices(true);
     let (copy_data, copy_hash) = copy.into_devices(false);
     let mut image = DamagedImage {
         data,
@@ -110,7 +111,7 @@ fn repairs<R: Abort>(rt: &R, alloc: Global, row: &Damage) -> Result<(), Fail> {
     };
     image.data_copies.push(copy_data)?;
     image.hash_copies.push(copy_hash)?;
-    let printed = mend(rt, alloc, &mut image, &layout, parity_bytes, plan)?;
+    let printed = mend(rt, alloc, &mut image, &layout, parity_bytes, &plan)?;
     let DamagedImage {
         mut data,
         mut hash,
@@ -131,10 +132,10 @@ fn mend<R: Abort>(
     image: &mut DamagedImage<MemoryDev, MemoryDev, MemoryDev>,
     layout: &Layout,
     parity: Vec<u8>,
-    plan: Plan,
+    plan: &Plan,
 ) -> Result<Vec<u8>, Fail>
     requires layout { IsLayout layout.now }
-    requires first { plan.copy_first ≤ 2 ^ 55 }
+    requires first { plan.now.copy_first ≤ 2 ^ 55 }
 {
     let mut parity_dev = MemoryDev::new(parity, false);
     let mut writer = Counted::new(Vec::new(alloc));

@@ -1,7 +1,6 @@
 mod CopyLemmas
 mod EndingLemmas
 mod GoingOnLemmas
-mod LayingLemmas
 mod MendLemmas
-mod ReadLemmas
-mod UnusedLemmas
+mod ScanLemmas
+mod TellingLemmas

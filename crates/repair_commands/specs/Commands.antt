@@ -6,25 +6,34 @@ use Rattle.command_line.specs.declared.image_copies.ImageCopy.{ImageCopy}
 use Rattle.image_commands.specs.declared.trusted.TrustedRoot.{TrustedRoot}
 use Rattle.image_files.specs.Opener.{Calls, Opener, calls}
 use Rattle.verity_commands.specs.declared.tree_fault.TreeFault.{TreeFault}
+use Rattle.verity_commands.specs.Surveyed.{SurveyedDevices, surveyed_devices}
+use Rattle.tree_repair.specs.declared.fault.RepairFault.{RepairFault}
 use Rattle.tree_repair.specs.declared.outcome.Outcome.{Outcome}
 use Rattle.tree_repair.specs.declared.repair.Plan.{Plan}
 use Rattle.tree_repair.specs.Worlds.{RepairWorld, repair_world}
+use Rattle.repair_commands.specs.declared.found_tree.FoundTree.{FoundTree}
 use Rattle.repair_commands.specs.declared.opening.Opened.{Opened}
 use Rattle.repair_commands.specs.declared.pair.Parts.{Parts}
-use Rattle.repair_commands.specs.Mends.{HalfMendsByCopies, MendsByCopies}
-use Rattle.repair_commands.specs.Openings.{FailsToOpenCopies, OpensAll}
 use Rattle.repair_commands.specs.declared.pair.RepairPlaces.{RepairPlaces}
+use Rattle.repair_commands.specs.Endings.{ending_fault}
+use Rattle.repair_commands.specs.FoundTrees.{FindsNoTree, FindsTree}
+use Rattle.repair_commands.specs.Mends.{HalfMends, IsOnMedium, MendsInOnePass}
+use Rattle.repair_commands.specs.Openings.{FailsToOpenCopies, OpensAll}
 use Rattle.repair_commands.specs.Pairs.{Places, places_of}
 use Rattle.repair_commands.specs.Rest.{IsRestEnd, TellsRest, known_by}
-use Rattle.repair_commands.specs.Unused.{IsUnusedCause, IsUnusedPassed}
 use Rattle.verity_format.specs.Blocks.{IsOnlyRead}
 
-abbrev pub plan_of : Places → List ℕ → Plan
-plan_of p root = record { root = root; copy_first = p.first; write = p.write }
+-- the repair by the tree that was found
+abbrev pub plan_of : Places → FoundTree → Plan
+plan_of p found = record { tree = found.tree; root = found.root; copy_first = p.first; write = p.write }
 
 -- the opened devices
-abbrev pub world_of : {S D : Type 0} → Calls S D → Opened D → RepairWorld
-world_of w o = repair_world (w.state o.pair.data_image.device) (w.state o.pair.hash_image.device) (map w.state o.copies.data_copies.items) (map w.state o.copies.hash_copies.items)
+abbrev pub opened_world : {D : Type 0} → (D → Device) → Opened D → RepairWorld
+opened_world state o = repair_world (state o.pair.data_image.device) (state o.pair.hash_image.device) (map state o.copies.data_copies.items) (map state o.copies.hash_copies.items)
+
+-- the two devices of the image
+abbrev pub devices_in : RepairWorld → SurveyedDevices
+devices_in w = surveyed_devices w.data_dev w.hash_dev
 
 -- both parts were closed, the data first
 pub record TakesBoth {S D : Type 0} (w : Calls S D) (p : Places) (parts : Parts) (data_dev hash_dev : D) : Type 0 where
@@ -37,24 +46,66 @@ abbrev pub GivesBackImages : {S D : Type 0} → Bool → Calls S D → Places �
 GivesBackImages true w p parts data_dev hash_dev = TakesBoth w p parts data_dev hash_dev
 GivesBackImages false w p parts data_dev hash_dev = w.new ≡ w.old
 
--- the open images were repaired, what was written was synced, and both parts were closed
-pub record MendsOpened {S D : Type 0} (w : Calls S D) (p : Places) (o : Opened D) (root : List ℕ) (old new : Option (List ℕ)) (outcome : Outcome) : Type 0 where
-  pub data_dev : D
-  pub hash_dev : D
-  pub data_copies : List D
-  pub hash_copies : List D
-  pub mends : MendsByCopies (plan_of p root) (world_of w o) (repair_world (w.state data_dev) (w.state hash_dev) (map w.state data_copies) (map w.state hash_copies)) old new outcome
-  pub back : GivesBackImages p.write w p o.parts data_dev hash_dev
+-- ---- on devices
 
--- The image wasn't repaired to the end, not all lines were printed, or not all is synced. Only verified blocks were written,
--- and both parts were closed.
-pub record HalfMendsOpened {S D : Type 0} (w : Calls S D) (p : Places) (o : Opened D) (root : List ℕ) (old new : Option (List ℕ)) (fault : TreeFault) : Type 0 where
+-- what a repair did to devices: up to a state of them, a text, and what is known of the image, or the fault that ended the repair
+abbrev pub Mending : Type 0 → Type 1
+Mending E = RepairWorld → Option (List ℕ) → E → Type 0
+
+-- The image was repaired, and what is still lost was reported: nothing. What was written is synced at the end.
+pub record MendsAndTells (Mends : Mending Outcome) (whole : Bool) (plan : Plan) (new : Option (List ℕ)) (t' : SurveyedDevices) : Type 0 where
+  pub mended : RepairWorld
+  pub between : Option (List ℕ)
+  pub found : Outcome
+  pub mends : Mends mended between found
+  pub tells : TellsRest (known_by whole found) plan (devices_in mended) t' between new
+  pub on_medium : IsOnMedium plan.write t'.data_dev t'.hash_dev
+
+-- The image wasn't repaired to the end, not all lines were printed, or not all is synced. No device was accessed afterwards.
+pub record EndsMending (Half : Mending RepairFault) (new : Option (List ℕ)) (fault : TreeFault) (t' : SurveyedDevices) : Type 0 where
+  pub mid : RepairWorld
+  pub cause : RepairFault
+  pub half : Half mid new cause
+  pub is : fault ≡ ending_fault cause
+  pub same : t' ≡ devices_in mid
+
+-- The image was repaired, and the report wasn't completed, or not all blocks are valid. What was written is synced all the same.
+pub record EndsTelling (Mends : Mending Outcome) (whole : Bool) (plan : Plan) (new : Option (List ℕ)) (failed : Bool) (fault : TreeFault) (t' : SurveyedDevices) : Type 0 where
+  pub mended : RepairWorld
+  pub between : Option (List ℕ)
+  pub found : Outcome
+  pub mends : Mends mended between found
+  pub ends : IsRestEnd (known_by whole found) plan (devices_in mended) t' between new failed fault
+  pub on_medium : IsOnMedium plan.write t'.data_dev t'.hash_dev
+
+abbrev pub EndsEarly : Mending Outcome → Mending RepairFault → Bool → Plan → Option (List ℕ) → Bool → TreeFault → SurveyedDevices → Type 0
+EndsEarly Mends Half whole plan new failed fault t' = EndsMending Half new fault t' ⊎ EndsTelling Mends whole plan new failed fault t'
+
+-- a repair from copies, in one pass
+abbrev pub MendsOnce : Plan → RepairWorld → Option (List ℕ) → Mending Outcome
+MendsOnce plan w old = λ mid between outcome. MendsInOnePass plan w mid old between outcome
+
+-- a repair that ended early, of which only verified blocks were written
+abbrev pub MendsHalf : Plan → Bool → RepairWorld → Option (List ℕ) → Mending RepairFault
+MendsHalf plan parity w old = λ mid between cause. HalfMends plan parity w mid old between cause
+
+-- ---- on files
+
+-- this holds of the two devices as they are closed
+pub record GivesBack {S D : Type 0} (w : Calls S D) (p : Places) (parts : Parts) (P : SurveyedDevices → Type 0) : Type 0 where
   pub data_dev : D
   pub hash_dev : D
-  pub data_copies : List D
-  pub hash_copies : List D
-  pub half : HalfMendsByCopies (plan_of p root) (world_of w o) (repair_world (w.state data_dev) (w.state hash_dev) (map w.state data_copies) (map w.state hash_copies)) old new fault
-  pub back : GivesBackImages p.write w p o.parts data_dev hash_dev
+  pub holds : P (surveyed_devices (w.state data_dev) (w.state hash_dev))
+  pub back : GivesBackImages p.write w p parts data_dev hash_dev
+
+-- the open images were repaired, what is still lost was reported, and both parts were closed
+abbrev pub MendsOpened : {S D : Type 0} → Calls S D → Places → Opened D → FoundTree → Option (List ℕ) → Option (List ℕ) → Type 0
+MendsOpened w p o found old new = GivesBack w p o.parts (MendsAndTells (MendsOnce (plan_of p found) (opened_world w.state o) old) found.whole (plan_of p found) new)
+
+-- this ended early, and both parts were closed
+abbrev pub EndsOpened : {S D : Type 0} → Calls S D → Places → Opened D → FoundTree → Option (List ℕ) → Option (List ℕ) → Bool → TreeFault → Type 0
+EndsOpened w p o found old new failed fault =
+    GivesBack w p o.parts (EndsEarly (MendsOnce (plan_of p found) (opened_world w.state o) old) (MendsHalf (plan_of p found) false (opened_world w.state o) old) found.whole (plan_of p found) new failed fault)
 
 -- ---- what is read before anything is written
 
@@ -62,32 +113,29 @@ pub record HalfMendsOpened {S D : Type 0} (w : Calls S D) (p : Places) (o : Open
 abbrev pub with_hash : {D : Type 0} → Opened D → D → Opened D
 with_hash o device = record o { pair = record o.pair { hash_image = record o.pair.hash_image { device = device } } }
 
--- The hash device was read. The superblock has the values of the pin, if there is one. No hash block on the path to the last
--- data block that verifies holds anything after its last used entry.
-pub record PassesOpened {D : Type 0} (state : D → Device) (trusted : TrustedRoot) (before o : Opened D) (whole : Bool) : Type 0 where
+-- the tree was found on the hash device, which was only read
+pub record PassesOpened {D : Type 0} (state : D → Device) (first : ℕ) (trusted : TrustedRoot) (before o : Opened D) (found : FoundTree) : Type 0 where
   pub rest_is : o ≡ with_hash before o.pair.hash_image.device
   pub read : IsOnlyRead (state before.pair.hash_image.device) (state o.pair.hash_image.device)
-  pub passed : IsUnusedPassed trusted (state before.pair.hash_image.device) (state o.pair.hash_image.device) whole
+  pub finds : FindsTree (state before.pair.hash_image.device) first trusted (state o.pair.hash_image.device) found
 
 -- the image is refused; only the hash device was accessed, by reads
-pub record RefusesOpened {D : Type 0} (state : D → Device) (trusted : TrustedRoot) (before o : Opened D) (fault : TreeFault) : Type 0 where
+pub record RefusesOpened {D : Type 0} (state : D → Device) (first : ℕ) (trusted : TrustedRoot) (before o : Opened D) (fault : TreeFault) : Type 0 where
   pub rest_is : o ≡ with_hash before o.pair.hash_image.device
   pub read : IsOnlyRead (state before.pair.hash_image.device) (state o.pair.hash_image.device)
-  pub cause : IsUnusedCause trusted (state before.pair.hash_image.device) (state o.pair.hash_image.device) fault
+  pub none : FindsNoTree (state before.pair.hash_image.device) first trusted (state o.pair.hash_image.device) fault
 
 -- ---- from the arguments on
 
--- The images and the copies were opened, the last hash blocks of the levels checked, and the images repaired and closed.
-pub record MendsFiles {S D : Type 0} (w : Calls S D) (p : Places) (copies : List ImageCopy) (trusted : TrustedRoot) (old new : Option (List ℕ)) (outcome : Outcome) : Type 0 where
+-- The images and the copies were opened, and the tree was found. The image was repaired by that tree, reported and closed.
+pub record RepairsFiles {S D : Type 0} (w : Calls S D) (p : Places) (copies : List ImageCopy) (trusted : TrustedRoot) (old new : Option (List ℕ)) : Type 0 where
   pub ready : S
   pub before : Opened D
   pub opened : Opened D
-  pub whole : Bool
-  pub found : Outcome
+  pub found : FoundTree
   pub opens : OpensAll (record w { new = ready }) p copies before
-  pub passes : PassesOpened w.state trusted before opened whole
-  pub mends : MendsOpened (record w { old = ready }) p opened trusted.root old new found
-  pub known : outcome ≡ known_by whole found
+  pub passes : PassesOpened w.state p.first trusted before opened found
+  pub mends : MendsOpened (record w { old = ready }) p opened found old new
 
 -- a file can't be opened, and nothing was written or printed
 pub record EndsUnopenedRepair {S D : Type 0} (w : Calls S D) (p : Places) (copies : List ImageCopy) (old new : Option (List ℕ)) (fault : TreeFault) : Type 0 where
@@ -99,56 +147,38 @@ pub record EndsRefused {S D : Type 0} (w : Calls S D) (p : Places) (copies : Lis
   pub before : Opened D
   pub opened : Opened D
   pub opens : OpensAll w p copies before
-  pub refuses : RefusesOpened w.state trusted before opened fault
+  pub refuses : RefusesOpened w.state p.first trusted before opened fault
   pub quiet : new ≡ old
 
--- the image isn't refused, and wasn't repaired to the end
-pub record EndsUnmended {S D : Type 0} (w : Calls S D) (p : Places) (copies : List ImageCopy) (trusted : TrustedRoot) (old new : Option (List ℕ)) (fault : TreeFault) : Type 0 where
+-- the image isn't refused, and its repair ended early, or not all of it is valid
+pub record EndsUnmended {S D : Type 0} (w : Calls S D) (p : Places) (copies : List ImageCopy) (trusted : TrustedRoot) (old new : Option (List ℕ)) (failed : Bool) (fault : TreeFault) : Type 0 where
   pub ready : S
   pub before : Opened D
   pub opened : Opened D
-  pub whole : Bool
+  pub found : FoundTree
   pub opens : OpensAll (record w { new = ready }) p copies before
-  pub passes : PassesOpened w.state trusted before opened whole
-  pub half : HalfMendsOpened (record w { old = ready }) p opened trusted.root old new fault
+  pub passes : PassesOpened w.state p.first trusted before opened found
+  pub ends : EndsOpened (record w { old = ready }) p opened found old new failed fault
 
-abbrev pub IsMendingEnd : {S D : Type 0} → Calls S D → Places → List ImageCopy → TrustedRoot → Option (List ℕ) → Option (List ℕ) → TreeFault → Type 0
-IsMendingEnd w p copies trusted old new fault = EndsUnopenedRepair w p copies old new fault ⊎ (EndsRefused w p copies trusted old new fault ⊎ EndsUnmended w p copies trusted old new fault)
-
--- ---- the report on what is still lost
-
--- after the repair, what is still lost was reported: nothing
-pub record RepairsFiles {S D : Type 0} (w : Calls S D) (p : Places) (copies : List ImageCopy) (trusted : TrustedRoot) (old new : Option (List ℕ)) : Type 0 where
-  pub mended : S
-  pub between : Option (List ℕ)
-  pub outcome : Outcome
-  pub mends : MendsFiles (record w { new = mended }) p copies trusted old between outcome
-  pub tells : TellsRest outcome (record w { old = mended }) p trusted between new
-
--- the report wasn't completed, or not all blocks are valid
-pub record EndsBehind {S D : Type 0} (w : Calls S D) (p : Places) (copies : List ImageCopy) (trusted : TrustedRoot) (old new : Option (List ℕ)) (failed : Bool) (fault : TreeFault) : Type 0 where
-  pub mended : S
-  pub between : Option (List ℕ)
-  pub outcome : Outcome
-  pub mends : MendsFiles (record w { new = mended }) p copies trusted old between outcome
-  pub ends : IsRestEnd outcome (record w { old = mended }) p trusted between new failed fault
-
--- the image wasn't repaired to the end, or the report ended in the fault
 abbrev pub IsRepairEnd : {S D : Type 0} → Calls S D → Places → List ImageCopy → TrustedRoot → Option (List ℕ) → Option (List ℕ) → Bool → TreeFault → Type 0
-IsRepairEnd w p copies trusted old new failed fault = IsMendingEnd w p copies trusted old new fault ⊎ EndsBehind w p copies trusted old new failed fault
+IsRepairEnd w p copies trusted old new failed fault =
+    EndsUnopenedRepair w p copies old new fault ⊎ (EndsRefused w p copies trusted old new fault ⊎ EndsUnmended w p copies trusted old new failed fault)
 
 -- ---- in terms of an opener, a writer before and after, and the arguments
+
+abbrev pub plan_at : RepairPlaces → FoundTree → Plan
+plan_at places found = plan_of (places_of places) found
 
 abbrev pub GivesBackBoth : {S D : Type 0} → Opener S D → (D → Device) → S → S → RepairPlaces → Parts → D → D → Type 0
 GivesBackBoth relations state old new places parts data_dev hash_dev = GivesBackImages places.write (calls relations state old new) (places_of places) parts data_dev hash_dev
 
-abbrev pub IsPairMended : {S D W : Type 0} → Opener S D → (D → Device) → S → S → RepairPlaces → Opened D → List ℕ → (W → Option (List ℕ)) → CountedRecord W → CountedRecord W → Outcome → Type 0
-IsPairMended relations state old new places o root contents before behind outcome =
-    MendsOpened (calls relations state old new) (places_of places) o root (contents before.inner) (contents behind.inner) outcome
+abbrev pub IsPairMended : {S D W : Type 0} → Opener S D → (D → Device) → S → S → RepairPlaces → Opened D → FoundTree → (W → Option (List ℕ)) → CountedRecord W → CountedRecord W → Type 0
+IsPairMended relations state old new places o found contents before behind =
+    MendsOpened (calls relations state old new) (places_of places) o found (contents before.inner) (contents behind.inner)
 
-abbrev pub IsPairHalfMended : {S D W : Type 0} → Opener S D → (D → Device) → S → S → RepairPlaces → Opened D → List ℕ → (W → Option (List ℕ)) → CountedRecord W → CountedRecord W → TreeFault → Type 0
-IsPairHalfMended relations state old new places o root contents before behind fault =
-    HalfMendsOpened (calls relations state old new) (places_of places) o root (contents before.inner) (contents behind.inner) fault
+abbrev pub IsPairUnmended : {S D W : Type 0} → Opener S D → (D → Device) → S → S → RepairPlaces → Opened D → FoundTree → (W → Option (List ℕ)) → CountedRecord W → CountedRecord W → TreeFault → Type 0
+IsPairUnmended relations state old new places o found contents before behind =
+    EndsOpened (calls relations state old new) (places_of places) o found (contents before.inner) (contents behind.inner) behind.failed
 
 abbrev pub AreRepaired : {S D W : Type 0} → Opener S D → (D → Device) → S → S → RepairPlaces → List ImageCopy → TrustedRoot → (W → Option (List ℕ)) → CountedRecord W → CountedRecord W → Type 0
 AreRepaired relations state old new places copies trusted contents before behind =
@@ -156,5 +186,5 @@ AreRepaired relations state old new places copies trusted contents before behind
 
 abbrev pub AreUnrepaired : {S D W : Type 0} → Opener S D → (D → Device) → S → S → RepairPlaces → List ImageCopy → TrustedRoot
     → (W → Option (List ℕ)) → CountedRecord W → CountedRecord W → TreeFault → Type 0
-AreUnrepaired relations state old new places copies trusted contents before behind fault =
-    IsRepairEnd (calls relations state old new) (places_of places) copies trusted (contents before.inner) (contents behind.inner) behind.failed fault
+AreUnrepaired relations state old new places copies trusted contents before behind =
+    IsRepairEnd (calls relations state old new) (places_of places) copies trusted (contents before.inner) (contents behind.inner) behind.failed

@@ -11,12 +11,9 @@ use Rattle.tree_repair.specs.Bounds.{RepairsInOnePass}
 use Rattle.tree_repair.specs.Outcomes.{IsOutcomeOf, IsParityOutcome}
 use Rattle.tree_repair.specs.ParityBounds.{RepairsInPasses}
 use Rattle.tree_repair.specs.Repairs.{IsUnrepairedBy, LooksAtAll, Repairs, SeeksByParity}
-use Rattle.tree_repair.specs.Worlds.{IsHashReadAlone, RepairWorld}
-use Rattle.verity_commands.specs.declared.tree_fault.TreeFault.{TreeFault}
+use Rattle.tree_repair.specs.Worlds.{RepairWorld}
 use Rattle.verity_format.specs.declared.verifying.VerifyFault.{VerifyFault}
 use Rattle.verity_format.specs.declared.verifying.VerifyFault.TheVariants.{Device as DeviceFailed}
-use Rattle.repair_commands.specs.Endings.{ending_fault}
-use Rattle.repair_commands.specs.Standing.{IsMisplaced, IsPlaced}
 
 -- both devices store the same as before, their failure counters didn't decrease, and the copies are unchanged
 pub record KeepsBothImages (w w' : RepairWorld) : Type 0 where
@@ -123,42 +120,13 @@ pub record HalfMends (plan : Plan) (parity : Bool) (w w' : RepairWorld) (old new
   pub kept : KeepsBothImages mid w'
   pub synced : ((ended ≡ Some fault) × IsOnMedium plan.write w'.data_dev w'.hash_dev) ⊎ IsUnsyncedEnd plan.write mid w' ended fault
 
--- ---- by copies, from the superblock on
-
--- The hash image begins where it may, and was repaired. More is stated of the pass, from the state after the superblock's read.
-pub record MendsByCopies (plan : Plan) (w w' : RepairWorld) (old new : Option (List ℕ)) (outcome : Outcome) : Type 0 where
-  pub read_dev : Device
-  pub placed : IsPlaced w.hash_dev plan.copy_first read_dev
-  pub mends : MendsWhole plan false w w' old new
-  pub pass : MendsInOnePass plan (record w { hash_dev = read_dev }) w' old new outcome
-
--- the hash image mustn't begin there, or there is none: only the hash device was accessed, by reads, and nothing was printed
-pub record IsRefusedPlace (plan : Plan) (w w' : RepairWorld) (old new : Option (List ℕ)) (fault : TreeFault) : Type 0 where
-  pub misplaced : IsMisplaced w.hash_dev plan.copy_first w'.hash_dev fault
-  pub read : IsHashReadAlone w w'
-  pub quiet : new ≡ old
-
--- the hash image begins where it may, and wasn't repaired to its end with all lines printed and all synced
-pub record HalfMendsPlaced (plan : Plan) (parity : Bool) (w w' : RepairWorld) (old new : Option (List ℕ)) (fault : TreeFault) : Type 0 where
-  pub read_dev : Device
-  pub placed : IsPlaced w.hash_dev plan.copy_first read_dev
-  pub cause : RepairFault
-  pub half : HalfMends plan parity w w' old new cause
-  pub is : fault ≡ ending_fault cause
-
-abbrev pub HalfMendsByCopies : Plan → RepairWorld → RepairWorld → Option (List ℕ) → Option (List ℕ) → TreeFault → Type 0
-HalfMendsByCopies plan w w' old new fault = IsRefusedPlace plan w w' old new fault ⊎ HalfMendsPlaced plan false w w' old new fault
-
 -- ---- in terms of a writer before and after
-
-abbrev pub IsMendedByCopies : {W : Type 0} → (W → Option (List ℕ)) → Plan → RepairWorld → RepairWorld → CountedRecord W → CountedRecord W → Outcome → Type 0
-IsMendedByCopies contents plan w w' old new outcome = MendsByCopies plan w w' (contents old.inner) (contents new.inner) outcome
-
-abbrev pub IsMendedHalf : {W : Type 0} → (W → Option (List ℕ)) → Plan → RepairWorld → RepairWorld → CountedRecord W → CountedRecord W → TreeFault → Type 0
-IsMendedHalf contents plan w w' old new fault = HalfMendsByCopies plan w w' (contents old.inner) (contents new.inner) fault
 
 abbrev pub IsMendedInOnePass : {W : Type 0} → (W → Option (List ℕ)) → Plan → RepairWorld → RepairWorld → CountedRecord W → CountedRecord W → Outcome → Type 0
 IsMendedInOnePass contents plan w w' old new outcome = MendsInOnePass plan w w' (contents old.inner) (contents new.inner) outcome
+
+abbrev pub IsMendedInPasses : {P W : Type 0} → (P → Device) → (W → Option (List ℕ)) → Plan → Layout → P → P → RepairWorld → RepairWorld → CountedRecord W → CountedRecord W → Outcome → Type 0
+IsMendedInPasses state contents plan l p p' w w' old new outcome = MendsInPasses plan l (state p) (state p') w w' (contents old.inner) (contents new.inner) outcome
 
 abbrev pub IsMendingCut : {W : Type 0} → (W → Option (List ℕ)) → Plan → Bool → RepairWorld → RepairWorld → CountedRecord W → CountedRecord W → RepairFault → Type 0
 IsMendingCut contents plan parity w w' old new fault = HalfMends plan parity w w' (contents old.inner) (contents new.inner) fault

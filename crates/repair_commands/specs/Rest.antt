@@ -1,22 +1,23 @@
 -- The report on an image after its repair.
-use Rattle.std.specs.Prelude.{◌≡◌, ℕ, ◌%◌, ◌==◌, Bool, true, false, List, Option, None, Some, if◌then◌else◌}
+use Rattle.std.specs.Prelude.{◌≡◌, ℕ, Bool, true, false, List, Option, Result, Ok, Err}
 use Rattle.std.specs.Io.KnownBytes.{Appends}
 use Rattle.block_device.specs.Device.{Device}
 use Rattle.program_io.specs.Counted.{CountedRecord}
-use Rattle.image_commands.specs.declared.trusted.TrustedRoot.{TrustedRoot}
-use Rattle.image_commands.specs.Places.{TwoPlaces}
-use Rattle.image_files.specs.Opener.{Calls, Opener, calls}
 use Rattle.verity_commands.specs.declared.tree_fault.TreeFault.{TreeFault}
 use Rattle.verity_commands.specs.declared.tree_fault.TreeFault.TheVariants.{Write}
-use Rattle.verity_commands.specs.Surveys.{IsSurveyFilesEnd, PrintsGood, survey_totals}
+use Rattle.verity_commands.specs.Surveyed.{SurveyedDevices, surveyed_devices}
+use Rattle.verity_commands.specs.Surveys.{IsSurveyEnd, SaysSurvey, gone_over, survey_totals}
+use Rattle.tree_repair.specs.declared.fault.RepairFault.{RepairFault}
 use Rattle.tree_repair.specs.declared.outcome.Outcome.{Outcome}
 use Rattle.tree_repair.specs.declared.outcome.Outcome.TheVariants.{Partly, Whole}
+use Rattle.tree_repair.specs.declared.repair.Plan.{Plan}
 use Rattle.tree_survey.specs.declared.counts.Totals.{Totals}
-use Rattle.repair_commands.specs.declared.pair.RepairPlaces.{RepairPlaces}
-use Rattle.repair_commands.specs.Pairs.{Places, places_of}
-
-abbrev pub surveyed : Places → TwoPlaces
-surveyed p = record { paths = record { data_path = p.data_path; hash_path = p.hash_path }; first = p.first }
+use Rattle.tree_survey.specs.declared.fault.SurveyFault.{SurveyFault}
+use Rattle.tree_survey.specs.declared.survey.Survey.{Survey}
+use Rattle.tree_survey.specs.Causes.{IsSurveyCause}
+use Rattle.tree_survey.specs.Passes.{IsSurvey, Pass}
+use Rattle.repair_commands.specs.Endings.{ending_fault}
+use Rattle.repair_commands.specs.OnlyRead.{IsReadAlone, read_only}
 
 -- so many data blocks, all of them valid
 abbrev pub all_good_totals : ℕ → Totals
@@ -28,35 +29,76 @@ abbrev pub known_by : Bool → Outcome → Outcome
 known_by true outcome = outcome
 known_by false outcome = Partly
 
--- How many data blocks are known to be valid, if all of the image is. A hash block of any size, up to 4,096 bytes, must be able
--- to begin at the image's first sector; otherwise a scan would report it.
-abbrev pub known_good : Outcome → ℕ → Option ℕ
-known_good (Whole count) first = if first % 8 == 0 then Some count else None
-known_good Partly first = None
+-- the states of both devices
+abbrev pub states_of : {D H : Type 0} → (D → Device) → (H → Device) → D → H → SurveyedDevices
+states_of data_state hash_state data_dev hash_dev = surveyed_devices (data_state data_dev) (hash_state hash_dev)
 
--- If the number is known, the totals were printed, and no file was opened. Otherwise the image was scanned as by `verify
--- --all`, and all of it is valid.
-abbrev pub TellsKnown : {S D : Type 0} → Option ℕ → Calls S D → Places → TrustedRoot → Option (List ℕ) → Option (List ℕ) → Type 0
-TellsKnown (Some count) w p trusted old new = (w.new ≡ w.old) × Appends old new (survey_totals (all_good_totals count))
-TellsKnown None w p trusted old new = PrintsGood false w (surveyed p) trusted old new
+-- both devices were only read, so that what was synced stays so
+pub record IsScanned (t t' : SurveyedDevices) : Type 0 where
+  pub data_read : IsReadAlone t.data_dev t'.data_dev
+  pub hash_read : IsReadAlone t.hash_dev t'.hash_dev
+
+-- a scan of both devices, which may not be written, and what was printed
+abbrev pub scan_of : SurveyedDevices → SurveyedDevices → Option (List ℕ) → Option (List ℕ) → Pass
+scan_of t t' old new =
+    gone_over (surveyed_devices (read_only t.data_dev) (read_only t.hash_dev)) (surveyed_devices (read_only t'.data_dev) (read_only t'.hash_dev)) old new
+
+-- If all of the image is known to be valid, the totals were printed, and no device was accessed. Otherwise the image was scanned as
+-- by `verify --all`, and all of it is valid.
+abbrev pub TellsRest : Outcome → Plan → SurveyedDevices → SurveyedDevices → Option (List ℕ) → Option (List ℕ) → Type 0
+TellsRest (Whole count) plan t t' old new = (t' ≡ t) × Appends old new (survey_totals (all_good_totals count))
+TellsRest Partly plan t t' old new = IsScanned t t' × SaysSurvey plan.tree (scan_of t t' old new) plan.root true
 
 -- the totals couldn't be printed; or the image couldn't be scanned, or not all of it is valid
-abbrev pub IsKnownEnd : {S D : Type 0} → Option ℕ → Calls S D → Places → TrustedRoot → Option (List ℕ) → Option (List ℕ) → Bool → TreeFault → Type 0
-IsKnownEnd (Some count) w p trusted old new failed fault = (w.new ≡ w.old) × ((fault ≡ Write) × (failed ≡ true))
-IsKnownEnd None w p trusted old new failed fault = IsSurveyFilesEnd false w (surveyed p) trusted old new failed fault
+abbrev pub IsRestEnd : Outcome → Plan → SurveyedDevices → SurveyedDevices → Option (List ℕ) → Option (List ℕ) → Bool → TreeFault → Type 0
+IsRestEnd (Whole count) plan t t' old new failed fault = (t' ≡ t) × ((fault ≡ Write) × (failed ≡ true))
+IsRestEnd Partly plan t t' old new failed fault = IsScanned t t' × IsSurveyEnd false plan.tree (scan_of t t' old new) plan.root failed fault
 
-abbrev pub TellsRest : {S D : Type 0} → Outcome → Calls S D → Places → TrustedRoot → Option (List ℕ) → Option (List ℕ) → Type 0
-TellsRest outcome w p trusted old new = TellsKnown (known_good outcome p.first) w p trusted old new
+-- after a repair to the end
+abbrev pub Tells : Result Outcome RepairFault → Bool → Plan → SurveyedDevices → SurveyedDevices → Option (List ℕ) → Option (List ℕ) → Type 0
+Tells (Ok found) whole plan t t' old new = TellsRest (known_by whole found) plan t t' old new
+Tells (Err fault) whole plan t t' old new = ⊥
 
-abbrev pub IsRestEnd : {S D : Type 0} → Outcome → Calls S D → Places → TrustedRoot → Option (List ℕ) → Option (List ℕ) → Bool → TreeFault → Type 0
-IsRestEnd outcome w p trusted old new failed fault = IsKnownEnd (known_good outcome p.first) w p trusted old new failed fault
+-- or after a repair that ended early: no device was accessed, and nothing was printed
+abbrev pub IsUntold : Result Outcome RepairFault → Bool → Plan → SurveyedDevices → SurveyedDevices → Option (List ℕ) → Option (List ℕ) → Bool → TreeFault → Type 0
+IsUntold (Ok found) whole plan t t' old new failed fault = IsRestEnd (known_by whole found) plan t t' old new failed fault
+IsUntold (Err cause) whole plan t t' old new failed fault = (fault ≡ ending_fault cause) × ((t' ≡ t) × (new ≡ old))
 
--- ---- in terms of an opener, a writer before and after, and the places in the arguments
+-- ---- the scan by itself
 
-abbrev pub IsRestTold : {S D W : Type 0} → Outcome → Opener S D → (D → Device) → S → S → RepairPlaces → TrustedRoot → (W → Option (List ℕ)) → CountedRecord W → CountedRecord W → Type 0
-IsRestTold outcome relations state old new places trusted contents before behind =
-    TellsRest outcome (calls relations state old new) (places_of places) trusted (contents before.inner) (contents behind.inner)
+-- all blocks were read
+abbrev pub ScansAll : Plan → SurveyedDevices → SurveyedDevices → Option (List ℕ) → Option (List ℕ) → Survey → Type 0
+ScansAll plan t t' old new = IsSurvey plan.tree (scan_of t t' old new) plan.root
 
-abbrev pub IsRestUntold : {S D W : Type 0} → Outcome → Opener S D → (D → Device) → S → S → RepairPlaces → TrustedRoot → (W → Option (List ℕ)) → CountedRecord W → CountedRecord W → TreeFault → Type 0
-IsRestUntold outcome relations state old new places trusted contents before behind fault =
-    IsRestEnd outcome (calls relations state old new) (places_of places) trusted (contents before.inner) (contents behind.inner) behind.failed fault
+-- why not
+abbrev pub IsScanEnd : Plan → SurveyedDevices → SurveyedDevices → Bool → SurveyFault → Type 0
+IsScanEnd plan t t' = IsSurveyCause plan.tree.shape (read_only t.data_dev) (read_only t.hash_dev) (read_only t'.data_dev) (read_only t'.hash_dev)
+
+-- ---- in terms of two devices, those that are returned, and a writer before and after
+
+abbrev pub TellsOf : {D H W : Type 0} → (D → Device) → (H → Device) → D × H → D → H → Result Outcome RepairFault → Bool → Plan → (W → Option (List ℕ)) → CountedRecord W → CountedRecord W → Type 0
+TellsOf data_state hash_state devices d h ended whole plan contents before behind =
+    Tells ended whole plan (states_of data_state hash_state devices.0 devices.1) (states_of data_state hash_state d h) (contents before.inner) (contents behind.inner)
+
+abbrev pub IsUntoldOf : {D H W : Type 0} → (D → Device) → (H → Device) → D × H → D → H → Result Outcome RepairFault → Bool → Plan → (W → Option (List ℕ)) → CountedRecord W → CountedRecord W → TreeFault → Type 0
+IsUntoldOf data_state hash_state devices d h ended whole plan contents before behind =
+    IsUntold ended whole plan (states_of data_state hash_state devices.0 devices.1) (states_of data_state hash_state d h) (contents before.inner) (contents behind.inner) behind.failed
+
+abbrev pub IsRestTold : {D H W : Type 0} → (D → Device) → (H → Device) → D × H → D → H → Outcome → Plan → (W → Option (List ℕ)) → CountedRecord W → CountedRecord W → Type 0
+IsRestTold data_state hash_state devices d h outcome plan contents before behind =
+    TellsRest outcome plan (states_of data_state hash_state devices.0 devices.1) (states_of data_state hash_state d h) (contents before.inner) (contents behind.inner)
+
+abbrev pub IsRestUntold : {D H W : Type 0} → (D → Device) → (H → Device) → D × H → D → H → Outcome → Plan → (W → Option (List ℕ)) → CountedRecord W → CountedRecord W → TreeFault → Type 0
+IsRestUntold data_state hash_state devices d h outcome plan contents before behind =
+    IsRestEnd outcome plan (states_of data_state hash_state devices.0 devices.1) (states_of data_state hash_state d h) (contents before.inner) (contents behind.inner) behind.failed
+
+abbrev pub AreScanned : {D H : Type 0} → (D → Device) → (H → Device) → D × H → D → H → Type 0
+AreScanned data_state hash_state devices d h = IsScanned (states_of data_state hash_state devices.0 devices.1) (states_of data_state hash_state d h)
+
+abbrev pub ScansBoth : {D H W : Type 0} → (D → Device) → (H → Device) → D × H → D → H → Plan → (W → Option (List ℕ)) → CountedRecord W → CountedRecord W → Survey → Type 0
+ScansBoth data_state hash_state devices d h plan contents before behind =
+    ScansAll plan (states_of data_state hash_state devices.0 devices.1) (states_of data_state hash_state d h) (contents before.inner) (contents behind.inner)
+
+abbrev pub IsBothEnd : {D H W : Type 0} → (D → Device) → (H → Device) → D × H → D → H → Plan → CountedRecord W → SurveyFault → Type 0
+IsBothEnd data_state hash_state devices d h plan behind =
+    IsScanEnd plan (states_of data_state hash_state devices.0 devices.1) (states_of data_state hash_state d h) behind.failed

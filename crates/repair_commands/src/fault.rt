@@ -2,9 +2,7 @@
 ghost use Rattle.std.specs.Prelude.{◌≡◌};
 ghost use Rattle.repair_commands.specs.declared.fault.ParityRepairFault.TheVariants as parity_repair_fault;
 
-use tree_repair::RepairFault;
 use verity_commands::TreeFault;
-use verity_format::VerifyFault;
 
 /// Why a repair with parity ended early.
 #[derive(Clone, Copy, Debug, PartialEq, Eq)]
@@ -22,25 +20,5 @@ impl<'a> From<TreeFault<'a>> for ParityRepairFault<'a> {
 
     fn from(fault: TreeFault<'a>) -> Self {
         ParityRepairFault::Tree(fault)
-    }
-}
-
-impl From<RepairFault> for ParityRepairFault<'_> {
-    ghost use Rattle.repair_commands.specs.Endings.{ending_fault};
-
-    ghost from_gives = { λ fault given. given ≡ parity_repair_fault.Tree (ending_fault fault) };
-
-    fn from(fault: RepairFault) -> Self {
-        ParityRepairFault::Tree(crate::repair::fault_of(fault))
-    }
-}
-
-impl From<VerifyFault> for ParityRepairFault<'_> {
-    ghost use Rattle.repair_commands.specs.Parity.{unread};
-
-    ghost from_gives = { λ fault given. given ≡ unread fault };
-
-    fn from(fault: VerifyFault) -> Self {
-        ParityRepairFault::Tree(TreeFault::from(fault))
     }
 }

@@ -4,14 +4,15 @@
 mod by_parity;
 mod copies;
 mod fault;
+mod found_tree;
 mod mending;
 mod nowhere;
+mod only_read;
 mod opening;
 mod pair;
 mod parity;
 mod repair;
 mod rest;
-mod standing;
 mod syncing;
 mod unused;
 

@@ -1,62 +1,39 @@
 //! Repairs two devices from copies, and syncs them.
 ghost use Rattle.std.specs.Prelude.{◌≤◌, ◌^◌, false, IfErr, IfOk};
 ghost use Rattle.tree_repair.specs.Repairs.{IsAllowed};
-ghost use Rattle.repair_commands.specs.Mends.{IsEndBehind, IsMendedByCopies, IsMendedHalf, IsMendedInOnePass, IsMendingCut, IsRunCut, IsRunWhole, IsUnheard};
+ghost use Rattle.repair_commands.specs.Mends.{IsEndBehind, IsMendedInOnePass, IsMendingCut, IsRunCut, IsRunWhole, IsUnheard};
 
 use crate::nowhere::Nowhere;
-use crate::repair::fault_of;
-use crate::standing::check_start;
 use crate::syncing::{end_of, sync_both};
 use block_device::{BlockDev, SyncDev};
 use program_io::Counted;
 use std::alloc::Global;
 use std::io::Write;
 use tree_repair::{DamagedImage, Outcome, Plan, RepairFault, repair_image};
-use verity_commands::TreeFault;
 
 /// Repairs both devices, and syncs them whatever the result. Returns what is known of the image.
 ///
 /// # Errors
 ///
-/// - `Unaligned`, or the superblock's fault, before anything is written.
+/// - `TooSmall` if the data or the tree don't fit on their device, before anything is written.
 /// - `Write` if the writer failed; the image is repaired to its end nevertheless.
 /// - `Device` if a write or a sync failed.
 /// - `NoMemory` if memory ran out.
 ///
 /// A failed sync doesn't hide an earlier fault that ended the repair.
-pub(crate) fn mend<'a, D: SyncDev, H: SyncDev, C: BlockDev, W: Write>(
+pub(crate) fn mend<D: SyncDev, H: SyncDev, C: BlockDev, W: Write>(
     alloc: Global,
     image: &mut DamagedImage<D, H, C>,
-    plan: Plan,
-    writer: &mut Counted<W>,
-) -> Result<Outcome, TreeFault<'a>>
-    requires first { plan.copy_first ≤ 2 ^ 55 }
-    requires allowed { IsAllowed plan.write image.old.data_dev image.old.hash_dev }
-    ensures ok { IfOk result (IsMendedByCopies W.contents plan image.old image.new writer.old writer.new) }
-    ensures err { IfErr result (IsMendedHalf W.contents plan image.old image.new writer.old writer.new) }
-{
-    check_start(&mut image.hash, plan.copy_first)?;
-    match mend_placed(alloc, image, plan, writer) {
-        Ok(outcome) => Ok(outcome),
-        Err(fault) => Err(fault_of(fault)),
-    }
-}
-
-// Repairs both devices; the hash image is known to begin where it may.
-fn mend_placed<D: SyncDev, H: SyncDev, C: BlockDev, W: Write>(
-    alloc: Global,
-    image: &mut DamagedImage<D, H, C>,
-    plan: Plan,
+    plan: &Plan,
     writer: &mut Counted<W>,
 ) -> Result<Outcome, RepairFault>
-    requires first { plan.copy_first ≤ 2 ^ 55 }
-    requires allowed { IsAllowed plan.write image.old.data_dev image.old.hash_dev }
-    ensures ok { IfOk result (IsMendedInOnePass W.contents plan image.old image.new writer.old writer.new) }
-    ensures err { IfErr result (IsMendingCut W.contents plan false image.old image.new writer.old writer.new) }
+    requires first { plan.now.copy_first ≤ 2 ^ 55 }
+    requires allowed { IsAllowed plan.now.write image.old.data_dev image.old.hash_dev }
+    ensures ok { IfOk result (IsMendedInOnePass W.contents plan.now image.old image.new writer.old writer.new) }
+    ensures err { IfErr result (IsMendingCut W.contents plan.now false image.old image.new writer.old writer.new) }
 {
-    let write = plan.write;
-    let ended = repair_through(alloc, image, &plan, writer);
-    let synced = sync_both(image, write);
+    let ended = repair_through(alloc, image, plan, writer);
+    let synced = sync_both(image, plan.write);
     end_of(ended, synced)
 }
 
@@ -72,7 +49,7 @@ fn repair_through<D: BlockDev, H: BlockDev, C: BlockDev, W: Write>(
     ensures ok { IfOk result (IsRunWhole W.contents plan.now image.old image.new writer.old writer.new) }
     ensures err { IfErr result (IsRunCut W.contents plan.now false image.old image.new writer.old writer.new) }
 {
-    match repair_image(alloc, image, *plan, writer) {
+    match repair_image(alloc, image, plan, writer) {
         Ok(outcome) => Ok(outcome),
         Err(fault) => Err(go_on(alloc, image, plan, fault)),
     }
@@ -106,7 +83,7 @@ fn repair_unheard<D: BlockDev, H: BlockDev, C: BlockDev>(
     ensures { IsUnheard plan.now false image.old image.new result }
 {
     let mut nowhere = Counted::new(Nowhere);
-    match repair_image(alloc, image, *plan, &mut nowhere) {
+    match repair_image(alloc, image, plan, &mut nowhere) {
         Ok(_outcome) => RepairFault::Write,
         Err(fault) => fault,
     }

@@ -1,18 +1,18 @@
 //! The parity file of an image, and the layout of the parity.
-ghost use Rattle.std.specs.Prelude.{◌≡◌, ◌≤◌, IfErr, IfOk};
-ghost use Rattle.verity_format.specs.Blocks.{IsOnlyRead};
+ghost use Rattle.std.specs.Prelude.{◌≤◌, IfErr, IfOk};
 ghost use Rattle.repair_commands.specs.Parity.{IsFecOpened, IsFecUnopened, IsUnlaidBy, LaysAcross};
 
 use crate::fault::ParityRepairFault;
 use crate::opening::Opened;
-use crate::pair::part_use;
+use crate::pair::{Pair, part_use};
 use block_device::BlockDev;
 use command_line::FecFile;
 use fec_area::Layout;
-use image_commands::is_aligned;
 use image_files::{Images, UnopenedFile, open_apart};
+use tree_shape::Shape;
+use tree_survey::SurveyFault;
 use verity_commands::TreeFault;
-use verity_format::{VerifyFault, data_sectors, read_superblock, tree_sectors};
+use verity_format::{VerifyFault, data_sectors, tree_sectors};
 
 /// The parity device, and how many bytes of parity a codeword has.
 #[derive(Drop)]
@@ -42,36 +42,42 @@ pub(crate) fn open_parity<'a, I: Images>(
     })
 }
 
-/// Returns the layout of the parity of an image, whose superblock is read; the hash image begins at sector `first` of its file.
-pub(crate) fn lay_out<'a, D: BlockDev, H: BlockDev, P: BlockDev>(
-    data_dev: &D,
-    hash_dev: &mut H,
-    first: u64,
-    parity: &Parity<P>,
-) -> Result<Layout, ParityRepairFault<'a>>
-    requires some { 2 ≤ parity.now.roots }
-    requires few { parity.now.roots ≤ 24 }
-    ensures read { IsOnlyRead (H.state hash_dev.old) (H.state hash_dev.new) }
-    ensures ok { IfOk result (LaysAcross D.state H.state P.state data_dev.now hash_dev.old first parity.now hash_dev.new) }
-    ensures err { IfErr result (IsUnlaidBy D.state H.state P.state data_dev.now hash_dev.old first parity.now hash_dev.new) }
+/// The layout of the parity across an image, and the parity device.
+#[derive(Drop)]
+pub(crate) struct LaidParity<D> {
+    pub layout: Layout,
+    pub device: D,
+}
+
+/// Returns the layout of the parity across two devices that store the data and a tree of that shape. No device is accessed.
+///
+/// # Errors
+///
+/// - `TooSmall` of the image if the data or the tree don't fit on their device.
+/// - `BlockSizes` if the data blocks and the hash blocks have different sizes.
+/// - `TooSmall` with the needed sectors if the parity device has fewer.
+pub(crate) fn lay_out<'a, D: BlockDev, P: BlockDev + Drop>(
+    shape: &Shape,
+    pair: &Pair<D>,
+    parity: Parity<P>,
+) -> Result<LaidParity<P>, ParityRepairFault<'a>>
+    requires some { 2 ≤ parity.roots }
+    requires few { parity.roots ≤ 24 }
+    ensures ok { IfOk result (LaysAcross D.state P.state shape.now pair.now parity) }
+    ensures err { IfErr result (IsUnlaidBy D.state P.state shape.now pair.now parity) }
 {
-    let superblock = read_superblock(hash_dev)?;
-    if !is_aligned(first, superblock.hash_block()) {
-        return Err(ParityRepairFault::Tree(TreeFault::Unaligned));
+    let Parity { device, roots } = parity;
+    let sectors = pair.hash_image.device.sectors();
+    if pair.data_image.device.sectors() < data_sectors(shape) || sectors < tree_sectors(shape) {
+        let fault = SurveyFault::Image(VerifyFault::TooSmall);
+        return Err(ParityRepairFault::Tree(TreeFault::Survey(fault)));
     }
-    let shape = superblock.shape();
-    if data_dev.sectors() < data_sectors(&shape) {
-        return Err(ParityRepairFault::from(VerifyFault::TooSmall));
-    }
-    if hash_dev.sectors() < tree_sectors(&shape) {
-        return Err(ParityRepairFault::from(VerifyFault::TooSmall));
-    }
-    let Some(layout) = Layout::of(&shape, hash_dev.sectors(), parity.roots as usize) else {
+    let Some(layout) = Layout::of(shape, sectors, roots as usize) else {
         return Err(ParityRepairFault::BlockSizes);
     };
     let needed = layout.parity_sectors();
-    if parity.device.sectors() < needed {
+    if device.sectors() < needed {
         return Err(ParityRepairFault::TooSmall { needed });
     }
-    Ok(layout)
+    Ok(LaidParity { layout, device })
 }

@@ -1,29 +1,26 @@
 //! The command `repair`: seeks corrupt blocks in copies, and reports what is still lost.
-ghost use Rattle.std.specs.Prelude.{◌≡◌, ◌≤◌, ◌^◌, IfErr, IfOk, OnOk};
+ghost use Rattle.std.specs.Prelude.{◌≡◌, ◌≤◌, ◌^◌, IfErr, OnOk};
 ghost use Rattle.tree_repair.specs.Repairs.{IsAllowed};
-ghost use Rattle.repair_commands.specs.Commands.{AreRepaired, AreUnrepaired, GivesBackBoth, IsPairHalfMended, IsPairMended};
-ghost use Rattle.repair_commands.specs.Endings.{ending_fault};
+ghost use Rattle.repair_commands.specs.Commands.{AreRepaired, AreUnrepaired, GivesBackBoth, IsPairMended, IsPairUnmended, opened_world, plan_at};
 
+use crate::found_tree::{FoundTree, find_repaired_tree};
 use crate::mending::mend;
 use crate::opening::{Copies, Opened, open_all};
 use crate::pair::{Pair, Parts, RepairPlaces};
-use crate::rest::{known_by, say_rest};
-use crate::unused::check_unused;
+use crate::rest::tell;
+use block_device::BlockDev;
 use command_line::ImageCopy;
-use device_adapters::Watchers;
 use image_commands::TrustedRoot;
 use image_files::Images;
 use program_io::Counted;
 use std::alloc::Global;
 use std::io::Write;
-use tree_repair::{DamagedImage, Outcome, Plan, RepairFault};
-use tree_shape::Digest;
-use tree_survey::SurveyFault;
+use tree_repair::{DamagedImage, Plan};
 use verity_commands::TreeFault;
 
 /// Runs `repair [--check] [--hash-offset BYTES] DATA HASH ROOT [COPY ..]`. It prints a line for each corrupt block that was
 /// found in a copy, and then what `verify --all` prints. If the repair left all blocks valid, they aren't read again for that.
-/// Each copy is read at the block's offset in DATA or in HASH.
+/// Each copy is read at the block's offset in DATA or in HASH. The superblock is read once.
 ///
 /// # Errors
 ///
@@ -32,10 +29,9 @@ use verity_commands::TreeFault;
 /// - `Unaligned`, `Unpinned` or `UnusedEntries` if the image is refused before anything is written.
 /// - `Damaged` if blocks are still lost.
 /// - `Write` if a line can't be written.
-pub fn repair_images<'a, I: Images, S: Watchers, W: Write>(
+pub fn repair_images<'a, I: Images, W: Write>(
     alloc: Global,
     images: &mut I,
-    watchers: &S,
     places: RepairPlaces<'a>,
     copies: &[ImageCopy<'a>],
     trusted: &TrustedRoot,
@@ -46,28 +42,53 @@ pub fn repair_images<'a, I: Images, S: Watchers, W: Write>(
     ensures err { IfErr result (AreUnrepaired I.relations I.Dev.state images.old images.new places.entry copies.now trusted.now W.contents writer.old writer.new) }
 {
     let mut opened = open_all(alloc, images, places, copies)?;
-    let whole = check_unused(alloc, &mut opened.pair.hash_image.device, trusted)?;
-    let outcome = mend_opened(alloc, images, places, opened, &trusted.root, writer)?;
-    let known = known_by(whole, outcome);
-    say_rest(alloc, images, watchers, places, known, trusted, writer)
+    let first = places.hash_first;
+    let found = find_repaired_tree(alloc, &mut opened.pair.hash_image.device, first, trusted)?;
+    mend_opened(alloc, images, places, opened, &found, writer)
 }
 
-// Repairs the open images and closes them, whatever the result.
+// Repairs the open images, prints what is still lost, and closes them, whatever the result.
 fn mend_opened<'a, I: Images, W: Write>(
     alloc: Global,
     images: &mut I,
     places: RepairPlaces<'a>,
     opened: Opened<I::Dev>,
-    root: &Digest,
+    found: &FoundTree,
     writer: &mut Counted<W>,
-) -> Result<Outcome, TreeFault<'a>>
+) -> Result<(), TreeFault<'a>>
     requires first { places.hash_first ≤ 2 ^ 55 }
     requires allowed { IsAllowed places.write (I.Dev.state opened.pair.data_image.device) (I.Dev.state opened.pair.hash_image.device) }
-    ensures ok { IfOk result (IsPairMended I.relations I.Dev.state images.old images.new places.entry opened root.now W.contents writer.old writer.new) }
-    ensures err { IfErr result (IsPairHalfMended I.relations I.Dev.state images.old images.new places.entry opened root.now W.contents writer.old writer.new) }
+    ensures ok { OnOk result (IsPairMended I.relations I.Dev.state images.old images.new places.entry opened found.now W.contents writer.old writer.new) }
+    ensures err { IfErr result (IsPairUnmended I.relations I.Dev.state images.old images.new places.entry opened found.now W.contents writer.old writer.new) }
+{
+    let plan = plan_at(places, found);
+    let parts = opened.parts;
+    let mut image = damaged(opened);
+    let ended = mend(alloc, &mut image, &plan, writer);
+    let devices = devices_of(image);
+    let (data, hash, told) = tell(alloc, devices, ended, found.whole, &plan, writer);
+    give_back(images, places, parts, data, hash);
+    told
+}
+
+/// Returns what is repaired of the image at these places, whose tree was found.
+pub(crate) fn plan_at(places: RepairPlaces<'_>, found: &FoundTree) -> Plan
+    ensures { result ≡ plan_at places.entry found.now }
+{
+    Plan {
+        tree: found.tree,
+        root: found.root,
+        copy_first: places.hash_first,
+        write: places.write,
+    }
+}
+
+/// Returns the image that was opened, and its copies.
+pub(crate) fn damaged<D: BlockDev + Drop>(opened: Opened<D>) -> DamagedImage<D, D, D>
+    ensures { result ≡ opened_world D.state opened }
 {
     let Opened {
-        parts,
+        parts: _,
         pair: Pair {
             data_image,
             hash_image,
@@ -77,32 +98,34 @@ fn mend_opened<'a, I: Images, W: Write>(
             hash_copies,
         },
     } = opened;
-    let plan = Plan {
-        root: *root,
-        copy_first: places.hash_first,
-        write: places.write,
-    };
-    let mut image = DamagedImage {
+    DamagedImage {
         data: data_image.device,
         hash: hash_image.device,
         data_copies,
         hash_copies,
-    };
-    let ended = mend(alloc, &mut image, plan, writer);
+    }
+}
+
+/// Returns the two devices of an image, after its repair.
+pub(crate) fn devices_of<D: BlockDev, H: BlockDev, C: BlockDev + Drop>(
+    image: DamagedImage<D, H, C>,
+) -> (D, H)
+    ensures data { D.state result.0 ≡ image.data_dev }
+    ensures hash { H.state result.1 ≡ image.hash_dev }
+{
     let DamagedImage {
         data,
         hash,
         data_copies: _,
         hash_copies: _,
     } = image;
-    give_back(images, places, parts, data, hash);
-    ended
+    (data, hash)
 }
 
 /// Closes both parts if the repair may have written to them.
-pub(crate) fn give_back<'a, I: Images>(
+pub(crate) fn give_back<I: Images>(
     images: &mut I,
-    places: RepairPlaces<'a>,
+    places: RepairPlaces<'_>,
     parts: Parts,
     data_dev: I::Dev,
     hash_dev: I::Dev,
@@ -114,14 +137,4 @@ pub(crate) fn give_back<'a, I: Images>(
     }
     images.close_part(places.data, parts.data_part, data_dev);
     images.close_part(places.hash, parts.hash_part, hash_dev);
-}
-
-/// Returns the command's fault for a repair that ended early.
-pub(crate) fn fault_of<'a>(fault: RepairFault) -> TreeFault<'a>
-    ensures { result ≡ ending_fault fault }
-{
-    match fault {
-        RepairFault::Image(fault) => TreeFault::Survey(SurveyFault::Image(fault)),
-        RepairFault::Write => TreeFault::Write,
-    }
 }

@@ -1,77 +1,133 @@
 //! Reports what is still lost after a repair.
-ghost use Rattle.std.specs.Prelude.{◌≡◌, IfErr, OnOk};
+ghost use Rattle.std.specs.Prelude.{◌≡◌, IfErr, IfOk, OnOk, Some};
 ghost use Rattle.program_io.specs.Counted.{Writes};
 ghost use Rattle.verity_commands.specs.Surveys.{survey_totals};
-ghost use Rattle.repair_commands.specs.Rest.{IsRestTold, IsRestUntold, all_good_totals, known_by, known_good};
+ghost use Rattle.tree_repair.specs.declared.outcome.Outcome.TheVariants.{Partly};
+ghost use Rattle.repair_commands.specs.Endings.{ending_fault};
+ghost use Rattle.repair_commands.specs.Rest.{AreScanned, IsBothEnd, IsRestTold, IsRestUntold, IsUntoldOf, ScansBoth, TellsOf, all_good_totals, known_by};
 
-use crate::pair::RepairPlaces;
-use device_adapters::Watchers;
-use image_commands::TrustedRoot;
-use image_files::Images;
+use crate::only_read::{Former, OnlyRead};
+use block_device::BlockDev;
 use program_io::{Counted, WriteFault};
 use std::alloc::Global;
 use std::io::Write;
-use tree_repair::Outcome;
-use tree_survey::Totals;
-use verity_commands::{SurveyOrder, TreeFault, say_totals, survey_images};
+use std::marker::Brand;
+use tree_repair::{Outcome, Plan, RepairFault};
+use tree_survey::{Survey, SurveyFault, Totals, survey_image};
+use verity_commands::{TreeFault, say_totals};
 
-// How many sectors the largest hash block takes.
-const MOST_SECTORS: u64 = 8;
-
-/// Prints what `verify --all` prints of the images after a repair. If the repair left all blocks valid, they aren't read again.
-pub(crate) fn say_rest<'a, I: Images, S: Watchers, W: Write>(
+/// Prints what `verify --all` prints of the two devices, if the repair came to its end; otherwise returns the fault that ended it.
+/// If the repair left all blocks valid, they aren't read again. The devices are returned; they were only read.
+pub(crate) fn tell<'a, D: BlockDev + Drop, H: BlockDev + Drop, W: Write>(
     alloc: Global,
-    images: &mut I,
-    watchers: &S,
-    places: RepairPlaces<'a>,
-    outcome: Outcome,
-    trusted: &TrustedRoot,
+    devices: (D, H),
+    ended: Result<Outcome, RepairFault>,
+    whole: bool,
+    plan: &Plan,
     writer: &mut Counted<W>,
-) -> Result<(), TreeFault<'a>>
-    ensures ok { OnOk result (IsRestTold outcome I.relations I.Dev.state images.old images.new places.entry trusted.now W.contents writer.old writer.new) }
-    ensures err { IfErr result (IsRestUntold outcome I.relations I.Dev.state images.old images.new places.entry trusted.now W.contents writer.old writer.new) }
+) -> (D, H, Result<(), TreeFault<'a>>)
+    ensures ok { OnOk result.2 (TellsOf D.state H.state devices result.0 result.1 ended whole plan.now W.contents writer.old writer.new) }
+    ensures err { IfErr result.2 (IsUntoldOf D.state H.state devices result.0 result.1 ended whole plan.now W.contents writer.old writer.new) }
 {
-    let RepairPlaces {
-        data,
-        hash,
-        hash_first,
-        write: _,
-    } = places;
-    let order = SurveyOrder {
-        data,
-        hash,
-        hash_first,
-        json: false,
-        progress: false,
-    };
-    match known_good(outcome, hash_first) {
-        Some(count) => Ok(say_all_good(writer, count)?),
-        None => survey_images(alloc, images, watchers, order, trusted, writer),
+    match ended {
+        Ok(outcome) => say_rest(alloc, devices, known_by(whole, outcome), plan, writer),
+        Err(fault) => {
+            let (data_dev, hash_dev) = devices;
+            (data_dev, hash_dev, Err(fault_of(fault)))
+        }
     }
 }
 
-/// Returns what is known of an image after a repair. `whole` is whether all hash blocks on the path to the last data block
-/// verified before the repair. If not, a restored hash block may hold something after its last used entry, which only a scan
-/// reports.
-pub(crate) fn known_by(whole: bool, outcome: Outcome) -> Outcome
-    ensures { result ≡ known_by whole outcome }
-{
-    if whole { outcome } else { Outcome::Partly }
-}
-
-// The number of valid data blocks, if all of the image is known to be valid and a hash block may begin at that sector.
-fn known_good(outcome: Outcome, first: u64) -> Option<u64>
-    ensures { result ≡ known_good outcome first }
+// Prints the totals that are known, or scans the devices.
+fn say_rest<'a, D: BlockDev + Drop, H: BlockDev + Drop, W: Write>(
+    alloc: Global,
+    devices: (D, H),
+    outcome: Outcome,
+    plan: &Plan,
+    writer: &mut Counted<W>,
+) -> (D, H, Result<(), TreeFault<'a>>)
+    ensures ok { OnOk result.2 (IsRestTold D.state H.state devices result.0 result.1 outcome plan.now W.contents writer.old writer.new) }
+    ensures err { IfErr result.2 (IsRestUntold D.state H.state devices result.0 result.1 outcome plan.now W.contents writer.old writer.new) }
 {
     match outcome {
         Outcome::Whole(count) => {
-            if first % MOST_SECTORS == 0 {
-                return Some(count);
+            let (data_dev, hash_dev) = devices;
+            match say_all_good(writer, count) {
+                Ok(()) => (data_dev, hash_dev, Ok(())),
+                Err(fault) => (data_dev, hash_dev, Err(TreeFault::from(fault))),
             }
-            None
         }
-        Outcome::Partly => None,
+        Outcome::Partly => say_scanned(alloc, devices, plan, writer),
     }
+}
+
+// Scans the devices, and prints what was found. A part that isn't valid is the fault `Damaged`.
+fn say_scanned<'a, D: BlockDev + Drop, H: BlockDev + Drop, W: Write>(
+    alloc: Global,
+    devices: (D, H),
+    plan: &Plan,
+    writer: &mut Counted<W>,
+) -> (D, H, Result<(), TreeFault<'a>>)
+    ensures ok { OnOk result.2 (IsRestTold D.state H.state devices result.0 result.1 Partly plan.now W.contents writer.old writer.new) }
+    ensures err { IfErr result.2 (IsRestUntold D.state H.state devices result.0 result.1 Partly plan.now W.contents writer.old writer.new) }
+{
+    let (data_dev, hash_dev, found) = scan(alloc, devices, plan, writer);
+    let survey = match found {
+        Ok(survey) => survey,
+        Err(fault) => return (data_dev, hash_dev, Err(TreeFault::Survey(fault))),
+    };
+    match say_totals(writer, survey.totals) {
+        Ok(()) => {}
+        Err(fault) => return (data_dev, hash_dev, Err(TreeFault::from(fault))),
+    }
+    if survey.totals.changed > 0 || survey.totals.unknown > 0 || !survey.whole_tree {
+        return (data_dev, hash_dev, Err(TreeFault::Damaged));
+    }
+    (data_dev, hash_dev, Ok(()))
+}
+
+// Scans the devices, and prints a line for each run of data blocks and each hash block that isn't valid.
+fn scan<D: BlockDev + Drop, H: BlockDev + Drop, W: Write>(
+    alloc: Global,
+    devices: (D, H),
+    plan: &Plan,
+    writer: &mut Counted<W>,
+) -> (D, H, Result<Survey, SurveyFault>)
+    ensures scanned { AreScanned D.state H.state devices result.0 result.1 }
+    ensures ok { IfOk result.2 (ScansBoth D.state H.state devices result.0 result.1 plan.now W.contents writer.old writer.new) }
+    ensures err { IfErr result.2 (IsBothEnd D.state H.state devices result.0 result.1 plan.now writer.new) }
+{
+    scan_known::<D, H, Brand, Brand, W>(alloc, devices, plan, writer)
+}
+
+// The same. What the devices were before is known by the type parameters.
+fn scan_known<D: BlockDev + Drop, H: BlockDev + Drop, K: Former, L: Former, W: Write>(
+    alloc: Global,
+    devices: (D, H),
+    plan: &Plan,
+    writer: &mut Counted<W>,
+) -> (D, H, Result<Survey, SurveyFault>)
+    requires { (K.former ≡ Some (D.state devices.0)) × (L.former ≡ Some (H.state devices.1)) }
+    ensures scanned { AreScanned D.state H.state devices result.0 result.1 }
+    ensures ok { IfOk result.2 (ScansBoth D.state H.state devices result.0 result.1 plan.now W.contents writer.old writer.new) }
+    ensures err { IfErr result.2 (IsBothEnd D.state H.state devices result.0 result.1 plan.now writer.new) }
+{
+    let (data_dev, hash_dev) = devices;
+    let mut data = OnlyRead::<D, K>::new(data_dev);
+    let mut hash = OnlyRead::<H, L>::new(hash_dev);
+    let found = survey_image(alloc, &mut data, &mut hash, &plan.tree, &plan.root, writer);
+    let data_after = data.into_inner();
+    let hash_after = hash.into_inner();
+    (data_after, hash_after, found)
+}
+
+// Returns what is known of an image after a repair. `whole` is whether all hash blocks on the path to the last data block
+// verified before the repair. If not, a restored hash block may hold something after its last used entry, which only a scan
+// reports.
+fn known_by(whole: bool, outcome: Outcome) -> Outcome
+    ensures { result ≡ known_by whole outcome }
+{
+    if whole { outcome } else { Outcome::Partly }
 }
 
 fn say_all_good<W: Write>(writer: &mut Counted<W>, count: u64) -> Result<(), WriteFault>
@@ -83,4 +139,14 @@ fn say_all_good<W: Write>(writer: &mut Counted<W>, count: u64) -> Result<(), Wri
         unknown: 0,
     };
     say_totals(writer, totals)
+}
+
+// Returns the command's fault for a repair that ended early.
+fn fault_of<'a>(fault: RepairFault) -> TreeFault<'a>
+    ensures { result ≡ ending_fault fault }
+{
+    match fault {
+        RepairFault::Image(fault) => TreeFault::Survey(SurveyFault::Image(fault)),
+        RepairFault::Write => TreeFault::Write,
+    }
 }

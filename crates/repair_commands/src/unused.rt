@@ -1,14 +1,14 @@
-//! Checks, before anything is written, what an image's hash blocks hold after their last used entries, and the pin.
+//! Checks, before anything is written, what an image's hash blocks hold after their last used entries.
 ghost use Rattle.std.specs.Prelude.{IfErr, IfOk};
 ghost use Rattle.verity_format.specs.Blocks.{IsOnlyRead};
-ghost use Rattle.repair_commands.specs.Unused.{IsUnusedCauseBy, IsUnusedPassedBy};
+ghost use Rattle.repair_commands.specs.Unused.{IsUnusedCause, IsUnusedPassed};
 
 use block_device::BlockDev;
-use image_commands::{TrustedRoot, mismatch_of};
 use std::alloc::Global;
+use tree_shape::Digest;
 use tree_survey::{SurveyFault, Unused, read_unused};
 use verity_commands::TreeFault;
-use verity_format::{VerifyFault, read_superblock, tree_sectors};
+use verity_format::{Superblock, VerifyFault, tree_sectors};
 
 /// Returns whether all hash blocks on the path to the last data block verify, and hold zeros after their last used entries. If
 /// the tree doesn't fit on the device, nothing of it is read: the repair refuses such an image.
@@ -17,29 +17,23 @@ use verity_format::{VerifyFault, read_superblock, tree_sectors};
 ///
 /// - `UnusedEntries` if a hash block that verifies holds something else: the superblock has fewer data blocks than the image
 ///   that was formatted.
-/// - `Unpinned` if the superblock differs from the pin.
-/// - The superblock's fault if there is none.
-/// - `NoMemory` if an allocation of at most 4,096 elements was refused.
+/// - `NoMemory` if an allocation of at most 4,096 elements was refused; nothing was read.
 pub(crate) fn check_unused<'a, H: BlockDev>(
     alloc: Global,
     hash_dev: &mut H,
-    trusted: &TrustedRoot,
+    superblock: &Superblock,
+    root: &Digest,
 ) -> Result<bool, TreeFault<'a>>
     ensures read { IsOnlyRead (H.state hash_dev.old) (H.state hash_dev.new) }
-    ensures ok { IfOk result (IsUnusedPassedBy H.state trusted.now hash_dev.old hash_dev.new) }
-    ensures err { IfErr result (IsUnusedCauseBy H.state trusted.now hash_dev.old hash_dev.new) }
+    ensures ok { IfOk result (IsUnusedPassed superblock.now root.now (H.state hash_dev.old) (H.state hash_dev.new)) }
+    ensures err { IfErr result (IsUnusedCause superblock.now root.now (H.state hash_dev.old) (H.state hash_dev.new)) }
 {
-    let superblock = read_superblock(hash_dev)?;
-    match mismatch_of(&trusted.pin, &superblock) {
-        Some(mismatch) => return Err(TreeFault::Unpinned(mismatch)),
-        None => {}
-    }
     let shape = superblock.shape();
     let needed = tree_sectors(&shape);
     if hash_dev.sectors() < needed {
         return Ok(false);
     }
-    let Ok(found) = read_unused(alloc, hash_dev, &superblock, &trusted.root) else {
+    let Ok(found) = read_unused(alloc, hash_dev, superblock, root) else {
         return Err(TreeFault::Survey(SurveyFault::Image(VerifyFault::NoMemory)));
     };
     match found {

@@ -77,9 +77,7 @@ pub fn invoke<'a, I: Images, G: Generators + Progress + Watchers, S: Read, W: Wr
             Ok(invoke_partitions(alloc, images, words, writer, errors)?)
         }
         Invocation::Diff(words) => compare_images(alloc, Desk { images, writer }, &words),
-        Invocation::Repair(words) => {
-            repair_image(alloc, Desk { images, writer }, generators, &words)
-        }
+        Invocation::Repair(words) => repair_image(alloc, Desk { images, writer }, &words),
         Invocation::FormatTree(words) => {
             Ok(invoke_format_tree(alloc, images, generators, &words, &options, writer)?)
         }

@@ -6,7 +6,6 @@ ghost use Rattle.stack_commands.specs.Repairing.{parity_fault};
 use crate::desk::Desk;
 use crate::fault::CommandFault;
 use command_line::{FecFile, ImageCopy, RepairWords};
-use device_adapters::Watchers;
 use fec_area::ParityFault;
 use fec_commands::FecFault;
 use image_commands::TrustedRoot;
@@ -18,10 +17,9 @@ use verity_commands::{VerityFault, sector_at, trusted_in};
 
 /// `repair [--check] [--fec FILE [--fec-roots N]] [--hash-offset BYTES] [--root-hash-file FILE | --pin FILE] DATA HASH [ROOT] [COPY ..]`: the root or
 /// the pin is known before an image is opened.
-pub fn repair_image<'a, I: Images, S: Watchers, W: Write>(
+pub fn repair_image<'a, I: Images, W: Write>(
     alloc: Global,
     desk: Desk<'_, I, W>,
-    watchers: &S,
     words: &RepairWords<'a>,
 ) -> Result<(), CommandFault<'a>>
     ensures ok { OnOk result (DoesRepair I.relations I.Dev.state W.contents desk.entry desk.exit words.now) }
@@ -39,16 +37,15 @@ pub fn repair_image<'a, I: Images, S: Watchers, W: Write>(
     };
     let copies = words.copies.as_slice();
     match &words.fec {
-        None => by_copies(alloc, desk, watchers, places, copies, &trusted),
-        Some(fec) => by_parity(alloc, desk, watchers, places, fec, copies, &trusted),
+        None => by_copies(alloc, desk, places, copies, &trusted),
+        Some(fec) => by_parity(alloc, desk, places, fec, copies, &trusted),
     }
 }
 
 // Without parity.
-fn by_copies<'a, I: Images, S: Watchers, W: Write>(
+fn by_copies<'a, I: Images, W: Write>(
     alloc: Global,
     desk: Desk<'_, I, W>,
-    watchers: &S,
     places: RepairPlaces<'a>,
     copies: &[ImageCopy<'a>],
     trusted: &TrustedRoot,
@@ -58,14 +55,13 @@ fn by_copies<'a, I: Images, S: Watchers, W: Write>(
     ensures err { IfErr result (EndsByCopies I.relations I.Dev.state W.contents desk.entry desk.exit places.entry copies.now trusted.now) }
 {
     let Desk { images, writer } = desk;
-    Ok(repair_images(alloc, images, watchers, places, copies, trusted, writer)?)
+    Ok(repair_images(alloc, images, places, copies, trusted, writer)?)
 }
 
 // By parity too, of which a codeword has 2 to 24 bytes.
-fn by_parity<'a, I: Images, S: Watchers, W: Write>(
+fn by_parity<'a, I: Images, W: Write>(
     alloc: Global,
     desk: Desk<'_, I, W>,
-    watchers: &S,
     places: RepairPlaces<'a>,
     fec: &FecFile<'a>,
     copies: &[ImageCopy<'a>],
@@ -79,9 +75,7 @@ fn by_parity<'a, I: Images, S: Watchers, W: Write>(
     if fec.roots < 2 || fec.roots > 24 {
         return Err(CommandFault::Usage);
     }
-    match repair_by_parity(
-        alloc, images, watchers, places, fec, copies, trusted, writer,
-    ) {
+    match repair_by_parity(alloc, images, places, fec, copies, trusted, writer) {
         Ok(()) => Ok(()),
         Err(fault) => return Err(parity_fault(fault)),
     }

@@ -8,8 +8,6 @@ use Rattle.std.proofs.lemmas.Option.{none-some}
 use Rattle.block_device.specs.Device.{Device}
 use Rattle.fec_area.specs.declared.layout.Layout.{Layout}
 use Rattle.tree_shape.specs.Shape.{ShapeRecord, ancestor}
-use Rattle.tree_survey.specs.Causes.{AreImages}
-use Rattle.verity_format.specs.Superblock.{SuperRecord, shape_of}
 use Rattle.tree_repair.specs.declared.bad.BadBlock.{BadBlock}
 use Rattle.tree_repair.specs.declared.bad.BadBlocks.{BadBlocks}
 use Rattle.tree_repair.specs.declared.mending.Mended.{Mended}
@@ -19,10 +17,10 @@ use Rattle.tree_repair.specs.Coverage.{IsFromUp, IsVisitAt, IsVisitedIn}
 use Rattle.tree_repair.specs.Noting.{bad_blocks, found_of, pass_outcome}
 use Rattle.tree_repair.specs.Outcomes.{IsAllGood, IsGoodThenIn, IsParityOutcome}
 use Rattle.tree_repair.specs.Passes.{AreBack, HasNoted, IsBackIn, IsGoodThen, bad_of}
-use Rattle.tree_repair.specs.Repairs.{job_of}
+use Rattle.tree_repair.specs.Repairs.{LiesOn, job_of}
 use Rattle.tree_repair.specs.Runs.{HasRun, IsDone, Job, Visit, visit}
 use Rattle.tree_repair.specs.Tries.{IsSought, IsSoughtAt, trial}
-use Rattle.tree_repair.specs.Worlds.{IsWorldRead, RepairWorld}
+use Rattle.tree_repair.specs.Worlds.{RepairWorld}
 use Rattle.tree_repair.proofs.RunLemmas.{runs-then, world-none, world-then}
 use Rattle.tree_repair.proofs.WholeLemmas.{AreUnfailedSince, all-good-of, bool-or, good-in-right, outcome-by}
 
@@ -151,12 +149,12 @@ all-good-behind {j} {w} {x} {y} run all = record {
 
 -- ---- the whole
 
-module _ (s : SuperRecord) (plan : Plan) (j : Job) (w x y : RepairWorld) (same : j ≡ job_of s plan true) (read : IsWorldRead w x) (images : AreImages w.data_dev w.hash_dev s) where
-  parity-job : (all sure : Bool) → (IsTrue all → IsAllGood (job_of s plan true) x y) → (IsTrue sure → AreUnfailedSince w y) → IsParityOutcome plan w y (pass_outcome (all && sure) (shape_of s).blocks)
-  parity-job all sure good unfailed = outcome-by all sure (shape_of s).blocks (IsParityOutcome plan w y)
-      (λ is known. (let g = good is in all-good-of s plan true w x y g.visits read images g.runs g.done g.each (unfailed known))) tt
+module _ (plan : Plan) (j : Job) (w y : RepairWorld) (same : j ≡ job_of plan true) (lies : LiesOn plan.tree.shape w) where
+  parity-job : (all sure : Bool) → (IsTrue all → IsAllGood (job_of plan true) w y) → (IsTrue sure → AreUnfailedSince w y) → IsParityOutcome plan w y (pass_outcome (all && sure) plan.tree.shape.blocks)
+  parity-job all sure good unfailed = outcome-by all sure plan.tree.shape.blocks (IsParityOutcome plan w y)
+      (λ is known. (let g = good is in all-good-of plan true w y g.visits lies g.runs g.done g.each (unfailed known))) tt
 
-  pub parity-outcome : (all sure : Bool) (n : ℕ) → n ≡ j.tree.shape.blocks → (IsTrue all → IsAllGood j x y) → (IsTrue sure → AreUnfailedSince w y) → IsParityOutcome plan w y (pass_outcome (all && sure) n)
+  pub parity-outcome : (all sure : Bool) (n : ℕ) → n ≡ j.tree.shape.blocks → (IsTrue all → IsAllGood j w y) → (IsTrue sure → AreUnfailedSince w y) → IsParityOutcome plan w y (pass_outcome (all && sure) n)
   parity-outcome all sure n count good unfailed =
       subst (λ (m : ℕ). IsParityOutcome plan w y (pass_outcome (all && sure) m)) (sym (count ∙ ap (λ (k : Job). k.tree.shape.blocks) same))
-      (parity-job all sure (λ is. subst (λ (k : Job). IsAllGood k x y) same (good is)) unfailed)
+      (parity-job all sure (λ is. subst (λ (k : Job). IsAllGood k w y) same (good is)) unfailed)

@@ -216,7 +216,7 @@ settled-at j l h i w w' p p' again pass valid sure high (inr by) =
 
 pub stays-lost : WhatStaysLostIsBeyondParity
 stays-lost plan l w w' p p' seeks sure h i high inside =
-    let j : Job = job_of seeks.s plan true in
+    let j : Job = job_of plan true in
     let passes = seeks.ends.passes in
-    settled-at j l h i passes.last w' passes.last_parity p' seeks.ends.again passes.pass seeks.valid
+    settled-at j l h i passes.last w' passes.last_parity p' seeks.ends.again passes.pass seeks.lies.valid
     (sure-same w passes.last p passes.last_parity (runs-same j passes.earlier w passes.last passes.before) passes.parity_read sure) high (passes.pass.looked h i high inside)

@@ -1,11 +1,11 @@
 -- What is asked of devices, step by step.
-use Rattle.std.proofs.Common.{◌≡◌, ◌≢◌, ◌≤◌, ◌<◌, ◌+◌, ◌-◌, ◌*◌, ℕ, Bool, true, false, Result, Ok, Err, List, length, map, set, get_or, refl, sym, ap, ◌∙◌, subst, arith, inl, inr}
+use Rattle.std.proofs.Common.{◌≡◌, ◌≢◌, ◌≤◌, ◌<◌, ◌+◌, ◌-◌, ◌*◌, ℕ, Bool, true, false, List, length, map, set, get_or, refl, sym, ap, ◌∙◌, subst, arith, inl, inr}
 use Rattle.std.proofs.Math.ListN.{length-set}
 use Rattle.std.proofs.lemmas.Bool.{cases_eq}
 use Rattle.std.proofs.lemmas.List.{get_or-map, get_or-set_same, get_or-set_other, length-map, map-set}
 use Rattle.block_device.specs.Device.{Device}
-use Rattle.std.specs.Prelude.{IfSome, OnOk, Option, None, Some}
-use Rattle.tree_shape.specs.Shape.{ShapeRecord, levels}
+use Rattle.std.specs.Prelude.{IfSome, Option, None, Some}
+use Rattle.tree_shape.specs.Shape.{ShapeRecord}
 use Rattle.verity_format.specs.Blocks.{AreOnlyRead}
 use Rattle.verity_format.specs.Image.{data_sectors}
 use Rattle.tree_path.specs.Steps.{HasReadAtMost}
@@ -178,21 +178,12 @@ leaves-hash n d t w x asked = record {
   hash_copies = left-of n 0 n w.hash_copies x.hash_copies asked.hash_copies (omega arith);
 }
 
--- what holds of a call that ended well
-pub on_ok-map : {T E : Type 0} (r : Result T E) (P Q : Type 0) → (P → Q) → OnOk r P → OnOk r Q
-on_ok-map (Ok x) P Q f holds = f holds
-on_ok-map (Err e) P Q f holds = tt
-
--- a superblock, and then a pass
-pub one-pass : (s : ShapeRecord) (w x y : RepairWorld) → LeavesWorld (reading 0 1) nothing_due w x → LeavesWorld (pass_over s) nothing_due x y → IsOnePass s w y
-one-pass s w x y first rest =
-    let all = leaves-then (leaves-more (record (pass_over s) { hash_reads = 1 + (2 * levels s + 1) * area_block_sectors s }) (pass_over s) first
-    (record { data_reads = omega arith; hash_reads = omega arith; data_once = omega arith; hash_once = omega arith })) rest in
-    record {
-      data_reads = omega (arith, all.data_reads);
-      hash_reads = omega (arith, all.hash_reads);
-      data_writes = omega (arith, all.data_writes);
-      hash_writes = omega (arith, all.hash_writes);
-      data_copies = at_most-left (data_sectors s) w.data_copies y.data_copies all.data_copies;
-      hash_copies = at_most-left (area_block_sectors s) w.hash_copies y.hash_copies all.hash_copies;
-    }
+pub one-pass : (s : ShapeRecord) (w w' : RepairWorld) → LeavesWorld (pass_over s) nothing_due w w' → IsOnePass s w w'
+one-pass s w w' all = record {
+  data_reads = omega (arith, all.data_reads);
+  hash_reads = omega (arith, all.hash_reads);
+  data_writes = omega (arith, all.data_writes);
+  hash_writes = omega (arith, all.hash_writes);
+  data_copies = at_most-left (data_sectors s) w.data_copies w'.data_copies all.data_copies;
+  hash_copies = at_most-left (area_block_sectors s) w.hash_copies w'.hash_copies all.hash_copies;
+}

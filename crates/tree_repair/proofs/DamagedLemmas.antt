@@ -228,7 +228,7 @@ lost-few l f w lost different inside damaged k among =
 
 pub damaged-back : FormedChainsAreGood → DamagedBlocksWithinParityComeBack
 damaged-back form plan write l f w w' p p' r tree room i low few =
-    let j : Job = job_of r.seeks.s plan true in
+    let j : Job = job_of plan true in
     let s : ShapeRecord = j.tree.shape in
     let passes = r.seeks.ends.passes in
     let pass = passes.pass in
@@ -236,16 +236,16 @@ damaged-back form plan write l f w w' p p' r tree room i low few =
     let lost : List ℕ = pass.sought.lost in
     let first : HoldsParity s l f w p = holds-first plan l f w w' p p' r in
     let last : HoldsParity s l f passes.last passes.last_parity =
-    holds-later j r.seeks.valid l f passes.earlier w passes.last p passes.last_parity passes.before passes.parity_read first in
+    holds-later j r.seeks.lies.valid l f passes.earlier w passes.last p passes.last_parity passes.before passes.parity_read first in
     let inside : (n : ℕ) → IsAmong lost n → n < covered_blocks l = lost-inside s l bs lost pass.sought.are in
     let clash : (n : ℕ) → IsAmong lost n → IsAsFormed l f w n → Collide j.tree.salt = λ n among is.
-    elim (runs-kept form j r.seeks.valid f r.former l r.sizes passes.earlier w passes.last passes.before first.sure first.ready n (inside n among) is) [
+    elim (runs-kept form j r.seeks.lies.valid f r.former l r.sizes passes.earlier w passes.last passes.before first.sure first.ready n (inside n among) is) [
       | inr found ↦ found
-      | inl now ↦ lost-damaged form j r.seeks.valid f r.former l r.sizes write pass.visits passes.last pass.behind pass.runs last.sure last.ready lost pass.sought.are n among now
+      | inl now ↦ lost-damaged form j r.seeks.lies.valid f r.former l r.sizes write pass.visits passes.last pass.behind pass.runs last.sure last.ready lost pass.sought.are n among now
     ] in
     elim (damaged-or l f w (Collide j.tree.salt) lost clash) [
       | inr found ↦ inr found
       | inl damaged ↦
           data-back form plan write l f w w' p p' r tree room i low
-          (λ among. omega (arith, lost-few l f w lost (lost-different s r.seeks.valid l first.kept.layout j pass.visits lost pass.once pass.sought.are) inside damaged i among, few))
+          (λ among. omega (arith, lost-few l f w lost (lost-different s r.seeks.lies.valid l first.kept.layout j pass.visits lost pass.once pass.sought.are) inside damaged i among, few))
     ]

@@ -133,5 +133,5 @@ module _ (form : FormedChainsAreGood) (j : Job) (valid : IsShape j.tree.shape) (
 pub data-back : FormedChainsAreGood → DataUnderWholeTreeComeBack
 data-back form plan write l f w w' p p' r tree room i low few =
     let passes = r.seeks.ends.passes in
-    data-formed form (job_of r.seeks.s plan true) r.seeks.valid f r.former l r.sizes w p (holds-first plan l f w w' p p' r) tree passes.earlier passes.last w' p' passes.before write
+    data-formed form (job_of plan true) r.seeks.lies.valid f r.former l r.sizes w p (holds-first plan l f w w' p p' r) tree passes.earlier passes.last w' p' passes.before write
     passes.last_parity r.seeks.ends.again passes.pass passes.parity_read (omega (arith, room, passes.parity_read.same.size)) i low few

@@ -151,8 +151,8 @@ module _ (form : FormedChainsAreGood) (j : Job) (valid : IsShape j.tree.shape) (
 
 pub none-stays : FormedChainsAreGood → NoBlockStaysLostWithinParity
 none-stays form plan write l f w w' p p' r h i k at enough =
-    let j : Job = job_of r.seeks.s plan true in
+    let j : Job = job_of plan true in
     let passes = r.seeks.ends.passes in
-    pass-formed form j r.seeks.valid write f r.former l r.sizes passes.last w' passes.last_parity p' r.seeks.ends.again passes.pass
-    (holds-later j r.seeks.valid l f passes.earlier w passes.last p passes.last_parity passes.before passes.parity_read (holds-first plan l f w w' p p' r))
+    pass-formed form j r.seeks.lies.valid write f r.former l r.sizes passes.last w' passes.last_parity p' r.seeks.ends.again passes.pass
+    (holds-later j r.seeks.lies.valid l f passes.earlier w passes.last p passes.last_parity passes.before passes.parity_read (holds-first plan l f w w' p p' r))
     (omega (arith, enough.room, passes.parity_read.same.size)) h i k at enough.few (λ n beside damaged. inl (enough.known n beside damaged))

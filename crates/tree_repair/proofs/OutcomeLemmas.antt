@@ -1,31 +1,26 @@
 -- Behind a pass each block stands good, unless one on its way was lost or the hash device failed.
-use Rattle.std.proofs.Common.{◌≡◌, ◌≤◌, ◌<◌, ◌+◌, ◌-◌, ℕ, suc, false, IsTrue, List, [], ◌∷◌, ◌++◌, All, Option, None, Result, Ok, Err, length, refl, sym, ap, ◌∙◌, subst, arith, inl, inr, ◌⊎◌, add-one}
+use Rattle.std.proofs.Common.{◌≡◌, ◌≤◌, ◌<◌, ◌+◌, ◌-◌, ℕ, suc, false, IsTrue, List, [], ◌∷◌, ◌++◌, All, Option, None, Result, Ok, Err, refl, sym, ap, ◌∙◌, subst, arith, inl, inr, ◌⊎◌, add-one}
 use Rattle.std.specs.Prelude.{IsErrAnd, OnOk}
 use Rattle.std.proofs.lemmas.Bool.{cases_lt}
 use Rattle.std.proofs.lemmas.List.Elements.{All-append, All-cons, All-head, All-nil, All-tail}
-use Rattle.block_device.specs.Device.{Device, IsSector, IsWhole}
 use Rattle.tree_shape.specs.Digests.{digest}
 use Rattle.tree_shape.specs.Shape.{ShapeRecord, IsShape, ancestor, levels}
 use Rattle.tree_path.specs.Laws.{Collide}
 use Rattle.tree_path.specs.Path.{digest_on}
-use Rattle.verity_format.proofs.lemmas.DeviceLemmas.{steady-then}
-use Rattle.tree_survey.specs.Causes.{AreImages}
 use Rattle.tree_survey.specs.Surveys.{IsWay}
-use Rattle.verity_format.specs.Blocks.{IsOnlyRead}
-use Rattle.verity_format.specs.Superblock.{SuperRecord}
 use Rattle.tree_repair.specs.declared.bad.BadBlocks.{BadBlocks}
 use Rattle.tree_repair.specs.declared.repair.Plan.{Plan}
 use Rattle.tree_repair.specs.Coverage.{IsFromTo, IsFromUp, IsLookedAt, IsPassedBy, IsVisitedIn}
 use Rattle.tree_repair.specs.Outcomes.{IsExcused, IsLostIn, IsSureImage, LeavesWhole, StandsFrom}
 use Rattle.tree_repair.specs.Parity.{IsPlace}
 use Rattle.tree_repair.specs.Passes.{HasNoted}
-use Rattle.tree_repair.specs.Repairs.{job_of}
+use Rattle.tree_repair.specs.Repairs.{LiesOn, job_of}
 use Rattle.tree_repair.specs.Runs.{IsDone, Job, VisitsAll, Visit}
 use Rattle.tree_repair.specs.Standing.{IsLeftGoodIn, IsSteadyImage, IsWorldSteady, StandsGood}
 use Rattle.tree_repair.specs.Tries.{IsCutOff}
-use Rattle.tree_repair.specs.Worlds.{IsWorldRead, RepairWorld}
+use Rattle.tree_repair.specs.Worlds.{RepairWorld}
 use Rattle.tree_repair.proofs.ApartLemmas.{above-from}
-use Rattle.tree_repair.proofs.RunLemmas.{runs-read, runs-same, runs-then, world-none}
+use Rattle.tree_repair.proofs.RunLemmas.{runs-same, runs-then, world-none}
 use Rattle.tree_repair.proofs.StandLemmas.{IsReady, image-ready, lost-or, runs-keep, runs-ready, runs-stand, stands-beside}
 use Rattle.tree_repair.proofs.WayLemmas.{each-or, hash-block, way-stands, ways-agree}
 
@@ -152,38 +147,17 @@ stands-next {j} {w} {x} {y} high low next p q =
 
 -- ---- the whole image
 
-whole-behind : (a b : Device) → IsOnlyRead a b → IsTrue a.steady → IsWhole a → IsWhole b
-whole-behind a b read steady whole =
-    record { length = ap length (read.image steady) ∙ whole.length ∙ sym read.same.size; sectors = subst (All IsSector) (sym (read.image steady)) whole.sectors }
+module _ (plan : Plan) (w y : RepairWorld) (lies : LiesOn plan.tree.shape w) where
+  sure-image : IsWorldSteady w → IsTrue w.hash_dev.never_fails → IsSureImage plan.tree.shape w
+  sure-image steady sure = record { image = record { valid = lies.valid; steady = steady; data_fits = lies.data_fits; tree_fits = lies.tree_fits }; sure = sure }
 
-steady-behind : (a b : RepairWorld) → IsWorldRead a b → IsWorldSteady a → IsWorldSteady b
-steady-behind a b read steady = record {
-  data_whole = whole-behind a.data_dev b.data_dev read.data_read steady.data_steady steady.data_whole;
-  hash_whole = whole-behind a.hash_dev b.hash_dev read.hash_read steady.hash_steady steady.hash_whole;
-  data_steady = steady-then read.data_read.same steady.data_steady;
-  hash_steady = steady-then read.hash_read.same steady.hash_steady;
-}
-
-module _ (s : SuperRecord) (plan : Plan) (w x y : RepairWorld) (read : IsWorldRead w x) (images : AreImages w.data_dev w.hash_dev s) where
-  steady-image : IsWorldSteady w → IsSteadyImage (job_of s plan false).tree.shape x
-  steady-image steady = record {
-    valid = images.from.carried.valid.shape;
-    steady = steady-behind w x read steady;
-    data_fits = omega (arith, images.data_fits, read.data_read.same.size);
-    tree_fits = omega (arith, images.tree_fits, read.hash_read.same.size);
-  }
-
-  sure-image : IsWorldSteady w → IsTrue w.hash_dev.never_fails → IsSureImage (job_of s plan false).tree.shape x
-  sure-image steady sure = record { image = steady-image steady; sure = read.hash_read.same.never_fails sure }
-
-  pub whole-of : StandsFrom (job_of s plan false) 0 x y → LeavesWhole plan w y
+  pub whole-of : StandsFrom (job_of plan false) 0 w y → LeavesWhole plan w y
   whole-of p =
-      let j : Job = job_of s plan false in
+      let j : Job = job_of plan false in
       record {
-        s = s;
-        images = images;
+        lies = lies;
         visits = p.visits;
-        runs = runs-read j p.visits w x y read p.runs;
+        runs = p.runs;
         done = p.done;
         good = λ write steady sure i inside.
             elim (each-or (λ (h : ℕ). StandsGood j h i y) (IsExcused j i p.visits) (suc (levels j.tree.shape)) (λ h few. p.stand write (sure-image steady sure) h i (omega arith, (omega (arith, few), inside)))) [

@@ -255,18 +255,6 @@ module _ (s : ShapeRecord) (l : Layout) where
         hash_sought = omega arith;
       })
 
-  pub work-superblock : {w x : RepairWorld} → LeavesWorld (reading 0 1) nothing_due w x → (p : Device) → IsAskedWithin (parity_bill s l 1 0 0) w x p p
-  work-superblock leaves p =
-      asked-more (parity_bill s l 1 0 0) (asked-leaves leaves p) (record {
-        data_reads = omega arith;
-        hash_reads = omega arith;
-        parity_reads = omega arith;
-        data_writes = omega arith;
-        hash_writes = omega arith;
-        data_sought = omega arith;
-        hash_sought = omega arith;
-      })
-
   way-few : (h : ℕ) → (levels s - h) * (s.hash_block / 512) ≤ way_reads
   way-few h = mul-le-mul_right (s.hash_block / 512) (omega arith)
 

@@ -9,8 +9,6 @@ use Rattle.std.specs.Result.{result_err}
 use Rattle.block_device.specs.Device.{Device}
 use Rattle.fec_area.specs.declared.layout.Layout.{Layout}
 use Rattle.tree_shape.specs.Shape.{ShapeRecord}
-use Rattle.verity_format.specs.Superblock.{SuperRecord, shape_of}
-use Rattle.tree_survey.specs.Causes.{AreImages}
 use Rattle.tree_repair.specs.declared.bad.BadBlock.{BadBlock}
 use Rattle.tree_repair.specs.declared.bad.BadBlocks.{BadBlocks}
 use Rattle.tree_repair.specs.declared.fault.RepairFault.{RepairFault}
@@ -18,15 +16,15 @@ use Rattle.tree_repair.specs.declared.mending.Mended.{Mended}
 use Rattle.tree_repair.specs.declared.mending.Mended.TheVariants as mended
 use Rattle.tree_repair.specs.declared.parity.Came.{Came}
 use Rattle.tree_repair.specs.declared.repair.Plan.{Plan}
-use Rattle.tree_repair.specs.Bills.{LeavesWorld, nothing_due, pass_over, reading}
+use Rattle.tree_repair.specs.Bills.{LeavesWorld, nothing_due, pass_over}
 use Rattle.tree_repair.specs.Noting.{bad_blocks, found_of}
 use Rattle.tree_repair.specs.Coverage.{IsFromUp}
 use Rattle.tree_repair.specs.ParityBounds.{IsAskedWithin, LeavesNoted, RepairsInPasses, RunsInPasses, TellsOfHash, back_of, hashes_back, image_blocks, lost_of, parity_bill, sought_among, told_of, tree_told, tries_of}
 use Rattle.tree_repair.specs.Passes.{HasNoted, bad_of}
-use Rattle.tree_repair.specs.Repairs.{job_of}
+use Rattle.tree_repair.specs.Repairs.{LiesOn, job_of}
 use Rattle.tree_repair.specs.Runs.{HasRun, IsVisited, Job, Visit, visit, visit_line}
 use Rattle.tree_repair.specs.Worlds.{IsWorldRead, RepairWorld}
-use Rattle.tree_repair.proofs.ParityBillLemmas.{times-sum, work-more, work-pass, work-superblock, work-then}
+use Rattle.tree_repair.proofs.ParityBillLemmas.{times-sum, work-more, work-pass, work-then}
 use Rattle.tree_repair.proofs.RunLemmas.{has-behind, has-one, has-then}
 
 -- ---- one after another
@@ -187,18 +185,18 @@ runs-told {j} {l} {w} {x} {p} {q} {old} {new} {most} (Err e) is run = subst (λ 
 pub runs-end : {j : Job} {l : Layout} {w x : RepairWorld} {p q : Device} {old new : Option (List ℕ)} {fault : Option RepairFault} {again : Bool} (m n : ℕ) → m ≤ n → RunsInPasses j l m w x p q old new fault again → RunsInPasses j l n w x p q old new fault false
 runs-end m n few a = record { run = a.run; passes = a.passes; sought = a.sought; passes_few = omega (arith, a.passes_few, few); further = a.further; due = λ more. absurd (false≢true more); lost = a.lost; sought_few = a.sought_few; within = a.within }
 
--- behind the superblock
-pub repairs-passes : {l : Layout} {w b w' : RepairWorld} {p p' : Device} {old new : Option (List ℕ)} {fault : Option RepairFault} (s : SuperRecord) (plan : Plan) (j : Job) → j ≡ job_of s plan true → IsWorldRead w b → AreImages w.data_dev w.hash_dev s
-    → LeavesWorld (reading 0 1) nothing_due w b → RunsInPasses j l (1 + l.hash_blocks) b w' p p' old new fault false → RepairsInPasses plan l w w' p p' old new fault
-repairs-passes {l} {w} {b} {w'} {p} {p'} {old} {new} {fault} s plan j same read images first runs =
-    let a = subst (λ (x : Job). RunsInPasses x l (1 + l.hash_blocks) b w' p p' old new fault false) same runs in
+-- the passes of a plan
+pub repairs-passes : {l : Layout} {w w' : RepairWorld} {p p' : Device} {old new : Option (List ℕ)} {fault : Option RepairFault} (plan : Plan) (j : Job) → j ≡ job_of plan true → LiesOn plan.tree.shape w
+    → RunsInPasses j l (1 + l.hash_blocks) w w' p p' old new fault false → RepairsInPasses plan l w w' p p' old new fault
+repairs-passes {l} {w} {w'} {p} {p'} {old} {new} {fault} plan j same lies runs =
+    let a = subst (λ (x : Job). RunsInPasses x l (1 + l.hash_blocks) w w' p p' old new fault false) same runs in
     record {
-      repairs = record { s = s; images = images; run = has-behind read a.run };
+      repairs = record { lies = lies; run = a.run };
       passes = a.passes;
       sought = a.sought;
       passes_few = a.passes_few;
       further = a.further;
       lost = a.lost;
       sought_few = a.sought_few;
-      within = work-then (shape_of s) l 1 0 1 0 a.passes a.passes 0 a.sought a.sought refl (zero-add a.passes) (zero-add a.sought) (work-superblock (shape_of s) l first p) a.within;
+      within = a.within;
     }

@@ -1,5 +1,5 @@
 -- Runs of which the blocks that aren't good are noted.
-use Rattle.std.proofs.Common.{◌≡◌, ℕ, true, false, IsTrue, List, [], ◌++◌, Option, None, Some, Result, Ok, Err, refl, sym, ap, ◌∙◌, subst, arith, inl, inr, ◌&&◌, zero, suc, Bool}
+use Rattle.std.proofs.Common.{◌≡◌, ℕ, true, false, IsTrue, List, [], ◌++◌, Option, None, Some, Result, Ok, Err, refl, sym, ap, ◌∙◌, subst, arith, inl, inr, ◌&&◌, suc, Bool}
 use Rattle.std.specs.Prelude.{IsErrAnd}
 use Rattle.std.specs.List.{flat_map}
 use Rattle.std.specs.Io.KnownBytes.{Appends}
@@ -17,13 +17,13 @@ use Rattle.tree_repair.specs.declared.bad.BadBlocks.{BadBlocks}
 use Rattle.tree_repair.specs.declared.fault.RepairFault.{RepairFault}
 use Rattle.tree_repair.specs.Coverage.{IsDueAt, IsFromUp, IsLookedAt, IsVisitAt}
 use Rattle.tree_repair.specs.Noting.{IsGoodBefore, found_of, passed_some}
-use Rattle.tree_repair.specs.Passes.{AreDuePasses, ArePasses, EndsInPass, HasNoted, IsGoodThen, IsPass, bad_of}
+use Rattle.tree_repair.specs.Passes.{ArePasses, HasNoted, IsGoodThen, IsPass, bad_of}
 use Rattle.tree_repair.specs.Runs.{HasRun, IsVisited, Job, Visit, visit_line}
 use Rattle.tree_repair.specs.Tries.{HasSought}
 use Rattle.tree_repair.specs.Worlds.{IsWorldRead, RepairWorld}
 use Rattle.tree_repair.proofs.LookLemmas.{in-left, in-right, looked-behind, looked-left, looked-right}
 use Rattle.tree_repair.proofs.OnceLemmas.{AreParts, all-due, due-at, due-none, due-one, once-one, once-then}
-use Rattle.tree_repair.proofs.RunLemmas.{has-behind, has-none, has-one, has-read, has-then, runs-read, world-none, world-then}
+use Rattle.tree_repair.proofs.RunLemmas.{has-behind, has-none, has-one, has-read, has-then, world-none}
 
 pub noted-none : {j : Job} {Due : ℕ → ℕ → Type 0} {w : RepairWorld} {old : Option (List ℕ)} {a : BadBlocks} → ((h i : ℕ) → Due h i → ⊥) → HasNoted j Due w w old old a a None
 noted-none {j} {Due} {w} {old} {a} none = record {
@@ -175,26 +175,4 @@ passes-next {j} {l} {n} {w} {x} {w'} {p} {q} {p'} {old} {new} {fault} {so_far} {
   parity_read = read;
   due = (before.last, (before.last_parity, (before.due, subst (λ (b : Bool). IsPass j l before.last x before.last_parity q b) due before.pass)));
   pass = pass;
-}
-
--- passes behind a reading
-due-behind : (j : Job) (l : Layout) (n : ℕ) (w b w' : RepairWorld) (p p' : Device) → IsWorldRead w b → AreDuePasses j l n b w' p p' → AreDuePasses j l n w w' p p'
-due-behind j l zero w b w' p p' read due = (world-then w b w' read due.0, due.1)
-due-behind j l (suc n) w b w' p p' read (a, (q, (due, pass))) = (a, (q, (due-behind j l n w b a p q read due, pass)))
-
-pub ends-behind : {j : Job} {l : Layout} {w b w' : RepairWorld} {p p' : Device} → IsWorldRead w b → EndsInPass j l b w' p p' → EndsInPass j l w w' p p'
-ends-behind {j} {l} {w} {b} {w'} {p} {p'} read ends = record {
-  count = ends.count;
-  again = ends.again;
-  passes = record {
-    earlier = ends.passes.earlier;
-    last = ends.passes.last;
-    last_parity = ends.passes.last_parity;
-    before = runs-read j ends.passes.earlier w b ends.passes.last read ends.passes.before;
-    parity_read = ends.passes.parity_read;
-    due = due-behind j l ends.count w b ends.passes.last p ends.passes.last_parity read ends.passes.due;
-    pass = ends.passes.pass;
-  };
-  few = ends.few;
-  over = ends.over;
 }

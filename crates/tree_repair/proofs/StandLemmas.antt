@@ -209,7 +209,7 @@ left-good-formatted form j vs w w' run h i inside left contents are =
 
 pub repairs-write : RepairsWriteAll
 repairs-write plan parity w w' old new r write steady = record {
-  image = record { valid = r.images.from.carried.valid.shape; steady = steady; data_fits = r.images.data_fits; tree_fits = r.images.tree_fits };
+  image = record { valid = r.lies.valid; steady = steady; data_fits = r.lies.data_fits; tree_fits = r.lies.tree_fits };
   write = write;
   runs = r.run.runs;
   done = r.run.done refl;

@@ -10,9 +10,7 @@ use Rattle.tree_shape.specs.Digests.{digest}
 use Rattle.tree_shape.specs.Shape.{ShapeRecord, IsShape, levels}
 use Rattle.tree_path.specs.Laws.{Collide}
 use Rattle.verity_format.proofs.lemmas.DeviceLemmas.{steady-then}
-use Rattle.tree_survey.specs.Causes.{AreImages}
 use Rattle.tree_survey.specs.Surveys.{IsContentStoredAs}
-use Rattle.verity_format.specs.Superblock.{SuperRecord, shape_of}
 use Rattle.tree_repair.specs.declared.bad.BadBlocks.{BadBlocks}
 use Rattle.tree_repair.specs.declared.mending.Mended.{Mended}
 use Rattle.tree_repair.specs.declared.mending.Mended.TheVariants as mended
@@ -27,13 +25,13 @@ use Rattle.tree_repair.specs.Mending.{IsAllowedPut, IsMended, Look}
 use Rattle.tree_repair.specs.Noting.{found_of, pass_outcome}
 use Rattle.tree_repair.specs.Outcomes.{IsGoodThenIn, IsOutcomeOf, LeavesAllGood, StandsFrom}
 use Rattle.tree_repair.specs.Passes.{HasNoted, IsGoodThen}
-use Rattle.tree_repair.specs.Repairs.{job_of}
+use Rattle.tree_repair.specs.Repairs.{LiesOn, job_of}
 use Rattle.tree_repair.specs.Runs.{IsDone, IsVisited, Job, VisitsAll, Visit, look_at, other, own, sector_at, size_at}
 use Rattle.tree_repair.specs.Standing.{IsLeftGoodIn, IsNotLost, IsSteadyImage, StandsGood}
 use Rattle.tree_repair.specs.Worlds.{IsWorldRead, RepairWorld}
 use Rattle.tree_repair.proofs.OutcomeLemmas.{whole-of}
 use Rattle.tree_repair.proofs.PutLemmas.{lost-image}
-use Rattle.tree_repair.proofs.RunLemmas.{AreSame, are-then, other-image, read-same, runs-read, visited-same}
+use Rattle.tree_repair.proofs.RunLemmas.{AreSame, are-then, other-image, read-same, visited-same}
 use Rattle.tree_repair.proofs.StandLemmas.{image-ready, runs-stand, stands-as, stands-beside}
 use Rattle.tree_repair.proofs.WayLemmas.{way-stands}
 
@@ -184,26 +182,20 @@ unfailed-since before w w' first second none = record {
   hash_none = record { none = omega (arith, none.hash_same, second); below = none.hash_below };
 }
 
--- behind the reading of the superblock
-pub all-good-of : (s : SuperRecord) (plan : Plan) (parity : Bool) (w b w' : RepairWorld) (vs : List Visit) → IsWorldRead w b → AreImages w.data_dev w.hash_dev s → VisitsAll (job_of s plan parity) vs b w' → All IsDone vs
-    → ((h i : ℕ) → h ≤ levels (shape_of s) → i < (shape_of s).blocks → IsGoodThenIn plan.write (shape_of s) h i vs) → AreUnfailedSince w w' → LeavesAllGood plan parity w w' (shape_of s).blocks
-all-good-of s plan parity w b w' vs read images runs done each unfailed =
-    let j : Job = job_of s plan parity in
-    let all : VisitsAll j vs w w' = runs-read j vs w b w' read runs in
-    record {
-      s = s;
-      images = images;
-      count_is = refl;
-      visits = vs;
-      runs = all;
-      done = done;
-      each = each;
-      data_unfailed = unfailed.data_none;
-      hash_unfailed = unfailed.hash_none;
-      good = λ steady i inside.
-          all-stored j vs w w' all done (record { valid = images.from.carried.valid.shape; steady = steady; data_fits = images.data_fits; tree_fits = images.tree_fits }) i inside
-          (λ h few. each h i few inside);
-    }
+pub all-good-of : (plan : Plan) (parity : Bool) (w w' : RepairWorld) (vs : List Visit) → LiesOn plan.tree.shape w → VisitsAll (job_of plan parity) vs w w' → All IsDone vs
+    → ((h i : ℕ) → h ≤ levels plan.tree.shape → i < plan.tree.shape.blocks → IsGoodThenIn plan.write plan.tree.shape h i vs) → AreUnfailedSince w w' → LeavesAllGood plan parity w w' plan.tree.shape.blocks
+all-good-of plan parity w w' vs lies runs done each unfailed = record {
+  lies = lies;
+  count_is = refl;
+  visits = vs;
+  runs = runs;
+  done = done;
+  each = each;
+  data_unfailed = unfailed.data_none;
+  hash_unfailed = unfailed.hash_none;
+  good = λ steady i inside.
+      all-stored (job_of plan parity) vs w w' runs done (record { valid = lies.valid; steady = steady; data_fits = lies.data_fits; tree_fits = lies.tree_fits }) i inside (λ h few. each h i few inside);
+}
 
 -- ---- what is known behind a pass
 
@@ -217,20 +209,20 @@ none-of true by none = absurd (false≢true none)
 none-of false true none = absurd (false≢true none)
 none-of false false none = (refl, refl)
 
-module _ (s : SuperRecord) (plan : Plan) (j : Job) (w x y : RepairWorld) (same : j ≡ job_of s plan false) (read : IsWorldRead w x) (images : AreImages w.data_dev w.hash_dev s) where
+module _ (plan : Plan) (j : Job) (w y : RepairWorld) (same : j ≡ job_of plan false) (lies : LiesOn plan.tree.shape w) where
   -- all that was due was visited, and is good
-  all-good-noted : {old new : Option (List ℕ)} {a b : BadBlocks} → HasNoted (job_of s plan false) (IsFromUp (shape_of s) 0) x y old new a b None → (b.any ≡ false) × (b.passed ≡ false) → AreUnfailedSince w y → LeavesAllGood plan false w y (shape_of s).blocks
+  all-good-noted : {old new : Option (List ℕ)} {a b : BadBlocks} → HasNoted (job_of plan false) (IsFromUp plan.tree.shape 0) w y old new a b None → (b.any ≡ false) × (b.passed ≡ false) → AreUnfailedSince w y → LeavesAllGood plan false w y plan.tree.shape.blocks
   all-good-noted notes none unfailed =
-      all-good-of s plan false w x y notes.run.visits read images notes.run.runs (notes.run.done refl)
-      (λ h i few inside. good-in-all (job_of s plan false) h i notes.run.visits (notes.any refl none.0).1 ((notes.passed refl none.1).1 h i (omega arith, (few, inside)))) unfailed
+      all-good-of plan false w y notes.run.visits lies notes.run.runs (notes.run.done refl)
+      (λ h i few inside. good-in-all (job_of plan false) h i notes.run.visits (notes.any refl none.0).1 ((notes.passed refl none.1).1 h i (omega arith, (few, inside)))) unfailed
 
-  outcome-job : {old new : Option (List ℕ)} {a b : BadBlocks} (good sure : Bool) → HasNoted (job_of s plan false) (IsFromUp (shape_of s) 0) x y old new a b None → StandsFrom (job_of s plan false) 0 x y
-      → good ≡ not (b.any || b.passed) → (IsTrue sure → AreUnfailedSince w y) → IsOutcomeOf plan w y (pass_outcome (good && sure) (shape_of s).blocks)
+  outcome-job : {old new : Option (List ℕ)} {a b : BadBlocks} (good sure : Bool) → HasNoted (job_of plan false) (IsFromUp plan.tree.shape 0) w y old new a b None → StandsFrom (job_of plan false) 0 w y
+      → good ≡ not (b.any || b.passed) → (IsTrue sure → AreUnfailedSince w y) → IsOutcomeOf plan w y (pass_outcome (good && sure) plan.tree.shape.blocks)
   outcome-job {old} {new} {a} {b} good sure notes stands is unfailed =
-      outcome-by good sure (shape_of s).blocks (IsOutcomeOf plan w y) (λ all known. all-good-noted notes (none-of b.any b.passed (subst IsTrue is all)) (unfailed known)) (whole-of s plan w x y read images stands)
+      outcome-by good sure plan.tree.shape.blocks (IsOutcomeOf plan w y) (λ all known. all-good-noted notes (none-of b.any b.passed (subst IsTrue is all)) (unfailed known)) (whole-of plan w y lies stands)
 
-  pub outcome-of : {old new : Option (List ℕ)} {a b : BadBlocks} (good sure : Bool) (n : ℕ) → n ≡ j.tree.shape.blocks → HasNoted j (IsFromUp j.tree.shape 0) x y old new a b None → StandsFrom j 0 x y
+  pub outcome-of : {old new : Option (List ℕ)} {a b : BadBlocks} (good sure : Bool) (n : ℕ) → n ≡ j.tree.shape.blocks → HasNoted j (IsFromUp j.tree.shape 0) w y old new a b None → StandsFrom j 0 w y
       → good ≡ not (b.any || b.passed) → (IsTrue sure → AreUnfailedSince w y) → IsOutcomeOf plan w y (pass_outcome (good && sure) n)
   outcome-of {old} {new} {a} {b} good sure n count notes stands is unfailed =
       subst (λ (m : ℕ). IsOutcomeOf plan w y (pass_outcome (good && sure) m)) (sym (count ∙ ap (λ (k : Job). k.tree.shape.blocks) same))
-      (outcome-job good sure (subst (λ (k : Job). HasNoted k (IsFromUp k.tree.shape 0) x y old new a b None) same notes) (subst (λ (k : Job). StandsFrom k 0 x y) same stands) is unfailed)
+      (outcome-job good sure (subst (λ (k : Job). HasNoted k (IsFromUp k.tree.shape 0) w y old new a b None) same notes) (subst (λ (k : Job). StandsFrom k 0 w y) same stands) is unfailed)

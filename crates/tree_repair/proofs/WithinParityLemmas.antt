@@ -15,7 +15,6 @@ use Rattle.tree_path.specs.Path.{PathRecord, digest_on}
 use Rattle.verity_format.proofs.lemmas.DeviceLemmas.{only_read-none, steady-then}
 use Rattle.tree_survey.specs.Surveys.{IsWay}
 use Rattle.verity_format.specs.Blocks.{IsOnlyRead}
-use Rattle.verity_format.specs.Superblock.{shape_of}
 use Rattle.tree_repair.specs.declared.bad.BadBlock.{BadBlock}
 use Rattle.tree_repair.specs.declared.repair.Plan.{Plan}
 use Rattle.tree_repair.specs.Beyond.{IsUnderBad}
@@ -57,10 +56,10 @@ holds-later j valid l f vs a b p q runs read holds = record {
   parity_sure = read.same.never_fails holds.parity_sure;
 }
 
-pub holds-first : (plan : Plan) (l : Layout) (f : FormerImage) (w w' : RepairWorld) (p p' : Device) (r : IsSureRepair plan l f w w' p p') → HoldsParity (shape_of r.seeks.s) l f w p
+pub holds-first : (plan : Plan) (l : Layout) (f : FormerImage) (w w' : RepairWorld) (p p' : Device) (r : IsSureRepair plan l f w w' p p') → HoldsParity plan.tree.shape l f w p
 holds-first plan l f w w' p p' r = record {
   sure = record { data_sure = r.sure.0; hash_sure = r.sure.1 };
-  ready = image-ready (shape_of r.seeks.s) w (record { valid = r.seeks.valid; steady = r.steady; data_fits = r.seeks.images.data_fits; tree_fits = r.seeks.images.tree_fits });
+  ready = image-ready plan.tree.shape w (record { valid = r.seeks.lies.valid; steady = r.steady; data_fits = r.seeks.lies.data_fits; tree_fits = r.seeks.lies.tree_fits });
   kept = r.parity;
   parity_sure = r.sure.2;
 }
@@ -236,7 +235,7 @@ module _ (form : FormedChainsAreGood) (j : Job) (valid : IsShape j.tree.shape) (
 
 pub within-parity : FormedChainsAreGood → LostBlocksWithinParityComeBack
 within-parity form plan l f w w' p p' r h i high inside =
-    let j : Job = job_of r.seeks.s plan true in
+    let j : Job = job_of plan true in
     let passes = r.seeks.ends.passes in
-    settled-within form j r.seeks.valid f r.former l r.sizes passes.last w' passes.last_parity p' r.seeks.ends.again passes.pass
-    (holds-later j r.seeks.valid l f passes.earlier w passes.last p passes.last_parity passes.before passes.parity_read (holds-first plan l f w w' p p' r)) h i high inside
+    settled-within form j r.seeks.lies.valid f r.former l r.sizes passes.last w' passes.last_parity p' r.seeks.ends.again passes.pass
+    (holds-later j r.seeks.lies.valid l f passes.earlier w passes.last p passes.last_parity passes.before passes.parity_read (holds-first plan l f w w' p p' r)) h i high inside

@@ -8,7 +8,6 @@ use Rattle.fec_area.specs.Rounds.{AllNeverFail}
 use Rattle.tree_shape.specs.Shape.{ShapeRecord, ancestor, levels}
 use Rattle.tree_path.specs.Path.{PathRecord, digest_on}
 use Rattle.tree_survey.specs.Surveys.{IsWay}
-use Rattle.verity_format.specs.Superblock.{shape_of}
 use Rattle.verity_format.specs.Blocks.{IsOnlyRead}
 use Rattle.tree_repair.specs.declared.mending.Mended.{Mended}
 use Rattle.tree_repair.specs.declared.mending.Mended.TheVariants as mended
@@ -95,5 +94,5 @@ IsSettled j l lost visits h i w w' p = IsHadIn j.tree.shape h i visits ⊎ (IsUn
 abbrev pub WhatStaysLostIsBeyondParity : Type 0
 WhatStaysLostIsBeyondParity =
     (plan : Plan) → (l : Layout) → (w w' : RepairWorld) → (p p' : Device) → (seeks : SeeksByParity plan l w w' p p') → AllNeverFail w.data_dev w.hash_dev p
-    → (h i : ℕ) → h ≤ levels (shape_of seeks.s) → i < (shape_of seeks.s).blocks
-    → let passes = seeks.ends.passes in IsSettled (job_of seeks.s plan true) l passes.pass.sought.lost passes.pass.visits h i passes.last w' passes.last_parity
+    → (h i : ℕ) → h ≤ levels plan.tree.shape → i < plan.tree.shape.blocks
+    → let passes = seeks.ends.passes in IsSettled (job_of plan true) l passes.pass.sought.lost passes.pass.visits h i passes.last w' passes.last_parity

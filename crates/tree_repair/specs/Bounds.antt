@@ -7,11 +7,10 @@ use Rattle.program_io.specs.Counted.{CountedRecord}
 use Rattle.tree_shape.specs.Shape.{ShapeRecord, area_blocks, levels, blocks_sectors}
 use Rattle.tree_path.specs.Steps.{HasReadAtMost}
 use Rattle.verity_format.specs.Image.{data_sectors}
-use Rattle.verity_format.specs.Superblock.{shape_of}
 use Rattle.tree_repair.specs.declared.repair.Plan.{Plan}
 use Rattle.tree_repair.specs.declared.fault.RepairFault.{RepairFault}
-use Rattle.tree_repair.specs.Repairs.{IsNoImageCause, Repairs}
-use Rattle.tree_repair.specs.Worlds.{IsHashReadAlone, RepairWorld}
+use Rattle.tree_repair.specs.Repairs.{GoesPast, Repairs}
+use Rattle.tree_repair.specs.Worlds.{RepairWorld}
 
 -- ---- devices
 
@@ -31,23 +30,22 @@ abbrev pub area_block_sectors : ShapeRecord → ℕ
 area_block_sectors s = blocks_sectors (area_blocks s) s.hash_block
 
 -- Each data block is read once with its row, once alone, once to read it back if it is written, and once for each level whose
--- hash blocks are reconstructed from it. On the hash device the superblock, the path to each row, and each block are read: the
--- block once alone, once to read it back, and once for each level above it. No block is written twice, or sought twice in one
--- copy.
+-- hash blocks are reconstructed from it. On the hash device the path to each row, and each block are read: the block once alone,
+-- once to read it back, and once for each level above it. No block is written twice, or sought twice in one copy.
 pub record IsOnePass (s : ShapeRecord) (w w' : RepairWorld) : Type 0 where
   pub data_reads : HasReadAtMost w.data_dev ((levels s + 3) * data_sectors s) w'.data_dev
-  pub hash_reads : HasReadAtMost w.hash_dev (1 + (2 * levels s + 1) * area_block_sectors s) w'.hash_dev
+  pub hash_reads : HasReadAtMost w.hash_dev ((2 * levels s + 1) * area_block_sectors s) w'.hash_dev
   pub data_writes : HasWrittenAtMost w.data_dev (data_sectors s) w'.data_dev
   pub hash_writes : HasWrittenAtMost w.hash_dev (area_block_sectors s) w'.hash_dev
   pub data_copies : AreReadAtMost w.data_copies (data_sectors s) w'.data_copies
   pub hash_copies : AreReadAtMost w.hash_copies (area_block_sectors s) w'.hash_copies
 
--- an image was repaired in one pass, by the shape in its superblock
+-- an image was repaired in one pass
 pub record RepairsInOnePass (plan : Plan) (w w' : RepairWorld) (old new : Option (List ℕ)) (fault : Option RepairFault) : Type 0 where
   pub repairs : Repairs plan false w w' old new fault
-  pub within : IsOnePass (shape_of repairs.s) w w'
+  pub within : IsOnePass plan.tree.shape w w'
 
 -- such a repair, or one that ended early; or there was no image to repair
 abbrev pub IsRepairWithin : {W T : Type 0} → (W → Option (List ℕ)) → Plan → RepairWorld → RepairWorld → CountedRecord W → CountedRecord W → Result T RepairFault → Type 0
 IsRepairWithin contents plan w w' old new result =
-    (IsErrAnd result (IsNoImageCause w.data_dev w.hash_dev w'.hash_dev) × IsHashReadAlone w w') ⊎ RepairsInOnePass plan w w' (contents old.inner) (contents new.inner) (result_err result)
+    IsErrAnd result (GoesPast plan.tree.shape w w') ⊎ RepairsInOnePass plan w w' (contents old.inner) (contents new.inner) (result_err result)

@@ -2,9 +2,7 @@
 use Rattle.std.specs.Prelude.{◌≡◌, ◌⊎◌, ℕ, ◌<◌, ◌≤◌, Bool, true, false, IsTrue, List, [], ◌∷◌, None, All}
 use Rattle.tree_shape.specs.Shape.{ShapeRecord, levels}
 use Rattle.tree_path.specs.Laws.{Collide}
-use Rattle.tree_survey.specs.Causes.{AreImages}
 use Rattle.tree_survey.specs.Surveys.{IsContentStoredAs}
-use Rattle.verity_format.specs.Superblock.{SuperRecord, shape_of}
 use Rattle.tree_repair.specs.declared.mending.Mended.TheVariants as mended
 use Rattle.tree_repair.specs.declared.outcome.Outcome.{Outcome}
 use Rattle.tree_repair.specs.declared.outcome.Outcome.TheVariants.{Partly, Whole}
@@ -12,7 +10,7 @@ use Rattle.tree_repair.specs.declared.repair.Plan.{Plan}
 use Rattle.tree_repair.specs.Coverage.{IsFromUp, IsVisitAt}
 use Rattle.tree_repair.specs.Excuses.{HasCountedNone}
 use Rattle.tree_repair.specs.Noting.{found_of}
-use Rattle.tree_repair.specs.Repairs.{job_of}
+use Rattle.tree_repair.specs.Repairs.{LiesOn, job_of}
 use Rattle.tree_repair.specs.Runs.{IsDone, Job, VisitsAll, Visit}
 use Rattle.tree_repair.specs.Standing.{IsSteadyImage, IsWorldSteady, StandsGood}
 use Rattle.tree_repair.specs.Worlds.{RepairWorld}
@@ -50,13 +48,12 @@ pub record StandsFrom (j : Job) (low : ℕ) (w w' : RepairWorld) : Type 0 where
 -- An image was repaired in one pass, and no write failed. On steady writable devices whose hash device never fails, each data
 -- block and all hash blocks above it are valid afterwards, or one of these blocks was lost.
 pub record LeavesWhole (plan : Plan) (w w' : RepairWorld) : Type 0 where
-  pub s : SuperRecord
-  pub images : AreImages w.data_dev w.hash_dev s
+  pub lies : LiesOn plan.tree.shape w
   pub visits : List Visit
-  pub runs : VisitsAll (job_of s plan false) visits w w'
+  pub runs : VisitsAll (job_of plan false) visits w w'
   pub done : All IsDone visits
-  pub good : IsTrue plan.write → IsWorldSteady w → IsTrue w.hash_dev.never_fails → (i : ℕ) → i < (shape_of s).blocks
-      → IsContentStoredAs (job_of s plan false).tree w'.data_dev.image w'.hash_dev.image i None ⊎ IsExcused (job_of s plan false) i visits
+  pub good : IsTrue plan.write → IsWorldSteady w → IsTrue w.hash_dev.never_fails → (i : ℕ) → i < plan.tree.shape.blocks
+      → IsContentStoredAs (job_of plan false).tree w'.data_dev.image w'.hash_dev.image i None ⊎ IsExcused (job_of plan false) i visits
 
 -- ---- what is known of the image
 
@@ -76,16 +73,15 @@ pub record IsAllGood (j : Job) (w w' : RepairWorld) : Type 0 where
 -- devices failed. On steady devices each data block and all hash blocks above it are valid at the end, or two different inputs
 -- have one digest.
 pub record LeavesAllGood (plan : Plan) (parity : Bool) (w w' : RepairWorld) (count : ℕ) : Type 0 where
-  pub s : SuperRecord
-  pub images : AreImages w.data_dev w.hash_dev s
-  pub count_is : count ≡ (shape_of s).blocks
+  pub lies : LiesOn plan.tree.shape w
+  pub count_is : count ≡ plan.tree.shape.blocks
   pub visits : List Visit
-  pub runs : VisitsAll (job_of s plan parity) visits w w'
+  pub runs : VisitsAll (job_of plan parity) visits w w'
   pub done : All IsDone visits
-  pub each : (h i : ℕ) → h ≤ levels (shape_of s) → i < count → IsGoodThenIn plan.write (shape_of s) h i visits
+  pub each : (h i : ℕ) → h ≤ levels plan.tree.shape → i < count → IsGoodThenIn plan.write plan.tree.shape h i visits
   pub data_unfailed : HasCountedNone w.data_dev w'.data_dev
   pub hash_unfailed : HasCountedNone w.hash_dev w'.hash_dev
-  pub good : IsWorldSteady w → (i : ℕ) → i < count → IsContentStoredAs (job_of s plan parity).tree w'.data_dev.image w'.hash_dev.image i None ⊎ Collide s.salt
+  pub good : IsWorldSteady w → (i : ℕ) → i < count → IsContentStoredAs (job_of plan parity).tree w'.data_dev.image w'.hash_dev.image i None ⊎ Collide plan.tree.salt
 
 -- the outcome of a repair without parity
 abbrev pub IsOutcomeOf : Plan → RepairWorld → RepairWorld → Outcome → Type 0

@@ -9,7 +9,6 @@ use Rattle.fec_area.specs.declared.layout.Layout.{Layout}
 use Rattle.tree_shape.specs.Shape.{ShapeRecord, area_blocks, levels, per_block}
 use Rattle.tree_path.specs.Steps.{HasReadAtMost}
 use Rattle.verity_format.specs.Image.{data_sectors}
-use Rattle.verity_format.specs.Superblock.{shape_of}
 use Rattle.tree_repair.specs.declared.bad.BadBlock.{BadBlock}
 use Rattle.tree_repair.specs.declared.bad.BadBlocks.{BadBlocks}
 use Rattle.tree_repair.specs.declared.fault.RepairFault.{RepairFault}
@@ -19,9 +18,9 @@ use Rattle.tree_repair.specs.declared.place.Row.{Row}
 use Rattle.tree_repair.specs.declared.parity.Came.{Came}
 use Rattle.tree_repair.specs.declared.repair.Plan.{Plan}
 use Rattle.tree_repair.specs.Bounds.{AreReadAtMost, HasWrittenAtMost, area_block_sectors}
-use Rattle.tree_repair.specs.Repairs.{IsNoImageCause, Repairs}
+use Rattle.tree_repair.specs.Repairs.{GoesPast, Repairs}
 use Rattle.tree_repair.specs.Runs.{HasRun, Job, Visit, size_at}
-use Rattle.tree_repair.specs.Worlds.{IsHashReadAlone, RepairWorld}
+use Rattle.tree_repair.specs.Worlds.{RepairWorld}
 
 -- ---- the accesses
 
@@ -206,9 +205,8 @@ RunsInAll contents j l w w' p p' old new result = RunsInPasses j l (1 + l.hash_b
 
 -- ---- the whole repair
 
--- An image was repaired with parity, by the shape in its superblock. The passes after the first are no more than the hash
--- blocks that parity restored, and no more than the covered blocks of the hash device. Only blocks that a pass found nowhere
--- were sought by parity.
+-- An image was repaired with parity. The passes after the first are no more than the hash blocks that parity restored, and no
+-- more than the covered blocks of the hash device. Only blocks that a pass found nowhere were sought by parity.
 pub record RepairsInPasses (plan : Plan) (l : Layout) (w w' : RepairWorld) (p p' : Device) (old new : Option (List ℕ)) (fault : Option RepairFault) : Type 0 where
   pub repairs : Repairs plan true w w' old new fault
   pub passes : ℕ
@@ -216,11 +214,11 @@ pub record RepairsInPasses (plan : Plan) (l : Layout) (w w' : RepairWorld) (p p'
   pub passes_few : passes ≤ 1 + l.hash_blocks
   pub further : passes ≤ 1 + hashes_back repairs.run.visits
   pub lost : sought ≤ sum_by (λ v. lost_of v.mended) repairs.run.visits
-  pub sought_few : sought ≤ passes * image_blocks (shape_of repairs.s)
-  pub within : IsAskedWithin (parity_bill (shape_of repairs.s) l 1 passes sought) w w' p p'
+  pub sought_few : sought ≤ passes * image_blocks plan.tree.shape
+  pub within : IsAskedWithin (parity_bill plan.tree.shape l 0 passes sought) w w' p p'
 
 -- such a repair, or one that ended early; or there was no image to repair
 abbrev pub IsParityWithin : {W T : Type 0} → (W → Option (List ℕ)) → Plan → Layout → RepairWorld → RepairWorld → Device → Device → CountedRecord W → CountedRecord W → Result T RepairFault → Type 0
 IsParityWithin contents plan l w w' p p' old new result =
-    (IsErrAnd result (IsNoImageCause w.data_dev w.hash_dev w'.hash_dev) × (IsHashReadAlone w w' × (p' ≡ p)))
+    (IsErrAnd result (GoesPast plan.tree.shape w w') × (p' ≡ p))
     ⊎ RepairsInPasses plan l w w' p p' (contents old.inner) (contents new.inner) (result_err result)

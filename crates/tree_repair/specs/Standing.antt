@@ -45,7 +45,7 @@ pub record HasWrittenAll (j : Job) (visits : List Visit) (w w' : RepairWorld) : 
 -- this holds of a successful repair, with parity or without
 abbrev pub RepairsWriteAll : Type 0
 RepairsWriteAll = (plan : Plan) → (parity : Bool) → (w w' : RepairWorld) → (old new : Option (List ℕ)) → (r : Repairs plan parity w w' old new None) → IsTrue plan.write → IsWorldSteady w
-    → HasWrittenAll (job_of r.s plan parity) r.run.visits w w'
+    → HasWrittenAll (job_of plan parity) r.run.visits w w'
 
 -- ---- a block of it
 

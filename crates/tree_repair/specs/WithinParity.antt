@@ -147,8 +147,8 @@ pub record IsSureRepair (plan : Plan) (l : Layout) (f : FormerImage) (w w' : Rep
   pub seeks : SeeksByParity plan l w w' p p'
   pub sure : AllNeverFail w.data_dev w.hash_dev p
   pub steady : IsWorldSteady w
-  pub former : IsFormerOf (job_of seeks.s plan true).tree f
-  pub sizes : HasTreeSizes (shape_of seeks.s) l
+  pub former : IsFormerOf (job_of plan true).tree f
+  pub sizes : HasTreeSizes plan.tree.shape l
   pub parity : IsParityKept l f p
 
 -- For each block of the tree one of these holds: it was valid or found when the last pass came to it; parity restored it; a
@@ -156,10 +156,10 @@ pub record IsSureRepair (plan : Plan) (l : Layout) (f : FormerImage) (w w' : Rep
 -- code has roots, or a damaged block that the pass didn't come to; two different inputs have one digest.
 abbrev pub LostBlocksWithinParityComeBack : Type 0
 LostBlocksWithinParityComeBack =
-    (plan : Plan) → (l : Layout) → (f : FormerImage) → (w w' : RepairWorld) → (p p' : Device) → (r : IsSureRepair plan l f w w' p p') → (h i : ℕ) → h ≤ levels (shape_of r.seeks.s)
-    → i < (shape_of r.seeks.s).blocks
+    (plan : Plan) → (l : Layout) → (f : FormerImage) → (w w' : RepairWorld) → (p p' : Device) → (r : IsSureRepair plan l f w w' p p') → (h i : ℕ) → h ≤ levels plan.tree.shape
+    → i < plan.tree.shape.blocks
     → let passes = r.seeks.ends.passes in
-    IsSettledWithin (job_of r.seeks.s plan true) l passes.pass.sought.lost passes.pass.visits f (stage passes.last passes.pass.behind w') passes.last_parity h i ⊎ Collide r.seeks.s.salt
+    IsSettledWithin (job_of plan true) l passes.pass.sought.lost passes.pass.visits f (stage passes.last passes.pass.behind w') passes.last_parity h i ⊎ Collide plan.tree.salt
 
 -- The parity is complete. If covered block k counts as lost, no more blocks of its round count as lost than the code has roots,
 -- and each other damaged block of its round counts as lost.
@@ -173,8 +173,8 @@ pub record IsWithinParity (l : Layout) (f : FormerImage) (lost : List ℕ) (w : 
 abbrev pub NoBlockStaysLostWithinParity : Type 0
 NoBlockStaysLostWithinParity =
     (plan : Plan) → IsTrue plan.write → (l : Layout) → (f : FormerImage) → (w w' : RepairWorld) → (p p' : Device) → (r : IsSureRepair plan l f w w' p p')
-    → (h i k : ℕ) → IsCoveredAt (shape_of r.seeks.s) l h i k → let passes = r.seeks.ends.passes in IsWithinParity l f passes.pass.sought.lost passes.pass.behind p k
-    → IsAsFormed l f w' k ⊎ (IsUnderBad (job_of r.seeks.s plan true) h i passes.last w' ⊎ Collide r.seeks.s.salt)
+    → (h i k : ℕ) → IsCoveredAt plan.tree.shape l h i k → let passes = r.seeks.ends.passes in IsWithinParity l f passes.pass.sought.lost passes.pass.behind p k
+    → IsAsFormed l f w' k ⊎ (IsUnderBad (job_of plan true) h i passes.last w' ⊎ Collide plan.tree.salt)
 
 -- Parity covers all hash blocks of the tree and, on the data device, its data blocks only.
 pub record IsTreeCovered (s : ShapeRecord) (l : Layout) : Type 0 where
@@ -197,8 +197,8 @@ pub record HasWholeTree (s : ShapeRecord) (l : Layout) (f : FormerImage) (w : Re
 abbrev pub DataUnderWholeTreeComeBack : Type 0
 DataUnderWholeTreeComeBack =
     (plan : Plan) → IsTrue plan.write → (l : Layout) → (f : FormerImage) → (w w' : RepairWorld) → (p p' : Device) → (r : IsSureRepair plan l f w w' p p')
-    → HasWholeTree (shape_of r.seeks.s) l f w → parity_sectors l ≤ p.size
-    → (i : ℕ) → i < l.data_blocks → let lost = r.seeks.ends.passes.pass.sought.lost in (IsAmong lost i → lost_count l lost i ≤ l.roots) → IsAsFormed l f w' i ⊎ Collide r.seeks.s.salt
+    → HasWholeTree plan.tree.shape l f w → parity_sectors l ≤ p.size
+    → (i : ℕ) → i < l.data_blocks → let lost = r.seeks.ends.passes.pass.sought.lost in (IsAmong lost i → lost_count l lost i ≤ l.roots) → IsAsFormed l f w' i ⊎ Collide plan.tree.salt
 
 -- whether covered block n is damaged, and how many blocks of a round are
 abbrev pub is_damaged : Layout → FormerImage → RepairWorld → ℕ → Bool
@@ -212,5 +212,5 @@ damaged_count l f w round = count_by (λ n. (round_of l n == round) && is_damage
 abbrev pub DamagedBlocksWithinParityComeBack : Type 0
 DamagedBlocksWithinParityComeBack =
     (plan : Plan) → IsTrue plan.write → (l : Layout) → (f : FormerImage) → (w w' : RepairWorld) → (p p' : Device) → (r : IsSureRepair plan l f w w' p p')
-    → HasWholeTree (shape_of r.seeks.s) l f w → parity_sectors l ≤ p.size
-    → (i : ℕ) → i < l.data_blocks → damaged_count l f w (round_of l i) ≤ l.roots → IsAsFormed l f w' i ⊎ Collide r.seeks.s.salt
+    → HasWholeTree plan.tree.shape l f w → parity_sectors l ≤ p.size
+    → (i : ℕ) → i < l.data_blocks → damaged_count l f w (round_of l i) ≤ l.roots → IsAsFormed l f w' i ⊎ Collide plan.tree.salt

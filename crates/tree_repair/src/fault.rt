@@ -13,18 +13,10 @@ use verity_format::VerifyFault;
 /// Why the repair of an image ends early.
 #[derive(Clone, Copy, Debug, PartialEq, Eq)]
 pub enum RepairFault {
-    /// There is no superblock, a device is too small, a write failed, or an allocation was refused.
+    /// The data or the tree don't fit on their device, a write failed, or an allocation was refused.
     Image(VerifyFault),
     /// A line can't be written.
     Write,
-}
-
-impl From<VerifyFault> for RepairFault {
-    ghost from_gives = { λ fault given. given ≡ repair_fault.Image fault };
-
-    fn from(fault: VerifyFault) -> RepairFault {
-        RepairFault::Image(fault)
-    }
 }
 
 impl From<DeviceFault> for RepairFault {

@@ -15,7 +15,7 @@ use crate::image::DamagedImage;
 use crate::outcome::{Failures, Outcome, outcome_of};
 use crate::parity::{Came, restore_bad};
 use crate::place::Repair;
-use crate::repair::{Plan, repair_heights, repair_of, superblock_of};
+use crate::repair::{Plan, check_room, repair_heights, repair_of};
 use block_device::BlockDev;
 use fec_area::Layout;
 use program_io::Counted;
@@ -30,30 +30,31 @@ use std::io::Write;
 ///
 /// # Errors
 ///
-/// - `Image` if there is no superblock, a device is too small, a write failed, or an allocation was refused.
+/// - `Image` with `TooSmall` if the data or the tree don't fit on their device, before any device is accessed.
+/// - `Image` if a write failed, or an allocation was refused.
 /// - `Write` if a line can't be written.
 pub fn repair_with_parity<D: BlockDev, H: BlockDev, C: BlockDev, P: BlockDev, W: Write>(
     alloc: Global,
     image: &mut DamagedImage<D, H, C>,
     layout: &Layout,
     parity_dev: &mut P,
-    plan: Plan,
+    plan: &Plan,
     writer: &mut Counted<W>,
 ) -> Result<Outcome, RepairFault>
-    requires first { plan.copy_first ≤ 2 ^ 55 }
-    requires allowed { IsAllowed plan.write image.old.data_dev image.old.hash_dev }
+    requires first { plan.now.copy_first ≤ 2 ^ 55 }
+    requires allowed { IsAllowed plan.now.write image.old.data_dev image.old.hash_dev }
     requires laid { IsLaidOn layout.now image.old.data_dev image.old.hash_dev }
     ensures parity { IsOnlyRead (P.state parity_dev.old) (P.state parity_dev.new) }
-    ensures ok { OnOk result (IsParityRepair W.contents plan image.old image.new writer.old writer.new) }
-    ensures err { IfErr result (IsParityUnrepaired W.contents plan image.old image.new writer.old writer.new) }
+    ensures ok { OnOk result (IsParityRepair W.contents plan.now image.old image.new writer.old writer.new) }
+    ensures err { IfErr result (IsParityUnrepaired W.contents plan.now image.old image.new writer.old writer.new) }
     ensures told { IfErr result (IsWriterCause writer.new) }
-    ensures within { IsParityWithin W.contents plan layout.now image.old image.new (P.state parity_dev.old) (P.state parity_dev.new) writer.old writer.new result }
-    ensures whole { IfOk result (IsParityOutcome plan image.old image.new) }
-    ensures sought { OnOk result (IsSoughtByParity P.state plan layout.now image.old image.new parity_dev.old parity_dev.new) }
+    ensures within { IsParityWithin W.contents plan.now layout.now image.old image.new (P.state parity_dev.old) (P.state parity_dev.new) writer.old writer.new result }
+    ensures whole { IfOk result (IsParityOutcome plan.now image.old image.new) }
+    ensures sought { OnOk result (IsSoughtByParity P.state plan.now layout.now image.old image.new parity_dev.old parity_dev.new) }
 {
     let before = Failures::of(image);
-    let superblock = superblock_of(image)?;
-    let repair = repair_of(alloc, &superblock, &plan, true);
+    check_room(image, &plan.tree.shape)?;
+    let repair = repair_of(alloc, plan, true);
     let all = run_passes(&repair, layout, image, parity_dev, writer)?;
     let blocks = repair.shape.blocks();
     let sure = before.none_since(image);

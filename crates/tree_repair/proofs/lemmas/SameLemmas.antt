@@ -11,6 +11,6 @@ use Rattle.tree_repair.proofs.RunLemmas.{runs-same}
 -- of a repair that ended early
 pub unrepaired-same : (plan : Plan) (parity : Bool) (w w' : RepairWorld) (old new : Option (List ℕ)) (fault : RepairFault) → IsUnrepairedBy plan parity w w' old new fault
     → IsSameDevice w.data_dev w'.data_dev × IsSameDevice w.hash_dev w'.hash_dev
-unrepaired-same plan parity w w' old new fault (inl (read, cause)) = (subst (IsSameDevice w.data_dev) (sym read.data_is) (same-none w.data_dev), read.read.same)
+unrepaired-same plan parity w w' old new fault (inl past) = subst (λ (x : RepairWorld). IsSameDevice w.data_dev x.data_dev × IsSameDevice w.hash_dev x.hash_dev) (sym past.same) (same-none w.data_dev, same-none w.hash_dev)
 unrepaired-same plan parity w w' old new fault (inr repairs) =
-    let same = runs-same (job_of repairs.s plan parity) repairs.run.visits w w' repairs.run.runs in (same.data_same, same.hash_same)
+    let same = runs-same (job_of plan parity) repairs.run.visits w w' repairs.run.runs in (same.data_same, same.hash_same)

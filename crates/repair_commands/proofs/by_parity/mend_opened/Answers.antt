@@ -1,28 +1,62 @@
-use Rattle.std.proofs.lemmas.Result.{IfErr-weaker, IfOk-weaker}
+use Rattle.std.proofs.Common.{subst, true}
+use Rattle.std.specs.Prelude.{IfErr, OnOk}
+use Rattle.std.proofs.Math.Path.{subst₂}
+use Rattle.std.proofs.lemmas.Result.{IfErr-weaker, IfOk-weaker, on_ok_weaker}
+use Rattle.verity_commands.specs.Surveyed.{SurveyedDevices}
+use Rattle.tree_repair.specs.declared.repair.Plan.{Plan}
+use Rattle.tree_repair.specs.Worlds.{RepairWorld}
+use Rattle.repair_commands.specs.ByParity.{MendsByParity}
+use Rattle.repair_commands.specs.Commands.{EndsEarly, MendsAndTells, MendsHalf}
+use Rattle.repair_commands.specs.Rest.{IsUntold, Tells, states_of}
+use Rattle.repair_commands.proofs.ScanLemmas.{two-same}
+use Rattle.repair_commands.proofs.TellingLemmas.{told-err, told-ok}
 use Rattle.repair_commands.proofs.by_parity.mend_opened.Goals as goal
 
 pub returns-clause-ok : goal.returns-clause-ok
 returns-clause-ok g c =
-    IfOk-weaker c.mend_laid_out-ended.result _ _
-    (λ outcome mends. record {
-      data_dev = c.image.inside.data;
-      hash_dev = c.image.inside.hash;
-      data_copies = c.image.inside.data_copies.items;
-      hash_copies = c.image.inside.hash_copies.items;
-      mends = mends;
+    let state = g.I.Dev.BlockDev.state in
+    let plan = c.plan_at-plan.result in
+    let w = c.damaged-image.result in
+    let whole = c.args.found.now.whole in
+    let layout = c.args.laid.layout in
+    let p = state c.args.laid.device in
+    let old = g.W.Write.contents c.args.writer.now.inner in
+    let between = g.W.Write.contents c.mend-ended.new.writer.inner in
+    let new = g.W.Write.contents c.tell-data.new.writer.inner in
+    let after = states_of state state c.tell-data.result.0 c.tell-data.result.1 in
+    let same = two-same _ _ _ _ c.devices_of-devices.ensures.data c.devices_of-devices.ensures.hash in
+    let tells = subst (λ (t : SurveyedDevices). OnOk c.tell-data.result.2 (Tells c.mend-ended.result whole plan t after between new)) same c.tell-data.ensures.ok in
+    let mends = IfOk-weaker c.mend-ended.result _ (MendsByParity plan layout p w old c.mend-ended.new.image between) (λ outcome passes. (state c.mend-ended.new.parity_dev, passes)) c.mend-ended.ensures.ok in
+    on_ok_weaker c.tell-data.result.2
+    (λ does. record {
+      data_dev = c.tell-data.result.0;
+      hash_dev = c.tell-data.result.1;
+      holds = subst₂ (λ (q : Plan) (v : RepairWorld). MendsAndTells (MendsByParity q layout p v old) whole q new after) c.plan_at-plan.ensures c.damaged-image.ensures does;
       back = c.give_back.ensures;
     })
-    (rw c.image.view_is c.mend_laid_out-ended.ensures.ok)
+    (told-ok (MendsByParity plan layout p w old) (MendsHalf plan true w old) whole plan c.mend-ended.new.image between new after (λ found mends. mends.1.mends.on_medium) c.mend-ended.result c.tell-data.result.2 mends tells)
 
 pub returns-clause-err : goal.returns-clause-err
 returns-clause-err g c =
-    IfErr-weaker c.mend_laid_out-ended.result _ _
-    (λ fault half. record {
-      data_dev = c.image.inside.data;
-      hash_dev = c.image.inside.hash;
-      data_copies = c.image.inside.data_copies.items;
-      hash_copies = c.image.inside.hash_copies.items;
-      half = half;
+    let state = g.I.Dev.BlockDev.state in
+    let plan = c.plan_at-plan.result in
+    let w = c.damaged-image.result in
+    let whole = c.args.found.now.whole in
+    let layout = c.args.laid.layout in
+    let p = state c.args.laid.device in
+    let old = g.W.Write.contents c.args.writer.now.inner in
+    let between = g.W.Write.contents c.mend-ended.new.writer.inner in
+    let new = g.W.Write.contents c.tell-data.new.writer.inner in
+    let failed = c.tell-data.new.writer.failed in
+    let after = states_of state state c.tell-data.result.0 c.tell-data.result.1 in
+    let same = two-same _ _ _ _ c.devices_of-devices.ensures.data c.devices_of-devices.ensures.hash in
+    let untold = subst (λ (t : SurveyedDevices). IfErr c.tell-data.result.2 (IsUntold c.mend-ended.result whole plan t after between new failed)) same c.tell-data.ensures.err in
+    let mends = IfOk-weaker c.mend-ended.result _ (MendsByParity plan layout p w old c.mend-ended.new.image between) (λ outcome passes. (state c.mend-ended.new.parity_dev, passes)) c.mend-ended.ensures.ok in
+    IfErr-weaker c.tell-data.result.2 _ _
+    (λ fault ends. record {
+      data_dev = c.tell-data.result.0;
+      hash_dev = c.tell-data.result.1;
+      holds = subst₂ (λ (q : Plan) (v : RepairWorld). EndsEarly (MendsByParity q layout p v old) (MendsHalf q true v old) whole q new failed fault after) c.plan_at-plan.ensures c.damaged-image.ensures ends;
       back = c.give_back.ensures;
     })
-    (rw c.image.view_is c.mend_laid_out-ended.ensures.err)
+    (told-err (MendsByParity plan layout p w old) (MendsHalf plan true w old) whole plan c.mend-ended.new.image between new after (λ found mends. mends.1.mends.on_medium) failed c.mend-ended.result c.tell-data.result.2 mends c.mend-ended.ensures.err untold)

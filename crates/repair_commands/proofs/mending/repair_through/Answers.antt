@@ -6,7 +6,7 @@ pub returns-in-Ok-clause-ok : goal.returns-in-Ok-clause-ok
 returns-in-Ok-clause-ok g c = record {
   repair = c.in-Ok.ensures.ok;
   all = c.in-Ok.ensures.looked;
-  within = elim c.in-Ok.ensures.within [ inl none ↦ absurd none.0 | inr runs ↦ runs ];
+  within = elim c.in-Ok.ensures.within [ inl none ↦ absurd none | inr runs ↦ runs ];
   whole = c.in-Ok.ensures.whole;
 }
 

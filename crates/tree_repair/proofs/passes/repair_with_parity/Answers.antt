@@ -5,28 +5,22 @@ use Rattle.tree_repair.specs.Outcomes.{IsParityOutcome}
 use Rattle.tree_repair.specs.Runs.{Job}
 use Rattle.tree_repair.proofs.BackLemmas.{parity-outcome}
 use Rattle.tree_repair.proofs.RepairLemmas.{can-begin, ends-of, err-from, is_err-from, repairs-of, whole-err}
-use Rattle.tree_repair.proofs.RunLemmas.{ended-from, laid-read}
+use Rattle.tree_repair.proofs.RunLemmas.{ended-from}
 use Rattle.tree_repair.proofs.ParityPassLemmas.{repairs-passes, runs-from}
 use Rattle.tree_repair.proofs.WholeLemmas.{unfailed-since}
 use Rattle.tree_repair.proofs.passes.repair_with_parity.Goals as goal
 
-pub returns-in_err-superblock-clause-parity : goal.returns-in_err-superblock-clause-parity
-returns-in_err-superblock-clause-parity g c = only_read-none (g.P.BlockDev.state c.args.parity_dev.now)
+pub returns-in_err-check_room-clause-parity : goal.returns-in_err-check_room-clause-parity
+returns-in_err-check_room-clause-parity g c = only_read-none (g.P.BlockDev.state c.args.parity_dev.now)
 
-pub returns-in_err-superblock-clause-err : goal.returns-in_err-superblock-clause-err
-returns-in_err-superblock-clause-err g c =
-    err-from c.from_residual.result _ c.in_err-superblock.field-0.0 c.from_residual.ensures.1 (inl (c.superblock_of.ensures.alone, c.in_err-superblock.ensures.err))
+pub returns-in_err-check_room-clause-err : goal.returns-in_err-check_room-clause-err
+returns-in_err-check_room-clause-err g c = err-from c.from_residual.result _ c.in_err-check_room.field-0.0 c.from_residual.ensures.1 (inl c.in_err-check_room.ensures.err)
 
 pub run_passes-requires-clause-asked : goal.run_passes-requires-clause-asked
-run_passes-requires-clause-asked g c = ap (λ (j : Job). j.parity) c.repair_of-repair.ensures.job
+run_passes-requires-clause-asked g c = ap (λ (j : Job). j.parity) c.repair_of-repair.ensures
 
 pub run_passes-requires-clause-can : goal.run_passes-requires-clause-can
-run_passes-requires-clause-can g c =
-    can-begin c.in_ok-superblock.superblock c.args.plan true (job c.repair_of-repair.result) c.args.image.now c.superblock_of.new.image c.repair_of-repair.ensures.job c.in_ok-superblock.ensures.read
-    c.in_ok-superblock.ensures.ok c.repair_of-repair.ensures.valid c.requires.allowed c.requires.first
-
-pub run_passes-requires-clause-laid : goal.run_passes-requires-clause-laid
-run_passes-requires-clause-laid g c = laid-read c.in_ok-superblock.ensures.read c.requires.laid
+run_passes-requires-clause-can g c = can-begin c.args.plan.now true (job c.repair_of-repair.result) c.args.image.now c.repair_of-repair.ensures c.in_ok-check_room.ensures.ok c.requires.allowed c.requires.first
 
 pub returns-in_err-all-clause-parity : goal.returns-in_err-all-clause-parity
 returns-in_err-all-clause-parity g c = c.run_passes.ensures.parity
@@ -36,37 +30,34 @@ returns-clause-parity g c = c.run_passes.ensures.parity
 
 pub returns-in_err-all-clause-err : goal.returns-in_err-all-clause-err
 returns-in_err-all-clause-err g c =
-    whole-err c.in_ok-superblock.superblock c.args.plan true (job c.repair_of-repair.result) c.args.image.now c.superblock_of.new.image c.repair_of-repair.ensures.job c.in_ok-superblock.ensures.read
-    c.in_ok-superblock.ensures.ok c.run_passes.new.image (g.W.Write.contents c.args.writer.now.inner) (g.W.Write.contents c.run_passes.new.writer.inner) c.from_residual-in_err-all.result
-    (ended-from c.from_residual-in_err-all.result c.from_residual-in_err-all.ensures.1 c.in_err-all.ensures.run)
+    whole-err c.args.plan.now true (job c.repair_of-repair.result) c.args.image.now c.repair_of-repair.ensures c.in_ok-check_room.ensures.ok c.run_passes.new.image (g.W.Write.contents c.args.writer.now.inner)
+    (g.W.Write.contents c.run_passes.new.writer.inner) c.from_residual-in_err-all.result (ended-from c.from_residual-in_err-all.result c.from_residual-in_err-all.ensures.1 c.in_err-all.ensures.run)
 
 pub returns-clause-ok : goal.returns-clause-ok
 returns-clause-ok g c =
-    repairs-of c.in_ok-superblock.superblock c.args.plan true (job c.repair_of-repair.result) c.args.image.now c.superblock_of.new.image c.repair_of-repair.ensures.job c.in_ok-superblock.ensures.read
-    c.in_ok-superblock.ensures.ok c.run_passes.new.image (g.W.Write.contents c.args.writer.now.inner) (g.W.Write.contents c.run_passes.new.writer.inner) None c.in_ok-all.ensures.run
+    repairs-of c.args.plan.now true (job c.repair_of-repair.result) c.args.image.now c.repair_of-repair.ensures c.in_ok-check_room.ensures.ok c.run_passes.new.image (g.W.Write.contents c.args.writer.now.inner)
+    (g.W.Write.contents c.run_passes.new.writer.inner) None c.in_ok-all.ensures.run
 
-pub returns-in_err-superblock-clause-within : goal.returns-in_err-superblock-clause-within
-returns-in_err-superblock-clause-within g c = inl (is_err-from c.from_residual.result _ c.in_err-superblock.field-0.0 c.from_residual.ensures.1 c.in_err-superblock.ensures.err, (c.superblock_of.ensures.alone, refl))
+pub returns-in_err-check_room-clause-within : goal.returns-in_err-check_room-clause-within
+returns-in_err-check_room-clause-within g c = inl (is_err-from c.from_residual.result _ c.in_err-check_room.field-0.0 c.from_residual.ensures.1 c.in_err-check_room.ensures.err, refl)
 
 pub returns-in_err-all-clause-within : goal.returns-in_err-all-clause-within
 returns-in_err-all-clause-within g c =
-    inr (repairs-passes c.in_ok-superblock.superblock c.args.plan (job c.repair_of-repair.result) c.repair_of-repair.ensures.job c.in_ok-superblock.ensures.read c.in_ok-superblock.ensures.ok c.in_ok-superblock.ensures.asked
-    (runs-from c.from_residual-in_err-all.result c.from_residual-in_err-all.ensures.1 c.in_err-all.ensures.within))
+    inr (repairs-passes c.args.plan.now (job c.repair_of-repair.result) c.repair_of-repair.ensures c.in_ok-check_room.ensures.ok (runs-from c.from_residual-in_err-all.result c.from_residual-in_err-all.ensures.1 c.in_err-all.ensures.within))
 
 pub returns-clause-within : goal.returns-clause-within
-returns-clause-within g c =
-    inr (repairs-passes c.in_ok-superblock.superblock c.args.plan (job c.repair_of-repair.result) c.repair_of-repair.ensures.job c.in_ok-superblock.ensures.read c.in_ok-superblock.ensures.ok c.in_ok-superblock.ensures.asked c.in_ok-all.ensures.within)
+returns-clause-within g c = inr (repairs-passes c.args.plan.now (job c.repair_of-repair.result) c.repair_of-repair.ensures c.in_ok-check_room.ensures.ok c.in_ok-all.ensures.within)
 
 pub returns-clause-whole : goal.returns-clause-whole
 returns-clause-whole g c =
     let w = c.args.image.now in
     let y = c.run_passes.new.image in
-    subst (IsParityOutcome c.args.plan w y) (sym c.outcome_of.ensures)
-    (parity-outcome c.in_ok-superblock.superblock c.args.plan (job c.repair_of-repair.result) w c.superblock_of.new.image y c.repair_of-repair.ensures.job c.in_ok-superblock.ensures.read c.in_ok-superblock.ensures.ok
+    subst (IsParityOutcome c.args.plan.now w y) (sym c.outcome_of.ensures)
+    (parity-outcome c.args.plan.now (job c.repair_of-repair.result) w y c.repair_of-repair.ensures c.in_ok-check_room.ensures.ok
     c.in_ok-all.all c.none_since-sure.result c.blocks-blocks.result c.blocks-blocks.ensures.value c.in_ok-all.ensures.whole
     (λ known. unfailed-since c.of-before.result w y c.of-before.ensures.data c.of-before.ensures.hash (c.none_since-sure.ensures known)))
 
 pub returns-clause-sought : goal.returns-clause-sought
 returns-clause-sought g c =
-    ends-of c.in_ok-superblock.superblock c.args.plan (job c.repair_of-repair.result) c.args.layout.now c.args.image.now c.superblock_of.new.image c.run_passes.new.image
-    (g.P.BlockDev.state c.args.parity_dev.now) (g.P.BlockDev.state c.run_passes.new.parity) c.repair_of-repair.ensures.job c.in_ok-superblock.ensures.read c.in_ok-superblock.ensures.ok c.repair_of-repair.ensures.valid c.in_ok-all.ensures.asks
+    ends-of c.args.plan.now (job c.repair_of-repair.result) c.args.layout.now c.args.image.now c.run_passes.new.image
+    (g.P.BlockDev.state c.args.parity_dev.now) (g.P.BlockDev.state c.run_passes.new.parity) c.repair_of-repair.ensures c.in_ok-check_room.ensures.ok c.in_ok-all.ensures.asks
