@@ -1,7 +1,8 @@
 -- Devices that are only read after their writes were synced.
-use Rattle.std.proofs.Common.{◌≡◌, ℕ, Bool, List, Option, ap, refl, subst, sym, ◌∙◌}
+use Rattle.std.proofs.Common.{◌≡◌, ℕ, Bool, List, Option, Some, ap, refl, subst, sym, ◌∙◌}
 use Rattle.std.proofs.Math.Path.{subst₂}
-use Rattle.block_device.specs.Device.{Device}
+use Rattle.block_device.specs.Device.{Device, IsRead}
+use Rattle.block_device.specs.Failing.{IsInnerRead}
 use Rattle.verity_commands.specs.declared.tree_fault.TreeFault.{TreeFault}
 use Rattle.verity_commands.specs.Surveyed.{SurveyedDevices, surveyed_devices}
 use Rattle.verity_format.specs.Blocks.{IsOnlyRead}
@@ -11,6 +12,24 @@ use Rattle.tree_repair.specs.declared.repair.Plan.{Plan}
 use Rattle.repair_commands.specs.Mends.{IsOnMedium}
 use Rattle.repair_commands.specs.OnlyRead.{IsReadAlone, KeepsFlags, read_only}
 use Rattle.repair_commands.specs.Rest.{IsRestEnd, IsScanned, TellsRest}
+
+-- a read, as a read of a device that may not be written
+pub read-only-read : (d d' : Device) (n : ℕ) (ok : Bool) → IsRead d n ok d' → IsRead (read_only d) n ok (read_only d')
+read-only-read d d' n ok m = record {
+  same = record { size = m.same.size; may_write = refl; steady = m.same.steady; never_fails = m.same.never_fails };
+  reads = m.reads;
+  writes = m.writes;
+  failures = m.failures;
+  dirty = m.dirty;
+  image = m.image;
+}
+
+pub read-only-call : (d d' : Device) (first n : ℕ) (ok : Bool) (bytes : List ℕ) → IsInnerRead d first n ok d' bytes → IsInnerRead (read_only d) first n ok (read_only d') bytes
+read-only-call d d' first n ok bytes r = record { moved = read-only-read d d' n ok r.moved; answer = r.answer; sure = r.sure }
+
+-- a device is what it was, by its name
+pub flags-known : (o : Option Device) (d former : Device) → o ≡ Some d → o ≡ Some former → KeepsFlags former d
+flags-known o d former e f = let same : d ≡ former = cc in record { may_write = ap (λ (v : Device). v.may_write) same; dirty = ap (λ (v : Device). v.dirty) same }
 
 -- what was read as a device that may not be written, and kept its flags
 read-as : (d d' : Device) → IsOnlyRead (read_only d) (read_only d') → KeepsFlags d d' → IsReadAlone d d'

@@ -71,8 +71,7 @@ impl<D: BlockDev, K: Former> BlockDev for OnlyRead<D, K> {
     }
 
     // No caller may: the device can't be written.
-    fn write(&mut self, first: u64, bytes: &[u8]) -> Result<(), DeviceFault> {
-        let _unwritten = (first, bytes);
+    fn write(&mut self, _first: u64, _bytes: &[u8]) -> Result<(), DeviceFault> {
         unreachable!()
     }
 

@@ -31,6 +31,17 @@ returns-in_err-whole-clause-err g c =
       cause = c.in_err-whole.ensures.err;
     }))
 
+pub returns-then-not-is_aligned-clause-read : goal.returns-then-not-is_aligned-clause-read
+returns-then-not-is_aligned-clause-read g c = only_read-then c.read_superblock.ensures.read c.check_unused.ensures.read
+
+pub returns-then-not-is_aligned-clause-err : goal.returns-then-not-is_aligned-clause-err
+returns-then-not-is_aligned-clause-err g c = inl (record {
+  super = c.in_ok-superblock.superblock;
+  sector = c.in_ok-superblock.ensures.found.0;
+  read = c.in_ok-superblock.ensures.found.1;
+  unaligned = cc (c.if-not-is_aligned.ensures, c.hash_block.ensures);
+})
+
 pub returns-clause-read : goal.returns-clause-read
 returns-clause-read g c = only_read-then c.read_superblock.ensures.read c.check_unused.ensures.read
 
@@ -40,6 +51,6 @@ returns-clause-ok g c = record {
   read_dev = g.H.BlockDev.state c.read_superblock.new.hash_dev;
   reads = record { sector = c.in_ok-superblock.ensures.found.0; read = c.in_ok-superblock.ensures.found.1; pinned = sym c.in-None.ensures; one = c.in_ok-superblock.ensures.full };
   passed = c.in_ok-whole.ensures.ok;
-  aligned = cc (c.if-not-is_aligned.ensures);
+  aligned = cc (c.if-not-is_aligned.ensures, c.hash_block.ensures);
   is = ap (λ (t : VerityTree). record { tree = t; root = c.args.trusted.now.root; whole = c.in_ok-whole.whole }) c.tree.ensures.value;
 }

@@ -4,8 +4,14 @@ use Rattle.std.proofs.lemmas.Result.{IfErr-weaker, IfOk-weaker}
 use Rattle.block_device.specs.Device.{Device}
 use Rattle.verity_commands.specs.Surveyed.{SurveyedDevices, surveyed_devices}
 use Rattle.repair_commands.specs.Rest.{IsScanEnd, ScansAll}
-use Rattle.repair_commands.proofs.ScanLemmas.{read-alone, two-same}
+use Rattle.repair_commands.proofs.ScanLemmas.{flags-known, read-alone, two-same}
 use Rattle.repair_commands.proofs.rest.scan_known.Goals as goal
+
+pub new-data-requires : goal.new-data-requires
+new-data-requires g c = λ former is. flags-known _ _ former c.requires.0 is
+
+pub new-hash-requires : goal.new-hash-requires
+new-hash-requires g c = λ former is. flags-known _ _ former c.requires.1 is
 
 pub returns-clause-scanned : goal.returns-clause-scanned
 returns-clause-scanned g c = record {
