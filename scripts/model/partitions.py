@@ -232,7 +232,7 @@ def stack_lines(image, partitions, size):
     for it in partitions:
         check_end(image, it, size)
     if len(partitions) > MOST_DEVICES:
-        raise Stop(b"refused 60 NotLoadable")
+        raise Stop(b"refused 46 NotLoadable")
     return [linear(name_of(partitions, it), it, size) for it in partitions]
 
 

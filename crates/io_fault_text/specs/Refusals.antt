@@ -47,7 +47,6 @@ refusals =
     ∷ (57, codes "UnitStart")
     ∷ (58, codes "DividedChunk")
     ∷ (59, codes "PartSize")
-    ∷ (60, codes "NotLoadable")
     ∷ []
 
 -- no two refusals of the list have one number

@@ -13,7 +13,7 @@ partitions_text NoMemory = no_memory
 partitions_text (Open file) = open_text file
 partitions_text (Pin fault) = image_text fault
 partitions_text (Refused refusal) = refusal_text refusal
-partitions_text NotLoadable = refused_text 60 (codes "NotLoadable")
+partitions_text NotLoadable = refused_text 46 (codes "NotLoadable")
 partitions_text Write = []
 
 -- refused

@@ -24,7 +24,7 @@ pub fn say_partitions_fault<W: Write>(
         PartitionsFault::Open(file) => say_unopened(writer, file),
         PartitionsFault::Pin(fault) => say_image_fault(writer, fault),
         PartitionsFault::Refused(refusal) => say_refusal(writer, refusal),
-        PartitionsFault::NotLoadable => say_refused(writer, 60, "NotLoadable"),
+        PartitionsFault::NotLoadable => say_refused(writer, 46, "NotLoadable"),
         PartitionsFault::Write => Ok(()),
     }
 }
