@@ -44,10 +44,6 @@ ending_json line None = parts_json line (parts_of line)
 abbrev pub object_line : List ℕ → List ℕ
 object_line line = json_line (ending_json line (fault_parts line))
 
--- what is before the first newline (10), if there is one
-abbrev pub first_line : List ℕ → Option (List ℕ)
-first_line text = option_map (λ parts. parts.0) (cut_first 10 text)
-
--- the object of the first line of a text, if it has one
+-- the object of the first line (10 ends it) of a text, if it has one
 abbrev pub ending_object : List ℕ → Option (List ℕ)
-ending_object text = option_map object_line (first_line text)
+ending_object text = option_map (λ parts. object_line parts.0) (cut_first 10 text)

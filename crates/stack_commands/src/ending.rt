@@ -54,13 +54,11 @@ fn object_of(alloc: Global, fault: CommandFault<'_>) -> Option<String>
     ensures { IfSome result (λ object. ending_object (ending_text fault.entry) ≡ Some (string_bytes object)) }
 {
     let mut kept = Counted::new(Vec::new(alloc));
-    match say_fault(&mut kept, fault) {
-        Ok(()) => {
-            let line = kept.into_inner();
-            object_in(alloc, line.as_slice())
-        }
-        Err(_) => None,
+    if say_fault(&mut kept, fault).is_err() {
+        return None;
     }
+    let line = kept.into_inner();
+    object_in(alloc, line.as_slice())
 }
 
 // The object of the first line of a text.

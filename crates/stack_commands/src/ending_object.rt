@@ -1,9 +1,10 @@
 //! The line that ends a command early, as a JSON object.
-ghost use Rattle.std.specs.Prelude.{◌≡◌, string_bytes, IfOk, IfSome, Some};
+ghost use Rattle.std.specs.Prelude.{◌≡◌, option_map, string_bytes, IfOk, IfSome, Some};
 ghost use Rattle.serde_json.specs.Data.{object};
 ghost use Rattle.serde_json.specs.View.{view};
+ghost use Rattle.command_line.specs.Cuts.{cut_first};
 ghost use Rattle.command_line.specs.FormatOptions.{text_of};
-ghost use Rattle.stack_commands.specs.EndingObjects.{ending_json, ending_object, fault_json, first_line, object_line, parts_json, parts_members};
+ghost use Rattle.stack_commands.specs.EndingObjects.{ending_json, ending_object, fault_json, object_line, parts_json, parts_members};
 ghost use Rattle.stack_commands.specs.EndingParts.{fault_parts, fault_record, parts_of, parts_record};
 
 use crate::ending_parts::{EndingParts, TextFaultParts, fault_parts, parts_of};
@@ -26,7 +27,7 @@ pub fn ending_object(alloc: Global, text: &str) -> Option<String>
 
 // What is before the first newline.
 fn first_line(text: &str) -> Option<&str>
-    ensures { text_of result ≡ first_line text.now }
+    ensures { text_of result ≡ option_map (λ parts. parts.0) (cut_first 10 text.now) }
 {
     match text.split_once('\n') {
         Some((line, _)) => Some(line),
