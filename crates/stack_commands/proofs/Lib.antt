@@ -1,5 +1,4 @@
 pub mod EndingLemmas
-mod EndingObjectLemmas
 pub mod OpeningLemmas
 mod LinuxLemmas
 mod RefusalLemmas

@@ -1,9 +1,6 @@
 pub mod Commands
-pub mod CommandEnds
 pub mod Desks
 pub mod Diffing
-pub mod EndingObjects
-pub mod EndingParts
 pub mod Endings
 pub mod FaultTexts
 pub mod Invocations
