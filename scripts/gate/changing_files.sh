@@ -404,7 +404,7 @@ if mount -t tmpfs -o size=32k,mode=777 tmpfs full 2> mount_errors; then
     truncate -s 131072 tree made
     root=$("$program" format $sizes data made | sed -n 's/^root //p')
     truncate -s 1048576 full/parity
-    ran 1 'refused 49 FecDevice' "$program" format $sizes --fec full/parity --fec-roots 24 data tree
+    ran 1 'refused 50 FecDevice' "$program" format $sizes --fec full/parity --fec-roots 24 data tree
     check 'the data image is as it was' cmp data kept
     check 'the tree before a parity that was not written is whole' cmp tree made
     ran 3 $'matches\nparity differs in round 2' "$program" verify --fec full/parity --fec-roots 24 data tree "$root"

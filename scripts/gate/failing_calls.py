@@ -305,11 +305,11 @@ def behind_the_image(case, kind, what, output):
     # the superblock is read again, before the parity is laid out
     at_parity = os.path.basename(what[1]) == parity
     again = what[0] == b"read" and not at_parity and output == told + b"refused 10 Device\n"
-    if not at_parity and not again and output != told + b"refused 49 FecDevice\n":
+    if not at_parity and not again and output != told + b"refused 50 FecDevice\n":
         return None
     if not whole:
         raise Wrong("the image isn't whole before its parity")
-    return 1, told + (b"refused 10 Device" if again else b"refused 49 FecDevice")
+    return 1, told + (b"refused 10 Device" if again else b"refused 50 FecDevice")
 
 
 def check_command(case, plain, kind, ran):

@@ -53,7 +53,7 @@ cp little kept
 parity=$(losetup --find --show file 2> /dev/null) || { parity=''; skip 'no loop device for the parity can be made'; }
 options=(--fec "$parity" --fec-roots 8 --data-block 512 --hash-block 512 --salt 00 --uuid 00000000-0000-0000-0000-000000000001)
 for tree in new little; do
-    [ "$("$program" format --grow "${options[@]}" blocks $tree)" = 'refused 47 FecTooSmall needed 16' ] || fail "the parity of $tree is taken"
+    [ "$("$program" format --grow "${options[@]}" blocks $tree)" = 'refused 48 FecTooSmall needed 16' ] || fail "the parity of $tree is taken"
 done
 [ ! -e new ] || fail 'HASH is made before FILE is refused'
 cmp little kept || fail 'HASH is made longer before FILE is refused'

@@ -13,7 +13,7 @@ def check_parity(tree, area, parity, roots):
     check_one_size(tree.data_block, tree.hash_block)
     needed = sectors_of_parity(area, tree.data_block, roots)
     if len(parity) // SECTOR < needed:
-        raise Stop(b"refused 47 FecTooSmall needed %d" % needed)
+        raise Stop(b"refused 48 FecTooSmall needed %d" % needed)
 
 
 def check_aligned(first, hash_block):
@@ -24,7 +24,7 @@ def check_aligned(first, hash_block):
 
 def check_one_size(data_block, hash_block):
     if data_block != hash_block:
-        raise Stop(b"refused 46 OtherBlockSizes")
+        raise Stop(b"refused 47 OtherBlockSizes")
 
 
 def laid_out(files, paths, fec, first, writable):
@@ -87,7 +87,7 @@ def measured(files, paths, fec, first, options):
     covered_blocks = blocks + max(0, len(image[first * SECTOR:]) // SECTOR * SECTOR // data_block - 1)
     needed = -(-covered_blocks // (WORD - fec[1])) * fec[1] * data_block // SECTOR
     if len(parity) // SECTOR < needed:
-        raise Stop(b"refused 47 FecTooSmall needed %d" % needed)
+        raise Stop(b"refused 48 FecTooSmall needed %d" % needed)
 
 
 def check_parity_of(files, paths, fec, first):

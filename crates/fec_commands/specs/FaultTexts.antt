@@ -10,9 +10,9 @@ use Rattle.fec_commands.specs.declared.fault.FecFault.TheVariants as fec
 
 -- why parity can't be written or compared, with the needed sectors
 abbrev pub parity_text : ParityFault → List ℕ
-parity_text (parity.TooSmall needed) = codes "refused 47 FecTooSmall needed " ++ (decimal needed ++ codes "\n")
-parity_text parity.ReadOnly = codes "refused 48 FecReadOnly\n"
-parity_text parity.Device = codes "refused 49 FecDevice\n"
+parity_text (parity.TooSmall needed) = codes "refused 48 FecTooSmall needed " ++ (decimal needed ++ codes "\n")
+parity_text parity.ReadOnly = codes "refused 49 FecReadOnly\n"
+parity_text parity.Device = codes "refused 50 FecDevice\n"
 parity_text parity.NoMemory = no_memory
 
 abbrev pub differs_text : ℕ → List ℕ
@@ -20,7 +20,7 @@ differs_text round = codes "parity differs in round " ++ (decimal round ++ codes
 
 abbrev pub fec_text : FecFault → List ℕ
 fec_text (fec.Verity fault) = verity_text fault
-fec_text fec.BlockSizes = codes "refused 46 OtherBlockSizes\n"
+fec_text fec.BlockSizes = codes "refused 47 OtherBlockSizes\n"
 fec_text (fec.Parity fault) = parity_text fault
 fec_text (fec.Differs round) = differs_text round
 

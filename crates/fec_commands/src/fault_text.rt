@@ -28,7 +28,7 @@ pub fn say_fec_fault<W: Write>(
 {
     match fault {
         FecFault::Verity(fault) => say_verity_fault(writer, fault),
-        FecFault::BlockSizes => writer.put(b"refused 46 OtherBlockSizes\n"),
+        FecFault::BlockSizes => writer.put(b"refused 47 OtherBlockSizes\n"),
         FecFault::Parity(fault) => say_parity_fault(writer, fault),
         FecFault::Differs(round) => say_difference(writer, round),
     }
@@ -51,10 +51,10 @@ fn say_parity_fault<W: Write>(writer: &mut Counted<W>, fault: ParityFault) -> Re
 {
     match fault {
         ParityFault::TooSmall { needed } => {
-            writer.print(format_args!("refused 47 FecTooSmall needed {needed}\n"))
+            writer.print(format_args!("refused 48 FecTooSmall needed {needed}\n"))
         }
-        ParityFault::ReadOnly => writer.put(b"refused 48 FecReadOnly\n"),
-        ParityFault::Device => writer.put(b"refused 49 FecDevice\n"),
+        ParityFault::ReadOnly => writer.put(b"refused 49 FecReadOnly\n"),
+        ParityFault::Device => writer.put(b"refused 50 FecDevice\n"),
         ParityFault::NoMemory => say_no_memory(writer),
     }
 }

@@ -33,11 +33,11 @@ refusals =
     ∷ (43, codes "PinWrite")
     ∷ (44, codes "PinSync")
     ∷ (45, codes "PinRename")
-    ∷ (46, codes "OtherBlockSizes")
-    ∷ (47, codes "FecTooSmall")
-    ∷ (48, codes "FecReadOnly")
-    ∷ (49, codes "FecDevice")
-    ∷ (50, codes "UnusedEntries")
+    ∷ (46, codes "NotLoadable")
+    ∷ (47, codes "OtherBlockSizes")
+    ∷ (48, codes "FecTooSmall")
+    ∷ (49, codes "FecReadOnly")
+    ∷ (50, codes "FecDevice")
     ∷ (51, codes "LinuxSize")
     ∷ (52, codes "VerityBesideOthers")
     ∷ (53, codes "SmallBlock")
@@ -47,6 +47,7 @@ refusals =
     ∷ (57, codes "UnitStart")
     ∷ (58, codes "DividedChunk")
     ∷ (59, codes "PartSize")
+    ∷ (60, codes "UnusedEntries")
     ∷ []
 
 -- no two refusals of the list have one number

@@ -97,15 +97,15 @@ unwritten-lines replace.Sync = inr (row 44 (codes "PinSync") (codes "\n") refl)
 unwritten-lines replace.Rename = inr (row 45 (codes "PinRename") (codes "\n") refl)
 
 -- the lines that are texts as a whole
-parity-needed : (rest : List ℕ) → IsNumbered (codes "refused 47 FecTooSmall needed " ++ rest)
+parity-needed : (rest : List ℕ) → IsNumbered (codes "refused 48 FecTooSmall needed " ++ rest)
 unfolding refusals digits
-parity-needed rest = record { number = 47; name = codes "FecTooSmall"; rest = codes " needed " ++ rest; own = inr refl; is = refl }
+parity-needed rest = record { number = 48; name = codes "FecTooSmall"; rest = codes " needed " ++ rest; own = inr refl; is = refl }
 
 parity-lines : (fault : ParityFault) → IsListed (parity_text fault)
 unfolding refusals digits
 parity-lines (parity.TooSmall needed) = inr (parity-needed (decimal needed ++ codes "\n"))
-parity-lines parity.ReadOnly = inr (record { number = 48; name = codes "FecReadOnly"; rest = codes "\n"; own = inr refl; is = refl })
-parity-lines parity.Device = inr (record { number = 49; name = codes "FecDevice"; rest = codes "\n"; own = inr refl; is = refl })
+parity-lines parity.ReadOnly = inr (record { number = 49; name = codes "FecReadOnly"; rest = codes "\n"; own = inr refl; is = refl })
+parity-lines parity.Device = inr (record { number = 50; name = codes "FecDevice"; rest = codes "\n"; own = inr refl; is = refl })
 parity-lines parity.NoMemory = inl refl
 
 unlike-lines : (fault : Unlike) → IsNumbered (unlike_text fault)
@@ -125,7 +125,7 @@ file-lines = record {
   map_length = row 30 (codes "MapTooLong") (codes "\n") refl;
   map_unwritten = unreplaced-lines;
   parity = parity-lines;
-  parity_blocks = record { number = 46; name = codes "OtherBlockSizes"; rest = codes "\n"; own = inr refl; is = refl };
+  parity_blocks = record { number = 47; name = codes "OtherBlockSizes"; rest = codes "\n"; own = inr refl; is = refl };
   pin = pin-lines;
   pin_unwritten = unwritten-lines;
 }
@@ -138,7 +138,7 @@ image-lines = record {
   overlap = record { number = 34; name = codes "DataOverlapsTree"; rest = codes "\n"; own = inr refl; is = refl };
   root = record { number = 19; name = codes "RootText"; rest = codes "\n"; own = inr refl; is = refl };
   tree = record { number = 18; name = codes "Unaligned"; rest = codes "\n"; own = inr refl; is = refl };
-  unused = record { number = 50; name = codes "UnusedEntries"; rest = codes "\n"; own = inr refl; is = refl };
+  unused = record { number = 60; name = codes "UnusedEntries"; rest = codes "\n"; own = inr refl; is = refl };
   outside = λ path. outside-line (shown_path path ++ codes "\n");
 }
 

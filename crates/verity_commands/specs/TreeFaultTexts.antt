@@ -70,7 +70,7 @@ tree_fault_text trees.Differs = []
 tree_fault_text (trees.Survey fault) = survey_text fault
 tree_fault_text trees.Unaligned = codes "refused 18 Unaligned\n"
 tree_fault_text (trees.Unpinned mismatch) = refused_text (mismatch_number mismatch) (mismatch_name mismatch)
-tree_fault_text trees.UnusedEntries = codes "refused 50 UnusedEntries\n"
+tree_fault_text trees.UnusedEntries = codes "refused 60 UnusedEntries\n"
 tree_fault_text trees.Damaged = []
 tree_fault_text trees.Write = []
 

@@ -31,7 +31,7 @@ pub fn say_tree_fault<W: Write>(
         TreeFault::Survey(fault) => say_survey_fault(writer, fault),
         TreeFault::Unaligned => writer.put(b"refused 18 Unaligned\n"),
         TreeFault::Unpinned(mismatch) => { say_refused(writer, mismatch.number(), mismatch.name()) }
-        TreeFault::UnusedEntries => writer.put(b"refused 50 UnusedEntries\n"),
+        TreeFault::UnusedEntries => writer.put(b"refused 60 UnusedEntries\n"),
         TreeFault::Damaged => Ok(()),
         TreeFault::Write => Ok(()),
     }
