@@ -23,7 +23,7 @@ size_of bytes = if bytes == 4096 then Bytes4096 else Bytes512
 
 -- a root hash that comes without a pin
 abbrev pub root_alone : List ℕ → TrustedRoot
-root_alone root = record { root = root; pin = None }
+root_alone digest = record { root = digest; pin = None }
 
 abbrev pub PrintsForm : {S D : Type 0} → Calls S D → List ℕ → SectorSize → FormRecord → Option (List ℕ) → Option (List ℕ) → Notes → Type 0
 PrintsForm w path size lines old new notes = PrintsOfImage w path size listed_text old new notes

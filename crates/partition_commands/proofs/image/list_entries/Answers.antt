@@ -8,7 +8,7 @@ use Rattle.partition_commands.proofs.image.list_entries.Goals as goal
 
 pub returns-clause-ok : goal.returns-clause-ok
 returns-clause-ok g c =
-    let said = rw (c.sectors.ensures, c.deref-2.ensures.value) at c.say_stack.ensures.ok in
+    let said = rw (c.sectors-sectors.ensures.size, c.deref-2.ensures.value) at c.say_stack.ensures.ok in
     on_ok_weaker c.say_stack.result
     (λ both. record {
       table = c.in_ok-table.table;
@@ -32,7 +32,7 @@ returns-clause-err g c =
     let old = g.D.BlockDev.state c.args.device.now in
     let new = g.D.BlockDev.state c.find_noted.new.device in
     let table = c.in_ok-table.table in
-    let ended = rw (c.sectors.ensures, c.deref-2.ensures.value) at c.say_stack.ensures.err in
+    let ended = rw (c.sectors-sectors.ensures.size, c.deref-2.ensures.value) at c.say_stack.ensures.err in
     IfErr-weaker c.say_stack.result _ _
     (λ fault ends. say-entries old new c.args.size table c.say_stack.new.writer.failed fault (λ refused. record { table = table; found = c.in_ok-table.ensures.ok.found; unloadable = refused }) ends) ended
 

@@ -63,7 +63,7 @@ returns-clause-ok g c =
       super = c.in_ok-superblock.superblock;
       fitting = c.in_ok-superblock.ensures.ok;
     } in
-    let said = rw (c.sectors.ensures, c.deref-2.ensures.value, c.in_ok-text.ensures.ok) at c.say_loadable.ensures.ok in
+    let said = rw (c.sectors-sectors.ensures.size, c.deref-2.ensures.value, c.in_ok-text.ensures.ok) at c.say_loadable.ensures.ok in
     on_ok_weaker c.say_loadable.result (λ both. record { pair = pair; loads = both.0; printed = both.1; noted = c.in_ok-table.ensures.ok.noted }) said
 
 pub returns-clause-err : goal.returns-clause-err
@@ -77,7 +77,7 @@ returns-clause-err g c =
       super = c.in_ok-superblock.superblock;
       fitting = c.in_ok-superblock.ensures.ok;
     } in
-    let ended = rw (c.sectors.ensures, c.deref-2.ensures.value, c.in_ok-text.ensures.ok) at c.say_loadable.ensures.err in
+    let ended = rw (c.sectors-sectors.ensures.size, c.deref-2.ensures.value, c.in_ok-text.ensures.ok) at c.say_loadable.ensures.err in
     IfErr-weaker c.say_loadable.result _ _ (say-root pair c.say_loadable.new.writer.failed) ended
 
 pub returns-in_err-table-clause-noted : goal.returns-in_err-table-clause-noted
