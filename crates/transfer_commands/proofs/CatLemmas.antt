@@ -1,5 +1,5 @@
 -- Sectors that are written out, piece by piece.
-use Rattle.std.proofs.Common.{◌≡◌, ◌≢◌, ℕ, ◌+◌, ◌≤◌, true, false, List, [], ◌++◌, Option, Ok, Err, refl, sym, ap, ◌∙◌, subst, arith}
+use Rattle.std.proofs.Common.{◌≡◌, ◌≢◌, ℕ, ◌+◌, ◌≤◌, List, [], ◌++◌, Option, Ok, Err, refl, sym, ap, ◌∙◌, subst, arith}
 use Rattle.std.specs.Io.KnownBytes.{Appends}
 use Rattle.std.proofs.KnownBytes.{Appends-nil, Appends-trans}
 use Rattle.std.proofs.lemmas.List.Elements.{Contains-append_left, Contains-append_right, All-append, All-nil}
@@ -17,19 +17,14 @@ use Rattle.stack_meaning.specs.Outcomes.{Images, Outcome, joint_outcome, span}
 use Rattle.stack_lines.specs.Touches.{TouchesOnly, leaves_of}
 use Rattle.stack_lines.proofs.lemmas.TouchLemmas.{touches-none, touches-then, touches-as}
 use Rattle.stack_engine.specs.Bytes.{EachBytes, IsGoodChain, MayBeBytes}
-use Rattle.stack_lines.specs.Budgets.{ReadsAtMost}
-use Rattle.stack_engine.specs.Pieces.{piece_budget}
 use Rattle.stack_engine.specs.Stacks.{StackRecord}
 use Rattle.stack_meaning.proofs.lemmas.FoundLemmas.{HasMore, said_at-mono, used-append}
 use Rattle.stack_meaning.proofs.lemmas.LeafListLemmas.{AreSteady-kept, AreRead-none, AreRead-then, images-kept}
 use Rattle.stack_meaning.proofs.lemmas.RunLemmas.{run-append, run-may}
 use Rattle.stack_meaning.proofs.lemmas.SpanLemmas.{span-add}
 use Rattle.stack_recovery.specs.Alike.{AreAlike}
-use Rattle.stack_recovery.specs.Paces.{IsFirstPace}
-use Rattle.stack_recovery.specs.Pieces.{EndsAligned}
-use Rattle.stack_recovery.specs.declared.pace.Pace.{Pace}
 use Rattle.stack_recovery.proofs.lemmas.LostLemmas.{first-lost}
-use Rattle.transfer_commands.specs.Cats.{CatSide, IsCat, IsCatStop, MeansFault, cat_side, none_read, then_failed, then_read}
+use Rattle.transfer_commands.specs.Cats.{CatSide, IsCat, IsCatStop, MeansFault, cat_side}
 
 -- ---- bytes of sectors one after another
 
@@ -64,17 +59,8 @@ span-then f first a m x y p q = span-add f first a m ∙ ap (λ (o : Outcome). j
 
 -- ---- pieces
 
--- the first k sectors were written, no piece reaches past the end, and as long as no read failed the pace is the first one
-pub record IsCatting (d first k end : ℕ) (old now : CatSide) (pace : Pace) : Type 0 where
-  pub so_far : IsCat d first k old now
-  pub ends : so_far.end ≡ end
-  pub fresh : so_far.failed ≡ false → IsFirstPace pace
-
-pub cat-none : (d first end : ℕ) (old : CatSide) → IsCat d first 0 old old
-cat-none d first end old = record {
-  end = end;
-  failed = false;
-  pieces = none_read;
+pub cat-none : (d first : ℕ) (old : CatSide) → IsCat d first 0 old old
+cat-none d first old = record {
   bytes = [];
   most = 0;
   config = refl;
@@ -98,12 +84,8 @@ module _ (d first k : ℕ) (old now : CatSide) (p : IsCat d first k old now) (n 
   steady-now steady = subst (λ (c : Configuration). AreSteady (leaves_of c (mapped d)) now.stack.leaves) (sym p.config) (AreSteady-kept old.stack.leaves now.stack.leaves p.moved.moved.fixed steady)
 
   -- a piece that was had, and written
-  pub cat-had : (bytes : List ℕ) (written : Option (List ℕ)) → (p.failed ≡ false → EndsAligned now.stack.config d (first + k) p.end 128 n) → EachBytes now.stack d (first + k) n (Ok bytes) stack
-      → ReadsAtMost (piece_budget now.stack d (first + k) n) now.stack.leaves stack.leaves → Appends now.written written bytes → IsCat d first (k + n) old (cat_side stack written)
-  cat-had bytes written aligned q spent told = record {
-    end = p.end;
-    failed = p.failed;
-    pieces = then_read p.pieces aligned q spent;
+  pub cat-had : (bytes : List ℕ) (written : Option (List ℕ)) → EachBytes now.stack d (first + k) n (Ok bytes) stack → Appends now.written written bytes → IsCat d first (k + n) old (cat_side stack written)
+  cat-had bytes written q told = record {
     bytes = p.bytes ++ bytes;
     most = p.most + _;
     config = q.any.config ∙ p.config;
@@ -121,9 +103,6 @@ module _ (d first k : ℕ) (old now : CatSide) (p : IsCat d first k old now) (n 
   -- a piece of which nothing was written
   pub cat-again : (fault : IoFault) → EachBytes now.stack d (first + k) n (Err fault) stack → IsCat d first k old (cat_side stack now.written)
   cat-again fault q = record {
-    end = p.end;
-    failed = true;
-    pieces = then_failed p.pieces q;
     bytes = p.bytes;
     most = p.most + _;
     config = q.any.config ∙ p.config;
