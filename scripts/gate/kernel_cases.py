@@ -1,5 +1,6 @@
 """Random stacks of the model's, with writes, and what they are for Linux: tables over numbered devices."""
 import argparse
+import math
 import os
 import random
 import re
@@ -175,6 +176,22 @@ class Cases(Sessions):
         names[at] = PREFIX + b"units"
         return units + before + verity + b" ".join(names)
 
+    def chunks_over_units(self, words):
+        """Chunks over units of several sectors, which they mostly divide; no text if no leaf is large enough."""
+        leaf = self.random.choice([*self.session_over(words).stack.configuration.leaves.values()])
+        unit, chunk, count = self.pick([2, 4, 8]), self.pick([1, 2, 3, 4, 6, 7, 8, 12]), self.pick([1, 2, 3])
+        size, head, row = leaf.sectors // 8 * 8, self.pick([0, 0, 8, 16]), math.lcm(chunk, unit)
+        part = size // (row * count) * row
+        if not part or head >= size:
+            return b""
+        below = b"0 %d linear %s 0," % (head, leaf.name) if head else b""
+        below += b"%d %d crypt aes-xts-plain64 %s 0 %s %d 1 sector_size:%d" % (head, size - head, b"11" * 32, leaf.name, head, unit * SECTOR)
+        line = b"0 %d unstriped %d %d %d /dev/mapper/units 0" % (part, count, chunk, self.random.randrange(count))
+        if self.chance(0.5):
+            bases = (b"/dev/mapper/units %d" % (self.random.randint(0, (size - part) // unit) * unit) for _ in range(count))
+            line = b"0 %d striped %d %d %s" % (part * count, count, chunk, b" ".join(bases))
+        return b"units,,,ro,%s;chunks,,,ro,%s" % (below, line)
+
     def drawn_text(self, words):
         """A text of one part, or of devices and of others over them."""
         texts = []
@@ -188,6 +205,8 @@ class Cases(Sessions):
                 self.damage_data()
         elif self.chance(0.3):
             texts.append(self.holed_stack(self.session_over(words), True))
+        elif self.chance(0.4) and words:
+            texts.append(self.chunks_over_units(words))
         session = self.session_over(words)
         for text in filter(None, texts):
             self.follow(session, b"load " + text)
