@@ -23,6 +23,9 @@ returns-in-Err-Failed-clause-err g c =
     c.as_str-in-loop-number.ensures.value ∙ c.in-Ok.ensures.ok ∙ ap (λ (t : List ℕ). beside t c.loop-number.number) c.as_str.ensures.value in
     record {
       fault_is = inr refl;
-      cause = inr (target, subst (λ (s : g.row.C.Denot). r.resolves c.args.calls.now c.args.path.now (Ok target) s) (sym failed.same) before.resolved,
-          has-none r _ _ target _ _ c.loop-number.number failed.same name c.as_str-in-loop-number-2.ensures.value before.taken failed.outcome);
+      cause = inr (
+        target,
+        subst (λ (s : g.row.C.Denot). r.resolves c.args.calls.now c.args.path.now (Ok target) s) (sym failed.same) before.resolved,
+        has-none r _ _ target _ _ c.loop-number.number failed.same name c.as_str-in-loop-number-2.ensures.value before.taken failed.outcome,
+      );
     }
