@@ -72,7 +72,7 @@ pub fn table_placed<'a, I: Images, W: Write>(
     writer: &mut Counted<W>,
 ) -> Result<(), ImageFault<'a>>
     ensures ok { OnOk result (PrintsLineAt I.relations I.Dev.state images.old images.new W.contents writer.old writer.new place.entry name.entry words.entry) }
-    ensures err { IfErr result (FailsToPrintAt I.relations I.Dev.state images.old images.new writer.new place.entry words.entry.root.now.pin (RefusesLineOf place.first words.entry)) }
+    ensures err { IfErr result (FailsToPrintAt I.relations I.Dev.state images.old images.new writer.new place.entry words.entry.root.now.pin (RefusesLineOf place.entry.first words.entry)) }
     ensures quiet { IfErr result (λ fault. IsQuiet fault (W.contents writer.old.inner) (W.contents writer.new.inner)) }
 {
     let HashPlace { path, first } = place;
