@@ -11,7 +11,7 @@ pub returns-in_err-text-clause-err : goal.returns-in_err-text-clause-err
 returns-in_err-text-clause-err g c =
     let e = c.in_err-text.field-0.0 in
     err-from c.from_residual-in_err-text.result _ NoMemory c.from_residual-in_err-text.ensures.1
-    (inr (record { told = c.check_apart.new.images; apart = c.in_ok-check_apart.ensures.ok; unreplaced = (refl, (e.asked, (c.in_err-text.ensures.err, e.refused))) }))
+    (inr (record { told = c.check_apart.new.images; apart = c.in_ok-check_apart.ensures.ok; unreplaced = (refl, (e.asked, c.in_err-text.ensures.err, e.refused)) }))
 
 pub returns-in-Ok-clause-ok : goal.returns-in-Ok-clause-ok
 returns-in-Ok-clause-ok g c = record {
