@@ -6,16 +6,13 @@ use Rattle.program_io.specs.Counted.{CountedRecord}
 use Rattle.verity_commands.specs.declared.tree_fault.TreeFault.{TreeFault}
 use Rattle.verity_commands.specs.declared.tree_fault.TreeFault.TheVariants.{Write}
 use Rattle.verity_commands.specs.Surveyed.{SurveyedDevices, surveyed_devices}
-use Rattle.verity_commands.specs.Surveys.{IsSurveyEnd, SaysSurvey, gone_over, survey_totals}
+use Rattle.verity_commands.specs.Surveys.{IsSurveyEnd, SaysSurvey, survey_totals}
 use Rattle.tree_repair.specs.declared.fault.RepairFault.{RepairFault}
 use Rattle.tree_repair.specs.declared.outcome.Outcome.{Outcome}
 use Rattle.tree_repair.specs.declared.outcome.Outcome.TheVariants.{Partly, Whole}
 use Rattle.tree_repair.specs.declared.repair.Plan.{Plan}
 use Rattle.tree_survey.specs.declared.counts.Totals.{Totals}
-use Rattle.tree_survey.specs.declared.fault.SurveyFault.{SurveyFault}
-use Rattle.tree_survey.specs.declared.survey.Survey.{Survey}
-use Rattle.tree_survey.specs.Causes.{IsSurveyCause}
-use Rattle.tree_survey.specs.Passes.{IsSurvey, Pass}
+use Rattle.tree_survey.specs.Passes.{Pass, pass}
 use Rattle.repair_commands.specs.Endings.{ending_fault}
 use Rattle.repair_commands.specs.OnlyRead.{IsReadAlone, read_only}
 
@@ -40,8 +37,7 @@ pub record IsScanned (t t' : SurveyedDevices) : Type 0 where
 
 -- a scan of both devices, which may not be written, and what was printed
 abbrev pub scan_of : SurveyedDevices → SurveyedDevices → Option (List ℕ) → Option (List ℕ) → Pass
-scan_of t t' old new =
-    gone_over (surveyed_devices (read_only t.data_dev) (read_only t.hash_dev)) (surveyed_devices (read_only t'.data_dev) (read_only t'.hash_dev)) old new
+scan_of t t' old new = pass (read_only t.data_dev) (read_only t.hash_dev) (read_only t'.data_dev) (read_only t'.hash_dev) old new
 
 -- If all of the image is known to be valid, the totals were printed, and no device was accessed. Otherwise the image was scanned as
 -- by `verify --all`, and all of it is valid.
@@ -64,16 +60,6 @@ abbrev pub IsUntold : Result Outcome RepairFault → Bool → Plan → SurveyedD
 IsUntold (Ok found) whole plan t t' old new failed fault = IsRestEnd (known_by whole found) plan t t' old new failed fault
 IsUntold (Err cause) whole plan t t' old new failed fault = (fault ≡ ending_fault cause) × ((t' ≡ t) × (new ≡ old))
 
--- ---- the scan by itself
-
--- all blocks were read
-abbrev pub ScansAll : Plan → SurveyedDevices → SurveyedDevices → Option (List ℕ) → Option (List ℕ) → Survey → Type 0
-ScansAll plan t t' old new = IsSurvey plan.tree (scan_of t t' old new) plan.root
-
--- why not
-abbrev pub IsScanEnd : Plan → SurveyedDevices → SurveyedDevices → Bool → SurveyFault → Type 0
-IsScanEnd plan t t' = IsSurveyCause plan.tree.shape (read_only t.data_dev) (read_only t.hash_dev) (read_only t'.data_dev) (read_only t'.hash_dev)
-
 -- ---- in terms of two devices, those that are returned, and a writer before and after
 
 abbrev pub TellsOf : {D H W : Type 0} → (D → Device) → (H → Device) → D × H → D → H → Result Outcome RepairFault → Bool → Plan → (W → Option (List ℕ)) → CountedRecord W → CountedRecord W → Type 0
@@ -92,13 +78,11 @@ abbrev pub IsRestUntold : {D H W : Type 0} → (D → Device) → (H → Device)
 IsRestUntold data_state hash_state devices d h outcome plan contents before behind =
     IsRestEnd outcome plan (states_of data_state hash_state devices.0 devices.1) (states_of data_state hash_state d h) (contents before.inner) (contents behind.inner) behind.failed
 
-abbrev pub AreScanned : {D H : Type 0} → (D → Device) → (H → Device) → D × H → D → H → Type 0
-AreScanned data_state hash_state devices d h = IsScanned (states_of data_state hash_state devices.0 devices.1) (states_of data_state hash_state d h)
+-- a scan of two devices of any type, by their states
+abbrev pub SaysLines : {D H W : Type 0} → (D → Device) → (H → Device) → D → H → D → H → Plan → (W → Option (List ℕ)) → CountedRecord W → CountedRecord W → Type 0
+SaysLines data_state hash_state d h d' h' plan contents before behind =
+    SaysSurvey plan.tree (pass (data_state d) (hash_state h) (data_state d') (hash_state h') (contents before.inner) (contents behind.inner)) plan.root true
 
-abbrev pub ScansBoth : {D H W : Type 0} → (D → Device) → (H → Device) → D × H → D → H → Plan → (W → Option (List ℕ)) → CountedRecord W → CountedRecord W → Survey → Type 0
-ScansBoth data_state hash_state devices d h plan contents before behind =
-    ScansAll plan (states_of data_state hash_state devices.0 devices.1) (states_of data_state hash_state d h) (contents before.inner) (contents behind.inner)
-
-abbrev pub IsBothEnd : {D H W : Type 0} → (D → Device) → (H → Device) → D × H → D → H → Plan → CountedRecord W → SurveyFault → Type 0
-IsBothEnd data_state hash_state devices d h plan behind =
-    IsScanEnd plan (states_of data_state hash_state devices.0 devices.1) (states_of data_state hash_state d h) behind.failed
+abbrev pub IsLinesEnd : {D H W : Type 0} → (D → Device) → (H → Device) → D → H → D → H → Plan → (W → Option (List ℕ)) → CountedRecord W → CountedRecord W → TreeFault → Type 0
+IsLinesEnd data_state hash_state d h d' h' plan contents before behind =
+    IsSurveyEnd false plan.tree (pass (data_state d) (hash_state h) (data_state d') (hash_state h') (contents before.inner) (contents behind.inner)) plan.root behind.failed

@@ -1,10 +1,11 @@
 //! Reports what is still lost after a repair.
-ghost use Rattle.std.specs.Prelude.{◌≡◌, IfErr, IfOk, OnOk, Some};
+ghost use Rattle.std.specs.Prelude.{◌≡◌, IfErr, OnOk, Some};
 ghost use Rattle.program_io.specs.Counted.{Writes};
-ghost use Rattle.verity_commands.specs.Surveys.{survey_totals};
+ghost use Rattle.verity_commands.specs.Surveys.{is_all_good, survey_totals};
+ghost use Rattle.verity_format.specs.Blocks.{IsOnlyRead};
 ghost use Rattle.tree_repair.specs.declared.outcome.Outcome.TheVariants.{Partly};
 ghost use Rattle.repair_commands.specs.Endings.{ending_fault};
-ghost use Rattle.repair_commands.specs.Rest.{AreScanned, IsBothEnd, IsRestTold, IsRestUntold, IsUntoldOf, ScansBoth, TellsOf, all_good_totals, known_by};
+ghost use Rattle.repair_commands.specs.Rest.{IsLinesEnd, IsRestTold, IsRestUntold, IsUntoldOf, SaysLines, TellsOf, all_good_totals, known_by};
 
 use crate::only_read::{Former, OnlyRead};
 use block_device::BlockDev;
@@ -71,54 +72,55 @@ fn say_scanned<'a, D: BlockDev + Drop, H: BlockDev + Drop, W: Write>(
     ensures ok { OnOk result.2 (IsRestTold D.state H.state devices result.0 result.1 Partly plan.now W.contents writer.old writer.new) }
     ensures err { IfErr result.2 (IsRestUntold D.state H.state devices result.0 result.1 Partly plan.now W.contents writer.old writer.new) }
 {
-    let (data_dev, hash_dev, found) = scan(alloc, devices, plan, writer);
-    let survey = match found {
-        Ok(survey) => survey,
-        Err(fault) => return (data_dev, hash_dev, Err(TreeFault::Survey(fault))),
-    };
-    match say_totals(writer, survey.totals) {
-        Ok(()) => {}
-        Err(fault) => return (data_dev, hash_dev, Err(TreeFault::from(fault))),
-    }
-    if survey.totals.changed > 0 || survey.totals.unknown > 0 || !survey.whole_tree {
-        return (data_dev, hash_dev, Err(TreeFault::Damaged));
-    }
-    (data_dev, hash_dev, Ok(()))
-}
-
-// Scans the devices, and prints a line for each run of data blocks and each hash block that isn't valid.
-fn scan<D: BlockDev + Drop, H: BlockDev + Drop, W: Write>(
-    alloc: Global,
-    devices: (D, H),
-    plan: &Plan,
-    writer: &mut Counted<W>,
-) -> (D, H, Result<Survey, SurveyFault>)
-    ensures scanned { AreScanned D.state H.state devices result.0 result.1 }
-    ensures ok { IfOk result.2 (ScansBoth D.state H.state devices result.0 result.1 plan.now W.contents writer.old writer.new) }
-    ensures err { IfErr result.2 (IsBothEnd D.state H.state devices result.0 result.1 plan.now writer.new) }
-{
     scan_known::<D, H, Brand, Brand, W>(alloc, devices, plan, writer)
 }
 
 // The same. What the devices were before is known by the type parameters.
-fn scan_known<D: BlockDev + Drop, H: BlockDev + Drop, K: Former, L: Former, W: Write>(
+fn scan_known<'a, D: BlockDev + Drop, H: BlockDev + Drop, K: Former, L: Former, W: Write>(
     alloc: Global,
     devices: (D, H),
     plan: &Plan,
     writer: &mut Counted<W>,
-) -> (D, H, Result<Survey, SurveyFault>)
+) -> (D, H, Result<(), TreeFault<'a>>)
     requires { (K.former ≡ Some (D.state devices.0)) × (L.former ≡ Some (H.state devices.1)) }
-    ensures scanned { AreScanned D.state H.state devices result.0 result.1 }
-    ensures ok { IfOk result.2 (ScansBoth D.state H.state devices result.0 result.1 plan.now W.contents writer.old writer.new) }
-    ensures err { IfErr result.2 (IsBothEnd D.state H.state devices result.0 result.1 plan.now writer.new) }
+    ensures ok { OnOk result.2 (IsRestTold D.state H.state devices result.0 result.1 Partly plan.now W.contents writer.old writer.new) }
+    ensures err { IfErr result.2 (IsRestUntold D.state H.state devices result.0 result.1 Partly plan.now W.contents writer.old writer.new) }
 {
     let (data_dev, hash_dev) = devices;
     let mut data = OnlyRead::<D, K>::new(data_dev);
     let mut hash = OnlyRead::<H, L>::new(hash_dev);
-    let found = survey_image(alloc, &mut data, &mut hash, &plan.tree, &plan.root, writer);
+    let told = say_lines(alloc, &mut data, &mut hash, plan, writer);
     let data_after = data.into_inner();
     let hash_after = hash.into_inner();
-    (data_after, hash_after, found)
+    (data_after, hash_after, told)
+}
+
+// Scans two devices. Prints a line for each run of data blocks and each hash block that isn't valid, and the totals.
+fn say_lines<'a, D: BlockDev, H: BlockDev, W: Write>(
+    alloc: Global,
+    data_dev: &mut D,
+    hash_dev: &mut H,
+    plan: &Plan,
+    writer: &mut Counted<W>,
+) -> Result<(), TreeFault<'a>>
+    ensures data { IsOnlyRead (D.state data_dev.old) (D.state data_dev.new) }
+    ensures hash { IsOnlyRead (H.state hash_dev.old) (H.state hash_dev.new) }
+    ensures ok { OnOk result (SaysLines D.state H.state data_dev.old hash_dev.old data_dev.new hash_dev.new plan.now W.contents writer.old writer.new) }
+    ensures err { IfErr result (IsLinesEnd D.state H.state data_dev.old hash_dev.old data_dev.new hash_dev.new plan.now W.contents writer.old writer.new) }
+{
+    let found = survey_image(alloc, data_dev, hash_dev, &plan.tree, &plan.root, writer)?;
+    say_totals(writer, found.totals)?;
+    if !is_all_good(found) {
+        return Err(TreeFault::Damaged);
+    }
+    Ok(())
+}
+
+// Returns whether all data blocks and all hash blocks are valid.
+fn is_all_good(found: Survey) -> bool
+    ensures { result ≡ is_all_good found }
+{
+    found.totals.changed == 0 && found.totals.unknown == 0 && found.whole_tree
 }
 
 // Returns what is known of an image after a repair. `whole` is whether all hash blocks on the path to the last data block

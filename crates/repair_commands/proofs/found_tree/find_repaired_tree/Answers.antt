@@ -1,4 +1,4 @@
-use Rattle.std.proofs.Common.{ap, inl, inr, refl, sym}
+use Rattle.std.proofs.Common.{ap, inl, inr, sym}
 use Rattle.verity_commands.specs.declared.tree_fault.TreeFault.TheVariants.{Survey}
 use Rattle.tree_survey.specs.declared.fault.SurveyFault.TheVariants.{Image}
 use Rattle.verity_format.specs.declared.tree.VerityTree.{VerityTree}

@@ -1,5 +1,5 @@
 use Rattle.std.proofs.Common.{Some}
-use Rattle.repair_commands.proofs.rest.scan.Given as goal
+use Rattle.repair_commands.proofs.rest.say_scanned.Given as goal
 
 abbrev pub ghosts-scan_known-K-Former : goal.ghosts-scan_known-K-Former
 ghosts-scan_known-K-Former g a = record { former = Some (g.D.BlockDev.state a.devices.0) }
