@@ -97,7 +97,8 @@ def run_machine(kernel, modules, first, commands, most):
     with open("answers", "wb") as answers:
         answers.truncate(most)
     words = ["qemu-system-x86_64", "-accel", "tcg", "-cpu", "max", "-m", "256", "-nodefaults", "-display", "none", "-no-reboot", "-serial", "file:console"]
-    words += ["-kernel", kernel, "-initrd", "initramfs", "-append", "console=ttyS0 panic=-1 loglevel=1 mitigations=off"]
+    # On a busy machine the kernel may find that its timer doesn't tick.
+    words += ["-kernel", kernel, "-initrd", "initramfs", "-append", "console=ttyS0 panic=-1 loglevel=1 mitigations=off no_timer_check"]
     for path in (first, "commands", "answers"):
         words += ["-drive", f"file={path},format=raw,if=virtio,cache=unsafe"]
     try:
