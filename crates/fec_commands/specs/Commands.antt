@@ -77,8 +77,10 @@ pub record EndsUnsaid {S D : Type 0} (w : Calls S D) (fault : FecFault) : Type 0
   pub is : fault ≡ Verity cause
   pub same : w.new ≡ w.old
 
--- the arguments give two block sizes, and nothing was opened
+-- the arguments give values, two block sizes among them, and nothing was opened
 pub record EndsUnlike {S D : Type 0} (texts : OptionTexts) (w : Calls S D) (fault : FecFault) : Type 0 where
+  pub options : ImageOptions
+  pub said : AreSaid texts options
   pub two : says_two_sizes texts ≡ true
   pub is : fault ≡ BlockSizes
   pub same : w.new ≡ w.old

@@ -50,9 +50,6 @@ pub fn invoke_format_fec<'a, I: Images, G: Generators + Watchers, W: Write>(
     if !is_roots(words.fec.roots) {
         return Err(FecFault::Verity(VerityFault::Usage));
     }
-    if says_two_sizes(options) {
-        return Err(FecFault::BlockSizes);
-    }
     let places = ImagePlaces {
         data: words.format.data_path,
         hash: words.format.hash_path,
@@ -62,6 +59,9 @@ pub fn invoke_format_fec<'a, I: Images, G: Generators + Watchers, W: Write>(
         Ok(said) => said,
         Err(fault) => return Err(FecFault::Verity(VerityFault::from(fault))),
     };
+    if says_two_sizes(options) {
+        return Err(FecFault::BlockSizes);
+    }
     check_file(images, &places, &words.fec, &said, words.format.grow)?;
     let text = format_kept(alloc, images, generators, &words.format, options)?;
     protect(alloc, images, &places, &words.fec, words.format.grow)?;

@@ -11,7 +11,7 @@ returns-then-not-is_roots-clause-err g c = (inl (record { cause = Usage; unsaid 
 
 pub returns-then-says_two_sizes-clause-err : goal.returns-then-says_two_sizes-clause-err
 returns-then-says_two_sizes-clause-err g c =
-    (inr (inl (record { two = sym c.says_two_sizes.ensures ∙ c.if-says_two_sizes.true; is = refl; same = refl })), refl)
+    (inr (inl (record { options = c.in-Ok.said; said = c.in-Ok.ensures.ok; two = sym c.says_two_sizes.ensures ∙ c.if-says_two_sizes.true; is = refl; same = refl })), refl)
 
 pub returns-in-Err-clause-err : goal.returns-in-Err-clause-err
 returns-in-Err-clause-err g c = (inl (record { cause = words_ending c.in-Err.fault; unsaid = unsaid c.in-Err.fault; is = ap Verity c.from.ensures; same = refl }), verity-quiet c.from.result _)
