@@ -1,4 +1,5 @@
 mod EndingLemmas
+mod EntryLemmas
 mod LabelLemmas
 mod LoadLemmas
 mod NameLemmas
