@@ -4,26 +4,26 @@ use Rattle.verity_commands.proofs.OpeningLemmas.{err-from, found-can}
 use Rattle.verity_commands.proofs.checked_diff.check_images.Goals as goal
 
 pub check-requires : goal.check-requires
-check-requires g c = found-can _ _ _ _ c.in_ok-open_trees.ensures.ok
+check-requires g c = found-can _ _ _ _ c.in_ok-two.ensures.ok
 
-pub returns-in_err-open_trees-clause-err : goal.returns-in_err-open_trees-clause-err
-returns-in_err-open_trees-clause-err g c =
-    err-from c.from_residual.result _ c.in_err-open_trees.field-0.0 c.from_residual.ensures.1 (inl (c.in_err-open_trees.ensures.err, refl))
+pub returns-in_err-two-clause-err : goal.returns-in_err-two-clause-err
+returns-in_err-two-clause-err g c =
+    err-from c.from_residual.result _ c.in_err-two.field-0.0 c.from_residual.ensures.1 (inl (c.in_err-two.ensures.err, refl))
 
 pub returns-clause-ok : goal.returns-clause-ok
 returns-clause-ok g c = on_ok_weaker c.check.result (λ done. record {
-  found = c.in_ok-open_trees.field-0;
+  found = c.in_ok-two.field-0;
   first' = c.check.new.two.first.device;
   second' = c.check.new.two.second.device;
-  opened = c.in_ok-open_trees.ensures.ok;
+  opened = c.in_ok-two.ensures.ok;
   holds = done;
 }) c.check.ensures.ok
 
 pub returns-clause-err : goal.returns-clause-err
 returns-clause-err g c = IfErr-weaker c.check.result _ _ (λ fault ends. inr (record {
-  found = c.in_ok-open_trees.field-0;
+  found = c.in_ok-two.field-0;
   first' = c.check.new.two.first.device;
   second' = c.check.new.two.second.device;
-  opened = c.in_ok-open_trees.ensures.ok;
+  opened = c.in_ok-two.ensures.ok;
   holds = ends;
 })) c.check.ensures.err
