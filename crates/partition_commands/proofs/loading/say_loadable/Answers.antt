@@ -1,4 +1,4 @@
-use Rattle.std.proofs.Common.{inl, inr, refl, sym, ◌∙◌}
+use Rattle.std.proofs.Common.{arith, inl, inr, refl}
 use Rattle.partition_commands.specs.declared.fault.PartitionsFault.TheVariants.{Write}
 use Rattle.partition_commands.proofs.EndingLemmas.{err-from}
 use Rattle.partition_commands.proofs.LoadLemmas.{load-end}
