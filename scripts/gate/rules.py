@@ -46,7 +46,7 @@ FAULTS = {
 }
 CITED = re.compile(r"Rattle\.(\w+)\.proofs\b(?:\.([\w.+]*[\w+]))?|\b(\w+)::proofs\b(?:::([\w:]+))?")
 # Calls of std on files, whose evidence says that they were made, and not that no other was.
-SYSTEM = re.compile(r"\bfs::[a-z_]+\(|\bOpenOptions::new\(|\bfchown\(|\.(?:set_len|set_permissions|sync_all|sync_data|(?:read|write)(?:_exact|_all)?_at)\(")
+SYSTEM = re.compile(r"\bfs::[a-z_]+\(|\bFile::(?:open|create|create_new)\(|\bOpenOptions::new\(|\bfchown\(|\.(?:seek|try_lock|set_len|set_permissions|sync_all|sync_data|(?:read|write)(?:_exact|_all)?_at)\(")
 COMMENT = re.compile(r"//.*")
 
 
