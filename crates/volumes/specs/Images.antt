@@ -1,5 +1,5 @@
 -- What is known of a verity image, and of a block that was read of it.
-use Rattle.std.specs.Prelude.{◌≡◌, ◌⊎◌, ℕ, ◌≤◌, ◌<◌, ⊥, IsTrue, List}
+use Rattle.std.specs.Prelude.{◌≡◌, ◌⊎◌, ℕ, ◌≤◌, ◌<◌, IsTrue, List}
 use Rattle.allocation.specs.Refusal.{IsOutOfMemory}
 use Rattle.block_device.specs.Device.{Device, HasFailed}
 use Rattle.hash_tree.specs.Chain.{ChainRecord, IsGood}

@@ -9,7 +9,9 @@ use hash_tree::Chain;
 use std::alloc::Global;
 use thiserror::Error;
 use tree_shape::Digest;
-use verity_format::{ChainFault, VerifyFault, VerityTree, data_sectors, read_chain, read_superblock, tree_sectors};
+use verity_format::{
+    ChainFault, VerifyFault, VerityTree, data_sectors, read_chain, read_superblock, tree_sectors,
+};
 
 /// Why a data block isn't returned.
 #[derive(Clone, Copy, Debug, PartialEq, Eq, Error)]
@@ -84,7 +86,9 @@ impl<D: BlockDev, H: BlockDev> VerityImage<D, H> {
         if index >= shape.blocks() {
             return Err(BlockFault::OutOfRange);
         }
-        if data_sectors(&shape) > self.data_dev.sectors() || tree_sectors(&shape) > self.hash_dev.sectors() {
+        if data_sectors(&shape) > self.data_dev.sectors()
+            || tree_sectors(&shape) > self.hash_dev.sectors()
+        {
             return Err(BlockFault::TooSmall);
         }
         let chain = match read_chain(alloc, &mut self.data_dev, &mut self.hash_dev, &shape, index) {

@@ -14,4 +14,6 @@ pub use stack_engine::{Fault, IoFault, Stack};
 pub use stack_loader::{LoadFault, Refusal, config_over};
 pub use table_text::parse_stack;
 pub use tree_shape::{Algorithm, Digest, Salt, Shape};
-pub use verity_format::{FormatFault, FormatOptions, SuperFault, VerityTree, VerifyFault, format_with, image_sectors};
+pub use verity_format::{
+    FormatFault, FormatOptions, SuperFault, VerifyFault, VerityTree, format_with, image_sectors,
+};
