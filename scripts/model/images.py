@@ -5,7 +5,7 @@ from uuid import UUID
 from differences import Stored, compared, longest_runs, run_lines, unlike
 from files import WHOLE, Noted, Stop
 from partitions import lines_of, root_lines, stack_lines, table_facts, table_of, warning_lines
-from pins import pin_of
+from pins import read_pin
 from protection import check_aligned, check_one_size, check_parity_of, compared_parity, found, measured, protect
 from replies import Json
 from stack import SECTOR
@@ -185,8 +185,8 @@ def run_partitions(options, words, files, _given, _features):
     path, size, root = read_partitions(options, words)
     pin = None
     if b"pin" in options:
-        pin = pin_of(bytes(files.content(options[b"pin"])))
-        root = pin["root"]
+        pin = read_pin(files, options[b"pin"])
+        root = pin.root
     image = bytes(files.image(path, False))
     table = table_of(image, size)
     warnings = warning_lines(image, table)

@@ -248,7 +248,7 @@ LATER = [
      'first <= last < max(sectors, alternate)', 'first <= last < sectors'),
     ("partitions-command", "sectors of 4,096 bytes looked for only if asked for", "partitions.py",
      '    except Stop:\n        if size == 4096:\n            raise\n', '    except Stop:\n        raise\n'),
-    ("partitions-command", "a pin of another number of blocks taken", "pins.py", 'if superblock.blocks != pin', 'if superblock.blocks < pin'),
+    ("partitions-command", "a pin of another number of blocks taken", "pins.py", '("blocks", "35 OtherDataBlocks"), ', ''),
     ("partitions-command", "a stack of 65 devices", "partitions.py", 'if len(partitions) > MOST_DEVICES:', 'if len(partitions) > MOST_DEVICES + 1:'),
     ("partitions-command", "a partition past the end of the disk in a stack", "partitions.py",
      '    for it in partitions:\n        check_end(image, it, size)\n', ''),

@@ -7,7 +7,6 @@ from uuid import UUID
 
 from configuration import MOST_DEVICES
 from files import Stop
-from pins import check_pinned
 from stack import SECTOR
 from tables import is_mapped_name
 from verity import check_sizes, read_superblock, table_line
@@ -253,8 +252,9 @@ def root_lines(image, partitions, size, root, pin):
     check_end(image, tree, size)
     octets = [image[it.first * size:(it.last + 1) * size] for it in (data, tree)]
     superblock = read_superblock(octets[1])
-    if pin is not None:
-        check_pinned(superblock, pin)
+    mismatch = pin.mismatch(superblock) if pin else None
+    if mismatch:
+        raise Stop(b"refused " + mismatch.encode())
     check_sizes(superblock.tree(), *octets)
     line = table_line(superblock, root, b"/dev/mapper/data", b"/dev/mapper/hash")
     return [linear(b"data", data, size), linear(b"hash", tree, size), b"root,,,ro,%s;" % line]

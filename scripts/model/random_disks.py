@@ -5,7 +5,7 @@ import zlib
 from uuid import UUID
 
 from partitions import KINDS
-from pins import text_of
+from pins import Pin
 from random_parts import Run
 from random_trees import Planted, Trees
 from verity import read_superblock
@@ -52,12 +52,13 @@ class Disks(Trees):
         return root, parts
 
     def pin(self, root, superblock):
-        """The pin of an image, of which a value or the text may be changed."""
+        """The text of an image's pin, which may be changed, or have another value."""
+        pin = Pin(root, superblock.salt, superblock.data_block, superblock.hash_block, superblock.blocks)
         if self.chance(0.1):
-            superblock.blocks += self.pick([-1, 1])
+            pin.blocks += self.pick([-1, 1])
         if self.chance(0.1):
-            superblock.salt = self.random.randbytes(self.pick([0, 1, 32]))
-        text = text_of(root, superblock)
+            pin.salt = self.random.randbytes(self.pick([0, 1, 32]))
+        text = pin.text()
         if self.chance(0.1):
             text = text.replace(*self.pick([(b"salt", b"salt "), (b"salt", b"sal"), (b"root", b"root 0"), (b" 1", b" 2"), (b"\n", b"\n\n")]))
         return text
