@@ -1,8 +1,7 @@
 -- How commands on partitions end early.
-use Rattle.std.proofs.Common.{◌≡◌, ◌+◌, ◌≤◌, ℕ, List, Bool, sym, subst, Result, Ok, Err, arith, refl}
+use Rattle.std.proofs.Common.{◌≡◌, ◌≤◌, ℕ, Bool, sym, subst, Result, Ok, Err, arith, refl}
 use Rattle.std.specs.Prelude.{IfErr, IsErrAnd}
 use Rattle.allocation.specs.Asked.{asked}
-use Rattle.allocation.specs.Refusal.{IsOutOfMemory}
 use Rattle.allocation.specs.declared.out_of_memory.OutOfMemory.{OutOfMemory}
 use Rattle.block_device.specs.Device.{Device}
 use Rattle.image_commands.specs.declared.trusted.TrustedRoot.{TrustedRoot}

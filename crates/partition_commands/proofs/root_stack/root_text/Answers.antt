@@ -1,4 +1,4 @@
-use Rattle.std.proofs.Common.{List, ℕ, [], codes, ap, length, refl, arith, ◌∙◌}
+use Rattle.std.proofs.Common.{ℕ, [], codes, ap, length, refl, arith, ◌∙◌}
 use Rattle.stack_rules.proofs.lemmas.PassingLemmas.{out_of_memory-more}
 use Rattle.verity_format.specs.Line.{line_room}
 use Rattle.partition_commands.specs.declared.fault.PartitionsFault.TheVariants.{NoMemory}
