@@ -66,7 +66,7 @@ pub data InvocationRecord : Type 0 where
   version : InvocationRecord
 
 -- the commands on trees without a superblock
-abbrev pub tree_said : List ℕ → OptionTexts → List (List ℕ) → Reading InvocationRecord
+unfoldable pub tree_said : List ℕ → OptionTexts → List (List ℕ) → Reading InvocationRecord
 tree_said name texts words =
     if bytes_eq name (codes "format") then said_as format_tree (tree_format_said texts words)
     else if bytes_eq name (codes "verify") then said_as verify_tree (tree_verify_said texts words)
@@ -74,7 +74,7 @@ tree_said name texts words =
     else misused (codes "--no-superblock") Unknown
 
 -- the commands on images with parity, which have a superblock
-abbrev pub fec_said : List ℕ → OptionTexts → List (List ℕ) → Reading InvocationRecord
+unfoldable pub fec_said : List ℕ → OptionTexts → List (List ℕ) → Reading InvocationRecord
 fec_said name texts words =
     when (refuse_if texts.no_superblock (codes "--no-superblock") WithFec) (λ a.
     if bytes_eq name (codes "format") then said_as format_fec (fec_format_said texts words)
@@ -82,17 +82,17 @@ fec_said name texts words =
     else misused (codes "--fec") Unknown)
 
 -- an image with a pin has a superblock, and a format with parity writes no pin
-abbrev pub pin_conflicts : List ℕ → OptionTexts → Reading (Unit {0})
+unfoldable pub pin_conflicts : List ℕ → OptionTexts → Reading (Unit {0})
 pin_conflicts name texts =
     when (refuse_if texts.no_superblock (codes "--no-superblock") WithPin) (λ a.
     if bytes_eq name (codes "format") then refuse_if (has_fec_value texts) (codes "--pin") WithFec else Ok tt)
 
 -- so if `--pin` is given
-abbrev pub pin_allowed : List ℕ → OptionTexts → Reading (Unit {0})
+unfoldable pub pin_allowed : List ℕ → OptionTexts → Reading (Unit {0})
 pin_allowed name texts = if is_some texts.pin then pin_conflicts name texts else Ok tt
 
 -- an image is made, and with `--pin` its pin written
-abbrev pub formatted_said : OptionTexts → List (List ℕ) → Reading InvocationRecord
+unfoldable pub formatted_said : OptionTexts → List (List ℕ) → Reading InvocationRecord
 formatted_said texts words = if is_some texts.pin then said_as format_pin (pin_format_said texts words) else said_as format (format_said texts words)
 
 -- no argument is after `version`
@@ -100,7 +100,7 @@ abbrev pub version_said : List (List ℕ) → Reading InvocationRecord
 version_said words = said_as (λ none. version) (no_more words)
 
 -- the commands on images, or on nothing
-abbrev pub image_said : List ℕ → OptionTexts → List (List ℕ) → Reading InvocationRecord
+unfoldable pub image_said : List ℕ → OptionTexts → List (List ℕ) → Reading InvocationRecord
 image_said name texts words =
     if bytes_eq name (codes "format") then formatted_said texts words
     else if bytes_eq name (codes "verify") then said_as verify (verify_said texts words)
@@ -113,7 +113,7 @@ image_said name texts words =
     else misused (codes "COMMAND") Unknown
 
 -- the commands on a device of a stack
-abbrev pub device_said : List ℕ → OptionTexts → List (List ℕ) → Reading InvocationRecord
+unfoldable pub device_said : List ℕ → OptionTexts → List (List ℕ) → Reading InvocationRecord
 device_said name texts words =
     if bytes_eq name (codes "scan") then said_as scan (scan_said texts words)
     else if bytes_eq name (codes "copy") then said_as copy (copy_said texts words)
@@ -122,11 +122,11 @@ device_said name texts words =
     else image_said name texts words
 
 -- `nbd`, with `--all` or without it
-abbrev pub served_said : OptionTexts → List (List ℕ) → Reading InvocationRecord
+unfoldable pub served_said : OptionTexts → List (List ℕ) → Reading InvocationRecord
 served_said texts words = if texts.all then said_as exports (exports_said texts words) else said_as nbd (nbd_said texts words)
 
 -- by a command's name, the values of its options, and its positional arguments
-abbrev pub command_said : List ℕ → OptionTexts → List (List ℕ) → Reading InvocationRecord
+unfoldable pub command_said : List ℕ → OptionTexts → List (List ℕ) → Reading InvocationRecord
 command_said name texts words =
     if bytes_eq name (codes "load") then said_as load (load_said texts words)
     else if bytes_eq name (codes "read") then said_as read (read_said texts words)
@@ -136,7 +136,7 @@ command_said name texts words =
     else device_said name texts words
 
 -- by the same, with `--fec` or `--no-superblock`, or without them, if nothing conflicts with `--pin`
-abbrev pub invocation_said : List ℕ → OptionTexts → List (List ℕ) → Reading InvocationRecord
+unfoldable pub invocation_said : List ℕ → OptionTexts → List (List ℕ) → Reading InvocationRecord
 invocation_said name texts words =
     when (pin_allowed name texts) (λ a.
     if bytes_eq name (codes "repair") then said_as repair (repair_said texts words)

@@ -109,15 +109,15 @@ form_without_pin (Some word) false false = when (root_said (codes "--root") word
 
 -- none of them is given beside `--pin FILE`
 unfoldable pub form_with_pin : List ℕ → Option (List ℕ) → Bool → Bool → Reading FormRecord
-form_with_pin file root is_stack is_object =
-    when (refuse_if (is_some root) (codes "--root") WithPin) (λ a.
+form_with_pin file word is_stack is_object =
+    when (refuse_if (is_some word) (codes "--root") WithPin) (λ a.
     when (refuse_if is_stack (codes "--stack") WithPin) (λ b.
     when (refuse_if is_object (codes "--json") WithPin) (λ c. when (path_said (codes "--pin") file) (λ path. Ok (pin path)))))
 
 -- at most one of `--pin FILE`, `--root ROOT`, `--stack` and `--json` is given
 unfoldable pub form_of : Option (List ℕ) → Option (List ℕ) → Bool → Bool → Reading FormRecord
-form_of None root is_stack is_object = form_without_pin root is_stack is_object
-form_of (Some file) root is_stack is_object = form_with_pin file root is_stack is_object
+form_of None word is_stack is_object = form_without_pin word is_stack is_object
+form_of (Some file) word is_stack is_object = form_with_pin file word is_stack is_object
 
 -- what the program's own values say
 abbrev pub root_record : RootWord → RootRecord

@@ -55,6 +55,7 @@ pub fn invocation_of<'a>(
 }
 
 // With `--fec` the command is one on parity, and with `--no-superblock` one on a tree that has none.
+#[tactic(auto, unfolding(crate::specs::Invocations::invocation_said))]
 fn said_by<'a>(
     alloc: Global,
     name: &[u8],
@@ -76,6 +77,7 @@ fn said_by<'a>(
 }
 
 // Refuses `--pin` if it conflicts with another option.
+#[tactic(auto, unfolding(crate::specs::Invocations::pin_allowed))]
 fn allow_pin<'a>(name: &[u8], options: &OptionWords<'a>) -> Result<(), Misuse<'a>>
     ensures { ReadsValue (λ none. none) (pin_allowed name.now (option_texts options.now)) result }
 {
@@ -87,6 +89,7 @@ fn allow_pin<'a>(name: &[u8], options: &OptionWords<'a>) -> Result<(), Misuse<'a
 }
 
 // An image with a pin has a superblock. A format with parity writes no pin.
+#[tactic(auto, unfolding(crate::specs::Invocations::pin_conflicts))]
 fn check_pin<'a>(name: &[u8], options: &OptionWords<'a>) -> Result<(), Misuse<'a>>
     ensures { ReadsValue (λ none. none) (pin_conflicts name.now (option_texts options.now)) result }
 {
@@ -99,6 +102,7 @@ fn check_pin<'a>(name: &[u8], options: &OptionWords<'a>) -> Result<(), Misuse<'a
 }
 
 // The command of that name on an image with parity, which has a superblock.
+#[tactic(auto, unfolding(crate::specs::Invocations::fec_said))]
 fn fec_of<'a>(
     name: &[u8],
     options: &OptionWords<'a>,
@@ -117,6 +121,7 @@ fn fec_of<'a>(
 }
 
 // The command of that name on a tree without a superblock.
+#[tactic(auto, unfolding(crate::specs::Invocations::tree_said))]
 fn tree_of<'a>(
     name: &[u8],
     options: &OptionWords<'a>,
@@ -136,6 +141,7 @@ fn tree_of<'a>(
 }
 
 // The command of that name with none of these options.
+#[tactic(auto, unfolding(crate::specs::Invocations::command_said))]
 fn command_of<'a>(
     alloc: Global,
     name: &[u8],
@@ -160,6 +166,7 @@ fn command_of<'a>(
 }
 
 // One device is served to a client, or with `--all` each.
+#[tactic(auto, unfolding(crate::specs::Invocations::served_said))]
 fn served_of<'a>(
     alloc: Global,
     options: &OptionWords<'a>,
@@ -175,6 +182,7 @@ fn served_of<'a>(
 }
 
 // The command of that name on a device of a stack, on images or on nothing.
+#[tactic(auto, unfolding(crate::specs::Invocations::device_said))]
 fn device_of<'a>(
     alloc: Global,
     name: &[u8],
@@ -197,6 +205,7 @@ fn device_of<'a>(
 }
 
 // The command of that name on images, or on nothing.
+#[tactic(auto, unfolding(crate::specs::Invocations::image_said))]
 fn image_of<'a>(
     name: &[u8],
     options: &OptionWords<'a>,
@@ -226,6 +235,7 @@ fn image_of<'a>(
 }
 
 // An image is made, and with `--pin` its pin written.
+#[tactic(auto, unfolding(crate::specs::Invocations::formatted_said))]
 fn formatted_of<'a>(
     options: &OptionWords<'a>,
     words: &[&'a str],

@@ -29,10 +29,12 @@ pub fn partitions_of<'a>(
     let (image, words) = positional("IMAGE", words)?;
     no_more(words)?;
     let sector_size = sector_size_of(options.sector_size)?;
-    let form = form_of(options.pin, options.root, options.stack, options.json)?;
-    Ok(Invocation::Partitions(PartitionsWords {
-        image,
-        sector_size,
-        form,
-    }))
+    match form_of(options.pin, options.root, options.stack, options.json) {
+        Ok(form) => Ok(Invocation::Partitions(PartitionsWords {
+            image,
+            sector_size,
+            form,
+        })),
+        Err(misuse) => Err(WordsFault::Usage(misuse)),
+    }
 }
