@@ -1,8 +1,7 @@
 -- How commands on partitions end early.
-use Rattle.std.proofs.Common.{◌≡◌, ◌+◌, ◌≤◌, ℕ, List, Bool, sym, subst, Result, Ok, Err, arith, refl}
+use Rattle.std.proofs.Common.{◌≡◌, ◌≤◌, ℕ, Bool, sym, subst, Result, Ok, Err, arith, refl}
 use Rattle.std.specs.Prelude.{IfErr, IsErrAnd}
 use Rattle.allocation.specs.Asked.{asked}
-use Rattle.allocation.specs.Refusal.{IsOutOfMemory}
 use Rattle.allocation.specs.declared.out_of_memory.OutOfMemory.{OutOfMemory}
 use Rattle.block_device.specs.Device.{Device}
 use Rattle.image_commands.specs.declared.trusted.TrustedRoot.{TrustedRoot}
@@ -23,7 +22,7 @@ err-from (Err e) P fault is holds = subst P (sym is) holds
 
 -- the exit of a `?` that hands on a refused allocation
 pub exit_room : {T : Type 0} (r : Result T PartitionsFault) (n : ℕ) (e : OutOfMemory) → IsErrAnd r (λ fault. fault ≡ NoMemory) → asked e ≤ n → IfErr r (IsRefusedRoom n)
-exit_room r n e is low = err-from r (IsRefusedRoom n) NoMemory is (refl, e.asked, low, e.refused)
+exit_room r n e is low = err-from r (IsRefusedRoom n) NoMemory is (refl, (e.asked, low, e.refused))
 
 -- a text of two partitions that isn't written
 pub say-root : {device : Device} {size : SectorSize} {trusted : TrustedRoot} (pair : FindsPair device size trusted) (failed : Bool) (fault : PartitionsFault)

@@ -1,6 +1,5 @@
 -- Stack texts that `load` takes or refuses.
-use Rattle.std.proofs.Common.{◌≡◌, ◌⊎◌, ℕ, ◌≤◌, List, Bool, Option, Some, None, Result, Ok, Err, subst, sym, inl, inr, arith}
-use Rattle.allocation.specs.Refusal.{IsOutOfMemory}
+use Rattle.std.proofs.Common.{ℕ, List, Bool, Option, Some, None, Result, Ok, Err, subst, sym, inl, inr, arith}
 use Rattle.dm_table.specs.declared.stack.Entry.{Entry}
 use Rattle.dm_table.specs.declared.fault.TextFault.{TextFault}
 use Rattle.dm_table.specs.StackText.{stack_of}

@@ -1,5 +1,5 @@
 -- What is printed among the errors.
-use Rattle.std.proofs.Common.{◌≡◌, ◌⊎◌, Bool, true, Result, Ok, Err, IfErr, inl, inr}
+use Rattle.std.proofs.Common.{◌≡◌, ◌⊎◌, true, Result, Ok, Err, IfErr, inl, inr}
 use Rattle.program_io.specs.Counted.{CountedRecord, Writing}
 use Rattle.program_io.specs.declared.fault.WriteFault.{WriteFault}
 

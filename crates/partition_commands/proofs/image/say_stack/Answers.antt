@@ -1,7 +1,5 @@
-use Rattle.std.proofs.Common.{inl, inr, ◌∙◌, refl}
-use Rattle.std.proofs.lemmas.Result.{IfErr-weaker, on_ok_weaker}
-use Rattle.partition_commands.specs.declared.fault.PartitionsFault.TheVariants.{NoMemory}
-use Rattle.partition_commands.proofs.EndingLemmas.{err-from}
+use Rattle.std.proofs.Common.{inr, refl}
+use Rattle.std.proofs.lemmas.Result.{IfErr-weaker}
 use Rattle.partition_commands.proofs.LoadLemmas.{text-end}
 use Rattle.partition_commands.proofs.NoteLemmas.{on_err-any}
 use Rattle.partition_commands.proofs.image.say_stack.Goals as goal

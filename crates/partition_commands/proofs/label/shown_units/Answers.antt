@@ -1,4 +1,4 @@
-use Rattle.std.proofs.Common.{◌≡◌, ◌∙◌, ◌+◌, ◌++◌, ◌∷◌, [], ℕ, List, map, drop, get_or, append-nil, append_assoc, drop_of_length-le, ap, sym}
+use Rattle.std.proofs.Common.{◌∙◌, ◌+◌, ◌++◌, ◌∷◌, [], ℕ, List, map, drop, get_or, append-nil, append_assoc, drop_of_length-le, ap, sym}
 use Rattle.partition_commands.specs.Labels.{before_zero, shown_unit}
 use Rattle.partition_commands.proofs.LabelLemmas.{left-more, left-zero}
 use Rattle.partition_commands.proofs.label.shown_units.Goals as goal

@@ -1,4 +1,4 @@
-use Rattle.std.proofs.Common.{refl, inl, inr}
+use Rattle.std.proofs.Common.{inl, inr}
 use Rattle.program_io.proofs.lemmas.CountedLemmas.{on_ok-as}
 use Rattle.partition_commands.specs.declared.fault.PrintFault.TheVariants.{Table}
 use Rattle.partition_commands.proofs.EndingLemmas.{err-from}
