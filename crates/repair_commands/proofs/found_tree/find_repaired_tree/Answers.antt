@@ -3,7 +3,6 @@ use Rattle.verity_commands.specs.declared.tree_fault.TreeFault.TheVariants.{Surv
 use Rattle.tree_survey.specs.declared.fault.SurveyFault.TheVariants.{Image}
 use Rattle.verity_format.specs.declared.tree.VerityTree.{VerityTree}
 use Rattle.verity_format.proofs.lemmas.DeviceLemmas.{only_read-then}
-use Rattle.repair_commands.specs.declared.found_tree.FoundTree.{FoundTree}
 use Rattle.repair_commands.proofs.EndingLemmas.{err-from}
 use Rattle.repair_commands.proofs.found_tree.find_repaired_tree.Goals as goal
 
