@@ -1,7 +1,8 @@
 -- Sectors that are written out, piece by piece.
-use Rattle.std.proofs.Common.{◌≡◌, ◌≢◌, ℕ, ◌+◌, ◌≤◌, List, [], ◌++◌, Option, Ok, Err, refl, sym, ap, ◌∙◌, subst, arith}
+use Rattle.std.proofs.Common.{◌≡◌, ◌≢◌, ℕ, ◌+◌, ◌≤◌, true, false, List, [], ◌++◌, Option, Ok, Err, refl, sym, ap, ◌∙◌, subst, arith}
 use Rattle.std.specs.Io.KnownBytes.{Appends}
 use Rattle.std.proofs.KnownBytes.{Appends-nil, Appends-trans}
+use Rattle.std.proofs.lemmas.Bool.{false≢true}
 use Rattle.std.proofs.lemmas.List.Elements.{Contains-append_left, Contains-append_right, All-append, All-nil}
 use Rattle.stack_rules.specs.declared.lower.Lower.{Lower}
 use Rattle.stack_rules.specs.Records.{Configuration}
@@ -17,14 +18,19 @@ use Rattle.stack_meaning.specs.Outcomes.{Images, Outcome, joint_outcome, span}
 use Rattle.stack_lines.specs.Touches.{TouchesOnly, leaves_of}
 use Rattle.stack_lines.proofs.lemmas.TouchLemmas.{touches-none, touches-then, touches-as}
 use Rattle.stack_engine.specs.Bytes.{EachBytes, IsGoodChain, MayBeBytes}
+use Rattle.stack_lines.specs.Budgets.{ReadsAtMost}
+use Rattle.stack_engine.specs.Pieces.{piece_budget}
 use Rattle.stack_engine.specs.Stacks.{StackRecord}
 use Rattle.stack_meaning.proofs.lemmas.FoundLemmas.{HasMore, said_at-mono, used-append}
 use Rattle.stack_meaning.proofs.lemmas.LeafListLemmas.{AreSteady-kept, AreRead-none, AreRead-then, images-kept}
 use Rattle.stack_meaning.proofs.lemmas.RunLemmas.{run-append, run-may}
 use Rattle.stack_meaning.proofs.lemmas.SpanLemmas.{span-add}
 use Rattle.stack_recovery.specs.Alike.{AreAlike}
+use Rattle.stack_recovery.specs.Paces.{IsFirstPace}
+use Rattle.stack_recovery.specs.Pieces.{EndsAligned}
+use Rattle.stack_recovery.specs.declared.pace.Pace.{Pace}
 use Rattle.stack_recovery.proofs.lemmas.LostLemmas.{first-lost}
-use Rattle.transfer_commands.specs.Cats.{CatSide, IsCat, IsCatStop, MeansFault, cat_side}
+use Rattle.transfer_commands.specs.Cats.{CatSide, IsCat, IsCatStop, MeansFault, cat_side, none_read, then_failed, then_read}
 
 -- ---- bytes of sectors one after another
 
@@ -59,8 +65,17 @@ span-then f first a m x y p q = span-add f first a m ∙ ap (λ (o : Outcome). j
 
 -- ---- pieces
 
-pub cat-none : (d first : ℕ) (old : CatSide) → IsCat d first 0 old old
-cat-none d first old = record {
+-- the first k sectors were written, no piece reaches past the end, and as long as no read failed the pace is the first one
+pub record IsCatting (d first k end : ℕ) (old now : CatSide) (pace : Pace) : Type 0 where
+  pub so_far : IsCat d first k old now
+  pub ends : so_far.end ≡ end
+  pub fresh : so_far.failed ≡ false → IsFirstPace pace
+
+pub cat-none : (d first end : ℕ) (old : CatSide) → IsCat d first 0 old old
+cat-none d first end old = record {
+  end = end;
+  failed = false;
+  pieces = none_read;
   bytes = [];
   most = 0;
   config = refl;
@@ -84,8 +99,12 @@ module _ (d first k : ℕ) (old now : CatSide) (p : IsCat d first k old now) (n 
   steady-now steady = subst (λ (c : Configuration). AreSteady (leaves_of c (mapped d)) now.stack.leaves) (sym p.config) (AreSteady-kept old.stack.leaves now.stack.leaves p.moved.moved.fixed steady)
 
   -- a piece that was had, and written
-  pub cat-had : (bytes : List ℕ) (written : Option (List ℕ)) → EachBytes now.stack d (first + k) n (Ok bytes) stack → Appends now.written written bytes → IsCat d first (k + n) old (cat_side stack written)
-  cat-had bytes written q told = record {
+  pub cat-had : (bytes : List ℕ) (written : Option (List ℕ)) → (p.failed ≡ false → EndsAligned now.stack.config d (first + k) p.end 128 n) → EachBytes now.stack d (first + k) n (Ok bytes) stack
+      → ReadsAtMost (piece_budget now.stack d (first + k) n) now.stack.leaves stack.leaves → Appends now.written written bytes → IsCat d first (k + n) old (cat_side stack written)
+  cat-had bytes written aligned q spent told = record {
+    end = p.end;
+    failed = p.failed;
+    pieces = then_read p.pieces aligned q spent;
     bytes = p.bytes ++ bytes;
     most = p.most + _;
     config = q.any.config ∙ p.config;
@@ -103,6 +122,9 @@ module _ (d first k : ℕ) (old now : CatSide) (p : IsCat d first k old now) (n 
   -- a piece of which nothing was written
   pub cat-again : (fault : IoFault) → EachBytes now.stack d (first + k) n (Err fault) stack → IsCat d first k old (cat_side stack now.written)
   cat-again fault q = record {
+    end = p.end;
+    failed = true;
+    pieces = then_failed p.pieces q;
     bytes = p.bytes;
     most = p.most + _;
     config = q.any.config ∙ p.config;
@@ -142,3 +164,25 @@ module _ (d first k : ℕ) (old now : CatSide) (p : IsCat d first k old now) (n 
         alike = same;
         means = means-fault fault q same;
       }
+
+-- ---- at which pace
+
+pub catting-none : (d first end : ℕ) (old : CatSide) (pace : Pace) → IsFirstPace pace → IsCatting d first 0 end old old pace
+unfolding cat-none
+catting-none d first end old pace fresh = record { so_far = cat-none d first end old; ends = refl; fresh = λ unfailed. fresh }
+
+module _ (d first k end : ℕ) (old now : CatSide) (pace next : Pace) (h : IsCatting d first k end old now pace) (n : ℕ) (stack : StackRecord) where
+  -- after a piece that was had
+  pub catting-had : (bytes : List ℕ) (written : Option (List ℕ)) → (IsFirstPace pace → IsFirstPace next) → EndsAligned now.stack.config d (first + k) end pace.most n → EachBytes now.stack d (first + k) n (Ok bytes) stack
+      → ReadsAtMost (piece_budget now.stack d (first + k) n) now.stack.leaves stack.leaves → Appends now.written written bytes → IsCatting d first (k + n) end old (cat_side stack written) next
+  unfolding cat-had
+  catting-had bytes written kept aligned q spent told =
+      let at_end : EndsAligned now.stack.config d (first + k) h.so_far.end pace.most n = subst (λ (e : ℕ). EndsAligned now.stack.config d (first + k) e pace.most n) (sym h.ends) aligned in
+      let whole : h.so_far.failed ≡ false → EndsAligned now.stack.config d (first + k) h.so_far.end 128 n =
+      λ unfailed. subst (λ (m : ℕ). EndsAligned now.stack.config d (first + k) h.so_far.end m n) (h.fresh unfailed).0 at_end in
+      record { so_far = cat-had d first k old now h.so_far n stack bytes written whole q spent told; ends = h.ends; fresh = λ unfailed. kept (h.fresh unfailed) }
+
+  -- after a piece of which nothing was written
+  pub catting-again : (fault : IoFault) → EachBytes now.stack d (first + k) n (Err fault) stack → IsCatting d first k end old (cat_side stack now.written) next
+  unfolding cat-again
+  catting-again fault q = record { so_far = cat-again d first k old now h.so_far n stack fault q; ends = h.ends; fresh = λ unfailed. absurd (false≢true (sym unfailed)) }

@@ -1,5 +1,5 @@
 -- Sectors of a mapped device that are written to a writer.
-use Rattle.std.specs.Prelude.{◌≡◌, ◌≢◌, ℕ, ◌+◌, ◌<◌, ◌≤◌, Bool, true, List, Option, Ok, Err}
+use Rattle.std.specs.Prelude.{◌≡◌, ◌≢◌, ℕ, ◌+◌, ◌<◌, ◌≤◌, Bool, true, false, List, Option, Ok, Err}
 use Rattle.std.specs.Io.KnownBytes.{Appends}
 use Rattle.program_io.specs.Counted.{CountedRecord}
 use Rattle.stack_rules.specs.Names.{mapped, size}
@@ -11,8 +11,11 @@ use Rattle.stack_meaning.specs.Outcomes.{Outcome, span}
 use Rattle.stack_meaning.specs.Reading.{MeetVerity}
 use Rattle.stack_lines.specs.Touches.{TouchesOnly, leaves_of}
 use Rattle.stack_engine.specs.Bytes.{EachBytes, MayBeBytes}
+use Rattle.stack_lines.specs.Budgets.{ReadsAtMost}
+use Rattle.stack_engine.specs.Pieces.{piece_budget}
 use Rattle.stack_engine.specs.Stacks.{StackRecord}
 use Rattle.stack_recovery.specs.Alike.{AreAlike}
+use Rattle.stack_recovery.specs.Pieces.{EndsAligned}
 use Rattle.transfer_commands.specs.declared.output.SectorRange.{SectorRange}
 use Rattle.transfer_commands.specs.declared.stream_fault.CatFault.{CatFault}
 use Rattle.transfer_commands.specs.declared.stream_fault.CatFault.TheVariants.{Range, Read, Write}
@@ -24,6 +27,15 @@ pub record CatSide : Type 0 where
 
 abbrev pub cat_side : StackRecord → Option (List ℕ) → CatSide
 cat_side stack written = record { stack = stack; written = written }
+
+-- Sectors of device d, from the first on, were read up to the k-th by reads one after the other. As long as none failed, each
+-- was of the longest piece before the end that splits no unit and no data block that fits in one, and read no more than these cost,
+-- each of them once.
+pub data ReadsAligned (d first end : ℕ) (w : StackRecord) : ℕ → Bool → StackRecord → Type 0 where
+  none_read : ReadsAligned d first end w 0 false w
+  then_read : {k n : ℕ} {failed : Bool} {bytes : List ℕ} {v w' : StackRecord} → ReadsAligned d first end w k failed v → (failed ≡ false → EndsAligned v.config d (first + k) end 128 n)
+      → EachBytes v d (first + k) n (Ok bytes) w' → ReadsAtMost (piece_budget v d (first + k) n) v.leaves w'.leaves → ReadsAligned d first end w (k + n) failed w'
+  then_failed : {k n : ℕ} {failed : Bool} {fault : IoFault} {v w' : StackRecord} → ReadsAligned d first end w k failed v → EachBytes v d (first + k) n (Err fault) w' → ReadsAligned d first end w k true w'
 
 -- The bytes of k sectors of device d from the first on were written, and nothing else. Over any backing devices there are
 -- verified chains for the bytes; over steady ones the bytes are what the stack means. Only backing devices below the device
@@ -38,6 +50,9 @@ pub record IsCat (d first k : ℕ) (old new : CatSide) : Type 0 where
   pub may : MayBeBytes old.stack.config (mapped d) first k bytes
   pub exact : AreSteady (leaves_of old.stack.config (mapped d)) old.stack.leaves → span (sector old.stack.config (steady_images old.stack.leaves) (mapped d)) first k ≡ Ok bytes
   pub written : Appends old.written new.written bytes
+  pub end : ℕ
+  pub failed : Bool
+  pub pieces : ReadsAligned d first end old.stack k failed new.stack
 
 -- the sector means this fault, if it is a fault that a sector may mean
 abbrev pub MeansFault : Outcome → IoFault → Type 0

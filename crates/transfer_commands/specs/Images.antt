@@ -4,6 +4,8 @@ use Rattle.std.specs.List.{concat}
 use Rattle.block_device.specs.Device.{Device, HasFailed, run_of}
 use Rattle.stack_engine.specs.Stacks.{StackRecord}
 use Rattle.stack_engine.specs.WritePieces.{EachWrite, WritesInPieces}
+use Rattle.request_queue.specs.AtOnce.{WritesBeside}
+use Rattle.request_queue.specs.Ranges.{range_at}
 use Rattle.transfer_commands.specs.declared.stream_fault.StoreCause.{StoreCause}
 use Rattle.transfer_commands.specs.declared.stream_fault.StoreCause.TheVariants as cause
 use Rattle.transfer_commands.specs.declared.stream_fault.StoreFault.{StoreFault}
@@ -14,12 +16,13 @@ use Rattle.transfer_commands.specs.Stores.{IsSynced, IsSyncTried, IsStoreUnsynce
 abbrev pub image_place : ℕ → Device → StorePlace
 image_place first source = record { first = first; length = Some (source.size * 512) }
 
--- The first n sectors of the source were read, and written to device d from its sector `first` on, in pieces. If the source is
--- steady, the bytes are the stored ones.
+-- The first n sectors of the source were read, and written to device d from its sector `first` on, in pieces that split no unit
+-- that fits in one. If the source is steady, the bytes are the stored ones.
 pub record HasStoredImage (d first n : ℕ) (w : StackRecord) (source : Device) (w' : StackRecord) : Type 0 where
   pub bytes : List ℕ
   pub count : length bytes ≡ 512 * n
   pub pieces : WritesInPieces w d first bytes (Ok tt) w'
+  pub steps : WritesBeside (range_at d first source.size) w bytes (Ok tt) w'
   pub held : IsTrue source.steady → bytes ≡ concat (run_of source.image 0 n)
 
 -- all sectors were written and synced

@@ -8,7 +8,10 @@ use Rattle.stack_rules.specs.Records.{Configuration}
 use Rattle.stack_meaning.specs.declared.fault.IoFault.{IoFault}
 use Rattle.stack_engine.specs.Stacks.{StackRecord}
 use Rattle.stack_engine.specs.Syncs.{FailsToSync}
-use Rattle.stack_engine.specs.WritePieces.{EachWrite, WritesInPieces}
+use Rattle.stack_engine.specs.WritePieces.{EachWrite, PieceNeeded, PieceWrote, WritesInPieces}
+use Rattle.request_queue.specs.declared.range.SectorRange.{SectorRange}
+use Rattle.request_queue.specs.AtOnce.{WritesBeside}
+use Rattle.request_queue.specs.Ranges.{range_at}
 use Rattle.transfer_commands.specs.declared.stream_fault.StoreCause.{StoreCause}
 use Rattle.transfer_commands.specs.declared.stream_fault.StoreCause.TheVariants as cause
 use Rattle.transfer_commands.specs.declared.stream_fault.StoreFault.{StoreFault}
@@ -39,12 +42,38 @@ pub record StoreSide : Type 0 where
 abbrev pub store_side : StackRecord → Option (List ℕ) → StoreSide
 store_side stack input = record { stack = stack; input = input }
 
+-- the sectors of device d from the first on
+abbrev pub sectors_from : Configuration → ℕ → ℕ → SectorRange
+sectors_from c d first = range_at d first (size c (mapped d) - first)
+
+-- These bytes were written to device d from its sector `first` on, at once. It writes no more than the units cost, each of them
+-- once, and reads no more than those that it splits.
+pub record IsPieceStored (w : StackRecord) (d first : ℕ) (bytes : List ℕ) (w' : StackRecord) : Type 0 where
+  pub written : EachWrite w d first bytes (Ok tt) w'
+  pub wrote : PieceWrote w d first (length bytes / 512) w'
+  pub needed : PieceNeeded w d first (length bytes / 512) w'
+
+-- these bytes of whole sectors were written; there may be none
+abbrev pub StoresPiece : StackRecord → ℕ → ℕ → List ℕ → StackRecord → Type 0
+StoresPiece w d first bytes w' = ((bytes ≡ []) × (w' ≡ w)) ⊎ IsPieceStored w d first bytes w'
+
+-- These bytes were written to device d from its sector `first` on, in pieces that split no unit that fits in one: each ends as
+-- `aligned_len` says for all sectors up to the device's end, but for the last one, in which the input may end.
+pub record StoresInTurn (d first : ℕ) (w : StackRecord) (bytes : List ℕ) (w' : StackRecord) : Type 0 where
+  pub front : List ℕ
+  pub last : List ℕ
+  pub left : StackRecord
+  pub bytes_are : bytes ≡ front ++ last
+  pub steps : WritesBeside (sectors_from w.config d first) w front (Ok tt) left
+  pub ends : StoresPiece left d (first + length front / 512) last w'
+
 -- The bytes of n sectors were read from the reader, and written to device d from its sector `first` on, in pieces. Each piece
 -- has the effect of a write.
 pub record HasStored (d first n : ℕ) (old new : StoreSide) : Type 0 where
   pub bytes : List ℕ
   pub count : length bytes ≡ 512 * n
   pub pieces : WritesInPieces old.stack d first bytes (Ok tt) new.stack
+  pub turns : StoresInTurn d first old.stack bytes new.stack
   pub taken : Consumes old.input new.input bytes
 
 -- no backing device is dirty, and nothing else changed
@@ -125,10 +154,6 @@ IsStoreEnd d place old new broken fault =
     IsStoreRefused d place old new fault ⊎ (IsStoppedSynced d place.first old new broken fault ⊎ IsSyncStop d place.first old new fault)
 
 -- ---- single steps
-
--- these bytes of whole sectors were written; there may be none
-abbrev pub StoresPiece : StackRecord → ℕ → ℕ → List ℕ → StackRecord → Type 0
-StoresPiece w d first bytes w' = ((bytes ≡ []) × (w' ≡ w)) ⊎ EachWrite w d first bytes (Ok tt) w'
 
 -- the whole sectors of some bytes
 abbrev pub whole_of : List ℕ → List ℕ

@@ -9,11 +9,14 @@ use Rattle.stack_meaning.specs.declared.fault.IoFault.TheVariants.{Device, NoMem
 use Rattle.stack_meaning.specs.declared.fault.Fault.TheVariants.{ErrorTarget, Mismatch}
 use Rattle.stack_meaning.specs.Meaning.{said_at}
 use Rattle.stack_meaning.specs.Reading.{MeetVerity}
+use Rattle.stack_lines.specs.Budgets.{ReadsAtMost}
 use Rattle.stack_engine.specs.Bytes.{EachBytes}
+use Rattle.stack_engine.specs.Pieces.{piece_budget}
 use Rattle.stack_recovery.specs.Alike.{AreAlike}
+use Rattle.stack_recovery.specs.Pieces.{EndsAligned}
 use Rattle.stack_recovery.specs.LostRuns.{is_same_fault}
-use Rattle.transfer_commands.specs.Cats.{CatSide, IsCat, cat_side}
-use Rattle.transfer_commands.proofs.CatLemmas.{cat-again, cat-had, cat-none, cat-stop}
+use Rattle.transfer_commands.specs.Cats.{CatSide, cat_side}
+use Rattle.transfer_commands.proofs.CatLemmas.{IsCatting, cat-stop, catting-again, catting-had, catting-none}
 use Rattle.transfer_commands.proofs.output.cat_by.Goals as goal
 
 abbrev ended : IoFault → Result Unit IoFault
@@ -29,8 +32,13 @@ pub pieces-init : goal.pieces-init
 pieces-init g c =
     let old : CatSide = cat_side c.args.stack.now (g.W.Write.contents c.args.writer.now.inner) in
     let none : 0 ≡ c.args.range.first - c.args.range.first = omega arith in
+    let begun : IsCatting c.args.d.0 c.args.range.first 0 (c.args.range.first + c.args.range.count) old old c.new-pace.result =
+    catting-none c.args.d.0 c.args.range.first (c.args.range.first + c.args.range.count) old c.new-pace.result c.new-pace.ensures.first in
+    let here : IsCatting c.args.d.0 c.args.range.first (c.args.range.first - c.args.range.first) (c.args.range.first + c.args.range.count) old old c.new-pace.result =
+    subst (λ (k : ℕ). IsCatting c.args.d.0 c.args.range.first k (c.args.range.first + c.args.range.count) old old c.new-pace.result) none begun in
     record {
-      so_far = subst (λ (k : ℕ). IsCat c.args.d.0 c.args.range.first k old old) none (cat-none c.args.d.0 c.args.range.first old);
+      so_far = here.so_far;
+      catting = here;
       from = omega arith;
       within = omega arith;
       pace = c.new-pace.ensures.pace;
@@ -51,11 +59,21 @@ pieces-preserved-in-Ok g c =
     let new : CatSide = cat_side c.read_bytes.new.self (g.W.Write.contents c.put.new.self.inner) in
     let counted = subst (λ (m : ℕ). EachBytes c.pieces.stack c.args.d.0 c.pieces.at m (Ok bytes) c.read_bytes.new.self) number (record { any = c.in-Ok.ensures.any; steady = c.in-Ok.ensures.steady }) in
     let piece = subst (λ (s : ℕ). EachBytes c.pieces.stack c.args.d.0 s n (Ok bytes) c.read_bytes.new.self) here counted in
-    let all : IsCat c.args.d.0 first (k + n) old new = cat-had c.args.d.0 first k old now before.so_far n c.read_bytes.new.self bytes (g.W.Write.contents c.put.new.self.inner) piece c.in_ok-put-in-Ok.ensures.writes.ok in
+    let spent_at = subst (λ (m : ℕ). ReadsAtMost (piece_budget c.pieces.stack c.args.d.0 c.pieces.at m) c.pieces.stack.leaves c.read_bytes.new.self.leaves) number c.in-Ok.ensures.spent in
+    let spent = subst (λ (s : ℕ). ReadsAtMost (piece_budget c.pieces.stack c.args.d.0 s n) c.pieces.stack.leaves c.read_bytes.new.self.leaves) here spent_at in
+    let aligned : EndsAligned c.pieces.stack.config c.args.d.0 (first + k) (c.args.range.first + c.args.range.count) c.pieces.pace.most n =
+    subst (λ (s : ℕ). EndsAligned c.pieces.stack.config c.args.d.0 s (c.args.range.first + c.args.range.count) c.pieces.pace.most n) here
+    (subst (λ (x : Configuration). EndsAligned x c.args.d.0 c.pieces.at (c.args.range.first + c.args.range.count) c.pieces.pace.most n) c.config-in-pieces.ensures.value c.piece_at-piece.ensures.ends) in
+    let next : IsCatting c.args.d.0 first (k + n) (c.args.range.first + c.args.range.count) old new c.after_bytes-pace.result =
+    catting-had c.args.d.0 first k (c.args.range.first + c.args.range.count) old now c.pieces.pace c.after_bytes-pace.result before.catting n c.read_bytes.new.self bytes (g.W.Write.contents c.put.new.self.inner)
+    c.after_bytes-pace.ensures.first aligned piece spent c.in_ok-put-in-Ok.ensures.writes.ok in
     let count = c.from-count.ensures in
     let sum : k + n ≡ c.pieces.at + c.from-count.result - first = omega (arith, before.from, count) in
+    let summed : IsCatting c.args.d.0 first (c.pieces.at + c.from-count.result - first) (c.args.range.first + c.args.range.count) old new c.after_bytes-pace.result =
+    subst (λ (m : ℕ). IsCatting c.args.d.0 first m (c.args.range.first + c.args.range.count) old new c.after_bytes-pace.result) sum next in
     record {
-      so_far = subst (λ (m : ℕ). IsCat c.args.d.0 first m old new) sum all;
+      so_far = summed.so_far;
+      catting = summed;
       from = omega (arith, before.from);
       within = omega (arith, c.piece_at-piece.ensures.inside, count);
       pace = c.after_bytes-pace.ensures.pace;
@@ -113,8 +131,11 @@ pieces-preserved g c =
     let now : CatSide = cat_side c.pieces.stack (g.W.Write.contents c.pieces.writer.inner) in
     let counted = subst (λ (m : ℕ). EachBytes c.pieces.stack c.args.d.0 c.pieces.at m (Err c.in-Err.fault) c.read_bytes.new.self) number (record { any = c.in-Err.ensures.any; steady = c.in-Err.ensures.steady }) in
     let piece = subst (λ (s : ℕ). EachBytes c.pieces.stack c.args.d.0 s n (Err c.in-Err.fault) c.read_bytes.new.self) here counted in
+    let next : IsCatting c.args.d.0 first k (c.args.range.first + c.args.range.count) old (cat_side c.read_bytes.new.self now.written) c.after_failure-pace.result =
+    catting-again c.args.d.0 first k (c.args.range.first + c.args.range.count) old now c.pieces.pace c.after_failure-pace.result before.catting n c.read_bytes.new.self c.in-Err.fault piece in
     record {
-      so_far = cat-again c.args.d.0 first k old now before.so_far n c.read_bytes.new.self c.in-Err.fault piece;
+      so_far = next.so_far;
+      catting = next;
       from = before.from;
       within = before.within;
       pace = c.after_failure-pace.ensures.pace;
