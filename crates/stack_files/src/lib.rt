@@ -15,7 +15,7 @@ mod stack_fault;
 mod stack_file;
 
 pub use closing::{close_stack, sync_and_close};
-pub use configuration::open_configuration;
+pub use configuration::{configuration_of, open_configuration};
 pub use device::{NamedDevice, find_device, open_device, open_device_and_output};
 pub use leaves::OpenLeaves;
 pub use opening_fault::OpeningFault;
