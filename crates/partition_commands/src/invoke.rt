@@ -39,18 +39,17 @@ pub fn invoke_partitions<'a, I: Images, W: Write, E: Write>(
     ensures err { IfErr result (FailsToList I.relations I.Dev.state images.old images.new writer.new words.entry (notes_of E.contents errors.old errors.new)) }
     ensures quiet { IfErr result (EndsFormQuiet W.contents writer.old writer.new words.entry) }
 {
-    let PartitionsWords {
-        image,
-        sector_size,
-        form,
-    } = words;
-    let size = size_of(sector_size);
-    match form {
+    let image = words.image;
+    let size = size_of(words.sector_size);
+    match &words.form {
         PartitionForm::Lines => partitions_of_image(alloc, images, image, size, writer, errors),
         PartitionForm::Object => object_of_image(alloc, images, image, size, writer, errors),
         PartitionForm::Stack => stack_of_image(alloc, images, image, size, writer, errors),
         PartitionForm::Root(root) => {
-            let trusted = TrustedRoot { root, pin: None };
+            let trusted = TrustedRoot {
+                root: *root,
+                pin: None,
+            };
             root_stack_of_image(alloc, images, image, size, &trusted, writer, errors)
         }
         PartitionForm::Pin(pin) => {
