@@ -1,5 +1,5 @@
 //! A device that is only read, after its writes were synced.
-ghost use Rattle.std.specs.Prelude.{◌≡◌, None, Option};
+ghost use Rattle.std.specs.Prelude.{◌≡◌, IsErr, None, Option};
 ghost use Rattle.std.specs.Option.{ForSome};
 ghost use Rattle.block_device.specs.Call.{DeviceDoes};
 ghost use Rattle.block_device.specs.Device.{Device};
@@ -70,9 +70,13 @@ impl<D: BlockDev, K: Former> BlockDev for OnlyRead<D, K> {
         self.inner.read(first, out)
     }
 
-    // No caller may: the device can't be written.
-    fn write(&mut self, _first: u64, _bytes: &[u8]) -> Result<(), DeviceFault> {
-        unreachable!()
+    // The device isn't writable, so no caller of the trait gets here. These clauses require nothing, since a contract that no
+    // call can meet is refused.
+    fn write(&mut self, _first: u64, _bytes: &[u8]) -> Result<(), DeviceFault>
+        ensures refused { IsErr result }
+        ensures same { self.new ≡ self.old }
+    {
+        Err(DeviceFault)
     }
 
     fn reads(&self) -> u64 {
