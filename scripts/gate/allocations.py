@@ -27,9 +27,14 @@ PARSER = "`clap`'s table of commands grows within that crate, which makes no evi
 CACHE = "kept blocks grow within `lru`, which makes no evidence; a block that isn't kept is read again, so no call fails"
 VALUES = "JSON values and their texts grow within `serde_json`, which makes no evidence"
 
+EXAMPLE = "an example for users of the library, whose errors are `anyhow`'s"
+
 # Of each crate how many places it has, and why.
 PLACES = {
     "command_parser": (11, PARSER),
+    "example_nbd": (4, EXAMPLE),
+    "example_stack": (3, EXAMPLE),
+    "example_verified_block": (2, EXAMPLE),
     "image_commands": (12, VALUES),
     "partition_commands": (15, VALUES),
     "program_io": (4, VALUES),

@@ -4,7 +4,9 @@
 use anyhow::{Context, Result};
 use std::io;
 use std::io::BufWriter;
-use volumes::{BlockDev, Counted, Export, Leaf, MemoryDev, Queue, Stack, config_over, parse_stack, serve};
+use volumes::{
+    BlockDev, Counted, Export, Leaf, MemoryDev, Queue, Stack, config_over, parse_stack, serve,
+};
 
 const TEXT: &[u8] = b"v,,,rw,0 64 linear M 0";
 

@@ -26,6 +26,9 @@ fn main(rt: HostRuntime) -> Result<()> {
     let device = stack.config().device(b"v").context("no device v")?;
     let mut bytes = [0u8; 8192];
     stack.read_bytes(device, 0, &mut bytes)?;
-    println!(rt; "sector 0 begins with {}, sector 8 with {}", bytes[0], bytes[4096])?;
+    println!(rt;
+        "sector 0 begins with {}, sector 8 with {}",
+        bytes[0], bytes[4096]
+    )?;
     Ok(())
 }

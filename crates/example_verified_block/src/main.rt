@@ -16,8 +16,8 @@ fn main(rt: HostRuntime) -> Result<()> {
     hex::decode_to_slice(root, &mut digest)?;
     let data = FileDev::open(&rt, data, false)?;
     let hash = FileDev::open(&rt, hash, false)?;
-    let mut image = VerityImage::open(data, hash, Digest::new(digest))?;
     let index: u64 = index.parse()?;
+    let mut image = VerityImage::open(data, hash, Digest::new(digest))?;
     let block = image.read(alloc, index)?;
     println!(rt; "block {index}: {} bytes", block.len())?;
     Ok(())

@@ -8,8 +8,9 @@ use Rattle.verity_format.specs.Chain.{IsChainRead, stored_chain}
 use Rattle.verity_format.specs.Image.{data_sectors, tree_sectors}
 use Rattle.verity_format.specs.Superblock.{SuperRecord}
 use Rattle.verity_format.specs.Trees.{superblock_tree}
-use Rattle.verity_format.specs.Verifying.{IsReadFrom}
+use Rattle.verity_format.specs.Verifying.{IsReadCause, IsReadFrom}
 use Rattle.verity_format.specs.declared.tree.VerityTree.{VerityTree}
+use Rattle.verity_format.specs.declared.verifying.VerifyFault.{VerifyFault}
 use Rattle.volumes.specs.declared.image.BlockFault.{BlockFault}
 use Rattle.volumes.specs.declared.image.BlockFault.TheVariants.{OutOfRange, TooSmall, Mismatch, Device as DeviceFailed, NoMemory}
 use Rattle.volumes.specs.declared.image.VerityImage.{VerityImage}
@@ -20,6 +21,10 @@ pub record HasTree (hash_dev : Device) (tree : VerityTree) : Type 0 where
   pub superblock : SuperRecord
   pub read : IsReadFrom hash_dev sector superblock
   pub is : tree ≡ superblock_tree superblock
+
+-- why no superblock was read; the hash device is gone afterwards
+abbrev pub FailsToOpen : {D : Type 0} → (D → Device) → D → VerifyFault → Type 0
+FailsToOpen {D} state hash_dev fault = (after : D) × IsReadCause (state hash_dev) (state after) fault
 
 -- hash blocks lead from the root hash to the bytes of that data block
 pub record IsVerified (tree : VerityTree) (root : List ℕ) (index : ℕ) (bytes : List ℕ) : Type 0 where

@@ -1,8 +1,7 @@
 //! A verity image whose data blocks are verified as they are read.
 ghost use Rattle.std.specs.Prelude.{◌≡◌, IfErr, IfOk};
 ghost use Rattle.verity_format.specs.Blocks.{BothOnlyRead, IsOnlyRead};
-ghost use Rattle.verity_format.specs.Verifying.{IsReadCause};
-ghost use Rattle.volumes.specs.Images.{FailsToReadBlock, HasTree, IsVerified};
+ghost use Rattle.volumes.specs.Images.{FailsToOpen, FailsToReadBlock, HasTree, IsVerified};
 
 use block_device::BlockDev;
 use hash_tree::Chain;
@@ -54,6 +53,7 @@ impl<D: BlockDev + Drop, H: BlockDev + Drop> VerityImage<D, H> {
     pub fn open(data_dev: D, hash_dev: H, root: Digest) -> Result<VerityImage<D, H>, VerifyFault>
         ensures kept { IfOk result (λ image. (image.data_dev ≡ data_dev) × (image.root ≡ root) × IsOnlyRead (H.state hash_dev) (H.state image.hash_dev)) }
         ensures tree { IfOk result (λ image. HasTree (H.state hash_dev) image.tree) }
+        ensures err { IfErr result (FailsToOpen H.state hash_dev) }
     {
         let mut hash_dev = hash_dev;
         let superblock = read_superblock(&mut hash_dev)?;
