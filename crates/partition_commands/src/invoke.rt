@@ -31,25 +31,22 @@ fn size_of(bytes: u32) -> SectorSize
 pub fn invoke_partitions<'a, I: Images, W: Write, E: Write>(
     alloc: Global,
     images: &mut I,
-    words: PartitionsWords<'a>,
+    words: &PartitionsWords<'a>,
     writer: &mut Counted<W>,
     errors: &mut Counted<E>,
 ) -> Result<(), PartitionsFault<'a>>
-    ensures ok { OnOk result (ListsByWords I.relations I.Dev.state images.old images.new W.contents writer.old writer.new words.entry (notes_of E.contents errors.old errors.new)) }
-    ensures err { IfErr result (FailsToList I.relations I.Dev.state images.old images.new writer.new words.entry (notes_of E.contents errors.old errors.new)) }
-    ensures quiet { IfErr result (EndsFormQuiet W.contents writer.old writer.new words.entry) }
+    ensures ok { OnOk result (ListsByWords I.relations I.Dev.state images.old images.new W.contents writer.old writer.new words.now (notes_of E.contents errors.old errors.new)) }
+    ensures err { IfErr result (FailsToList I.relations I.Dev.state images.old images.new writer.new words.now (notes_of E.contents errors.old errors.new)) }
+    ensures quiet { IfErr result (EndsFormQuiet W.contents writer.old writer.new words.now) }
 {
     let image = words.image;
     let size = size_of(words.sector_size);
-    match &words.form {
+    match words.form {
         PartitionForm::Lines => partitions_of_image(alloc, images, image, size, writer, errors),
         PartitionForm::Object => object_of_image(alloc, images, image, size, writer, errors),
         PartitionForm::Stack => stack_of_image(alloc, images, image, size, writer, errors),
         PartitionForm::Root(root) => {
-            let trusted = TrustedRoot {
-                root: *root,
-                pin: None,
-            };
+            let trusted = TrustedRoot { root, pin: None };
             root_stack_of_image(alloc, images, image, size, &trusted, writer, errors)
         }
         PartitionForm::Pin(pin) => {

@@ -74,7 +74,7 @@ pub fn invoke<'a, I: Images, G: Generators + Progress + Watchers, S: Read, W: Wr
         Invocation::Dump(words) => Ok(invoke_dump(alloc, images, &words, writer)?),
         Invocation::Table(words) => Ok(invoke_table(alloc, images, &words, writer)?),
         Invocation::Partitions(words) => {
-            Ok(invoke_partitions(alloc, images, words, writer, errors)?)
+            Ok(invoke_partitions(alloc, images, &words, writer, errors)?)
         }
         Invocation::Diff(words) => compare_images(alloc, Desk { images, writer }, &words),
         Invocation::Repair(words) => repair_image(alloc, Desk { images, writer }, &words),
