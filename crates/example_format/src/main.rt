@@ -8,8 +8,10 @@ const UUID: [u8; 16] = [0; 16];
 
 fn main(rt: HostRuntime) -> Result<()> {
     let alloc = rt.alloc();
-    let mut data = MemoryDev::ramp(alloc, 128, false)?;
-    let mut hash = MemoryDev::zeros(alloc, 16, true)?;
+    let mut data = MemoryDev::ramp(alloc, 128, false)
+        .ok()
+        .context("no memory")?;
+    let mut hash = MemoryDev::zeros(alloc, 16, true).ok().context("no memory")?;
     let options = FormatOptions {
         uuid: UUID,
         data_block: 4096,

@@ -12,7 +12,7 @@ const TEXT: &[u8] = b"v,,,rw,0 64 linear M 0";
 
 fn main(rt: HostRuntime) -> Result<()> {
     let alloc = rt.alloc();
-    let device = MemoryDev::ramp(alloc, 64, true)?;
+    let device = MemoryDev::ramp(alloc, 64, true).ok().context("no memory")?;
     let leaf = Leaf {
         name: Vec::from_slice(alloc, b"M")?,
         sectors: device.sectors(),

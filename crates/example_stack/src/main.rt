@@ -24,6 +24,9 @@ fn main(rt: HostRuntime) -> Result<()> {
     let mut stack = Stack::over(alloc, config, devices, 64);
     stack.load(&parse_stack(alloc, TEXT)?)?;
     let device = stack.config().device(b"v").context("no device v")?;
+    if stack.config().sectors(device) < 16 {
+        bail!("the device is too small");
+    }
     let mut bytes = [0u8; 8192];
     stack.read_bytes(device, 0, &mut bytes)?;
     println!(rt;
