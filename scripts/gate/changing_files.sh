@@ -343,7 +343,7 @@ mkdir changed
     cd changed
     head -c 4096 /dev/zero | tr '\0' '\6' > whole
     truncate -s 8192 tree other
-    made=$("$program" format $sizes --fec parity whole tree | sed -n 's/^root //p')
+    made=$("$program" format --grow $sizes --fec parity whole tree | sed -n 's/^root //p')
     "$program" dump --pin "$made" tree > pin
     "$program" format --data-block=512 --hash-block=512 --salt=ab whole other > /dev/null
     head -c 512 other > head
