@@ -41,17 +41,17 @@ use Rattle.request_queue.proofs.lemmas.LedLemmas.{led-then}
 abbrev pub IsTalk : List ExportRecord → World → Phase → World → List ℕ → List ℕ → Type 0
 IsTalk es first phase now taken written = (replies : List ℕ) × Conversation es first phase now taken replies × (written ≡ greeting ++ replies)
 
-abbrev pub Held : List ExportRecord → World → Phase → World → Streams → Streams → Type 0
-Held es first phase now old new = Spoken old new (IsTalk es first phase now)
+abbrev pub BusyOr : List ExportRecord → World → Phase → World → Streams → Streams → Type 0
+BusyOr es first phase now old new = Spoken old new (IsTalk es first phase now)
 
-pub held-starts : (es : List ExportRecord) (first : World) (input output output' : Option (List ℕ)) → Appends output output' greeting → Held es first Greeted first (streams input output) (streams input output')
+pub held-starts : (es : List ExportRecord) (first : World) (input output output' : Option (List ℕ)) → Appends output output' greeting → BusyOr es first Greeted first (streams input output) (streams input output')
 held-starts es first input output output' a = record { taken = []; written = greeting; consumed = Consumes-nil input; appended = a; holds = ([], begins, sym (append-nil greeting)) }
 
 -- what was kept back is handed on
-pub held-kept : {es : List ExportRecord} {first now : World} {phase : Phase} {old : Streams} (input output output' : Option (List ℕ)) → Held es first phase now old (streams input output) → Keeps output output' → Held es first phase now old (streams input output')
+pub held-kept : {es : List ExportRecord} {first now : World} {phase : Phase} {old : Streams} (input output output' : Option (List ℕ)) → BusyOr es first phase now old (streams input output) → Keeps output output' → BusyOr es first phase now old (streams input output')
 held-kept {old = old} input output output' h k = record { taken = h.taken; written = h.written; consumed = h.consumed; appended = Appends-kept old.output output output' h.written h.appended k; holds = h.holds }
 
-pub held-more : {es : List ExportRecord} {first now : World} {phase : Phase} {old mid : Streams} (next : Phase) (now' : World) (new : Streams) → Held es first phase now old mid → EndsMessage es phase now now' mid new (Ok (Some next)) → Held es first next now' old new
+pub held-more : {es : List ExportRecord} {first now : World} {phase : Phase} {old mid : Streams} (next : Phase) (now' : World) (new : Streams) → BusyOr es first phase now old mid → EndsMessage es phase now now' mid new (Ok (Some next)) → BusyOr es first next now' old new
 held-more {old = old} {mid = mid} next now' new h t = record {
   taken = h.taken ++ t.taken;
   written = h.written ++ t.written;
@@ -65,7 +65,7 @@ held-more {old = old} {mid = mid} next now' new h t = record {
 }
 
 -- it went away between two messages
-pub held-none : {es : List ExportRecord} {first now : World} {phase : Phase} {old mid : Streams} (now' : World) (new : Streams) (done : Unit) → Held es first phase now old mid → EndsMessage es phase now now' mid new (Ok None) → IsService es first now' old new (Ok done)
+pub held-none : {es : List ExportRecord} {first now : World} {phase : Phase} {old mid : Streams} (now' : World) (new : Streams) (done : Unit) → BusyOr es first phase now old mid → EndsMessage es phase now now' mid new (Ok None) → IsService es first now' old new (Ok done)
 held-none {es = es} {first = first} {now = now} {phase = phase} {old = old} {mid = mid} now' new done h t =
     let none = t.0 in
     record {
@@ -90,7 +90,7 @@ held-none {es = es} {first = first} {now = now} {phase = phase} {old = old} {mid
     }
 
 -- the service ends in a message, for another fault than the writer's
-ends-in : {es : List ExportRecord} {first now : World} {phase : Phase} {old mid : Streams} (now' : World) (new : Streams) (x : ServiceFault) → x ≢ fault.WriteFault → Held es first phase now old mid
+ends-in : {es : List ExportRecord} {first now : World} {phase : Phase} {old mid : Streams} (now' : World) (new : Streams) (x : ServiceFault) → x ≢ fault.WriteFault → BusyOr es first phase now old mid
     → Spoken mid new (λ taken written. (written ≡ []) × (now' ≡ now) × Breaks es phase taken new.input x) → IsService es first now' old new (Err x)
 ends-in {es = es} {first = first} {now = now} {phase = phase} {old = old} {mid = mid} now' new x apart h t = record {
   held = λ other. record {
@@ -155,11 +155,11 @@ pub held-unsaid : (es : List ExportRecord) (first : World) (input output output'
 held-unsaid es first input output output' = stuck {old = streams input output} {new = streams input output'} [] [] (Consumes-nil input) begins
 
 -- between two messages
-pub held-stuck : {es : List ExportRecord} {first now : World} {phase : Phase} {old : Streams} (input output output' : Option (List ℕ)) → Held es first phase now old (streams input output) → IsService es first now old (streams input output') (Err fault.WriteFault)
+pub held-stuck : {es : List ExportRecord} {first now : World} {phase : Phase} {old : Streams} (input output output' : Option (List ℕ)) → BusyOr es first phase now old (streams input output) → IsService es first now old (streams input output') (Err fault.WriteFault)
 held-stuck {old = old} input output output' h = stuck {old = old} {new = streams input output'} h.taken h.holds.0 h.consumed h.holds.1
 
 -- in a reply
-held-fails : {es : List ExportRecord} {first now : World} {phase : Phase} {old mid : Streams} (now' : World) (new : Streams) → Held es first phase now old mid
+held-fails : {es : List ExportRecord} {first now : World} {phase : Phase} {old mid : Streams} (now' : World) (new : Streams) → BusyOr es first phase now old mid
     → IsUnanswered es phase now now' mid.input new.input ⊎ IsInterrupted es phase now now' mid.input new.input → IsService es first now' old new (Err fault.WriteFault)
 held-fails {old = old} {mid = mid} now' new h (inl t) =
     stuck {old = old} {new = new} (h.taken ++ t.message) (h.holds.0 ++ t.reply) (Consumes-trans old.input mid.input new.input h.taken t.message h.consumed t.consumed) (goes_on t.message t.reply h.holds.1 t.takes)
@@ -168,7 +168,7 @@ held-fails {old = old} {mid = mid} now' new h (inr t) =
 
 -- ---- any fault
 
-pub held-ends : {es : List ExportRecord} {first now : World} {phase : Phase} {old mid : Streams} (now' : World) (new : Streams) (x : ServiceFault) → Held es first phase now old mid → EndsMessage es phase now now' mid new (Err x) → IsService es first now' old new (Err x)
+pub held-ends : {es : List ExportRecord} {first now : World} {phase : Phase} {old mid : Streams} (now' : World) (new : Streams) (x : ServiceFault) → BusyOr es first phase now old mid → EndsMessage es phase now now' mid new (Err x) → IsService es first now' old new (Err x)
 held-ends now' new fault.Lost h t = ends-in now' new fault.Lost (λ is. (cc)) h t
 held-ends now' new fault.Magic h t = ends-in now' new fault.Magic (λ is. (cc)) h t
 held-ends now' new fault.Flags h t = ends-in now' new fault.Flags (λ is. (cc)) h t
@@ -177,12 +177,12 @@ held-ends now' new fault.ReadFault h t = ends-in now' new fault.ReadFault (λ is
 held-ends {old = old} {mid = mid} now' new fault.WriteFault h t = held-fails {old = old} {mid = mid} now' new h t
 
 -- the reader was called too often
-pub held-stops : {es : List ExportRecord} {first now : World} {phase : Phase} {old : Streams} (new : Streams) → Held es first phase now old new → IsService es first now old new (Err fault.ReadFault)
+pub held-stops : {es : List ExportRecord} {first now : World} {phase : Phase} {old : Streams} (new : Streams) → BusyOr es first phase now old new → IsService es first now old new (Err fault.ReadFault)
 held-stops {now = now} new h =
     ends-in {mid = new} now new fault.ReadFault (λ is. (cc)) h (record { taken = []; written = []; consumed = Consumes-nil new.input; appended = Appends-nil new.output; holds = (refl, refl, inl refl) })
 
 -- the client has ended it
-pub held-over : {es : List ExportRecord} {first now : World} {phase : Phase} {old new : Streams} (done : Unit) → Held es first phase now old new → phase ≡ Over → IsService es first now old new (Ok done)
+pub held-over : {es : List ExportRecord} {first now : World} {phase : Phase} {old new : Streams} (done : Unit) → BusyOr es first phase now old new → phase ≡ Over → IsService es first now old new (Ok done)
 held-over {phase = phase} done h over = record {
   held = λ other. record {
     taken = h.taken;

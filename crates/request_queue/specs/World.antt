@@ -14,8 +14,8 @@ use Rattle.stack_rules.specs.Rules.{first_refusal, IsLoaded, IsRefusal, after_lo
 use Rattle.stack_meaning.specs.declared.fault.IoFault.{IoFault}
 use Rattle.stack_engine.specs.Stacks.{StackRecord, AnswerRecord}
 use Rattle.stack_engine.specs.Syncs.{FailsToSync}
-use Rattle.request_queue.specs.declared.fault.Held.{Held}
-use Rattle.request_queue.specs.declared.fault.Held.TheVariants.{Busy, Fault}
+use Rattle.request_queue.specs.declared.fault.BusyOr.{BusyOr}
+use Rattle.request_queue.specs.declared.fault.BusyOr.TheVariants.{Busy, Fault}
 use Rattle.request_queue.specs.declared.fault.NoSuchTicket.{NoSuchTicket}
 use Rattle.request_queue.specs.declared.fault.SubmitFault.{SubmitFault}
 use Rattle.request_queue.specs.declared.fault.SubmitFault.TheVariants.{Full, NoMemory}
@@ -163,7 +163,7 @@ abbrev pub LoadFails : World → List Entry → LoadFault → Type 0
 LoadFails w text (load_fault.Refused refusal) = IsRefusal w.stack.config text refusal
 LoadFails w text load_fault.NoMemory = IsOutOfMemory largest_load_allocation
 
-abbrev pub LoadsText : World → List Entry → Result Unit (Held LoadFault) → World → Type 0
+abbrev pub LoadsText : World → List Entry → Result Unit (BusyOr LoadFault) → World → Type 0
 LoadsText w text (Ok done) w' = LoadDone w text w'
 LoadsText w text (Err Busy) w' = (w.in_flight ≢ []) × (w' ≡ w)
 LoadsText w text (Err (Fault fault)) w' = (w.in_flight ≡ []) × LoadFails w text fault × (w' ≡ w)
@@ -175,7 +175,7 @@ pub record RemovalDone (w : World) (name : List ℕ) (w' : World) : Type 0 where
   pub leaves : w' ≡ world (record w.stack { config = after_removal w.stack.config name; kept = [] }) w.given w.in_flight
   pub loaded : IsLoaded w'.stack.config
 
-abbrev pub Removes : World → List ℕ → Result Unit (Held RemoveFault) → World → Type 0
+abbrev pub Removes : World → List ℕ → Result Unit (BusyOr RemoveFault) → World → Type 0
 Removes w name (Ok done) w' = RemovalDone w name w'
 Removes w name (Err Busy) w' = (w.in_flight ≢ []) × (w' ≡ w)
 Removes w name (Err (Fault fault)) w' = (w.in_flight ≡ []) × (removal_fault w.stack.config name ≡ Some fault) × (w' ≡ w)
@@ -221,8 +221,8 @@ pub data Event : Type 0 where
   step : ℕ → Result Progress NoSuchTicket → Event
   read_bytes : ℕ → ℕ → ℕ → Result (Result (List ℕ) IoFault) SubmitFault → Event
   write_piece : ℕ → ℕ → List ℕ → Result Unit IoFault → Event
-  load : List Entry → Result Unit (Held LoadFault) → Event
-  remove_device : List ℕ → Result Unit (Held RemoveFault) → Event
+  load : List Entry → Result Unit (BusyOr LoadFault) → Event
+  remove_device : List ℕ → Result Unit (BusyOr RemoveFault) → Event
   run : RequestRecord → Result (Result Reply IoFault) SubmitFault → Event
   sync : Result Unit IoFault → Event
 

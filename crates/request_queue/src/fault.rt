@@ -55,7 +55,7 @@ pub struct NoSuchTicket;
 
 /// Why a call isn't made that needs a queue with no request in flight.
 #[derive(Clone, Copy, Debug, PartialEq, Eq)]
-pub enum Held<F> {
+pub enum BusyOr<F> {
     /// A request is in flight.
     Busy,
     /// The call itself is refused.

@@ -20,7 +20,7 @@ ghost use Rattle.request_queue.specs.declared.request.Request.{Request};
 
 use crate::admit::{sectors_for, write_range};
 use crate::at_once::{read_pieces, write_pieces};
-use crate::fault::{BytesFault, Held, NoSuchTicket, RunFault, SubmitFault};
+use crate::fault::{BusyOr, BytesFault, NoSuchTicket, RunFault, SubmitFault};
 use crate::flight::{Flight, first_of, place_of};
 use crate::range::{SectorRange, bytes_range};
 use crate::reply::{Progress, Reply, Ticket};
@@ -235,35 +235,35 @@ impl<D: BlockDev> Queue<D> {
     }
 
     /// Puts the devices of a text in, all or none. It is `Busy` where a request is in flight.
-    pub fn load(&mut self, text: &StackText) -> Result<(), Held<LoadFault>>
+    pub fn load(&mut self, text: &StackText) -> Result<(), BusyOr<LoadFault>>
         ensures { Step EachPart self.old (load text.now result) self.new }
     {
         if !self.flights.is_empty() {
-            return Err(Held::Busy);
+            return Err(BusyOr::Busy);
         }
         let outcome = self.stack.load(text);
         // As in `new`.
         let _loaded = self.stack.config();
         match outcome {
             Ok(()) => Ok(()),
-            Err(fault) => Err(Held::Fault(fault)),
+            Err(fault) => Err(BusyOr::Fault(fault)),
         }
     }
 
     /// Removes the device of that name. It is `Busy` where a request is in flight.
-    pub fn remove(&mut self, name: &[u8]) -> Result<(), Held<RemoveFault>>
+    pub fn remove(&mut self, name: &[u8]) -> Result<(), BusyOr<RemoveFault>>
         ensures { Step EachPart self.old (remove_device name.now result) self.new }
     {
         let busy = !self.flights.is_empty();
         if busy {
-            return Err(Held::Busy);
+            return Err(BusyOr::Busy);
         }
         let outcome = self.stack.remove(name);
         // As in `new`.
         let _loaded = self.stack.config();
         match outcome {
             Ok(()) => Ok(()),
-            Err(fault) => Err(Held::Fault(fault)),
+            Err(fault) => Err(BusyOr::Fault(fault)),
         }
     }
 }

@@ -1,5 +1,5 @@
 pub mod Commands
-pub mod Desks
+pub mod Contexts
 pub mod Diffing
 pub mod Endings
 pub mod FaultTexts

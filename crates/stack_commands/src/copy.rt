@@ -1,8 +1,8 @@
 //! The command `copy`.
 ghost use Rattle.std.specs.Prelude.{OnOk, IfErr};
-ghost use Rattle.stack_commands.specs.Desks.{DoesCopy, EndsCopy};
+ghost use Rattle.stack_commands.specs.Contexts.{DoesCopy, EndsCopy};
 
-use crate::desk::Desk;
+use crate::context::Context;
 use crate::fault::CommandFault;
 use crate::words::stack_file;
 use command_line::CopyWords;
@@ -16,14 +16,14 @@ use std::io::Write;
 /// `copy [--cache N] [--differing] [--map FILE] [--progress] STACK NAME OUT BINDING...`
 pub fn invoke_copy<'a, I: Images, W: Write, P: Progress>(
     alloc: Global,
-    desk: Desk<'_, I, W>,
+    context: Context<'_, I, W>,
     words: CopyWords<'a>,
     progress: &mut P,
 ) -> Result<(), CommandFault<'a>>
-    ensures ok { OnOk result (DoesCopy I.relations I.Dev.state W.contents desk.entry desk.exit words.entry) }
-    ensures err { IfErr result (EndsCopy I.relations I.Dev.state W.contents desk.entry desk.exit words.entry) }
+    ensures ok { OnOk result (DoesCopy I.relations I.Dev.state W.contents context.entry context.exit words.entry) }
+    ensures err { IfErr result (EndsCopy I.relations I.Dev.state W.contents context.entry context.exit words.entry) }
 {
-    let Desk { images, writer } = desk;
+    let Context { images, writer } = context;
     let CopyWords {
         cache,
         differing,

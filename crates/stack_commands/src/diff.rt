@@ -1,8 +1,8 @@
 //! The command `diff`: which data blocks of two images differ.
 ghost use Rattle.std.specs.Prelude.{OnOk, IfErr};
-ghost use Rattle.stack_commands.specs.Desks.{DoesDiff, EndsDiff};
+ghost use Rattle.stack_commands.specs.Contexts.{DoesDiff, EndsDiff};
 
-use crate::desk::Desk;
+use crate::context::Context;
 use crate::fault::CommandFault;
 use command_line::DiffWords;
 use image_files::Images;
@@ -14,13 +14,13 @@ use verity_commands::{VerityFault, both_trusted_in, invoke_diff};
 /// is opened.
 pub fn compare_images<'a, I: Images, W: Write>(
     alloc: Global,
-    desk: Desk<'_, I, W>,
+    context: Context<'_, I, W>,
     words: &DiffWords<'a>,
 ) -> Result<(), CommandFault<'a>>
-    ensures ok { OnOk result (DoesDiff I.relations I.Dev.state W.contents desk.entry desk.exit words.now) }
-    ensures err { IfErr result (EndsDiff I.relations I.Dev.state W.contents desk.entry desk.exit words.now) }
+    ensures ok { OnOk result (DoesDiff I.relations I.Dev.state W.contents context.entry context.exit words.now) }
+    ensures err { IfErr result (EndsDiff I.relations I.Dev.state W.contents context.entry context.exit words.now) }
 {
-    let Desk { images, writer } = desk;
+    let Context { images, writer } = context;
     let trusted = match both_trusted_in(images, words) {
         Ok(trusted) => trusted,
         Err(fault) => return Err(CommandFault::Verity(VerityFault::Image(fault))),

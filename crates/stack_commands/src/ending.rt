@@ -1,7 +1,7 @@
 //! How a command ends early: what is printed, and the status.
 ghost use Rattle.std.specs.Prelude.{true, ◌≡◌};
 ghost use Rattle.program_io.specs.Counted.{Writes};
-ghost use Rattle.stack_commands.specs.Desks.{IsToldBy};
+ghost use Rattle.stack_commands.specs.Contexts.{IsToldBy};
 ghost use Rattle.stack_commands.specs.Endings.{ending_status, ending_text};
 
 use crate::fault::CommandFault;

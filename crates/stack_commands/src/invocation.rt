@@ -1,12 +1,12 @@
 //! Runs the command that a command line invokes.
 ghost use Rattle.std.specs.Prelude.{false, ◌≡◌, OnOk, IfErr};
 ghost use Rattle.image_commands.specs.Drawing.{drawing};
-ghost use Rattle.stack_commands.specs.Desks.{EndsPage, ShowsPage};
+ghost use Rattle.stack_commands.specs.Contexts.{EndsPage, ShowsPage};
 ghost use Rattle.partition_commands.specs.Warnings.{notes_of};
 ghost use Rattle.stack_commands.specs.Lines.{DoesLine, EndsLine, NotesLine};
 
+use crate::context::Context;
 use crate::copy::invoke_copy;
-use crate::desk::Desk;
 use crate::diff::compare_images;
 use crate::fault::CommandFault;
 use crate::load::invoke_load;
@@ -55,29 +55,39 @@ pub fn invoke<'a, I: Images, G: Generators + Progress + Watchers, S: Read, W: Wr
         options,
     } = line;
     match invocation {
-        Invocation::Load(words) => invoke_load(alloc, Desk { images, writer }, words),
-        Invocation::Read(words) => invoke_read(alloc, Desk { images, writer }, words),
-        Invocation::Write(words) => invoke_write(alloc, Desk { images, writer }, words),
+        Invocation::Load(words) => invoke_load(alloc, Context { images, writer }, words),
+        Invocation::Read(words) => invoke_read(alloc, Context { images, writer }, words),
+        Invocation::Write(words) => invoke_write(alloc, Context { images, writer }, words),
         Invocation::Session(words) => invoke_session(alloc, images, words, reader, writer),
         Invocation::Nbd(words) => invoke_nbd(alloc, images, words, reader, writer),
         Invocation::Exports(words) => invoke_exports(alloc, images, words, reader, writer),
-        Invocation::Scan(words) => invoke_scan(alloc, Desk { images, writer }, words, generators),
-        Invocation::Copy(words) => invoke_copy(alloc, Desk { images, writer }, words, generators),
-        Invocation::Cat(words) => invoke_cat(alloc, Desk { images, writer }, words, generators),
+        Invocation::Scan(words) => invoke_scan(
+            alloc,
+            Context { images, writer },
+            words,
+            generators,
+        ),
+        Invocation::Copy(words) => invoke_copy(
+            alloc,
+            Context { images, writer },
+            words,
+            generators,
+        ),
+        Invocation::Cat(words) => invoke_cat(alloc, Context { images, writer }, words, generators),
         Invocation::Store(words) => invoke_store(alloc, images, words, reader, writer, generators),
         Invocation::Format(words) => {
             Ok(invoke_format(alloc, images, generators, &words, &options, writer)?)
         }
         Invocation::Verify(words) => {
-            check_image(alloc, Desk { images, writer }, generators, &words)
+            check_image(alloc, Context { images, writer }, generators, &words)
         }
         Invocation::Dump(words) => Ok(invoke_dump(alloc, images, &words, writer)?),
         Invocation::Table(words) => Ok(invoke_table(alloc, images, &words, writer)?),
         Invocation::Partitions(words) => {
             Ok(invoke_partitions(alloc, images, &words, writer, errors)?)
         }
-        Invocation::Diff(words) => compare_images(alloc, Desk { images, writer }, &words),
-        Invocation::Repair(words) => repair_image(alloc, Desk { images, writer }, &words),
+        Invocation::Diff(words) => compare_images(alloc, Context { images, writer }, &words),
+        Invocation::Repair(words) => repair_image(alloc, Context { images, writer }, &words),
         Invocation::FormatTree(words) => {
             Ok(invoke_format_tree(alloc, images, generators, &words, &options, writer)?)
         }

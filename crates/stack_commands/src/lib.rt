@@ -1,8 +1,8 @@
 //! The commands of the program: words and a reader in, a written text and a status out.
 #![tactic(auto)]
 
+mod context;
 mod copy;
-mod desk;
 mod diff;
 mod ending;
 mod fault;

@@ -1,10 +1,10 @@
 //! The command `load`: checks a stack, and says what its devices are.
 ghost use Rattle.std.specs.Prelude.{◌≡◌, ◌⊎◌, IfErr, OnOk};
 ghost use Rattle.stack_commands.specs.Endings.{IsSilent, IsReplyUnwritten};
-ghost use Rattle.stack_commands.specs.Desks.{DoesLoad, EndsListing, EndsLoad, IsSilentOn, ListsFile, PrintsConfiguration};
+ghost use Rattle.stack_commands.specs.Contexts.{DoesLoad, EndsListing, EndsLoad, IsSilentOn, ListsFile, PrintsConfiguration};
 ghost use Rattle.stack_commands.specs.StackCommands.{IsCheckedIf};
 
-use crate::desk::Desk;
+use crate::context::Context;
 use crate::fault::CommandFault;
 use crate::words::stack_file;
 use command_line::LoadWords;
@@ -21,11 +21,11 @@ use std::io::Write;
 /// `--linux` only if Linux would load them too, and read and write the same.
 pub fn invoke_load<'a, I: Images, W: Write>(
     alloc: Global,
-    desk: Desk<'_, I, W>,
+    context: Context<'_, I, W>,
     words: LoadWords<'a>,
 ) -> Result<(), CommandFault<'a>>
-    ensures ok { OnOk result (DoesLoad I.relations I.Dev.state W.contents desk.entry desk.exit words.entry) }
-    ensures err { IfErr result (EndsLoad I.relations I.Dev.state W.contents desk.entry desk.exit words.entry) }
+    ensures ok { OnOk result (DoesLoad I.relations I.Dev.state W.contents context.entry context.exit words.entry) }
+    ensures err { IfErr result (EndsLoad I.relations I.Dev.state W.contents context.entry context.exit words.entry) }
 {
     let LoadWords {
         stack,
@@ -34,23 +34,23 @@ pub fn invoke_load<'a, I: Images, W: Write>(
         linux,
     } = words;
     let file = stack_file(stack, &bindings);
-    load_stack_file(alloc, desk, file, json, linux)
+    load_stack_file(alloc, context, file, json, linux)
 }
 
 // The devices of a stack file, as a JSON object or a line each.
 #[tactic(auto, using(crate::proofs::EndingLemmas::quiet))]
 fn load_stack_file<'a, I: Images, W: Write>(
     alloc: Global,
-    desk: Desk<'_, I, W>,
+    context: Context<'_, I, W>,
     file: StackFile<'a, '_>,
     json: bool,
     linux: bool,
 ) -> Result<(), CommandFault<'a>>
-    ensures ok { OnOk result (ListsFile I.relations I.Dev.state W.contents desk.entry desk.exit file.entry json linux) }
-    ensures err { IfErr result (EndsListing I.relations I.Dev.state W.contents desk.entry desk.exit file.entry linux) }
-    ensures quiet { IfErr result (IsSilentOn W.contents desk.entry desk.exit) }
+    ensures ok { OnOk result (ListsFile I.relations I.Dev.state W.contents context.entry context.exit file.entry json linux) }
+    ensures err { IfErr result (EndsListing I.relations I.Dev.state W.contents context.entry context.exit file.entry linux) }
+    ensures quiet { IfErr result (IsSilentOn W.contents context.entry context.exit) }
 {
-    let Desk { images, writer } = desk;
+    let Context { images, writer } = context;
     let config = open_configuration(alloc, images, file)?;
     check_rules(&config, linux)?;
     say_configuration(alloc, &config, json, writer)

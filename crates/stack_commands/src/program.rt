@@ -5,7 +5,7 @@ ghost use Rattle.image_commands.specs.Drawing.{drawing};
 ghost use Rattle.image_files.specs.Opener.{calls};
 ghost use Rattle.partition_commands.specs.Warnings.{notes_of};
 ghost use Rattle.stack_commands.specs.Commands.{EndsCommand, ExplainsUsage, IsCommandDone, IsRepeated, is_output_failed, is_usage, output_is_data, told_to, writes_data};
-ghost use Rattle.stack_commands.specs.Desks.{IsToldBy};
+ghost use Rattle.stack_commands.specs.Contexts.{IsToldBy};
 ghost use Rattle.stack_commands.specs.Lines.{DoesWords, EndsWords};
 ghost use Rattle.stack_commands.specs.Uses.{uses};
 

@@ -1,8 +1,8 @@
 //! The command `read`: prints sectors of a device.
 ghost use Rattle.std.specs.Prelude.{OnOk, IfErr};
-ghost use Rattle.stack_commands.specs.Desks.{DoesRead, EndsRead, EndsReading, IsSilentOn, ReadsFile};
+ghost use Rattle.stack_commands.specs.Contexts.{DoesRead, EndsRead, EndsReading, IsSilentOn, ReadsFile};
 
-use crate::desk::Desk;
+use crate::context::Context;
 use crate::fault::CommandFault;
 use crate::words::stack_file;
 use command_line::{ReadWords, Sectors};
@@ -17,11 +17,11 @@ use transfer_commands::read_sectors;
 /// session does.
 pub fn invoke_read<'a, I: Images, W: Write>(
     alloc: Global,
-    desk: Desk<'_, I, W>,
+    context: Context<'_, I, W>,
     words: ReadWords<'a>,
 ) -> Result<(), CommandFault<'a>>
-    ensures ok { OnOk result (DoesRead I.relations I.Dev.state W.contents desk.entry desk.exit words.entry) }
-    ensures err { IfErr result (EndsRead I.relations I.Dev.state W.contents desk.entry desk.exit words.entry) }
+    ensures ok { OnOk result (DoesRead I.relations I.Dev.state W.contents context.entry context.exit words.entry) }
+    ensures err { IfErr result (EndsRead I.relations I.Dev.state W.contents context.entry context.exit words.entry) }
 {
     let ReadWords {
         cache,
@@ -30,23 +30,23 @@ pub fn invoke_read<'a, I: Images, W: Write>(
         bindings,
     } = words;
     let file = stack_file(stack, &bindings);
-    read_stack_file(alloc, desk, file, cache, sectors)
+    read_stack_file(alloc, context, file, cache, sectors)
 }
 
 // Sectors of a device of a stack file, written as a session does.
 #[tactic(auto, using(crate::proofs::EndingLemmas::quiet))]
 fn read_stack_file<'a, I: Images, W: Write>(
     alloc: Global,
-    desk: Desk<'_, I, W>,
+    context: Context<'_, I, W>,
     file: StackFile<'a, '_>,
     cache: u32,
     sectors: Sectors<'_>,
 ) -> Result<(), CommandFault<'a>>
-    ensures ok { OnOk result (ReadsFile I.relations I.Dev.state W.contents desk.entry desk.exit file.entry cache sectors.entry) }
-    ensures err { IfErr result (EndsReading I.relations I.Dev.state W.contents desk.entry desk.exit file.entry cache sectors.entry) }
-    ensures quiet { IfErr result (IsSilentOn W.contents desk.entry desk.exit) }
+    ensures ok { OnOk result (ReadsFile I.relations I.Dev.state W.contents context.entry context.exit file.entry cache sectors.entry) }
+    ensures err { IfErr result (EndsReading I.relations I.Dev.state W.contents context.entry context.exit file.entry cache sectors.entry) }
+    ensures quiet { IfErr result (IsSilentOn W.contents context.entry context.exit) }
 {
-    let Desk { images, writer } = desk;
+    let Context { images, writer } = context;
     let reply = read_sectors(alloc, images, file, cache, sectors)?;
     Ok(say_reply(writer, sectors.first, reply)?)
 }

@@ -1,9 +1,9 @@
 //! The command `repair`.
 ghost use Rattle.std.specs.Prelude.{◌≡◌, ◌≤◌, ◌^◌, OnOk, IfErr};
-ghost use Rattle.stack_commands.specs.Desks.{DoesRepair, EndsByCopies, EndsByParity, EndsRepair, FixesByCopies, FixesByParity};
+ghost use Rattle.stack_commands.specs.Contexts.{DoesRepair, EndsByCopies, EndsByParity, EndsRepair, FixesByCopies, FixesByParity};
 ghost use Rattle.stack_commands.specs.Repairing.{parity_fault};
 
-use crate::desk::Desk;
+use crate::context::Context;
 use crate::fault::CommandFault;
 use command_line::{FecFile, ImageCopy, RepairWords};
 use fec_area::ParityFault;
@@ -19,13 +19,13 @@ use verity_commands::{VerityFault, sector_at, trusted_in};
 /// the pin is known before an image is opened.
 pub fn repair_image<'a, I: Images, W: Write>(
     alloc: Global,
-    desk: Desk<'_, I, W>,
+    context: Context<'_, I, W>,
     words: &RepairWords<'a>,
 ) -> Result<(), CommandFault<'a>>
-    ensures ok { OnOk result (DoesRepair I.relations I.Dev.state W.contents desk.entry desk.exit words.now) }
-    ensures err { IfErr result (EndsRepair I.relations I.Dev.state W.contents desk.entry desk.exit words.now) }
+    ensures ok { OnOk result (DoesRepair I.relations I.Dev.state W.contents context.entry context.exit words.now) }
+    ensures err { IfErr result (EndsRepair I.relations I.Dev.state W.contents context.entry context.exit words.now) }
 {
-    let trusted = match trusted_in(desk.images, &words.root) {
+    let trusted = match trusted_in(context.images, &words.root) {
         Ok(trusted) => trusted,
         Err(fault) => return Err(CommandFault::Verity(VerityFault::Image(fault))),
     };
@@ -37,41 +37,41 @@ pub fn repair_image<'a, I: Images, W: Write>(
     };
     let copies = words.copies.as_slice();
     match &words.fec {
-        None => by_copies(alloc, desk, places, copies, &trusted),
-        Some(fec) => by_parity(alloc, desk, places, fec, copies, &trusted),
+        None => by_copies(alloc, context, places, copies, &trusted),
+        Some(fec) => by_parity(alloc, context, places, fec, copies, &trusted),
     }
 }
 
 // Without parity.
 fn by_copies<'a, I: Images, W: Write>(
     alloc: Global,
-    desk: Desk<'_, I, W>,
+    context: Context<'_, I, W>,
     places: RepairPlaces<'a>,
     copies: &[ImageCopy<'a>],
     trusted: &TrustedRoot,
 ) -> Result<(), CommandFault<'a>>
     requires { places.hash_first ≤ 2 ^ 55 }
-    ensures ok { OnOk result (FixesByCopies I.relations I.Dev.state W.contents desk.entry desk.exit places.entry copies.now trusted.now) }
-    ensures err { IfErr result (EndsByCopies I.relations I.Dev.state W.contents desk.entry desk.exit places.entry copies.now trusted.now) }
+    ensures ok { OnOk result (FixesByCopies I.relations I.Dev.state W.contents context.entry context.exit places.entry copies.now trusted.now) }
+    ensures err { IfErr result (EndsByCopies I.relations I.Dev.state W.contents context.entry context.exit places.entry copies.now trusted.now) }
 {
-    let Desk { images, writer } = desk;
+    let Context { images, writer } = context;
     Ok(repair_images(alloc, images, places, copies, trusted, writer)?)
 }
 
 // By parity too, of which a codeword has 2 to 24 bytes.
 fn by_parity<'a, I: Images, W: Write>(
     alloc: Global,
-    desk: Desk<'_, I, W>,
+    context: Context<'_, I, W>,
     places: RepairPlaces<'a>,
     fec: &FecFile<'a>,
     copies: &[ImageCopy<'a>],
     trusted: &TrustedRoot,
 ) -> Result<(), CommandFault<'a>>
     requires { places.hash_first ≤ 2 ^ 55 }
-    ensures ok { OnOk result (FixesByParity I.relations I.Dev.state W.contents desk.entry desk.exit places.entry fec.now copies.now trusted.now) }
-    ensures err { IfErr result (EndsByParity I.relations I.Dev.state W.contents desk.entry desk.exit places.entry fec.now copies.now trusted.now) }
+    ensures ok { OnOk result (FixesByParity I.relations I.Dev.state W.contents context.entry context.exit places.entry fec.now copies.now trusted.now) }
+    ensures err { IfErr result (EndsByParity I.relations I.Dev.state W.contents context.entry context.exit places.entry fec.now copies.now trusted.now) }
 {
-    let Desk { images, writer } = desk;
+    let Context { images, writer } = context;
     if fec.roots < 2 || fec.roots > 24 {
         return Err(CommandFault::Usage);
     }

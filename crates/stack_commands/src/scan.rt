@@ -1,8 +1,8 @@
 //! The command `scan`.
 ghost use Rattle.std.specs.Prelude.{OnOk, IfErr};
-ghost use Rattle.stack_commands.specs.Desks.{DoesScan, EndsScan};
+ghost use Rattle.stack_commands.specs.Contexts.{DoesScan, EndsScan};
 
-use crate::desk::Desk;
+use crate::context::Context;
 use crate::fault::CommandFault;
 use crate::words::stack_file;
 use command_line::ScanWords;
@@ -16,14 +16,14 @@ use std::io::Write;
 /// `scan [--cache N] [--map FILE] [--progress] [--json] STACK NAME BINDING...`
 pub fn invoke_scan<'a, I: Images, W: Write, P: Progress>(
     alloc: Global,
-    desk: Desk<'_, I, W>,
+    context: Context<'_, I, W>,
     words: ScanWords<'a>,
     progress: &mut P,
 ) -> Result<(), CommandFault<'a>>
-    ensures ok { OnOk result (DoesScan I.relations I.Dev.state W.contents desk.entry desk.exit words.entry) }
-    ensures err { IfErr result (EndsScan I.relations I.Dev.state W.contents desk.entry desk.exit words.entry) }
+    ensures ok { OnOk result (DoesScan I.relations I.Dev.state W.contents context.entry context.exit words.entry) }
+    ensures err { IfErr result (EndsScan I.relations I.Dev.state W.contents context.entry context.exit words.entry) }
 {
-    let Desk { images, writer } = desk;
+    let Context { images, writer } = context;
     let ScanWords {
         cache,
         stack,

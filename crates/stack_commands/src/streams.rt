@@ -1,9 +1,9 @@
 //! The commands `cat` and `store`: the bytes of a device.
 ghost use Rattle.std.specs.Prelude.{OnOk, IfErr};
-ghost use Rattle.stack_commands.specs.Desks.{DoesCat, EndsCat};
+ghost use Rattle.stack_commands.specs.Contexts.{DoesCat, EndsCat};
 ghost use Rattle.stack_commands.specs.Served.{DoesStore, EndsStore};
 
-use crate::desk::Desk;
+use crate::context::Context;
 use crate::fault::CommandFault;
 use crate::words::stack_file;
 use command_line::{CatWords, StoreWords};
@@ -17,14 +17,14 @@ use transfer_commands::{Target, Wanted, cat_device, store_device, store_file};
 /// `cat [--cache N] [--progress] [--first N] [--count N] STACK NAME BINDING...`
 pub fn invoke_cat<'a, I: Images, W: Write, P: Progress>(
     alloc: Global,
-    desk: Desk<'_, I, W>,
+    context: Context<'_, I, W>,
     words: CatWords<'a>,
     progress: &mut P,
 ) -> Result<(), CommandFault<'a>>
-    ensures ok { OnOk result (DoesCat I.relations I.Dev.state W.contents desk.entry desk.exit words.entry) }
-    ensures err { IfErr result (EndsCat I.relations I.Dev.state W.contents desk.entry desk.exit words.entry) }
+    ensures ok { OnOk result (DoesCat I.relations I.Dev.state W.contents context.entry context.exit words.entry) }
+    ensures err { IfErr result (EndsCat I.relations I.Dev.state W.contents context.entry context.exit words.entry) }
 {
-    let Desk { images, writer } = desk;
+    let Context { images, writer } = context;
     let CatWords {
         cache,
         first,

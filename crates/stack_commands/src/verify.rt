@@ -1,8 +1,8 @@
 //! The command `verify`: checks an image, or scans all of it.
 ghost use Rattle.std.specs.Prelude.{OnOk, IfErr};
-ghost use Rattle.stack_commands.specs.Desks.{DoesVerify, DoesVerifyAll, EndsVerify, EndsVerifyAll};
+ghost use Rattle.stack_commands.specs.Contexts.{DoesVerify, DoesVerifyAll, EndsVerify, EndsVerifyAll};
 
-use crate::desk::Desk;
+use crate::context::Context;
 use crate::fault::CommandFault;
 use command_line::VerifyWords;
 use device_adapters::Watchers;
@@ -14,17 +14,17 @@ use verity_commands::{VerityFault, invoke_survey, invoke_verify, trusted_in};
 /// `verify [--all] [--progress] [--hash-offset BYTES] [--root-hash-file FILE | --pin FILE] DATA HASH [ROOT]`
 pub fn check_image<'a, I: Images, S: Watchers, W: Write>(
     alloc: Global,
-    desk: Desk<'_, I, W>,
+    context: Context<'_, I, W>,
     watchers: &S,
     words: &VerifyWords<'a>,
 ) -> Result<(), CommandFault<'a>>
-    ensures ok { OnOk result (DoesVerify I.relations I.Dev.state W.contents desk.entry desk.exit words.now) }
-    ensures err { IfErr result (EndsVerify I.relations I.Dev.state W.contents desk.entry desk.exit words.now) }
+    ensures ok { OnOk result (DoesVerify I.relations I.Dev.state W.contents context.entry context.exit words.now) }
+    ensures err { IfErr result (EndsVerify I.relations I.Dev.state W.contents context.entry context.exit words.now) }
 {
     if words.all {
-        go_over_image(alloc, desk, watchers, words)
+        go_over_image(alloc, context, watchers, words)
     } else {
-        let Desk { images, writer } = desk;
+        let Context { images, writer } = context;
         Ok(invoke_verify(alloc, images, watchers, words, writer)?)
     }
 }
@@ -32,14 +32,14 @@ pub fn check_image<'a, I: Images, S: Watchers, W: Write>(
 // With `--all`: the root or the pin is known before an image is opened.
 fn go_over_image<'a, I: Images, S: Watchers, W: Write>(
     alloc: Global,
-    desk: Desk<'_, I, W>,
+    context: Context<'_, I, W>,
     watchers: &S,
     words: &VerifyWords<'a>,
 ) -> Result<(), CommandFault<'a>>
-    ensures ok { OnOk result (DoesVerifyAll I.relations I.Dev.state W.contents desk.entry desk.exit words.now) }
-    ensures err { IfErr result (EndsVerifyAll I.relations I.Dev.state W.contents desk.entry desk.exit words.now) }
+    ensures ok { OnOk result (DoesVerifyAll I.relations I.Dev.state W.contents context.entry context.exit words.now) }
+    ensures err { IfErr result (EndsVerifyAll I.relations I.Dev.state W.contents context.entry context.exit words.now) }
 {
-    let Desk { images, writer } = desk;
+    let Context { images, writer } = context;
     let trusted = match trusted_in(images, &words.root) {
         Ok(trusted) => trusted,
         Err(fault) => return Err(CommandFault::Verity(VerityFault::Image(fault))),

@@ -1,8 +1,8 @@
 //! The command `write`: writes a file's bytes to a device.
 ghost use Rattle.std.specs.Prelude.{OnOk, IfErr};
-ghost use Rattle.stack_commands.specs.Desks.{DoesWrite, EndsWrite, EndsWriting, IsSilentOn, WritesFile};
+ghost use Rattle.stack_commands.specs.Contexts.{DoesWrite, EndsWrite, EndsWriting, IsSilentOn, WritesFile};
 
-use crate::desk::Desk;
+use crate::context::Context;
 use crate::fault::CommandFault;
 use crate::words::stack_file;
 use command_line::{Transfer, WriteWords};
@@ -17,11 +17,11 @@ use transfer_commands::write_source;
 /// over the bindings. The images are synced and closed before anything is printed.
 pub fn invoke_write<'a, I: Images, W: Write>(
     alloc: Global,
-    desk: Desk<'_, I, W>,
+    context: Context<'_, I, W>,
     words: WriteWords<'a>,
 ) -> Result<(), CommandFault<'a>>
-    ensures ok { OnOk result (DoesWrite I.relations I.Dev.state W.contents desk.entry desk.exit words.entry) }
-    ensures err { IfErr result (EndsWrite I.relations I.Dev.state W.contents desk.entry desk.exit words.entry) }
+    ensures ok { OnOk result (DoesWrite I.relations I.Dev.state W.contents context.entry context.exit words.entry) }
+    ensures err { IfErr result (EndsWrite I.relations I.Dev.state W.contents context.entry context.exit words.entry) }
 {
     let WriteWords {
         cache,
@@ -30,23 +30,23 @@ pub fn invoke_write<'a, I: Images, W: Write>(
         bindings,
     } = words;
     let file = stack_file(stack, &bindings);
-    write_stack_file(alloc, desk, file, cache, transfer)
+    write_stack_file(alloc, context, file, cache, transfer)
 }
 
 // Writes the bytes of the source file to a device of a stack file. The images are synced and closed before anything is printed.
 #[tactic(auto, using(crate::proofs::EndingLemmas::quiet))]
 fn write_stack_file<'a, I: Images, W: Write>(
     alloc: Global,
-    desk: Desk<'_, I, W>,
+    context: Context<'_, I, W>,
     file: StackFile<'a, '_>,
     cache: u32,
     transfer: Transfer<'a>,
 ) -> Result<(), CommandFault<'a>>
-    ensures ok { OnOk result (WritesFile I.relations I.Dev.state W.contents desk.entry desk.exit file.entry cache transfer.entry) }
-    ensures err { IfErr result (EndsWriting I.relations I.Dev.state W.contents desk.entry desk.exit file.entry cache transfer.entry) }
-    ensures quiet { IfErr result (IsSilentOn W.contents desk.entry desk.exit) }
+    ensures ok { OnOk result (WritesFile I.relations I.Dev.state W.contents context.entry context.exit file.entry cache transfer.entry) }
+    ensures err { IfErr result (EndsWriting I.relations I.Dev.state W.contents context.entry context.exit file.entry cache transfer.entry) }
+    ensures quiet { IfErr result (IsSilentOn W.contents context.entry context.exit) }
 {
-    let Desk { images, writer } = desk;
+    let Context { images, writer } = context;
     write_source(alloc, images, file, cache, transfer)?;
     Ok(say_written(writer)?)
 }

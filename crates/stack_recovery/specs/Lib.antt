@@ -3,7 +3,7 @@ pub mod Copies
 pub mod Laws
 pub mod Listings
 pub mod LostRuns
-pub mod Paces
+pub mod PieceLimits
 pub mod Pieces
 pub mod Recoveries
 pub mod Surveys

@@ -56,5 +56,5 @@ pub record IsPiece (c : Configuration) (d first end most : ℕ) (piece : Piece) 
   pub apart : piece.alike ≡ false → (2 ≤ piece.count) × (piece.count ≤ most)
 
 -- how many sectors a piece may have at most
-abbrev pub IsPace : ℕ → Type 0
-IsPace most = (1 ≤ most) × (most ≤ 128)
+abbrev pub IsPieceLimit : ℕ → Type 0
+IsPieceLimit most = (1 ≤ most) × (most ≤ 128)

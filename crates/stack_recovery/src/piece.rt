@@ -2,7 +2,7 @@
 ghost use Rattle.std.specs.Prelude.{◌≡◌, ◌+◌, ◌≤◌, ◌<◌, length};
 ghost use Rattle.dm_table.specs.Grammar.{IsTargetOfGrammar};
 ghost use Rattle.stack_rules.specs.Names.{mapped, size};
-ghost use Rattle.stack_recovery.specs.Pieces.{AreUnitLens, IsPace, IsPiece};
+ghost use Rattle.stack_recovery.specs.Pieces.{AreUnitLens, IsPieceLimit, IsPiece};
 
 use alignment::aligned_len;
 use dm_table::Target;
@@ -53,7 +53,7 @@ pub fn piece_at(config: &Config, d: DevId, first: u64, end: u64, most: u32) -> P
     requires device { d.0 < length config.now.devices }
     requires some { first < end }
     requires inside { end ≤ size config.now (mapped d.0) }
-    requires most { IsPace most }
+    requires most { IsPieceLimit most }
     ensures { IsPiece config.now d.0 first end most result }
 {
     // The call provides what holds of every loaded configuration.

@@ -13,8 +13,8 @@ use crate::fault::RecoveryFault;
 use crate::listing::Listing;
 use crate::lost_run::{LostRun, is_same};
 use crate::notes::note;
-use crate::pace::Pace;
 use crate::piece::{Piece, piece_at};
+use crate::piece_limit::PieceLimit;
 use crate::tally::Tally;
 use block_device::BlockDev;
 use device_adapters::{NoProgress, Progress};
@@ -136,7 +136,7 @@ fn go_over_by<D: BlockDev, O: BlockDev, L: Listing, P: Progress>(
 {
     let sectors = stack.config().sectors(d);
     let mut tally = Tally::new();
-    let mut pace = Pace::new();
+    let mut piece_limit = PieceLimit::new();
     let mut at = 0;
     'pieces: while at < sectors {
         let run = ahead.next_run();
@@ -147,7 +147,7 @@ fn go_over_by<D: BlockDev, O: BlockDev, L: Listing, P: Progress>(
             at += run.count;
         } else {
             tell(progress, at, sectors);
-            let piece = piece_at(stack.config(), d, at, at + run.count, pace.most);
+            let piece = piece_at(stack.config(), d, at, at + run.count, piece_limit.most);
             let count = u64::from(piece.count);
             let bytes = &mut room[..piece.count as usize * 512];
             match stack.read_bytes(d, at, bytes) {
@@ -157,15 +157,15 @@ fn go_over_by<D: BlockDev, O: BlockDev, L: Listing, P: Progress>(
                     tally.close(listing);
                     ahead.pass(count);
                     at += count;
-                    pace = pace.after_bytes(piece.count, at);
+                    piece_limit = piece_limit.after_bytes(piece.count, at);
                 }
                 Err(fault) => {
                     if lose_piece(noted, &mut tally, listing, at, piece, fault)? {
                         ahead.pass(count);
                         at += count;
-                        pace = Pace::after_loss();
+                        piece_limit = PieceLimit::after_loss();
                     } else {
-                        pace = Pace::after_failure(piece.count, at + count);
+                        piece_limit = PieceLimit::after_failure(piece.count, at + count);
                     }
                 }
             }

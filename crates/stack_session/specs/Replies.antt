@@ -16,7 +16,7 @@ use Rattle.stack_rules.specs.Names.{mapped, device_named, lines_of, size}
 use Rattle.stack_rules.specs.Descend.{depth, read_cost, write_cost}
 use Rattle.stack_meaning.specs.declared.fault.IoFault.{IoFault}
 use Rattle.stack_meaning.specs.Leaves.{reads_of, writes_of}
-use Rattle.request_queue.specs.declared.fault.Held.{Held}
+use Rattle.request_queue.specs.declared.fault.BusyOr.{BusyOr}
 use Rattle.request_queue.specs.declared.fault.NoSuchTicket.{NoSuchTicket}
 use Rattle.request_queue.specs.declared.fault.SubmitFault.{SubmitFault}
 use Rattle.request_queue.specs.declared.fault.SubmitFault.TheVariants.{NoSuchDevice}
@@ -52,7 +52,7 @@ RepliesNoMemory most w reply w' = Says no_memory w reply w' × IsOutOfMemory mos
 abbrev pub RepliesToText : Stepping → World → Result (List Entry) TextFault → List ℕ → World → Type 0
 RepliesToText steps w (Err fault) reply w' = Says (fault_text fault) w reply w'
 RepliesToText steps w (Ok entries) reply w' =
-    (result : Result Unit (Held LoadFault)) × steps w (event.load entries result) w' × (reply ≡ load_reply_text (length entries) result)
+    (result : Result Unit (BusyOr LoadFault)) × steps w (event.load entries result) w' × (reply ≡ load_reply_text (length entries) result)
 
 -- the first sector of the request with that ticket
 abbrev pub first_sector : World → ℕ → ℕ
@@ -84,7 +84,7 @@ RepliesTo steps w (run r) reply w' =
 RepliesTo steps w (submit r) reply w' = ((result : Result ℕ SubmitFault) × steps w (event.submit r result) w' × (reply ≡ submission_text result)) ⊎ RepliesNoMemory (request_room r) w reply w'
 RepliesTo steps w (step ticket) reply w' =
     (result : Result Progress NoSuchTicket) × steps w (event.step ticket result) w' × (reply ≡ step_text (first_sector w ticket) result)
-RepliesTo steps w (remove name) reply w' = (result : Result Unit (Held RemoveFault)) × steps w (event.remove_device name result) w' × (reply ≡ remove_text result)
+RepliesTo steps w (remove name) reply w' = (result : Result Unit (BusyOr RemoveFault)) × steps w (event.remove_device name result) w' × (reply ≡ remove_text result)
 RepliesTo steps w (cost name) reply w' = Says (device_text w.stack.config name (cost_of w.stack.config)) w reply w'
 RepliesTo steps w (table name) reply w' = Says (device_text w.stack.config name (device_table w.stack.config)) w reply w' ⊎ RepliesNoMemory (length (device_text w.stack.config name (device_table w.stack.config))) w reply w'
 RepliesTo steps w moved reply w' = Says (leaves_moved_text w.stack.leaves) w reply w'

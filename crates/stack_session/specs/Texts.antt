@@ -12,8 +12,8 @@ use Rattle.io_fault_text.specs.Texts.{io_text, kind_then, no_memory}
 pub use Rattle.io_fault_text.specs.Texts.{refused_text, usage_text}
 use Rattle.dm_table.specs.TextKinds.{text_number, text_name}
 use Rattle.stack_rules.specs.FaultKinds.{load_number, load_name, removal_number, removal_name}
-use Rattle.request_queue.specs.declared.fault.Held.{Held}
-use Rattle.request_queue.specs.declared.fault.Held.TheVariants.{Busy, Fault}
+use Rattle.request_queue.specs.declared.fault.BusyOr.{BusyOr}
+use Rattle.request_queue.specs.declared.fault.BusyOr.TheVariants.{Busy, Fault}
 use Rattle.request_queue.specs.declared.fault.NoSuchTicket.{NoSuchTicket}
 use Rattle.request_queue.specs.declared.fault.SubmitFault.{SubmitFault}
 use Rattle.request_queue.specs.declared.fault.SubmitFault.TheVariants as submit
@@ -52,7 +52,7 @@ abbrev pub load_refusal_text : Refusal → List ℕ
 load_refusal_text r = codes "refused " ++ kind_then (load_number r.kind) (load_name r.kind) (codes " device " ++ (decimal r.device ++ (codes " line " ++ (decimal r.line ++ codes "\n"))))
 
 -- a load of so many entries
-abbrev pub load_reply_text : ℕ → Result Unit (Held LoadFault) → List ℕ
+abbrev pub load_reply_text : ℕ → Result Unit (BusyOr LoadFault) → List ℕ
 load_reply_text count (Ok done) = loaded_text count
 load_reply_text count (Err Busy) = busy_text
 load_reply_text count (Err (Fault (load.Refused refusal))) = load_refusal_text refusal
@@ -65,7 +65,7 @@ removed_text = codes "removed\n"
 abbrev pub removal_text : RemoveFault → List ℕ
 removal_text fault = refused_text (removal_number fault) (removal_name fault)
 
-abbrev pub remove_text : Result Unit (Held RemoveFault) → List ℕ
+abbrev pub remove_text : Result Unit (BusyOr RemoveFault) → List ℕ
 remove_text (Ok done) = removed_text
 remove_text (Err Busy) = busy_text
 remove_text (Err (Fault fault)) = removal_text fault

@@ -18,7 +18,7 @@ use block_device::BlockDev;
 use dm_table::ParseFault;
 use io_fault_text::{say_io_fault, say_no_memory, say_usage};
 use program_io::{Counted, WriteFault};
-use request_queue::{Held, NoSuchTicket, Progress, Queue, RunFault, SubmitFault, Ticket};
+use request_queue::{BusyOr, NoSuchTicket, Progress, Queue, RunFault, SubmitFault, Ticket};
 use stack_loader::LoadFault;
 use std::alloc::Global;
 use std::io::{Read, Write};
@@ -41,9 +41,9 @@ fn reply_to_load<D: BlockDev, W: Write>(
     };
     match queue.load(&entries) {
         Ok(()) => say_loaded(writer, entries.entries()),
-        Err(Held::Busy) => say_busy(writer),
-        Err(Held::Fault(LoadFault::Refused(refusal))) => say_refusal(writer, refusal),
-        Err(Held::Fault(LoadFault::NoMemory)) => say_no_memory(writer),
+        Err(BusyOr::Busy) => say_busy(writer),
+        Err(BusyOr::Fault(LoadFault::Refused(refusal))) => say_refusal(writer, refusal),
+        Err(BusyOr::Fault(LoadFault::NoMemory)) => say_no_memory(writer),
     }
 }
 
@@ -119,8 +119,8 @@ fn reply_to_remove<D: BlockDev, W: Write>(
 {
     match queue.remove(name) {
         Ok(()) => say_removed(writer),
-        Err(Held::Busy) => say_busy(writer),
-        Err(Held::Fault(fault)) => say_removal_fault(writer, fault),
+        Err(BusyOr::Busy) => say_busy(writer),
+        Err(BusyOr::Fault(fault)) => say_removal_fault(writer, fault),
     }
 }
 

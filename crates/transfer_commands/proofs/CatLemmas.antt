@@ -26,9 +26,9 @@ use Rattle.stack_meaning.proofs.lemmas.LeafListLemmas.{AreSteady-kept, AreRead-n
 use Rattle.stack_meaning.proofs.lemmas.RunLemmas.{run-append, run-may}
 use Rattle.stack_meaning.proofs.lemmas.SpanLemmas.{span-add}
 use Rattle.stack_recovery.specs.Alike.{AreAlike}
-use Rattle.stack_recovery.specs.Paces.{IsFirstPace}
+use Rattle.stack_recovery.specs.PieceLimits.{IsFirstPieceLimit}
 use Rattle.stack_recovery.specs.Pieces.{EndsAligned}
-use Rattle.stack_recovery.specs.declared.pace.Pace.{Pace}
+use Rattle.stack_recovery.specs.declared.piece_limit.PieceLimit.{PieceLimit}
 use Rattle.stack_recovery.proofs.lemmas.LostLemmas.{first-lost}
 use Rattle.transfer_commands.specs.Cats.{CatSide, IsCat, IsCatStop, MeansFault, cat_side, none_read, then_failed, then_read}
 
@@ -65,11 +65,11 @@ span-then f first a m x y p q = span-add f first a m ∙ ap (λ (o : Outcome). j
 
 -- ---- pieces
 
--- the first k sectors were written, no piece reaches past the end, and as long as no read failed the pace is the first one
-pub record IsCatting (d first k end : ℕ) (old now : CatSide) (pace : Pace) : Type 0 where
+-- the first k sectors were written, no piece reaches past the end, and as long as no read failed the limit is the first one
+pub record IsCatting (d first k end : ℕ) (old now : CatSide) (piece_limit : PieceLimit) : Type 0 where
   pub so_far : IsCat d first k old now
   pub ends : so_far.end ≡ end
-  pub fresh : so_far.failed ≡ false → IsFirstPace pace
+  pub fresh : so_far.failed ≡ false → IsFirstPieceLimit piece_limit
 
 pub cat-none : (d first end : ℕ) (old : CatSide) → IsCat d first 0 old old
 cat-none d first end old = record {
@@ -165,19 +165,19 @@ module _ (d first k : ℕ) (old now : CatSide) (p : IsCat d first k old now) (n 
         means = means-fault fault q same;
       }
 
--- ---- at which pace
+-- ---- in pieces of which length
 
-pub catting-none : (d first end : ℕ) (old : CatSide) (pace : Pace) → IsFirstPace pace → IsCatting d first 0 end old old pace
+pub catting-none : (d first end : ℕ) (old : CatSide) (piece_limit : PieceLimit) → IsFirstPieceLimit piece_limit → IsCatting d first 0 end old old piece_limit
 unfolding cat-none
-catting-none d first end old pace fresh = record { so_far = cat-none d first end old; ends = refl; fresh = λ unfailed. fresh }
+catting-none d first end old piece_limit fresh = record { so_far = cat-none d first end old; ends = refl; fresh = λ unfailed. fresh }
 
-module _ (d first k end : ℕ) (old now : CatSide) (pace next : Pace) (h : IsCatting d first k end old now pace) (n : ℕ) (stack : StackRecord) where
+module _ (d first k end : ℕ) (old now : CatSide) (piece_limit next : PieceLimit) (h : IsCatting d first k end old now piece_limit) (n : ℕ) (stack : StackRecord) where
   -- after a piece that was had
-  pub catting-had : (bytes : List ℕ) (written : Option (List ℕ)) → (IsFirstPace pace → IsFirstPace next) → EndsAligned now.stack.config d (first + k) end pace.most n → EachBytes now.stack d (first + k) n (Ok bytes) stack
+  pub catting-had : (bytes : List ℕ) (written : Option (List ℕ)) → (IsFirstPieceLimit piece_limit → IsFirstPieceLimit next) → EndsAligned now.stack.config d (first + k) end piece_limit.most n → EachBytes now.stack d (first + k) n (Ok bytes) stack
       → ReadsAtMost (piece_budget now.stack d (first + k) n) now.stack.leaves stack.leaves → Appends now.written written bytes → IsCatting d first (k + n) end old (cat_side stack written) next
   unfolding cat-had
   catting-had bytes written kept aligned q spent told =
-      let at_end : EndsAligned now.stack.config d (first + k) h.so_far.end pace.most n = subst (λ (e : ℕ). EndsAligned now.stack.config d (first + k) e pace.most n) (sym h.ends) aligned in
+      let at_end : EndsAligned now.stack.config d (first + k) h.so_far.end piece_limit.most n = subst (λ (e : ℕ). EndsAligned now.stack.config d (first + k) e piece_limit.most n) (sym h.ends) aligned in
       let whole : h.so_far.failed ≡ false → EndsAligned now.stack.config d (first + k) h.so_far.end 128 n =
       λ unfailed. subst (λ (m : ℕ). EndsAligned now.stack.config d (first + k) h.so_far.end m n) (h.fresh unfailed).0 at_end in
       record { so_far = cat-had d first k old now h.so_far n stack bytes written whole q spent told; ends = h.ends; fresh = λ unfailed. kept (h.fresh unfailed) }

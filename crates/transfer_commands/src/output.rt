@@ -9,7 +9,7 @@ use device_adapters::Progress;
 use program_io::Counted;
 use stack_config::{Config, DevId};
 use stack_engine::{IoFault, Stack};
-use stack_recovery::{Pace, is_same, piece_at};
+use stack_recovery::{PieceLimit, is_same, piece_at};
 use std::io::Write;
 
 /// A range of sectors of a mapped device, counted from 0.
@@ -77,17 +77,17 @@ fn cat_by<D: BlockDev, W: Write, P: Progress>(
 {
     let sectors = stack.config().sectors(d);
     let end = range.first + range.count;
-    let mut pace = Pace::new();
+    let mut piece_limit = PieceLimit::new();
     let mut at = range.first;
     'pieces: while at < end {
-        let piece = piece_at(stack.config(), d, at, end, pace.most);
+        let piece = piece_at(stack.config(), d, at, end, piece_limit.most);
         let count = u64::from(piece.count);
         let bytes = &mut room[..piece.count as usize * 512];
         match stack.read_bytes(d, at, bytes) {
             Ok(()) => {
                 writer.put(bytes)?;
                 at += count;
-                pace = pace.after_bytes(piece.count, at);
+                piece_limit = piece_limit.after_bytes(piece.count, at);
                 tell(progress, at - range.first, range.count);
             }
             Err(fault) => {
@@ -97,7 +97,7 @@ fn cat_by<D: BlockDev, W: Write, P: Progress>(
                 if piece.alike {
                     return Err(CatFault::Read(fault));
                 }
-                pace = Pace::after_failure(piece.count, at + count);
+                piece_limit = PieceLimit::after_failure(piece.count, at + count);
             }
         }
     }

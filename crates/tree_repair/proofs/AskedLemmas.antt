@@ -6,8 +6,8 @@ use Rattle.tree_shape.specs.Shape.{ShapeRecord, IsShape, ancestor, per_block}
 use Rattle.verity_format.specs.Blocks.{IsOnlyRead}
 use Rattle.verity_format.proofs.lemmas.DeviceLemmas.{only_read-none}
 use Rattle.tree_path.specs.Steps.{HasReadAtMost}
-use Rattle.tree_repair.specs.Bills.{Bill, IsAskedOnce, LeavesWorld, LeavesBeneath, LeavesBlock, LeavesHashVisit, LeavesVisit, beneath_over, data_over, hash_over, hash_up_to, left_of, made_over, reading, sectors_over, visits_over}
-use Rattle.tree_repair.specs.Mending.{IsFoundNowhere, Look}
+use Rattle.tree_repair.specs.AccessBudgets.{Bill, IsAskedOnce, LeavesWorld, LeavesBeneath, LeavesBlock, LeavesHashVisit, LeavesVisit, beneath_over, data_over, hash_over, hash_up_to, left_of, made_over, reading, sectors_over, visits_over}
+use Rattle.tree_repair.specs.Mending.{IsFoundNowhere, BlockCheck}
 use Rattle.tree_path.specs.Unused.{digests_in}
 use Rattle.tree_repair.specs.Runs.{size_at}
 use Rattle.tree_repair.specs.Visits.{IsTreePut, KeepsData}
@@ -193,5 +193,5 @@ module _ (s : ShapeRecord) (valid : IsShape s) (l i : ℕ) (inside : i < s.block
           hash_copies = rw put.hash_copies_are lost-asked.hash_copies;
         })
 
-pub nowhere-unwritten : (l : Look) → IsFoundNowhere l → l.new.writes ≡ l.old.writes
+pub nowhere-unwritten : (l : BlockCheck) → IsFoundNowhere l → l.new.writes ≡ l.old.writes
 nowhere-unwritten l found = found.beneath_read.writes ∙ found.read.writes

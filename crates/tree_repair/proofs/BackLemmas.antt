@@ -19,7 +19,7 @@ use Rattle.tree_repair.specs.Outcomes.{IsAllGood, IsGoodThenIn, IsParityOutcome}
 use Rattle.tree_repair.specs.Passes.{AreBack, HasNoted, IsBackIn, IsGoodThen, bad_of}
 use Rattle.tree_repair.specs.Repairs.{LiesOn, job_of}
 use Rattle.tree_repair.specs.Runs.{HasRun, IsDone, Job, Visit, visit}
-use Rattle.tree_repair.specs.Tries.{IsSought, IsSoughtAt, trial}
+use Rattle.tree_repair.specs.ParitySearches.{IsSought, IsSoughtAt, trial}
 use Rattle.tree_repair.specs.Worlds.{RepairWorld}
 use Rattle.tree_repair.proofs.RunLemmas.{runs-then, world-none, world-then}
 use Rattle.tree_repair.proofs.WholeLemmas.{AreUnfailedSince, all-good-of, bool-or, good-in-right, outcome-by}

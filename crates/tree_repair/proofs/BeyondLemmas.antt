@@ -19,7 +19,7 @@ use Rattle.tree_repair.specs.Parity.{IsCoveredAt, IsPlace}
 use Rattle.tree_repair.specs.Passes.{IsPass, bad_of}
 use Rattle.tree_repair.specs.Repairs.{job_of}
 use Rattle.tree_repair.specs.Runs.{Job, Visit, VisitsAll, visit}
-use Rattle.tree_repair.specs.Tries.{AreSought, IsBlockUnmade, IsSought, IsSoughtAt, IsTriedBehind, IsUncovered, IsVain, Trial, trial}
+use Rattle.tree_repair.specs.ParitySearches.{AreSought, IsBlockUnmade, IsSought, IsSoughtAt, IsTriedBehind, IsUncovered, IsVain, Trial, trial}
 use Rattle.tree_repair.specs.Worlds.{IsWorldRead, RepairWorld}
 use Rattle.tree_repair.proofs.KeepLemmas.{runs-before}
 use Rattle.tree_repair.proofs.RunLemmas.{AreSame, read-same, runs-one, runs-read, runs-same, runs-then, world-none, world-then}

@@ -9,7 +9,7 @@ use Rattle.tree_shape.specs.Shape.{ShapeRecord}
 use Rattle.verity_format.specs.Blocks.{AreOnlyRead}
 use Rattle.verity_format.specs.Image.{data_sectors}
 use Rattle.tree_path.specs.Steps.{HasReadAtMost}
-use Rattle.tree_repair.specs.Bills.{AreEachLeft, Bill, IsAskedOnce, LeavesWorld, nothing_due, pass_over, piece_of, reading}
+use Rattle.tree_repair.specs.AccessBudgets.{AreEachLeft, Bill, IsAskedOnce, LeavesWorld, nothing_due, pass_over, piece_of, reading}
 use Rattle.tree_repair.specs.Bounds.{AreReadAtMost, HasWrittenAtMost, IsOnePass, area_block_sectors}
 use Rattle.tree_repair.specs.Mending.{IsAllowedPut}
 use Rattle.tree_repair.specs.Worlds.{RepairWorld, repair_world}

@@ -28,7 +28,7 @@ use Rattle.tree_repair.specs.Passes.{bad_of}
 use Rattle.tree_repair.specs.Repairs.{job_of}
 use Rattle.tree_repair.specs.Runs.{IsVisited, Job, Visit, VisitsAll, look_at, own, sector_at, size_at}
 use Rattle.tree_repair.specs.Sources.{bytes_on_device}
-use Rattle.tree_repair.specs.Tries.{AreCovered}
+use Rattle.tree_repair.specs.ParitySearches.{AreCovered}
 use Rattle.tree_repair.specs.WithinParity.{DamagedBlocksWithinParityComeBack, FormerImage, HasTreeSizes, IsAsFormed, IsDamaged, IsFormerOf, damaged_count, is_damaged}
 use Rattle.tree_repair.specs.Worlds.{RepairWorld}
 use Rattle.tree_repair.proofs.ApartLemmas.{IsSamePlace, same-or-elsewhere}

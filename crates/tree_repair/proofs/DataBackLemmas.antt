@@ -20,7 +20,7 @@ use Rattle.tree_repair.specs.Parity.{IsCoveredAt}
 use Rattle.tree_repair.specs.Passes.{IsPass}
 use Rattle.tree_repair.specs.Repairs.{job_of}
 use Rattle.tree_repair.specs.Runs.{Job, Visit, VisitsAll}
-use Rattle.tree_repair.specs.Tries.{IsCutOff}
+use Rattle.tree_repair.specs.ParitySearches.{IsCutOff}
 use Rattle.tree_repair.specs.WithinParity.{DataUnderWholeTreeComeBack, FormerImage, HasTreeSizes, HasWholeTree, IsAsFormed, IsDamaged, IsFormerOf}
 use Rattle.tree_repair.specs.Worlds.{RepairWorld}
 use Rattle.tree_repair.proofs.ApartLemmas.{above-from}

@@ -12,11 +12,11 @@ use Rattle.verity_format.specs.Blocks.{IsOnlyRead}
 use Rattle.tree_repair.specs.declared.mending.Mended.{Mended}
 use Rattle.tree_repair.specs.declared.mending.Mended.TheVariants as mended
 use Rattle.tree_repair.specs.Coverage.{IsPassedBy}
-use Rattle.tree_repair.specs.Excuses.{AreUnreadCounted, HasCountedNone, IsLeftAlone, IsTreatedRightly, StandsIntact, Throughout, first_counts, if_data, if_hash, unread_data, unread_hash, unread_look, unread_visit}
-use Rattle.tree_repair.specs.Mending.{IsAllowedPut, IsMended, Look}
+use Rattle.tree_repair.specs.UnreadBlocks.{AreUnreadCounted, HasCountedNone, IsLeftAlone, IsTreatedRightly, StandsIntact, Throughout, first_counts, if_data, if_hash, unread_data, unread_hash, unread_look, unread_visit}
+use Rattle.tree_repair.specs.Mending.{IsAllowedPut, IsMended, BlockCheck}
 use Rattle.tree_repair.specs.Runs.{IsVisited, Job, OtherStays, VisitsAll, Visit, look_at, other, own}
 use Rattle.tree_repair.specs.Sources.{IsBad, IsOther, Wanted, bytes_on_device}
-use Rattle.tree_repair.specs.Tries.{IsCutOff}
+use Rattle.tree_repair.specs.ParitySearches.{IsCutOff}
 use Rattle.tree_repair.specs.Worlds.{IsWorldRead, RepairWorld}
 use Rattle.tree_repair.proofs.LawLemmas.{formed-chain, way-digest}
 use Rattle.tree_repair.proofs.RunLemmas.{world-none}
@@ -51,7 +51,7 @@ put-counted false old first sectors bytes done new put = stays-none old new put.
 
 -- ---- a look at a block
 
-look-counted : (l : Look) (bytes : List ℕ) (done : Bool) (m : Mended) (found : IsMended l bytes done m) → HasFailedTimes l.old (unread_look l bytes done m found) l.new
+look-counted : (l : BlockCheck) (bytes : List ℕ) (done : Bool) (m : Mended) (found : IsMended l bytes done m) → HasFailedTimes l.old (unread_look l bytes done m found) l.new
 look-counted l bytes done mended.Good found = more-none l.old l.new found.more
 look-counted l bytes done (mended.Copy k) found =
     times-then l.old found.between l.new (first_counts found.bad) 0 _ (omega arith) (bad-counted l.old l.first l.w found.between found.bad found.more)
@@ -78,14 +78,14 @@ bad-why old first w new (inl failed) = inl refl
 bad-why old first w new (inr read) = inr (other-stood old first w read)
 
 -- it is good, or it couldn't be read, or it isn't
-abbrev IsLookFor : Look → Mended → ℕ → Type 0
+abbrev IsLookFor : BlockCheck → Mended → ℕ → Type 0
 IsLookFor l m n = (n ≡ 1) ⊎ (((m ≡ mended.Good) × IsOnlyRead l.old l.new) ⊎ HasOther l.old l.first l.w)
 
-bad-for : (l : Look) (m : Mended) (n : ℕ) → (n ≡ 1) ⊎ HasOther l.old l.first l.w → IsLookFor l m n
+bad-for : (l : BlockCheck) (m : Mended) (n : ℕ) → (n ≡ 1) ⊎ HasOther l.old l.first l.w → IsLookFor l m n
 bad-for l m n (inl unread) = inl unread
 bad-for l m n (inr stood) = inr (inr stood)
 
-look-why : (l : Look) (bytes : List ℕ) (done : Bool) (m : Mended) (found : IsMended l bytes done m) → IsLookFor l m (unread_look l bytes done m found)
+look-why : (l : BlockCheck) (bytes : List ℕ) (done : Bool) (m : Mended) (found : IsMended l bytes done m) → IsLookFor l m (unread_look l bytes done m found)
 look-why l bytes done mended.Good found = inr (inl (refl, found.read))
 look-why l bytes done (mended.Copy k) found = bad-for l (mended.Copy k) (first_counts found.bad) (bad-why l.old l.first l.w found.between found.bad)
 look-why l bytes done mended.Remade found = bad-for l mended.Remade (first_counts found.bad) (bad-why l.old l.first l.w found.seen found.bad)

@@ -20,7 +20,7 @@ use Rattle.hash_tree.proofs.lemmas.TreeLemmas.{length-digest}
 use Rattle.verity_format.specs.Blocks.{block_at, blocks_at}
 use Rattle.tree_repair.specs.Laws.{chain_block_below}
 use Rattle.tree_path.specs.Unused.{digests_in}
-use Rattle.tree_repair.specs.Remaking.{Ground, children, made}
+use Rattle.tree_repair.specs.Remaking.{StoredTree, children, made}
 
 -- ---- parts of a range
 
@@ -62,7 +62,7 @@ module _ (s : ShapeRecord) (valid : IsShape s) (salt : List ℕ) (data_image has
   whole : s.hash_block ≡ 32 * per_block s
   whole = (per_block-wide s valid).1
 
-  abbrev here : Ground
+  abbrev here : StoredTree
   here = record { shape = s; salt = salt; data_image = data_image; hash_image = hash_image; height = 0 }
 
   abbrev ds : List (List ℕ)

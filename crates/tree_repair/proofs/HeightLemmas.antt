@@ -8,7 +8,7 @@ use Rattle.std.proofs.lemmas.List.FromFn.{map-range_with_len_more}
 use Rattle.std.proofs.lemmas.List.Sums.{sum_by-append}
 use Rattle.tree_shape.specs.Shape.{ShapeRecord, IsShape, ancestor, area_blocks, level_blocks, levels, per_block}
 use Rattle.tree_repair.specs.declared.place.Row.{Row}
-use Rattle.tree_repair.specs.Bills.{Bill, LeavesWorld, LeavesRow, LeavesChecked, data_over, hash_over, hash_up_to, height_over, left_of, nothing_due, pass_over, reading, rows_over, sectors_over, checks_over}
+use Rattle.tree_repair.specs.AccessBudgets.{Bill, LeavesWorld, LeavesRow, LeavesChecked, data_over, hash_over, hash_up_to, height_over, left_of, nothing_due, pass_over, reading, rows_over, sectors_over, checks_over}
 use Rattle.tree_repair.specs.Bounds.{area_block_sectors}
 use Rattle.tree_repair.specs.Jobs.{IsRow}
 use Rattle.tree_repair.specs.Worlds.{RepairWorld}

@@ -5,7 +5,7 @@ use Rattle.tree_shape.specs.Shape.{ShapeRecord, IsShape, ancestor, level_blocks}
 use Rattle.tree_shape.proofs.lemmas.ShapeFactLemmas.{ancestor-lt, ancestor-none}
 use Rattle.tree_path.specs.Steps.{HasReadAtMost}
 use Rattle.tree_repair.specs.declared.bad.BadBlocks.{BadBlocks}
-use Rattle.tree_repair.specs.Bills.{Bill, LeavesBlock, LeavesChecked, LeavesVisit, LeavesWorld, block_read, checks_over, data_over, hash_over, hash_up_to, left_of, made_over, nothing_due, sectors_over, visits_over}
+use Rattle.tree_repair.specs.AccessBudgets.{Bill, LeavesBlock, LeavesChecked, LeavesVisit, LeavesWorld, block_read, checks_over, data_over, hash_over, hash_up_to, left_of, made_over, nothing_due, sectors_over, visits_over}
 use Rattle.tree_repair.specs.Coverage.{IsLookedAt}
 use Rattle.tree_repair.specs.Passes.{HasNoted}
 use Rattle.tree_repair.specs.Runs.{HasRun, Job, VisitsAll, Visit, size_at}

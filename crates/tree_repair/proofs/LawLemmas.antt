@@ -16,7 +16,7 @@ use Rattle.tree_survey.specs.Surveys.{Tree, IsWay}
 use Rattle.tree_repair.specs.declared.mending.Mended.{Mended}
 use Rattle.tree_repair.specs.declared.mending.Mended.TheVariants as mended
 use Rattle.tree_repair.specs.Laws.{MendedBlocksAreFormatted, MendedBlocksAreGood, NoHashBlockIsLost, chain_block_below, block_of_height}
-use Rattle.tree_repair.specs.Mending.{IsBlockFound, IsMended, Look}
+use Rattle.tree_repair.specs.Mending.{IsBlockFound, IsMended, BlockCheck}
 use Rattle.tree_repair.specs.Remaking.{ground, made, made_on}
 use Rattle.tree_repair.specs.Runs.{IsMadeOf, look_at}
 use Rattle.tree_repair.proofs.FormedLemmas.{below-path, level-made}
@@ -72,7 +72,7 @@ way-good t p i h bytes c way chain same =
       | inl met ↦ blocks-one t.salt bytes (block_of_height t c h) (same ∙ sym met)
     ]
 
-found-good : (l : Look) (bytes : List ℕ) (done : Bool) (m : Mended) → IsMended l bytes done m → IsBlockFound m → digest l.w.salt bytes ≡ l.w.digest_is
+found-good : (l : BlockCheck) (bytes : List ℕ) (done : Bool) (m : Mended) → IsMended l bytes done m → IsBlockFound m → digest l.w.salt bytes ≡ l.w.digest_is
 found-good l bytes done mended.Good looked found = absurd found
 found-good l bytes done (mended.Copy n) looked found = looked.good
 found-good l bytes done mended.Remade looked found = looked.good

@@ -16,7 +16,7 @@ mod DistinctLemmas
 mod HeightLemmas
 mod LaidOutLemmas
 mod KeepLemmas
-mod LookLemmas
+mod BlockCheckLemmas
 mod LosingLemmas
 mod MakeLemmas
 mod NoneLostLemmas
@@ -34,7 +34,7 @@ mod RecordedLemmas
 mod RepairLemmas
 mod RowLemmas
 mod RunLemmas
-mod SoughtLemmas
+mod WantedBlockLemmas
 mod SourceLemmas
 mod StandLemmas
 mod StayFormedLemmas

@@ -20,7 +20,7 @@ use Rattle.fec_area.specs.Restoring.{IsAmong, IsMadeAgain, IsRestoreCause, is_be
 use Rattle.tree_repair.specs.declared.bad.BadBlock.{BadBlock}
 use Rattle.tree_repair.specs.Losing.{AreLostAlike}
 use Rattle.tree_repair.specs.Runs.{Job}
-use Rattle.tree_repair.specs.Tries.{AreSought, IsBlockUnmade, IsMadeOther, IsSoughtAt, IsTried, IsVain, trial}
+use Rattle.tree_repair.specs.ParitySearches.{AreSought, IsBlockUnmade, IsMadeOther, IsSoughtAt, IsTried, IsVain, trial}
 use Rattle.tree_repair.specs.Worlds.{RepairWorld}
 use Rattle.tree_path.specs.Path.{PathRecord}
 

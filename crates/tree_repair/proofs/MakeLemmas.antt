@@ -19,7 +19,7 @@ use Rattle.hash_tree.proofs.lemmas.TreeLemmas.{length-digest}
 use Rattle.verity_format.specs.Blocks.{AreOnlyRead}
 use Rattle.verity_format.proofs.lemmas.DeviceLemmas.{only_read-none, only_read-then, steady-then}
 use Rattle.tree_path.specs.Unused.{digests_in}
-use Rattle.tree_repair.specs.Remaking.{Ground, HaveBlocks, IsOver, IsUnlike, ground, made, standing_block}
+use Rattle.tree_repair.specs.Remaking.{StoredTree, HaveBlocks, IsOver, IsUnlike, ground, made, standing_block}
 use Rattle.tree_repair.specs.Worlds.{AreBothRead, RepairWorld}
 
 -- ---- how many blocks there are
@@ -46,7 +46,7 @@ filled-next size slot bytes d at long =
     ap (λ (x : List ℕ). x ++ d ++ drop (32 * slot + 32) (filled size bytes)) front
     ∙ ap (λ (x : List ℕ). bytes ++ d ++ x) (back ∙ ap (λ (n : ℕ). replicate n 0) less)
 
-module _ (g : Ground) (steps first : ℕ) where
+module _ (g : StoredTree) (steps first : ℕ) where
   abbrev digest_of : ℕ → List ℕ
   digest_of i = digest g.salt (made g steps i)
 
@@ -105,12 +105,12 @@ module _ (s : ShapeRecord) (salt : List ℕ) (d h d1 h1 : Device) (read : AreOnl
   pub over-before : (from steps n : ℕ) (bytes : List ℕ) → IsOver d1 h1 (made (ground s salt d1 h1 from) steps n) bytes → IsOver d h (made (ground s salt d h from) steps n) bytes
   over-before from steps n bytes over steady steadily =
       over (steady-then read.data_read.same steady) (steady-then read.hash_read.same steadily)
-      ∙ ap (λ (g : Ground). made g steps n) (ground-before from steady steadily)
+      ∙ ap (λ (g : StoredTree). made g steps n) (ground-before from steady steadily)
 
   pub unlike-before : (from steps n : ℕ) (digest_is : List ℕ) → IsUnlike salt d1 h1 digest_is (made (ground s salt d1 h1 from) steps n) → IsUnlike salt d h digest_is (made (ground s salt d h from) steps n)
   unlike-before from steps n digest_is unlike steady steadily never none same =
       unlike (steady-then read.data_read.same steady) (steady-then read.hash_read.same steadily) (read.data_read.same.never_fails never) (read.hash_read.same.never_fails none)
-      (ap (λ (g : Ground). digest salt (made g steps n)) (ground-before from steady steadily) ∙ same)
+      (ap (λ (g : StoredTree). digest salt (made g steps n)) (ground-before from steady steadily) ∙ same)
 
 -- ---- the last digest was put
 
@@ -118,12 +118,12 @@ module _ (s : ShapeRecord) (salt : List ℕ) (d h d1 h1 : Device) (read : AreOnl
 pub above : (from steps : ℕ) → 0 < steps → from + steps ≡ suc (from + (steps - 1))
 above from steps some = omega (arith, some)
 
-made-suc : (g : Ground) (steps n : ℕ)
+made-suc : (g : StoredTree) (steps n : ℕ)
     → made g (suc steps) n ≡ filled g.shape.hash_block (digests g steps (n * per_block g.shape) (min (per_block g.shape) (digests_in g.shape (g.height + steps) - n * per_block g.shape)))
 unfolding made
 made-suc g steps n = refl
 
-pub made-all : (g : Ground) (steps n first count : ℕ) → 0 < steps → first ≡ n * per_block g.shape
+pub made-all : (g : StoredTree) (steps n first count : ℕ) → 0 < steps → first ≡ n * per_block g.shape
     → count ≡ min (per_block g.shape) (digests_in g.shape (g.height + (steps - 1)) - n * per_block g.shape)
     → made g steps n ≡ filled g.shape.hash_block (digests g (steps - 1) first count)
 made-all g steps n first count some from few =
@@ -133,10 +133,10 @@ made-all g steps n first count some from few =
     ∙ ap (λ (k : ℕ). filled g.shape.hash_block (digests g (steps - 1) k count)) (sym from)
 
 -- none was put yet
-pub none-yet : (g : Ground) (steps first size : ℕ) → filled size (digests g steps first 0) ≡ replicate size 0
+pub none-yet : (g : StoredTree) (steps first size : ℕ) → filled size (digests g steps first 0) ≡ replicate size 0
 none-yet g steps first size = let all : size - 0 ≡ size = omega arith in ap (λ (n : ℕ). replicate n 0) all
 
 -- no step above the height
-pub made-none : (g : Ground) (steps n : ℕ) → steps ≡ 0 → made g steps n ≡ standing_block g.shape g.data_image g.hash_image g.height n
+pub made-none : (g : StoredTree) (steps n : ℕ) → steps ≡ 0 → made g steps n ≡ standing_block g.shape g.data_image g.hash_image g.height n
 unfolding made
 made-none g steps n none = ap (λ (k : ℕ). made g k n) none

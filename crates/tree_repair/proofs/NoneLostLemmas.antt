@@ -19,14 +19,14 @@ use Rattle.tree_repair.specs.Passes.{IsPass, bad_of}
 use Rattle.tree_repair.specs.Repairs.{job_of}
 use Rattle.tree_repair.specs.Runs.{Job, Visit, VisitsAll, visit}
 use Rattle.tree_repair.specs.Standing.{StandsGood}
-use Rattle.tree_repair.specs.Tries.{IsBroughtBack, IsGoodBehind, trial}
+use Rattle.tree_repair.specs.ParitySearches.{IsBroughtBack, IsGoodBehind, trial}
 use Rattle.tree_repair.specs.WithinParity.{FormerImage, HasTreeSizes, IsAsFormed, IsDamaged, IsFormerOf, IsHiddenBeside, IsPastParity, IsSoughtWithin, NoBlockStaysLostWithinParity, Stage, stage}
 use Rattle.tree_repair.specs.Worlds.{IsWorldRead, RepairWorld}
 use Rattle.tree_repair.proofs.NumberLemmas.{covered-one, off-not}
 use Rattle.tree_repair.proofs.RecordedLemmas.{beside-formed, formed-on, had-formed}
 use Rattle.tree_repair.proofs.KeepLemmas.{runs-before}
 use Rattle.tree_repair.proofs.RunLemmas.{read-same, runs-one, runs-read, runs-same}
-use Rattle.tree_repair.proofs.SoughtLemmas.{all-run}
+use Rattle.tree_repair.proofs.WantedBlockLemmas.{all-run}
 use Rattle.tree_repair.proofs.StandLemmas.{IsReady}
 use Rattle.tree_repair.proofs.StayFormedLemmas.{IsSure, covered-same, own-steady, read-images, ready-same, runs-kept, runs-ready-sure, sure-same, visit-stands}
 use Rattle.tree_repair.proofs.UnknownLemmas.{beside-inside}

@@ -13,7 +13,7 @@ use Rattle.tree_shape.proofs.lemmas.ShapeFactLemmas.{ancestor-none}
 use Rattle.verity_format.proofs.lemmas.SizeLemmas.{block-inside, block-size}
 use Rattle.verity_format.specs.Blocks.{block_at}
 use Rattle.tree_repair.specs.Parity.{IsCoveredAt}
-use Rattle.tree_repair.specs.Tries.{IsOffPlace, IsUncovered}
+use Rattle.tree_repair.specs.ParitySearches.{IsOffPlace, IsUncovered}
 
 -- ---- images that tell blocks apart
 

@@ -17,7 +17,7 @@ use Rattle.tree_repair.specs.Passes.{HasNoted}
 use Rattle.tree_repair.specs.Repairs.{LiesOn, job_of}
 use Rattle.tree_repair.specs.Runs.{IsDone, Job, VisitsAll, Visit}
 use Rattle.tree_repair.specs.Standing.{IsLeftGoodIn, IsSteadyImage, IsWorldSteady, StandsGood}
-use Rattle.tree_repair.specs.Tries.{IsCutOff}
+use Rattle.tree_repair.specs.ParitySearches.{IsCutOff}
 use Rattle.tree_repair.specs.Worlds.{RepairWorld}
 use Rattle.tree_repair.proofs.ApartLemmas.{above-from}
 use Rattle.tree_repair.proofs.RunLemmas.{runs-same, runs-then, world-none}

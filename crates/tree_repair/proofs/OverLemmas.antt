@@ -7,7 +7,7 @@ use Rattle.std.proofs.lemmas.Grind.{div_ceil_times}
 use Rattle.tree_shape.specs.Shape.{ShapeRecord, IsShape, ancestor, level_blocks, per_block}
 use Rattle.tree_shape.proofs.lemmas.ShapeLemmas.{pow_pos}
 use Rattle.tree_path.proofs.lemmas.SpanLemmas.{lower-mod, power-more, whole}
-use Rattle.tree_repair.specs.Bills.{data_over, hash_over, hash_up_to, left_of, sectors_over}
+use Rattle.tree_repair.specs.AccessBudgets.{data_over, hash_over, hash_up_to, left_of, sectors_over}
 use Rattle.tree_path.specs.Unused.{digests_in}
 use Rattle.tree_repair.specs.Runs.{size_at}
 use Rattle.tree_repair.proofs.RowLemmas.{per_block-some}

@@ -9,7 +9,7 @@ use Rattle.fec_area.proofs.lemmas.KeptLemmas.{kept_data-few, kept_hash-few}
 use Rattle.tree_shape.specs.Shape.{ShapeRecord, levels}
 use Rattle.verity_format.specs.Blocks.{AreOnlyRead, IsOnlyRead}
 use Rattle.verity_format.specs.Image.{data_sectors}
-use Rattle.tree_repair.specs.Bills.{Bill, LeavesWorld, block_read, nothing_due, pass_over, reading}
+use Rattle.tree_repair.specs.AccessBudgets.{Bill, LeavesWorld, block_read, nothing_due, pass_over, reading}
 use Rattle.tree_repair.specs.Bounds.{AreReadAtMost, area_block_sectors}
 use Rattle.tree_repair.specs.ParityBounds.{IsAskedAlone, IsAskedWithin, IsReplacedOnce, ParityBill, along_bill, kept_bill, parity_bill, put_bill, round_bill}
 use Rattle.tree_repair.specs.Runs.{size_at}

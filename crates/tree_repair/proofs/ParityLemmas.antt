@@ -23,7 +23,7 @@ use Rattle.tree_repair.specs.Parity.{FailsToPlace, IsBack, IsGoodNow, IsNotBack,
 use Rattle.tree_repair.specs.Runs.{IsRefusal, IsVisited, Job, sector_at, size_at, visit}
 use Rattle.tree_repair.specs.Worlds.{RepairWorld, repair_world}
 use Rattle.tree_repair.specs.Sources.{IsThere, wanted}
-use Rattle.tree_repair.specs.Tries.{IsCoveredOr}
+use Rattle.tree_repair.specs.ParitySearches.{IsCoveredOr}
 use Rattle.tree_repair.proofs.SourceLemmas.{each-none}
 
 -- what holds of a result that is a fault

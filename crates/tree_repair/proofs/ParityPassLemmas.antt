@@ -14,9 +14,9 @@ use Rattle.tree_repair.specs.declared.bad.BadBlocks.{BadBlocks}
 use Rattle.tree_repair.specs.declared.fault.RepairFault.{RepairFault}
 use Rattle.tree_repair.specs.declared.mending.Mended.{Mended}
 use Rattle.tree_repair.specs.declared.mending.Mended.TheVariants as mended
-use Rattle.tree_repair.specs.declared.parity.Came.{Came}
+use Rattle.tree_repair.specs.declared.parity.ParityOutcome.{ParityOutcome}
 use Rattle.tree_repair.specs.declared.repair.Plan.{Plan}
-use Rattle.tree_repair.specs.Bills.{LeavesWorld, nothing_due, pass_over}
+use Rattle.tree_repair.specs.AccessBudgets.{LeavesWorld, nothing_due, pass_over}
 use Rattle.tree_repair.specs.Noting.{bad_blocks, found_of}
 use Rattle.tree_repair.specs.Coverage.{IsFromUp}
 use Rattle.tree_repair.specs.ParityBounds.{IsAskedWithin, LeavesNoted, RepairsInPasses, RunsInPasses, TellsOfHash, back_of, hashes_back, image_blocks, lost_of, parity_bill, sought_among, told_of, tree_told, tries_of}
@@ -83,7 +83,7 @@ pub tells-from : {j : Job} {w x : RepairWorld} {old new : Option (List ℕ)} {fa
 tells-from h (Ok told) is run = absurd is
 tells-from {j} {w} {x} {old} {new} h (Err e) is run = tells-none h (subst (λ (f : RepairFault). HasRun j w x old new (Some f)) (sym is) run)
 
-pub tells-came : {j : Job} {w x : RepairWorld} {old new : Option (List ℕ)} {fault : RepairFault} (r : Result Came RepairFault) → IsErrAnd r (λ e. e ≡ fault) → HasRun j w x old new (Some fault) → TellsOfHash j 1 w x old new (result_err r) (tree_told r)
+pub tells-came : {j : Job} {w x : RepairWorld} {old new : Option (List ℕ)} {fault : RepairFault} (r : Result ParityOutcome RepairFault) → IsErrAnd r (λ e. e ≡ fault) → HasRun j w x old new (Some fault) → TellsOfHash j 1 w x old new (result_err r) (tree_told r)
 tells-came (Ok came) is run = absurd is
 tells-came {j} {w} {x} {old} {new} (Err e) is run = tells-none 1 (subst (λ (f : RepairFault). HasRun j w x old new (Some f)) (sym is) run)
 
@@ -177,7 +177,7 @@ runs-from (Ok done) is run = absurd is
 runs-from {j} {l} {w} {x} {p} {q} {old} {new} {T} {most} (Err e) is run = subst (λ (f : RepairFault). RunsInPasses j l most w x p q old new (Some f) false) (sym is) run
 
 -- the same of one pass, which tells whether one more is due
-pub runs-told : {j : Job} {l : Layout} {w x : RepairWorld} {p q : Device} {old new : Option (List ℕ)} {most : ℕ} {fault : RepairFault} (r : Result Came RepairFault) → IsErrAnd r (λ e. e ≡ fault) → RunsInPasses j l most w x p q old new (Some fault) false → RunsInPasses j l most w x p q old new (result_err r) (tree_told r)
+pub runs-told : {j : Job} {l : Layout} {w x : RepairWorld} {p q : Device} {old new : Option (List ℕ)} {most : ℕ} {fault : RepairFault} (r : Result ParityOutcome RepairFault) → IsErrAnd r (λ e. e ≡ fault) → RunsInPasses j l most w x p q old new (Some fault) false → RunsInPasses j l most w x p q old new (result_err r) (tree_told r)
 runs-told (Ok told) is run = absurd is
 runs-told {j} {l} {w} {x} {p} {q} {old} {new} {most} (Err e) is run = subst (λ (f : RepairFault). RunsInPasses j l most w x p q old new (Some f) false) (sym is) run
 

@@ -19,9 +19,9 @@ use Rattle.tree_repair.specs.Coverage.{IsDueAt, IsFromUp, IsLookedAt, IsVisitAt}
 use Rattle.tree_repair.specs.Noting.{IsGoodBefore, found_of, passed_some}
 use Rattle.tree_repair.specs.Passes.{ArePasses, HasNoted, IsGoodThen, IsPass, bad_of}
 use Rattle.tree_repair.specs.Runs.{HasRun, IsVisited, Job, Visit, visit_line}
-use Rattle.tree_repair.specs.Tries.{HasSought}
+use Rattle.tree_repair.specs.ParitySearches.{HasSought}
 use Rattle.tree_repair.specs.Worlds.{IsWorldRead, RepairWorld}
-use Rattle.tree_repair.proofs.LookLemmas.{in-left, in-right, looked-behind, looked-left, looked-right}
+use Rattle.tree_repair.proofs.BlockCheckLemmas.{in-left, in-right, looked-behind, looked-left, looked-right}
 use Rattle.tree_repair.proofs.OnceLemmas.{AreParts, all-due, due-at, due-none, due-one, once-one, once-then}
 use Rattle.tree_repair.proofs.RunLemmas.{has-behind, has-none, has-one, has-read, has-then, world-none}
 

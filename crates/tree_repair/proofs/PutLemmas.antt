@@ -10,7 +10,7 @@ use Rattle.tree_shape.specs.Digests.{digest}
 use Rattle.verity_format.proofs.lemmas.DeviceLemmas.{steady-then}
 use Rattle.tree_repair.specs.declared.mending.Mended.{Mended}
 use Rattle.tree_repair.specs.declared.mending.Mended.TheVariants as mended
-use Rattle.tree_repair.specs.Mending.{IsAllowedPut, IsBlockPut, IsMended, Look}
+use Rattle.tree_repair.specs.Mending.{IsAllowedPut, IsBlockPut, IsMended, BlockCheck}
 use Rattle.tree_repair.specs.Sources.{bytes_on_device}
 use Rattle.tree_repair.specs.Standing.{IsNotLost}
 
@@ -36,7 +36,7 @@ module _ (f n : ℕ) where
   put-run true old first m bytes done new put steady apart = written-run old first m done new put.moved steady apart
   put-run false old first m bytes done new put steady apart = ap (λ (d : Device). run_of d.image f n) put.0
 
-  pub look-run : (l : Look) (bytes : List ℕ) (done : Bool) (m : Mended) → IsMended l bytes done m → IsTrue l.old.steady → (f + n ≤ l.first) ⊎ (l.first + l.w.sectors ≤ f)
+  pub look-run : (l : BlockCheck) (bytes : List ℕ) (done : Bool) (m : Mended) → IsMended l bytes done m → IsTrue l.old.steady → (f + n ≤ l.first) ⊎ (l.first + l.w.sectors ≤ f)
       → run_of l.new.image f n ≡ run_of l.old.image f n
   look-run l bytes done mended.Good found steady apart = ap (λ (im : List (List ℕ)). run_of im f n) (found.read.image steady)
   look-run l bytes done (mended.Copy k) found steady apart =
@@ -53,7 +53,7 @@ module _ (f n : ℕ) where
       ap (λ (im : List (List ℕ)). run_of im f n) (found.beneath_read.image (steady-then found.read.same steady) ∙ found.read.image steady)
 
 -- nothing is written of a block that is lost
-pub lost-image : (l : Look) (bytes : List ℕ) (done : Bool) → IsMended l bytes done mended.Lost → IsTrue l.old.steady → l.new.image ≡ l.old.image
+pub lost-image : (l : BlockCheck) (bytes : List ℕ) (done : Bool) → IsMended l bytes done mended.Lost → IsTrue l.old.steady → l.new.image ≡ l.old.image
 lost-image l bytes done found steady = found.beneath_read.image (steady-then found.read.same steady) ∙ found.read.image steady
 
 -- ---- the block itself
@@ -88,7 +88,7 @@ module _ (old : Device) (first n : ℕ) (bytes : List ℕ) (new : Device) (stead
   put-good true salt digest_is writes put good = ap (digest salt) (put-bytes put) ∙ good
   put-good false salt digest_is writes put good = absurd (false≢true writes)
 
-module _ (l : Look) (bytes : List ℕ) (steady : IsTrue l.old.steady) (inside : l.first + l.w.sectors ≤ length l.old.image) where
+module _ (l : BlockCheck) (bytes : List ℕ) (steady : IsTrue l.old.steady) (inside : l.first + l.w.sectors ≤ length l.old.image) where
   room : (d : Device) → d.image ≡ l.old.image → l.first + l.w.sectors ≤ length d.image
   room d same = omega (arith, inside, ap length same)
 

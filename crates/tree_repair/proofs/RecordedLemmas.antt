@@ -23,7 +23,7 @@ use Rattle.tree_repair.specs.Parity.{IsCoveredAt, IsPlace}
 use Rattle.tree_repair.specs.Passes.{bad_of}
 use Rattle.tree_repair.specs.Runs.{IsVisited, Job, VisitsAll, Visit, look_at, own, sector_at, size_at, visit}
 use Rattle.tree_repair.specs.Standing.{IsNotLost, StandsGood}
-use Rattle.tree_repair.specs.Tries.{AreCovered, IsUncovered}
+use Rattle.tree_repair.specs.ParitySearches.{AreCovered, IsUncovered}
 use Rattle.tree_repair.specs.WithinParity.{FormerImage, HasTreeSizes, IsAsFormed, IsFormerOf}
 use Rattle.tree_repair.specs.Worlds.{RepairWorld}
 use Rattle.tree_repair.proofs.DistinctLemmas.{among-more}

@@ -20,7 +20,7 @@ use Rattle.tree_repair.specs.declared.fault.RepairFault.{RepairFault}
 use Rattle.tree_repair.specs.declared.fault.RepairFault.TheVariants.{Image, Write}
 use Rattle.tree_repair.specs.declared.mending.Mended.{Mended}
 use Rattle.tree_repair.specs.declared.mending.Mended.TheVariants as mended
-use Rattle.tree_repair.specs.Mending.{IsBlockFound, IsMended, IsAllowedPut, Look}
+use Rattle.tree_repair.specs.Mending.{IsBlockFound, IsMended, IsAllowedPut, BlockCheck}
 use Rattle.tree_repair.specs.Runs.{CanRun, HasRun, IsDone, IsEndCause, IsRefusal, IsVisited, Job, OtherStays, VisitsAll, Visit, visit_line, look_at, other, own}
 use Rattle.tree_repair.specs.Worlds.{IsWorldRead, RepairWorld, repair_world}
 use Rattle.tree_repair.proofs.SourceLemmas.{each-none, each-then}
@@ -140,7 +140,7 @@ put-same : (write : Bool) (old : Device) (first sectors : ℕ) (bytes : List ℕ
 put-same true old first sectors bytes done new put = put.moved.same
 put-same false old first sectors bytes done new put = subst (IsSameDevice old) (sym put.0) (same-none old)
 
-mended-same : (l : Look) (bytes : List ℕ) (done : Bool) (m : Mended) → IsMended l bytes done m → IsSameDevice l.old l.new
+mended-same : (l : BlockCheck) (bytes : List ℕ) (done : Bool) (m : Mended) → IsMended l bytes done m → IsSameDevice l.old l.new
 mended-same l bytes done mended.Good found = found.read.same
 mended-same l bytes done (mended.Copy k) found = same-then found.read.same (put-same l.write found.between l.first l.w.sectors bytes done l.new found.put)
 mended-same l bytes done mended.Remade found =

@@ -15,7 +15,7 @@ use Rattle.verity_format.proofs.lemmas.SizeLemmas.{block-inside}
 use Rattle.verity_format.specs.Blocks.{block_at}
 use Rattle.tree_repair.specs.declared.mending.Mended.{Mended}
 use Rattle.tree_repair.specs.declared.mending.Mended.TheVariants as mended
-use Rattle.tree_repair.specs.Mending.{IsAllowedPut, IsBlockFound, IsMended, Look}
+use Rattle.tree_repair.specs.Mending.{IsAllowedPut, IsBlockFound, IsMended, BlockCheck}
 use Rattle.tree_repair.specs.Runs.{IsDone, IsVisited, Job, VisitsAll, Visit, look_at, other, own, visit}
 use Rattle.tree_repair.specs.Standing.{IsNotLost, StandsGood}
 use Rattle.tree_repair.specs.WithinParity.{FormattedBlocksStay, FormerImage, HasTreeSizes, IsFormerOf}
@@ -33,7 +33,7 @@ put-sure true old first sectors bytes done new put sure = inr (refl, put.sure su
 put-sure false old first sectors bytes done new put sure = inl (ap (λ (d : Device). d.image) put.0)
 
 -- leaves it as it is, or was to write, and did
-look-sure : (l : Look) (bytes : List ℕ) (done : Bool) (m : Mended) → IsMended l bytes done m → IsTrue l.old.never_fails → IsTrue l.old.steady
+look-sure : (l : BlockCheck) (bytes : List ℕ) (done : Bool) (m : Mended) → IsMended l bytes done m → IsTrue l.old.never_fails → IsTrue l.old.steady
     → (l.new.image ≡ l.old.image) ⊎ (IsTrue l.write × ((done ≡ true) × IsNotLost m))
 look-sure l bytes done mended.Good found sure steady = inl (found.read.image steady)
 look-sure l bytes done (mended.Copy k) found sure steady =
@@ -59,7 +59,7 @@ put-done : (write : Bool) (old : Device) (first sectors : ℕ) (bytes : List ℕ
 put-done true old first sectors bytes done new put sure = put.sure sure
 put-done false old first sectors bytes done new put sure = put.1
 
-pub look-done : (l : Look) (bytes : List ℕ) (done : Bool) (m : Mended) → IsMended l bytes done m → IsTrue l.old.never_fails → IsBlockFound m → done ≡ true
+pub look-done : (l : BlockCheck) (bytes : List ℕ) (done : Bool) (m : Mended) → IsMended l bytes done m → IsTrue l.old.never_fails → IsBlockFound m → done ≡ true
 look-done l bytes done mended.Good looked sure found = absurd found
 look-done l bytes done (mended.Copy k) looked sure found = put-done l.write looked.between l.first l.w.sectors bytes done l.new looked.put (looked.read.same.never_fails sure)
 look-done l bytes done mended.Remade looked sure found =

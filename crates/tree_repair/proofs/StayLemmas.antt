@@ -7,7 +7,7 @@ use Rattle.verity_format.proofs.lemmas.DeviceLemmas.{steady-then}
 use Rattle.tree_repair.specs.declared.mending.Mended.{Mended}
 use Rattle.tree_repair.specs.declared.mending.Mended.TheVariants as mended
 use Rattle.tree_repair.specs.Laws.{AreOff, IsOffData, IsOffTree, IsSectorOutside, OtherSectorsStay}
-use Rattle.tree_repair.specs.Mending.{IsBlockFound, IsMended, IsAllowedPut, Look}
+use Rattle.tree_repair.specs.Mending.{IsBlockFound, IsMended, IsAllowedPut, BlockCheck}
 use Rattle.tree_repair.specs.Runs.{Job, OtherStays, VisitsAll, Visit, look_at, other}
 use Rattle.tree_repair.specs.Worlds.{RepairWorld}
 use Rattle.tree_repair.proofs.RunLemmas.{other-image, visited-same}
@@ -28,7 +28,7 @@ module _ (k : ℕ) (d : List ℕ) where
   put-stays true old first n bytes done new put steady outside = written-stays old first n done new put.moved steady outside
   put-stays false old first n bytes done new put steady outside = ap (λ (x : Device). get_or x.image k d) put.0
 
-  look-stays : (l : Look) (bytes : List ℕ) (done : Bool) (m : Mended) → IsMended l bytes done m → IsTrue l.old.steady → (IsBlockFound m → IsSectorOutside l.first l.w.sectors k)
+  look-stays : (l : BlockCheck) (bytes : List ℕ) (done : Bool) (m : Mended) → IsMended l bytes done m → IsTrue l.old.steady → (IsBlockFound m → IsSectorOutside l.first l.w.sectors k)
       → get_or l.new.image k d ≡ get_or l.old.image k d
   look-stays l bytes done mended.Good found steady outside = ap (λ (im : List (List ℕ)). get_or im k d) (found.read.image steady)
   look-stays l bytes done (mended.Copy n) found steady outside =

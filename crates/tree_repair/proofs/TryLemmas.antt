@@ -15,7 +15,7 @@ use Rattle.tree_path.proofs.lemmas.PathLemmas.{is_same-cases}
 use Rattle.tree_repair.specs.declared.bad.BadBlock.{BadBlock}
 use Rattle.tree_repair.specs.Parity.{IsCoveredAt, IsPlacedAndRead}
 use Rattle.tree_repair.specs.Runs.{Job}
-use Rattle.tree_repair.specs.Tries.{AreCovered, AreSought, IsCoveredOr, IsMadeOrVain, IsSought, IsSoughtAt, IsTried, Trial, is_hash_back, listed_number, trial}
+use Rattle.tree_repair.specs.ParitySearches.{AreCovered, AreSought, IsCoveredOr, IsMadeOrVain, IsSought, IsSoughtAt, IsTried, Trial, is_hash_back, listed_number, trial}
 use Rattle.tree_repair.specs.Worlds.{IsWorldRead, RepairWorld}
 use Rattle.tree_repair.proofs.RunLemmas.{world-then}
 use Rattle.verity_format.specs.Blocks.{IsOnlyRead}

@@ -6,7 +6,7 @@ use Rattle.fec_area.specs.declared.layout.Layout.{Layout}
 use Rattle.fec_area.specs.Layouts.{code_rounds, covered, covered_blocks}
 use Rattle.fec_area.specs.Restoring.{IsAmong, is_beside, round_of}
 use Rattle.tree_path.proofs.lemmas.ChainLemmas.{same-or}
-use Rattle.tree_repair.specs.Tries.{Trial}
+use Rattle.tree_repair.specs.ParitySearches.{Trial}
 use Rattle.tree_repair.specs.WithinParity.{FormerImage, IsDamaged}
 
 pub beside-inside : (l : Layout) (k n : ℕ) → IsTrue (is_beside l k n) → n < covered_blocks l

@@ -13,7 +13,7 @@ use Rattle.tree_path.specs.Unused.{digests_in, is_unused_zero, used_entries}
 use Rattle.tree_survey.specs.Hashes.{is_zero_after_used}
 use Rattle.tree_survey.specs.Surveys.{Tree}
 use Rattle.verity_format.specs.Superblock.{shape_of}
-use Rattle.tree_repair.specs.Remaking.{Ground, children, made}
+use Rattle.tree_repair.specs.Remaking.{StoredTree, children, made}
 use Rattle.tree_repair.specs.WithinParity.{FormattedEntriesAreZero, FormerImage, IsFormerOf}
 use Rattle.tree_repair.proofs.FormedLemmas.{level-made}
 use Rattle.tree_repair.proofs.FormerLemmas.{former-area}
@@ -32,7 +32,7 @@ made-unused : (s : ShapeRecord) (salt : List ℕ) (data_image hash_image : List 
     → is_unused_zero s l n (made (record { shape = s; salt = salt; data_image = data_image; hash_image = hash_image; height = 0 }) (suc l) n) ≡ true
 unfolding is_unused_zero made
 made-unused s salt data_image hash_image l n =
-    let here : Ground = record { shape = s; salt = salt; data_image = data_image; hash_image = hash_image; height = 0 } in
+    let here : StoredTree = record { shape = s; salt = salt; data_image = data_image; hash_image = hash_image; height = 0 } in
     let below : ℕ → List ℕ = λ i. digest salt (made here l i) in
     let none : 0 + l ≡ l = omega arith in
     let digests : List (List ℕ) = map below (children s (0 + l) n) in

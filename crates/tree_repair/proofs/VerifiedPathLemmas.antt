@@ -9,8 +9,8 @@ use Rattle.tree_path.specs.Steps.{HasReadAtMost, IsDown, IsKeptAbove, IsStopped,
 use Rattle.tree_path.proofs.lemmas.AtMostLemmas.{at_most-fewer}
 use Rattle.tree_path.proofs.lemmas.PathLemmas.{digest_on-same, leads-along, leads-down}
 use Rattle.tree_survey.specs.Surveys.{Tree, IsWay}
-use Rattle.tree_repair.specs.Bills.{way_sectors}
-use Rattle.tree_repair.specs.Tries.{IsCutOff, IsOfTree}
+use Rattle.tree_repair.specs.AccessBudgets.{way_sectors}
+use Rattle.tree_repair.specs.ParitySearches.{IsCutOff, IsOfTree}
 
 -- nothing was read
 pub leads-top : (p : PathRecord) (i k : ℕ) → levels p.shape ≤ k → LeadsTo p i k

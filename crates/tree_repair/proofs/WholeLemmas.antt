@@ -19,9 +19,9 @@ use Rattle.tree_repair.specs.declared.outcome.Outcome.{Outcome}
 use Rattle.tree_repair.specs.declared.outcome.Outcome.TheVariants.{Partly, Whole}
 use Rattle.tree_repair.specs.declared.repair.Plan.{Plan}
 use Rattle.tree_repair.specs.Coverage.{IsFromUp, IsVisitedIn}
-use Rattle.tree_repair.specs.Excuses.{HasCountedNone}
+use Rattle.tree_repair.specs.UnreadBlocks.{HasCountedNone}
 use Rattle.tree_repair.specs.Failures.{AreUncounted}
-use Rattle.tree_repair.specs.Mending.{IsAllowedPut, IsMended, Look}
+use Rattle.tree_repair.specs.Mending.{IsAllowedPut, IsMended, BlockCheck}
 use Rattle.tree_repair.specs.Noting.{found_of, pass_outcome}
 use Rattle.tree_repair.specs.Outcomes.{IsGoodThenIn, IsOutcomeOf, LeavesAllGood, StandsFrom}
 use Rattle.tree_repair.specs.Passes.{HasNoted, IsGoodThen}
@@ -94,7 +94,7 @@ put-held : (write : Bool) (old : Device) (first sectors : ℕ) (bytes : List ℕ
 put-held true old first sectors bytes done new never put = absurd (true≢false never)
 put-held false old first sectors bytes done new never put = ap (λ (d : Device). d.image) put.0
 
-look-held : (l : Look) (bytes : List ℕ) (done : Bool) (m : Mended) → l.write ≡ false → IsMended l bytes done m → IsTrue l.old.steady → l.new.image ≡ l.old.image
+look-held : (l : BlockCheck) (bytes : List ℕ) (done : Bool) (m : Mended) → l.write ≡ false → IsMended l bytes done m → IsTrue l.old.steady → l.new.image ≡ l.old.image
 look-held l bytes done mended.Good never found steady = found.read.image steady
 look-held l bytes done (mended.Copy k) never found steady = put-held l.write found.between l.first l.w.sectors bytes done l.new never found.put ∙ found.read.image steady
 look-held l bytes done mended.Remade never found steady =

@@ -23,14 +23,14 @@ use Rattle.tree_repair.specs.Parity.{IsCoveredAt}
 use Rattle.tree_repair.specs.Passes.{IsPass, bad_of}
 use Rattle.tree_repair.specs.Repairs.{job_of}
 use Rattle.tree_repair.specs.Runs.{Job, Visit, VisitsAll, size_at}
-use Rattle.tree_repair.specs.Tries.{IsBlockUnmade, IsCutOff, IsMadeOther, IsOffPlace, IsSoughtAt, IsTriedBehind, IsVain, Trial, trial}
+use Rattle.tree_repair.specs.ParitySearches.{IsBlockUnmade, IsCutOff, IsMadeOther, IsOffPlace, IsSoughtAt, IsTriedBehind, IsVain, Trial, trial}
 use Rattle.tree_repair.specs.WithinParity.{FormerImage, HasTreeSizes, IsDamaged, IsFormerOf, IsTrialSettled, IsParityKept, IsRoundPast, IsSettledWithin, IsSoughtWithin, IsSureRepair, IsUnreached, LostBlocksWithinParityComeBack, Stage, stage}
 use Rattle.tree_repair.specs.Worlds.{IsWorldRead, RepairWorld}
 use Rattle.tree_repair.proofs.ApartLemmas.{above-same}
 use Rattle.tree_repair.proofs.FormerLemmas.{former-digest, former-whole}
 use Rattle.tree_repair.proofs.RecordedLemmas.{IsRecordedIn, formed-on, recorded-beside, recorded-known, visited-formed, visited-or}
 use Rattle.tree_repair.proofs.RunLemmas.{runs-same, runs-then}
-use Rattle.tree_repair.proofs.SoughtLemmas.{IsTriedIn, all-run, recorded-tried}
+use Rattle.tree_repair.proofs.WantedBlockLemmas.{IsTriedIn, all-run, recorded-tried}
 use Rattle.tree_repair.proofs.StandLemmas.{IsReady, image-ready}
 use Rattle.tree_repair.proofs.StayFormedLemmas.{IsSure, runs-ready-sure, sure-same}
 use Rattle.tree_repair.proofs.UnknownLemmas.{IsUnknownBeside, all-or, beside-inside}

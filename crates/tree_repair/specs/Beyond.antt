@@ -16,7 +16,7 @@ use Rattle.tree_repair.specs.Coverage.{IsVisitAt}
 use Rattle.tree_repair.specs.Parity.{IsCoveredAt}
 use Rattle.tree_repair.specs.Repairs.{SeeksByParity, job_of}
 use Rattle.tree_repair.specs.Runs.{Job, Visit, VisitsAll}
-use Rattle.tree_repair.specs.Tries.{IsBroughtBack, IsCutOff, IsGoodBehind, IsMadeOther, IsUncovered, Trial, trial}
+use Rattle.tree_repair.specs.ParitySearches.{IsBroughtBack, IsCutOff, IsGoodBehind, IsMadeOther, IsUncovered, Trial, trial}
 use Rattle.tree_repair.specs.Worlds.{RepairWorld}
 
 -- ---- blocks that aren't sought by parity

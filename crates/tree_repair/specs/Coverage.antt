@@ -9,7 +9,7 @@ use Rattle.tree_repair.specs.declared.place.Place.{Place}
 use Rattle.tree_repair.specs.declared.place.Row.{Row}
 use Rattle.tree_repair.specs.Runs.{Job, VisitsAll, Visit}
 use Rattle.tree_repair.specs.Sources.{IsThere, wanted}
-use Rattle.tree_repair.specs.Tries.{IsCutOff}
+use Rattle.tree_repair.specs.ParitySearches.{IsCutOff}
 use Rattle.tree_repair.specs.Worlds.{IsWorldRead, RepairWorld}
 
 -- ---- data blocks that verify

@@ -11,7 +11,7 @@ use Rattle.tree_repair.specs.Sources.{AreEachRead, AreIn, AreNotIn, IsBad, IsThe
 
 -- A device and the copies before and after, the block's first sector on each, the expected bytes, and whether the repair may
 -- write.
-pub record Look : Type 0 where
+pub record BlockCheck : Type 0 where
   pub old : Device
   pub new : Device
   pub copies : List Device
@@ -44,14 +44,14 @@ put_calls true first bytes done = Write first bytes done ∷ []
 put_calls false first bytes done = []
 
 -- the block is valid: nothing is written
-pub record IsFoundGood (l : Look) (bytes : List ℕ) : Type 0 where
+pub record IsFoundGood (l : BlockCheck) (bytes : List ℕ) : Type 0 where
   pub read : IsOnlyRead l.old l.new
   pub more : l.old.failures ≤ l.new.failures
   pub copies_read : AreEachRead l.copies l.copies'
   pub there : IsThere l.old l.first l.w bytes
 
 -- the block is corrupt, and copy k has it: its bytes were written, or the write failed
-pub record IsFoundInCopy (l : Look) (k : ℕ) (bytes : List ℕ) (done : Bool) : Type 0 where
+pub record IsFoundInCopy (l : BlockCheck) (k : ℕ) (bytes : List ℕ) (done : Bool) : Type 0 where
   pub between : Device
   pub read : IsOnlyRead l.old between
   pub more : l.old.failures ≤ between.failures
@@ -63,7 +63,7 @@ pub record IsFoundInCopy (l : Look) (k : ℕ) (bytes : List ℕ) (done : Bool) :
 
 -- The block is corrupt, and no copy has it. It was reconstructed from blocks that were read after it; its bytes were written,
 -- or the write failed.
-pub record IsFoundBeneath (l : Look) (bytes : List ℕ) (done : Bool) : Type 0 where
+pub record IsFoundBeneath (l : BlockCheck) (bytes : List ℕ) (done : Bool) : Type 0 where
   pub seen : Device
   pub read : IsOnlyRead l.old seen
   pub more : l.old.failures ≤ seen.failures
@@ -87,12 +87,12 @@ pub record IsBlockReplaced (old : Device) (first : ℕ) (w : Wanted) (write : Bo
 
 -- the block is corrupt, and parity restored its bytes, which were written, or the write failed; how parity restores bytes is
 -- stated elsewhere
-pub record IsFoundByParity (l : Look) (bytes : List ℕ) (done : Bool) : Type 0 where
+pub record IsFoundByParity (l : BlockCheck) (bytes : List ℕ) (done : Bool) : Type 0 where
   pub replaced : IsBlockReplaced l.old l.first l.w l.write bytes done l.new
   pub copies_read : AreEachRead l.copies l.copies'
 
 -- the block is corrupt, no copy has it, and it wasn't reconstructed: nothing is written
-pub record IsFoundNowhere (l : Look) : Type 0 where
+pub record IsFoundNowhere (l : BlockCheck) : Type 0 where
   pub seen : Device
   pub read : IsOnlyRead l.old seen
   pub more : l.old.failures ≤ seen.failures
@@ -102,7 +102,7 @@ pub record IsFoundNowhere (l : Look) : Type 0 where
   pub beneath_read : IsOnlyRead seen l.new
   pub beneath_more : seen.failures ≤ l.new.failures
 
-abbrev pub IsMended : Look → List ℕ → Bool → Mended → Type 0
+abbrev pub IsMended : BlockCheck → List ℕ → Bool → Mended → Type 0
 IsMended l bytes done mended.Good = IsFoundGood l bytes
 IsMended l bytes done (mended.Copy k) = IsFoundInCopy l k bytes done
 IsMended l bytes done mended.Remade = IsFoundBeneath l bytes done
@@ -134,5 +134,5 @@ IsBareOf parity mended.Parity = IsTrue parity
 IsBareOf parity mended.Lost = Unit {0}
 
 -- the block was found in a copy, but its write failed
-abbrev pub IsUnmended : Look → Type 0
+abbrev pub IsUnmended : BlockCheck → Type 0
 IsUnmended l = (k : ℕ) × ((bytes : List ℕ) × IsFoundInCopy l k bytes false)

@@ -15,7 +15,7 @@ use Rattle.tree_repair.specs.declared.fault.RepairFault.{RepairFault}
 use Rattle.tree_repair.specs.declared.mending.Mended.{Mended}
 use Rattle.tree_repair.specs.declared.mending.Mended.TheVariants as mended
 use Rattle.tree_repair.specs.declared.place.Row.{Row}
-use Rattle.tree_repair.specs.declared.parity.Came.{Came}
+use Rattle.tree_repair.specs.declared.parity.ParityOutcome.{ParityOutcome}
 use Rattle.tree_repair.specs.declared.repair.Plan.{Plan}
 use Rattle.tree_repair.specs.Bounds.{AreReadAtMost, HasWrittenAtMost, area_block_sectors}
 use Rattle.tree_repair.specs.Repairs.{GoesPast, Repairs}
@@ -173,12 +173,12 @@ abbrev pub TellsBack : {W : Type 0} → (W → Option (List ℕ)) → Job → �
 TellsBack contents j h w w' old new result = TellsOfHash j h w w' (contents old.inner) (contents new.inner) (result_err result) (told_of result)
 
 -- what a successful call returns about a hash block
-abbrev pub tree_told : {E : Type 0} → Result Came E → Bool
+abbrev pub tree_told : {E : Type 0} → Result ParityOutcome E → Bool
 tree_told (Ok came) = came.tree
 tree_told (Err fault) = false
 
 -- a run over some blocks that returns whether a hash block among them was restored
-abbrev pub TellsCame : {W : Type 0} → (W → Option (List ℕ)) → Job → RepairWorld → RepairWorld → CountedRecord W → CountedRecord W → Result Came RepairFault → Type 0
+abbrev pub TellsCame : {W : Type 0} → (W → Option (List ℕ)) → Job → RepairWorld → RepairWorld → CountedRecord W → CountedRecord W → Result ParityOutcome RepairFault → Type 0
 TellsCame contents j w w' old new result = TellsOfHash j 1 w w' (contents old.inner) (contents new.inner) (result_err result) (tree_told result)
 
 -- ---- passes
@@ -197,7 +197,7 @@ pub record RunsInPasses (j : Job) (l : Layout) (most : ℕ) (w w' : RepairWorld)
   pub within : IsAskedWithin (parity_bill j.tree.shape l 0 passes sought) w w' p p'
 
 -- a run in one pass, by the writer before and after and the result
-abbrev pub RunsInOne : {W : Type 0} → (W → Option (List ℕ)) → Job → Layout → RepairWorld → RepairWorld → Device → Device → CountedRecord W → CountedRecord W → Result Came RepairFault → Type 0
+abbrev pub RunsInOne : {W : Type 0} → (W → Option (List ℕ)) → Job → Layout → RepairWorld → RepairWorld → Device → Device → CountedRecord W → CountedRecord W → Result ParityOutcome RepairFault → Type 0
 RunsInOne contents j l w w' p p' old new result = RunsInPasses j l 1 w w' p p' (contents old.inner) (contents new.inner) (result_err result) (tree_told result)
 
 abbrev pub RunsInAll : {W T : Type 0} → (W → Option (List ℕ)) → Job → Layout → RepairWorld → RepairWorld → Device → Device → CountedRecord W → CountedRecord W → Result T RepairFault → Type 0

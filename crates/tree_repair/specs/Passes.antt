@@ -14,7 +14,7 @@ use Rattle.tree_repair.specs.declared.mending.Mended.TheVariants as mended
 use Rattle.tree_repair.specs.Coverage.{AreVisitedOnce, AreVisitsDue, IsLookedAt, IsVisitAt, IsVisitedIn}
 use Rattle.tree_repair.specs.Noting.{bad_blocks, found_of}
 use Rattle.tree_repair.specs.Runs.{HasRun, IsDone, Job, VisitsAll, Visit}
-use Rattle.tree_repair.specs.Tries.{HasSought}
+use Rattle.tree_repair.specs.ParitySearches.{HasSought}
 use Rattle.tree_repair.specs.Worlds.{IsWorldRead, RepairWorld}
 
 -- the note about a visited block

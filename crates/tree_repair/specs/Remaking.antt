@@ -24,23 +24,23 @@ standing_block s data_image hash_image (suc l) n = block_at hash_image s.hash_bl
 
 -- A tree's shape and salt, what the two devices store, and a height: its blocks are taken as stored, and the blocks above it
 -- are reconstructed.
-pub record Ground : Type 0 where
+pub record StoredTree : Type 0 where
   pub shape : ShapeRecord
   pub salt : List ℕ
   pub data_image : List (List ℕ)
   pub hash_image : List (List ℕ)
   pub height : ℕ
 
-abbrev pub ground : ShapeRecord → List ℕ → Device → Device → ℕ → Ground
+abbrev pub ground : ShapeRecord → List ℕ → Device → Device → ℕ → StoredTree
 ground s salt data_dev hash_dev h = record { shape = s; salt = salt; data_image = data_dev.image; hash_image = hash_dev.image; height = h }
 
 -- block n, so many heights above: the digests of the blocks below it in order, then zeros
-unfoldable pub made : Ground → ℕ → ℕ → List ℕ
+unfoldable pub made : StoredTree → ℕ → ℕ → List ℕ
 made g zero n = standing_block g.shape g.data_image g.hash_image g.height n
 made g (suc steps) n = filled g.shape.hash_block (concat (map (λ i. digest g.salt (made g steps i)) (children g.shape (g.height + steps) n)))
 
 -- the hash block of level l on the path to data block i
-abbrev pub made_on : Ground → ℕ → ℕ → List ℕ
+abbrev pub made_on : StoredTree → ℕ → ℕ → List ℕ
 made_on g l i = made g (l + 1 - g.height) (ancestor g.shape (l + 1) i)
 
 -- ---- on two devices

@@ -17,7 +17,7 @@ use Rattle.tree_repair.specs.declared.fault.RepairFault.{RepairFault}
 use Rattle.tree_repair.specs.declared.fault.RepairFault.TheVariants.{Image, Write}
 use Rattle.tree_repair.specs.declared.mending.Mended.{Mended}
 use Rattle.tree_repair.specs.declared.mending.Mended.TheVariants as mended
-use Rattle.tree_repair.specs.Mending.{Look, IsBareOf, IsBlockFound, IsMended}
+use Rattle.tree_repair.specs.Mending.{BlockCheck, IsBareOf, IsBlockFound, IsMended}
 use Rattle.tree_repair.specs.Remaking.{IsMadeBeneath, IsNowhereBeneath}
 use Rattle.tree_repair.specs.Sources.{wanted}
 use Rattle.tree_repair.specs.Worlds.{IsWorldRead, RepairWorld}
@@ -65,7 +65,7 @@ copy_sector_at j zero i = sector_at j.tree.shape zero i
 copy_sector_at j (suc l) i = j.copy_first + sector_at j.tree.shape (suc l) i
 
 -- the check of a block, when a path leads to its digest
-abbrev pub look_at : Job → PathRecord → ℕ → ℕ → RepairWorld → RepairWorld → Look
+abbrev pub look_at : Job → PathRecord → ℕ → ℕ → RepairWorld → RepairWorld → BlockCheck
 look_at j p h i w w' = record {
   old = own h w;
   new = own h w';

@@ -7,7 +7,7 @@ use Rattle.fec_area.specs.declared.layout.Layout.{Layout}
 use Rattle.tree_survey.specs.Surveys.{IsWay}
 use Rattle.tree_repair.specs.declared.bad.BadBlock.{BadBlock}
 use Rattle.tree_repair.specs.declared.fault.RepairFault.{RepairFault}
-use Rattle.tree_repair.specs.declared.parity.Came.{Came}
+use Rattle.tree_repair.specs.declared.parity.ParityOutcome.{ParityOutcome}
 use Rattle.tree_repair.specs.declared.losses.Losses.{Losses}
 use Rattle.tree_repair.specs.declared.place.Place.{Place}
 use Rattle.tree_repair.specs.declared.place.Repair.{Repair}
@@ -19,7 +19,7 @@ use Rattle.tree_repair.specs.ParityBounds.{IsAskedWithin, IsMadeWithin, ParityBi
 use Rattle.tree_repair.specs.Passes.{EndsInPass, IsPass}
 use Rattle.tree_repair.specs.Runs.{size_at}
 use Rattle.tree_repair.specs.Sources.{due}
-use Rattle.tree_repair.specs.Tries.{HasSought, IsMadeOrVain, IsSought, IsTried, Trial, trial}
+use Rattle.tree_repair.specs.ParitySearches.{HasSought, IsMadeOrVain, IsSought, IsTried, Trial, trial}
 use Rattle.tree_repair.specs.Worlds.{RepairWorld}
 
 -- ---- how often devices are accessed
@@ -55,7 +55,7 @@ abbrev pub SeeksBlock : {P E : Type 0} → (P → Device) → Repair → Losses 
 SeeksBlock state r l bad w w' old new result = IfOk result (IsSought (job r) bad (trial_by state l w w' old new))
 
 -- each of some corrupt blocks is sought, with all of them counted as lost
-abbrev pub SeeksEach : {P E : Type 0} → (P → Device) → Repair → Layout → List BadBlock → RepairWorld → RepairWorld → P → P → Result Came E → Type 0
+abbrev pub SeeksEach : {P E : Type 0} → (P → Device) → Repair → Layout → List BadBlock → RepairWorld → RepairWorld → P → P → Result ParityOutcome E → Type 0
 SeeksEach state r l blocks w w' old new result = IfOk result (λ came. HasSought (job r) l blocks w w' (state old) (state new) came.tree)
 
 -- the function returns whether the block was restored
@@ -117,7 +117,7 @@ FailsToReplace state old new first r digest_is bytes result = OnErr result (IsBl
 -- ---- passes
 
 -- one pass is made, and the function returns whether a further one is due
-abbrev pub MakesPass : {P E : Type 0} → (P → Device) → Repair → Layout → RepairWorld → RepairWorld → P → P → Result Came E → Type 0
+abbrev pub MakesPass : {P E : Type 0} → (P → Device) → Repair → Layout → RepairWorld → RepairWorld → P → P → Result ParityOutcome E → Type 0
 MakesPass state r l w w' old new result = IfOk result (λ came. IsPass (job r) l w w' (state old) (state new) came.tree)
 
 -- as many passes are made as are due
@@ -125,7 +125,7 @@ abbrev pub EndsPasses : {P T E : Type 0} → (P → Device) → Repair → Layou
 EndsPasses state r l w w' old new result = OnOk result (EndsInPass (job r) l w w' (state old) (state new))
 
 -- one pass is made, to the end or not, and the devices are accessed at most as often as it takes
-abbrev pub RunsPass : {W P : Type 0} → (W → Option (List ℕ)) → (P → Device) → Repair → Layout → RepairWorld → RepairWorld → P → P → CountedRecord W → CountedRecord W → Result Came RepairFault → Type 0
+abbrev pub RunsPass : {W P : Type 0} → (W → Option (List ℕ)) → (P → Device) → Repair → Layout → RepairWorld → RepairWorld → P → P → CountedRecord W → CountedRecord W → Result ParityOutcome RepairFault → Type 0
 RunsPass contents state r l w w' p p' old new result = RunsInOne contents (job r) l w w' (state p) (state p') old new result
 
 -- as many passes are made as are due, and the devices are accessed at most as often as these take

@@ -4,7 +4,7 @@ use Rattle.block_device.specs.Device.{Device}
 use Rattle.tree_shape.specs.Shape.{ShapeRecord, ancestor, position}
 use Rattle.tree_path.specs.Path.{PathRecord, digest_on}
 use Rattle.tree_repair.specs.declared.mending.Mended.{Mended}
-use Rattle.tree_repair.specs.Mending.{Look, IsBlockFound, IsMended, IsPutAt}
+use Rattle.tree_repair.specs.Mending.{BlockCheck, IsBlockFound, IsMended, IsPutAt}
 use Rattle.tree_repair.specs.Noting.{was_put}
 use Rattle.tree_repair.specs.Parity.{IsGoodNow}
 use Rattle.tree_repair.specs.Runs.{IsMadeOf, IsVisited, Job, OtherStays, visit}
@@ -12,7 +12,7 @@ use Rattle.tree_repair.specs.Sources.{wanted}
 use Rattle.tree_repair.specs.Worlds.{IsWorldRead, RepairWorld}
 
 -- the visit had this result, and no write failed
-abbrev pub IsLooked : Look → Mended → Type 0
+abbrev pub IsLooked : BlockCheck → Mended → Type 0
 IsLooked l m = (bytes : List ℕ) × IsMended l bytes true m
 
 abbrev pub IsBlockMade : Job → ℕ → ℕ → RepairWorld → RepairWorld → Mended → Type 0
@@ -34,7 +34,7 @@ pub record IsBlockKept (j : Job) (h i : ℕ) (w w' : RepairWorld) : Type 0 where
 
 -- ---- a data block
 
-abbrev pub data_look : Job → PathRecord → ℕ → Device → Device → List Device → List Device → Look
+abbrev pub data_look : Job → PathRecord → ℕ → Device → Device → List Device → List Device → BlockCheck
 data_look j p i old new copies copies' = record {
   old = old;
   new = new;
@@ -52,7 +52,7 @@ data_look j p i old new copies copies' = record {
 abbrev pub hash_sector : ShapeRecord → ℕ → ℕ → ℕ
 hash_sector s l i = position s l (ancestor s (l + 1) i) * (s.hash_block / 512)
 
-abbrev pub hash_look : Job → PathRecord → ℕ → ℕ → Device → Device → List Device → List Device → Look
+abbrev pub hash_look : Job → PathRecord → ℕ → ℕ → Device → Device → List Device → List Device → BlockCheck
 hash_look j p l i old new copies copies' = record {
   old = old;
   new = new;

@@ -22,7 +22,7 @@ use Rattle.tree_repair.specs.Parity.{IsCoveredAt, IsPlace}
 use Rattle.tree_repair.specs.Repairs.{SeeksByParity, job_of}
 use Rattle.tree_repair.specs.Runs.{Job, Visit, VisitsAll}
 use Rattle.tree_repair.specs.Standing.{IsSteadyImage, IsWorldSteady}
-use Rattle.tree_repair.specs.Tries.{IsBroughtBack, IsGoodBehind, IsOffPlace, Trial, trial}
+use Rattle.tree_repair.specs.ParitySearches.{IsBroughtBack, IsGoodBehind, IsOffPlace, Trial, trial}
 use Rattle.tree_repair.specs.Worlds.{IsWorldRead, RepairWorld}
 
 -- ---- the image as it was formatted

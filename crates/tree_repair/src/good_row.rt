@@ -5,7 +5,7 @@ ghost use Rattle.tree_survey.specs.Pieces.{LieOnDevice, IsRunRead};
 ghost use Rattle.verity_format.specs.Blocks.{IsOnlyRead};
 ghost use Rattle.verity_format.specs.Image.{data_sectors};
 ghost use Rattle.tree_path.specs.Steps.{HasReadAtMost};
-ghost use Rattle.tree_repair.specs.Bills.{LeavesWorld, ReadsData, nothing_due, piece_of, row_reads};
+ghost use Rattle.tree_repair.specs.AccessBudgets.{LeavesWorld, ReadsData, nothing_due, piece_of, row_reads};
 ghost use Rattle.tree_repair.specs.Coverage.{AreDigestsOn, AreGoodFrom, AreGoodInRow, IsGoodRow};
 ghost use Rattle.tree_repair.specs.Jobs.{job};
 ghost use Rattle.tree_repair.specs.Worlds.{IsWorldRead};

@@ -1,7 +1,7 @@
 //! Reads blocks back after they were written.
 ghost use Rattle.std.specs.Prelude.{◌≡◌, ◌≤◌, ◌<◌, ◌&&◌, IsTrue, length};
 ghost use Rattle.tree_survey.specs.Surveys.{IsWay};
-ghost use Rattle.tree_repair.specs.Bills.{LeavesWorld, block_read, nothing_due};
+ghost use Rattle.tree_repair.specs.AccessBudgets.{LeavesWorld, block_read, nothing_due};
 ghost use Rattle.tree_repair.specs.Jobs.{job};
 ghost use Rattle.tree_repair.specs.Noting.{was_put};
 ghost use Rattle.tree_repair.specs.Parity.{IsGoodNow};

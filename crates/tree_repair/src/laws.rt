@@ -1,6 +1,6 @@
 //! Laws of repairs: each function's contract states the law, and a call of the function provides it.
 ghost use Rattle.tree_repair.specs.Beyond.{WhatStaysLostIsBeyondParity};
-ghost use Rattle.tree_repair.specs.Excuses.{BlocksArePassedByForCause, BlocksAreTouchedForCause, GoodBlocksAreLeftAlone, IntactBlocksAreLeftAlone, UnreadBlocksAreCounted};
+ghost use Rattle.tree_repair.specs.UnreadBlocks.{BlocksArePassedByForCause, BlocksAreTouchedForCause, GoodBlocksAreLeftAlone, IntactBlocksAreLeftAlone, UnreadBlocksAreCounted};
 ghost use Rattle.tree_repair.specs.Laws.{MendedBlocksAreFormatted, MendedBlocksAreGood, NoHashBlockIsLost, OtherSectorsStay};
 ghost use Rattle.tree_repair.specs.Standing.{LeftGoodBlocksAreFormatted, LeftGoodBlocksStand, LeftGoodWaysStand, RepairsWriteAll};
 ghost use Rattle.tree_repair.specs.WithinParity.{DamagedBlocksWithinParityComeBack, DataUnderWholeTreeComeBack, FormattedBlocksStay, FormattedEntriesAreZero, FormattedImagesAreFormer, LaidOutParityCoversTheTree, LostBlocksWithinParityComeBack, NoBlockStaysLostWithinParity};

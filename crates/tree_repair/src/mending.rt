@@ -2,9 +2,9 @@
 ghost use Rattle.std.specs.Prelude.{◌/◌, ◌+◌, ◌<◌, ◌^◌, IfOk, IsTrue, is_ok, length};
 ghost use Rattle.block_device.specs.Call.{Calls, DeviceDoes};
 ghost use Rattle.block_device.specs.Device.{IsInside};
-ghost use Rattle.tree_repair.specs.Bills.{AsksOnce};
+ghost use Rattle.tree_repair.specs.AccessBudgets.{AsksOnce};
 ghost use Rattle.tree_repair.specs.Mending.{IsNotRemade, IsPutAt, put_calls};
-ghost use Rattle.tree_repair.specs.Looks.{FailsToMend, MendsBlock};
+ghost use Rattle.tree_repair.specs.BlockChecks.{FailsToMend, MendsBlock};
 
 use crate::place::Repair;
 use crate::seeking::{is_there, seek};
@@ -28,7 +28,7 @@ pub enum Mended {
 
 /// A block to be checked: its first sector on its device and on a copy, and its digest.
 #[derive(Clone, Copy)]
-pub(crate) struct Sought<'a> {
+pub(crate) struct WantedBlock<'a> {
     pub(crate) repair: &'a Repair,
     pub(crate) first: u64,
     pub(crate) copy_first: u64,
@@ -43,7 +43,7 @@ pub(crate) struct Sought<'a> {
 pub(crate) fn mend<B: BlockDev, C: BlockDev>(
     device: &mut B,
     copies: &mut Vec<C>,
-    sought: &Sought<'_>,
+    sought: &WantedBlock<'_>,
     block: &mut [u8],
 ) -> Result<Mended, DeviceFault>
     requires inside { IsInside (B.state device.old) sought.now.first (length block.old) }
@@ -54,7 +54,7 @@ pub(crate) fn mend<B: BlockDev, C: BlockDev>(
     ensures err { FailsToMend B.state C.state sought.now block.old device.old device.new copies.old copies.new result }
     ensures asked { AsksOnce B.state C.state block.old device.old device.new copies.old copies.new }
 {
-    let Sought {
+    let WantedBlock {
         repair,
         first,
         copy_first,

@@ -10,7 +10,7 @@ ghost use Rattle.tree_repair.specs.ParityBounds.{TellsCame, along_bill, round_bi
 ghost use Rattle.tree_repair.specs.Passes.{AreBack};
 ghost use Rattle.tree_repair.specs.Parity.{IsBack, IsPlace};
 ghost use Rattle.tree_repair.specs.Runs.{CanRun, IsRefusal, IsWriterCause, Ran};
-ghost use Rattle.tree_repair.specs.Tries.{AreCovered, IsCoveredOr, IsOfTree, is_hash_back, listed_number};
+ghost use Rattle.tree_repair.specs.ParitySearches.{AreCovered, IsCoveredOr, IsOfTree, is_hash_back, listed_number};
 ghost use Rattle.tree_repair.specs.Worlds.{IsWorldRead};
 ghost use Rattle.tree_repair.specs.Searching.{AreGoodFor, AsksWithin, IsInTree, IsReached, LacksBlock, MakesMissing, MakesWithin, SeeksBlock, SeeksEach, SeeksWithin, TellsMissing, TellsPlace, TriesMissing, TriesWithin, missing_size};
 
@@ -32,7 +32,7 @@ use verity_format::is_same;
 
 /// Whether parity restored a hash block; and whether all blocks were restored or, for a pass, all of the image is valid.
 #[derive(Clone, Copy)]
-pub(crate) struct Came {
+pub(crate) struct ParityOutcome {
     pub(crate) tree: bool,
     pub(crate) all: bool,
 }
@@ -46,7 +46,7 @@ pub(crate) fn restore_bad<D: BlockDev, H: BlockDev, C: BlockDev, P: BlockDev, W:
     image: &mut DamagedImage<D, H, C>,
     parity: &mut P,
     writer: &mut Counted<W>,
-) -> Result<Came, RepairFault>
+) -> Result<ParityOutcome, RepairFault>
     requires asked { IsTrue repair.now.parity }
     requires can { CanRun (job repair.now) image.old }
     requires laid { IsLaidOn layout.now image.old.data_dev image.old.hash_dev }
@@ -79,7 +79,7 @@ pub(crate) fn restore_bad<D: BlockDev, H: BlockDev, C: BlockDev, P: BlockDev, W:
         all = are_both(all, back);
     }
     let sure = are_both(all, kept);
-    Ok(Came { tree, all: sure })
+    Ok(ParityOutcome { tree, all: sure })
 }
 
 fn is_in_tree(tree: bool, back: bool, bad: &BadBlock) -> bool

@@ -13,7 +13,7 @@ use crate::bad::BadBlocks;
 use crate::fault::RepairFault;
 use crate::image::DamagedImage;
 use crate::outcome::{Failures, Outcome, outcome_of};
-use crate::parity::{Came, restore_bad};
+use crate::parity::{ParityOutcome, restore_bad};
 use crate::place::Repair;
 use crate::repair::{Plan, check_room, repair_heights, repair_of};
 use block_device::BlockDev;
@@ -97,7 +97,7 @@ fn run_pass<D: BlockDev, H: BlockDev, C: BlockDev, P: BlockDev, W: Write>(
     image: &mut DamagedImage<D, H, C>,
     parity: &mut P,
     writer: &mut Counted<W>,
-) -> Result<Came, RepairFault>
+) -> Result<ParityOutcome, RepairFault>
     requires asked { IsTrue repair.now.parity }
     requires can { CanRun (job repair.now) image.old }
     requires laid { IsLaidOn layout.now image.old.data_dev image.old.hash_dev }
@@ -113,7 +113,7 @@ fn run_pass<D: BlockDev, H: BlockDev, C: BlockDev, P: BlockDev, W: Write>(
     let came = restore_bad(repair, layout, bad.noted(), image, parity, writer)?;
     let tree = came.tree;
     let all = bad.is_whole(came.all, repair.write);
-    Ok(Came {
+    Ok(ParityOutcome {
         tree: tree && repair.write,
         all,
     })

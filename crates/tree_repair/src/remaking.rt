@@ -5,15 +5,15 @@ ghost use Rattle.tree_shape.specs.Shape.{IsShape, level_blocks, levels, per_bloc
 ghost use Rattle.verity_format.specs.Blocks.{IsOnlyRead};
 ghost use Rattle.verity_format.specs.Image.{data_sectors, tree_sectors};
 ghost use Rattle.tree_path.specs.Steps.{HasReadAtMost};
-ghost use Rattle.tree_repair.specs.Bills.{LeavesBeneath, LeavesBlock, LeavesMade, made_over};
-ghost use Rattle.tree_repair.specs.Grounds.{IsMadeIn, IsNowhereIn, IsOverIn, IsUnlikeIn, made_in, stands_in};
+ghost use Rattle.tree_repair.specs.AccessBudgets.{LeavesBeneath, LeavesBlock, LeavesMade, made_over};
+ghost use Rattle.tree_repair.specs.StoredTrees.{IsMadeIn, IsNowhereIn, IsOverIn, IsUnlikeIn, made_in, stands_in};
 ghost use Rattle.tree_path.specs.Unused.{digests_in};
 ghost use Rattle.tree_repair.specs.Remaking.{HaveBlocks, IsBlockOf, IsHashBlockOf, IsSure};
 ghost use Rattle.tree_repair.specs.Runs.{size_at};
 ghost use Rattle.tree_repair.specs.Worlds.{AreBothRead};
 
 use crate::image::DamagedImage;
-use crate::mending::Sought;
+use crate::mending::WantedBlock;
 use crate::place::{Repair, block_size, count_at};
 use block_device::BlockDev;
 use tree_shape::{Digest, Shape};
@@ -24,7 +24,7 @@ use verity_format::is_same;
 /// then. If a block of a height can't be read, no block is made from that height. `memory` has 4,096 bytes for each height
 /// below the block.
 pub(crate) fn remake<D: BlockDev, H: BlockDev, C: BlockDev>(
-    sought: &Sought<'_>,
+    sought: &WantedBlock<'_>,
     level: u32,
     index: u64,
     image: &mut DamagedImage<D, H, C>,

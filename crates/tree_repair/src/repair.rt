@@ -1,6 +1,6 @@
 //! Repairs an image from the root down.
 ghost use Rattle.std.specs.Prelude.{◌≡◌, ◌≤◌, ◌^◌, IfErr, IfOk, OnOk};
-ghost use Rattle.tree_repair.specs.Bills.{LeavesWorld, nothing_due, pass_over};
+ghost use Rattle.tree_repair.specs.AccessBudgets.{LeavesWorld, nothing_due, pass_over};
 ghost use Rattle.tree_repair.specs.Bounds.{IsRepairWithin};
 ghost use Rattle.tree_repair.specs.Jobs.{job};
 ghost use Rattle.tree_repair.specs.ParityBounds.{LeavesNoted, image_blocks};

@@ -28,10 +28,10 @@ impl VerifiedPath {
     ghost use Rattle.tree_shape.specs.Shape.{IsShape, levels};
     ghost use Rattle.verity_format.specs.Blocks.{IsOnlyRead};
     ghost use Rattle.verity_format.specs.Image.{tree_sectors};
-    ghost use Rattle.tree_repair.specs.Bills.{LeavesWorld, nothing_due, reading, way_sectors};
+    ghost use Rattle.tree_repair.specs.AccessBudgets.{LeavesWorld, nothing_due, reading, way_sectors};
     ghost use Rattle.tree_repair.specs.Jobs.{job};
     ghost use Rattle.tree_repair.specs.Parity.{IsPlace};
-    ghost use Rattle.tree_repair.specs.Tries.{IsOfTree, IsWayOr, path_found};
+    ghost use Rattle.tree_repair.specs.ParitySearches.{IsOfTree, IsWayOr, path_found};
     ghost use Rattle.tree_repair.specs.Worlds.{IsWorldRead};
 
     /// Returns a path of which nothing was read.

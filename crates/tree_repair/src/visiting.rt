@@ -5,15 +5,15 @@ ghost use Rattle.tree_shape.specs.Shape.{IsShape, levels};
 ghost use Rattle.verity_format.specs.Image.{tree_sectors};
 ghost use Rattle.tree_path.specs.Path.{digest_on};
 ghost use Rattle.tree_survey.specs.Surveys.{IsWay};
-ghost use Rattle.tree_repair.specs.Bills.{AsksHashOnce, LeavesHashVisit, LeavesVisit};
+ghost use Rattle.tree_repair.specs.AccessBudgets.{AsksHashOnce, LeavesHashVisit, LeavesVisit};
 ghost use Rattle.tree_repair.specs.Jobs.{job};
-ghost use Rattle.tree_repair.specs.Looks.{tree_look};
+ghost use Rattle.tree_repair.specs.BlockChecks.{tree_look};
 ghost use Rattle.tree_repair.specs.Mending.{IsNotRemade, IsUnmended};
 ghost use Rattle.tree_repair.specs.Runs.{CanRun, size_at};
 ghost use Rattle.tree_repair.specs.Visits.{FailsToStoreBlock, IsHashLooked, IsHashUnmended, IsLooked, IsBlockMade, IsTreePut, KeepsData, hash_sector};
 
 use crate::image::DamagedImage;
-use crate::mending::{Mended, Sought, mend, put};
+use crate::mending::{Mended, WantedBlock, mend, put};
 use crate::place::{Place, Repair, block_size};
 use crate::remaking::remake;
 use block_device::{BlockDev, DeviceFault};
@@ -67,7 +67,7 @@ fn visit_data<D: BlockDev, H: BlockDev, C: BlockDev>(
     let size = block.len();
     let first = index * (size / 512) as u64;
     let digest = path.digest_at(0, index);
-    let sought = Sought {
+    let sought = WantedBlock {
         repair,
         first,
         copy_first: first,
@@ -117,7 +117,7 @@ fn visit_hash<D: BlockDev, H: BlockDev, C: BlockDev>(
 // Reads a hash block. If it doesn't have its digest, the copies are searched, and what is found is written if the repair may
 // write.
 fn mend_hash<D: BlockDev, H: BlockDev, C: BlockDev>(
-    sought: &Sought<'_>,
+    sought: &WantedBlock<'_>,
     image: &mut DamagedImage<D, H, C>,
     block: &mut [u8],
 ) -> Result<Mended, DeviceFault>
@@ -155,7 +155,7 @@ fn hash_sought<'a>(
     level: u32,
     index: u64,
     size: usize,
-) -> Sought<'a>
+) -> WantedBlock<'a>
     requires valid { IsShape repair.now.shape }
     requires inside { index < repair.now.shape.blocks }
     requires level { level < levels repair.now.shape }
@@ -174,7 +174,7 @@ fn hash_sought<'a>(
     let first = place * (size / 512) as u64;
     let copy_first = repair.copy_first + first;
     let digest = path.digest_at(level + 1, index);
-    Sought {
+    WantedBlock {
         repair,
         first,
         copy_first,

@@ -1,4 +1,4 @@
--- A sight that went on to a data block.
+-- A checked path that went on to a data block.
 use Rattle.std.proofs.Common.{◌≡◌, ◌≢◌, ◌≤◌, ◌<◌, ◌+◌, ◌-◌, ℕ, true, false, refl, sym, ap, subst, arith, inl, inr}
 use Rattle.std.proofs.lemmas.Bool.{false≢true}
 use Rattle.block_device.specs.Device.{Device}
@@ -8,11 +8,11 @@ use Rattle.tree_path.specs.Path.{PathRecord, AreStored, block_of, digest_on}
 use Rattle.tree_path.specs.Spans.{IsTopAt}
 use Rattle.tree_path.specs.Steps.{IsDown, IsStopped, steps}
 use Rattle.tree_path.proofs.lemmas.PathLemmas.{leads-down, stored-down}
-use Rattle.tree_survey.specs.declared.sight.Sight.{Sight}
+use Rattle.tree_survey.specs.declared.checked_path.CheckedPath.{CheckedPath}
 use Rattle.tree_survey.specs.Paths.{IsWayCutOff}
-use Rattle.tree_survey.specs.Sights.{CanGoDown, HasGone}
+use Rattle.tree_survey.specs.CheckedPaths.{CanGoDown, HasGone}
 
-module _ (w : Sight) (q : PathRecord) (d d' : Device) (i top : ℕ) where
+module _ (w : CheckedPath) (q : PathRecord) (d d' : Device) (i top : ℕ) where
   -- all of them are good
   pub gone-down : CanGoDown w d i → IsTopAt (per_block w.path.shape) (levels w.path.shape) i top → w.good ≤ top → IsDown (steps w.path q d d' i top) 0 0
       → HasGone w (record { path = q; shape = w.shape; good = 0; unread = false }) d d' i
@@ -61,7 +61,7 @@ module _ (w : Sight) (q : PathRecord) (d d' : Device) (i top : ℕ) where
   }
 
 -- nothing is read
-pub gone-stayed : (w : Sight) (d : Device) (i top : ℕ) → CanGoDown w d i → IsTopAt (per_block w.path.shape) (levels w.path.shape) i top → top < w.good → HasGone w w d d i
+pub gone-stayed : (w : CheckedPath) (d : Device) (i top : ℕ) → CanGoDown w d i → IsTopAt (per_block w.path.shape) (levels w.path.shape) i top → top < w.good → HasGone w w d d i
 gone-stayed w d i top can is low = record {
   same = record { shape_is = refl; salt_is = refl; root_is = refl };
   shape = refl;

@@ -4,9 +4,9 @@ mod HashLemmas
 mod LawLemmas
 mod LostLemmas
 mod PieceLemmas
-mod ReachLemmas
+mod DescentLemmas
 mod SayingLemmas
-mod SightLemmas
+mod CheckedPathLemmas
 mod StateLemmas
 mod SurveyLemmas
 mod UnderwayLemmas

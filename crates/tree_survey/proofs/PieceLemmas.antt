@@ -15,7 +15,7 @@ use Rattle.tree_survey.specs.Failing.{HasFailedRead, IsReadOver, IsReadThrough}
 use Rattle.tree_survey.specs.Pieces.{IsDigestFound, IsDigestRead, LieOnDevice, IsRunRead, IsRunTried, blocks_of}
 use Rattle.tree_survey.proofs.FailingLemmas.{failed-later, failed-more, over-then, through-failed, through-full}
 use Rattle.verity_format.proofs.lemmas.RunLemmas.{quotient-some}
-use Rattle.tree_survey.proofs.SightLemmas.{IsDigestOr}
+use Rattle.tree_survey.proofs.CheckedPathLemmas.{IsDigestOr}
 use Rattle.verity_format.proofs.lemmas.SizeLemmas.{block-inside, block-size}
 
 -- ---- how many blocks a piece has

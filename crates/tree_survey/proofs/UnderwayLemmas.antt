@@ -20,21 +20,21 @@ use Rattle.runs.specs.Tallies.{EndsAt, listed}
 use Rattle.runs.proofs.lemmas.ListingLemmas.{IsListed, listed-all, listed-ends, listed-none}
 use Rattle.tree_survey.specs.declared.counts.Counts.{Counts}
 use Rattle.tree_survey.specs.declared.counts.Totals.{Totals}
-use Rattle.tree_survey.specs.declared.sight.Sight.{Sight}
+use Rattle.tree_survey.specs.declared.checked_path.CheckedPath.{CheckedPath}
 use Rattle.tree_survey.specs.Counts.{AreFew, IsAdded, closed_at, counted, totals_of}
 use Rattle.tree_survey.specs.Passes.{CanPass, Surveys, pass, tree_in}
 use Rattle.tree_survey.specs.Failing.{HasFailedRead, HasFailedTimes, IsReadOver, IsReadThrough}
 use Rattle.tree_survey.specs.Hashes.{HashBlock, IsUnderOne, hash_block_beneath}
-use Rattle.tree_survey.specs.Sights.{CanGoDown, HasGone, IsOnWay, IsReady, state_at}
+use Rattle.tree_survey.specs.CheckedPaths.{CanGoDown, HasGone, IsOnWay, IsReady, state_at}
 use Rattle.tree_survey.specs.Surveys.{AllStand, IsLedTo, IsContentSeenAs, IsStoredBy, IsUnreadAs, Tree}
 use Rattle.tree_survey.proofs.FailingLemmas.{failed-later, failed-more, or-more, over-none, over-then, times-more, times-next, times-none}
 use Rattle.tree_survey.proofs.HashLemmas.{path-none}
 use Rattle.tree_survey.proofs.LostLemmas.{AreHashesLost, hashes-kept, hashes-next, lost-still, lost_with}
 use Rattle.tree_survey.proofs.StateLemmas.{count-few, get_or-last, good-few, length-last, listed-next, totals-next}
-use Rattle.tree_survey.proofs.SightLemmas.{IsDigestOr, on-was, ready-next, ready-none, ready-read, same-above, seen-at, stored-at}
+use Rattle.tree_survey.proofs.CheckedPathLemmas.{IsDigestOr, on-was, ready-next, ready-none, ready-read, same-above, seen-at, stored-at}
 
 -- the data blocks before that one were gone over
-pub record IsUnderway (t : Tree) (data_dev hash_dev data_dev' hash_dev' : Device) (old now : Option (List ℕ)) (w : Sight) (g : Counts) (at : ℕ) : Type 0 where
+pub record IsUnderway (t : Tree) (data_dev hash_dev data_dev' hash_dev' : Device) (old now : Option (List ℕ)) (w : CheckedPath) (g : Counts) (at : ℕ) : Type 0 where
   pub is_of : IsPathOf t.shape t.salt t.root w.path
   pub shape : w.shape ≡ w.path.shape
   pub within : at ≤ t.shape.blocks
@@ -60,7 +60,7 @@ pub record IsUnderway (t : Tree) (data_dev hash_dev data_dev' hash_dev' : Device
   pub listed : IsListed None states g.tally old now
   pub totals : g.totals ≡ totals_of states
 
-pub underway-none : (w : Sight) (salt : List ℕ) (data_dev hash_dev : Device) (old : Option (List ℕ)) (g : Counts) → CanPass w salt data_dev hash_dev
+pub underway-none : (w : CheckedPath) (salt : List ℕ) (data_dev hash_dev : Device) (old : Option (List ℕ)) (g : Counts) → CanPass w salt data_dev hash_dev
     → g ≡ record { tally = record { last = None; limit = begun None }; totals = record { good = 0; changed = 0; unknown = 0 } } → IsUnderway (tree_in w) data_dev hash_dev data_dev hash_dev old old w g 0
 underway-none w salt data_dev hash_dev old g can is = record {
   is_of = path-none w.path;
@@ -97,7 +97,7 @@ unread-more t above a b a' b' (Some Removed) f g h = absurd h
 unread-more t above a b a' b' (Some Added) f g h = absurd h
 
 -- the two devices were read further
-module _ (t : Tree) (data_dev hash_dev data_dev' hash_dev' data_dev'' hash_dev'' : Device) (old now : Option (List ℕ)) (w : Sight) (g : Counts) (at : ℕ) (u : IsUnderway t data_dev hash_dev data_dev' hash_dev' old now w g at) (data_read : IsReadOver data_dev' data_dev'') (hash_read : IsReadOver hash_dev' hash_dev'') where
+module _ (t : Tree) (data_dev hash_dev data_dev' hash_dev' data_dev'' hash_dev'' : Device) (old now : Option (List ℕ)) (w : CheckedPath) (g : Counts) (at : ℕ) (u : IsUnderway t data_dev hash_dev data_dev' hash_dev' old now w g at) (data_read : IsReadOver data_dev' data_dev'') (hash_read : IsReadOver hash_dev' hash_dev'') where
   hidden-more : (i : ℕ) (above : Type 0) (state : State) → IsUnreadAs t above (Contains u.lost i × HasFailedRead data_dev data_dev') (IsUnderOne t.shape u.hashes i × HasFailedRead hash_dev hash_dev') state
       → IsUnreadAs t above (Contains u.lost i × HasFailedRead data_dev data_dev'') (IsUnderOne t.shape u.hashes i × HasFailedRead hash_dev hash_dev'') state
   hidden-more i above state = unread-more t above _ _ _ _ state (λ h. (h.0, failed-more data_dev h.1 data_read)) (λ h. (h.0, failed-more hash_dev h.1 hash_read))
@@ -127,7 +127,7 @@ module _ (t : Tree) (data_dev hash_dev data_dev' hash_dev' data_dev'' hash_dev''
     totals = u.totals;
   }
 
-module _ (t : Tree) (valid : IsShape t.shape) (data_dev hash_dev data_dev' hash_dev' : Device) (old now : Option (List ℕ)) (w : Sight) (g : Counts) (at : ℕ) (u : IsUnderway t data_dev hash_dev data_dev' hash_dev' old now w g at) where
+module _ (t : Tree) (valid : IsShape t.shape) (data_dev hash_dev data_dev' hash_dev' : Device) (old now : Option (List ℕ)) (w : CheckedPath) (g : Counts) (at : ℕ) (u : IsUnderway t data_dev hash_dev data_dev' hash_dev' old now w g at) where
   pub ends-at : EndsAt g.tally.last at
   ends-at = subst (EndsAt g.tally.last) (sym u.also) (listed-ends None u.states g.tally old now u.listed)
 
@@ -150,7 +150,7 @@ module _ (t : Tree) (valid : IsShape t.shape) (data_dev hash_dev data_dev' hash_
       ready = ready-read w hash_dev hash_dev' at u.hash_over.read (u.ready low);
     }
 
-    module _ (w' : Sight) (data_dev'' hash_dev'' : Device) (gone : HasGone w w' hash_dev' hash_dev'' at) (data_read : IsReadOver data_dev' data_dev'') (hash_read : IsReadOver hash_dev' hash_dev'') (content : List ℕ) (found : Option (List ℕ)) (told : IsDigestOr (HasFailedRead data_dev' data_dev'') t.salt content found) where
+    module _ (w' : CheckedPath) (data_dev'' hash_dev'' : Device) (gone : HasGone w w' hash_dev' hash_dev'' at) (data_read : IsReadOver data_dev' data_dev'') (hash_read : IsReadOver hash_dev' hash_dev'') (content : List ℕ) (found : Option (List ℕ)) (told : IsDigestOr (HasFailedRead data_dev' data_dev'') t.salt content found) where
       is_of' : IsPathOf t.shape t.salt t.root w'.path
       is_of' = record { shape_is = gone.same.shape_is ∙ u.is_of.shape_is; salt_is = gone.same.salt_is ∙ u.is_of.salt_is; root_is = gone.same.root_is ∙ u.is_of.root_is }
 
@@ -159,7 +159,7 @@ module _ (t : Tree) (valid : IsShape t.shape) (data_dev hash_dev data_dev' hash_
 
       unread' : w'.unread ≡ true → HasFailedRead hash_dev hash_dev''
       unread' e = elim (gone.failed e) [
-        | inl stayed ↦ later.unread (ap (λ (v : Sight). v.unread) (sym stayed.is) ∙ e)
+        | inl stayed ↦ later.unread (ap (λ (v : CheckedPath). v.unread) (sym stayed.is) ∙ e)
         | inr failed ↦ failed-later u.hash_over hash_read failed.1
       ]
 
@@ -179,8 +179,8 @@ module _ (t : Tree) (valid : IsShape t.shape) (data_dev hash_dev data_dev' hash_
       hash-lost true e = elim (gone.failed e) [
         | inl stayed ↦
             let top : IsTopAt (per_block t.shape) (levels t.shape) at stayed.top = subst (λ (s : ShapeRecord). IsTopAt (per_block s) (levels s) at stayed.top) u.is_of.shape_is stayed.is_top in
-            let same : w'.good ≡ w.good = ap (λ (v : Sight). v.good) stayed.is in
-            let above : Contains u.hashes (hash_block_beneath t.shape w.good at) = u.above (ap (λ (v : Sight). v.unread) (sym stayed.is) ∙ e) stayed.top top stayed.low low in
+            let same : w'.good ≡ w.good = ap (λ (v : CheckedPath). v.good) stayed.is in
+            let above : Contains u.hashes (hash_block_beneath t.shape w.good at) = u.above (ap (λ (v : CheckedPath). v.unread) (sym stayed.is) ∙ e) stayed.top top stayed.low low in
             hashes-kept t hash_dev hash_dev' hash_dev'' u.hashes w' at u.hash_times hash_read.more
             (λ e'. (omega (arith, same, stayed.low), subst (λ (m : ℕ). Contains u.hashes (hash_block_beneath t.shape m at)) (sym same) above))
         | inr failed ↦ hashes-next t hash_dev hash_dev' hash_dev'' u.hashes w' at u.hash_times hash_read.more failed.0 failed.1.0

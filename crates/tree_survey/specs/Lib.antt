@@ -2,7 +2,7 @@ pub mod Failing
 pub mod Paths
 pub mod Surveys
 pub mod Laws
-pub mod Sights
+pub mod CheckedPaths
 pub mod Pieces
 pub mod Counts
 pub mod Causes

@@ -14,7 +14,7 @@ use Rattle.runs.specs.Runs.{runs_of}
 use Rattle.runs.specs.Kinds.{is_same, State}
 use Rattle.runs.specs.Texts.{runs_text}
 use Rattle.tree_survey.specs.declared.counts.Totals.{Totals}
-use Rattle.tree_survey.specs.declared.sight.Sight.{Sight}
+use Rattle.tree_survey.specs.declared.checked_path.CheckedPath.{CheckedPath}
 use Rattle.tree_survey.specs.declared.survey.Survey.{Survey}
 use Rattle.tree_survey.specs.Causes.{HasRoom}
 use Rattle.tree_survey.specs.Counts.{totals_of}
@@ -35,11 +35,11 @@ abbrev pub pass : Device → Device → Device → Device → Option (List ℕ) 
 pass data_dev hash_dev data_dev' hash_dev' printed printed' =
     record { data_dev = data_dev; hash_dev = hash_dev; data_dev' = data_dev'; hash_dev' = hash_dev'; printed = printed; printed' = printed' }
 
-abbrev pub tree_in : Sight → Tree
+abbrev pub tree_in : CheckedPath → Tree
 tree_in w = record { shape = w.path.shape; salt = w.path.salt; root = w.path.root }
 
 -- nothing was read of the tree; the tree and the data blocks fit on their devices
-pub record CanPass (w : Sight) (salt : List ℕ) (data_dev hash_dev : Device) : Type 0 where
+pub record CanPass (w : CheckedPath) (salt : List ℕ) (data_dev hash_dev : Device) : Type 0 where
   pub valid : IsShape w.path.shape
   pub shape : w.shape ≡ w.path.shape
   pub salt_is : salt ≡ w.path.salt
@@ -48,7 +48,7 @@ pub record CanPass (w : Sight) (salt : List ℕ) (data_dev hash_dev : Device) : 
   pub data_fits : data_sectors w.path.shape ≤ data_dev.size
   pub tree_fits : tree_sectors w.path.shape ≤ hash_dev.size
 
-pub record HasPassed (old new : Sight) : Type 0 where
+pub record HasPassed (old new : CheckedPath) : Type 0 where
   pub same : IsPathOf old.path.shape old.path.salt old.path.root new.path
 
 -- data blocks and hash blocks that couldn't be read

@@ -2,8 +2,8 @@
 use Rattle.std.specs.Prelude.{ℕ, ◌+◌, ◌<◌, Bool, IsTrue, Option, Some, None}
 use Rattle.block_device.specs.Device.{Device}
 use Rattle.tree_path.specs.Steps.{IsDown, IsStepLoaded, IsStopped, IsUnloaded, Steps}
-use Rattle.tree_survey.specs.declared.path.Reach.{Reach}
-use Rattle.tree_survey.specs.declared.path.Reach.TheVariants.{All, Bad, Unread}
+use Rattle.tree_survey.specs.declared.path.Descent.{Descent}
+use Rattle.tree_survey.specs.declared.path.Descent.TheVariants.{All, Bad, Unread}
 use Rattle.tree_survey.specs.Failing.{HasFailedRead}
 
 -- a hash block was read, and verifies or not; or it couldn't be read, and the device may fail
@@ -19,7 +19,7 @@ pub record IsWayCutOff (w : Steps) (level : ℕ) : Type 0 where
   pub failed : HasFailedRead w.device w.device'
 
 -- all of them verify, or those above one that doesn't, or above one that couldn't be read
-abbrev pub HasReached : Steps → Reach → Type 0
-HasReached w All = IsDown w 0 0
-HasReached w (Bad level) = IsStopped w 0 level
-HasReached w (Unread level) = IsWayCutOff w level
+abbrev pub HasDescended : Steps → Descent → Type 0
+HasDescended w All = IsDown w 0 0
+HasDescended w (Bad level) = IsStopped w 0 level
+HasDescended w (Unread level) = IsWayCutOff w level

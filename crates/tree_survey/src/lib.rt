@@ -2,13 +2,13 @@
 #![tactic(auto)]
 
 mod attempt;
+mod checked_path;
 mod counts;
 mod fault;
 mod hashes;
 pub mod laws;
 mod path;
 mod pieces;
-mod sight;
 mod survey;
 mod unused;
 

@@ -4,7 +4,7 @@ ghost use Rattle.tree_shape.specs.Shape.{levels};
 ghost use Rattle.verity_format.specs.Image.{tree_sectors};
 ghost use Rattle.tree_path.specs.Steps.{CanDescend, HasReadAtMost, steps};
 ghost use Rattle.tree_survey.specs.Failing.{IsReadOver};
-ghost use Rattle.tree_survey.specs.Paths.{HasReached, IsLoadedOr};
+ghost use Rattle.tree_survey.specs.Paths.{HasDescended, IsLoadedOr};
 
 use block_device::BlockDev;
 use tree_path::TreePath;
@@ -12,7 +12,7 @@ use tree_path::TreePath;
 /// How far down the hash blocks on the path to a data block verify: all of them, or down to the level of one that doesn't, or
 /// of one that can't be read.
 #[derive(Clone, Copy)]
-pub(crate) enum Reach {
+pub(crate) enum Descent {
     All,
     Bad(u32),
     Unread(u32),
@@ -46,20 +46,20 @@ pub(crate) fn descend<H: BlockDev>(
     device: &mut H,
     index: u64,
     from: u32,
-) -> Reach
+) -> Descent
     requires { CanDescend path.old (H.state device.old) index from 0 }
     ensures over { IsReadOver (H.state device.old) (H.state device.new) }
     ensures asked { HasReadAtMost (H.state device.old) (from * (path.old.shape.hash_block / 512)) (H.state device.new) }
-    ensures ends { HasReached (steps path.old path.new (H.state device.old) (H.state device.new) index from) result }
+    ensures ends { HasDescended (steps path.old path.new (H.state device.old) (H.state device.new) index from) result }
 {
     let mut level = from;
     'levels: while level > 0 {
         level -= 1;
         match load(path, device, level, index) {
             Some(true) => {}
-            Some(false) => return Reach::Bad(level),
-            None => return Reach::Unread(level),
+            Some(false) => return Descent::Bad(level),
+            None => return Descent::Unread(level),
         }
     }
-    Reach::All
+    Descent::All
 }

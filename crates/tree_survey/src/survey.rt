@@ -6,11 +6,11 @@ ghost use Rattle.tree_survey.specs.Causes.{EndsPass, EndsSurvey, HasRoom, IsCutO
 ghost use Rattle.tree_survey.specs.Failing.{IsReadOver};
 ghost use Rattle.tree_survey.specs.Passes.{CanPass, HasPassed, IsSurvey, Surveys, seen_pass, tree_in};
 
+use crate::checked_path::CheckedPath;
 use crate::counts::{Counts, Totals};
 use crate::fault::SurveyFault;
 use crate::hashes::say_hashes;
 use crate::pieces::{blocks_of, digest_of, digest_room, piece_room, read_piece};
-use crate::sight::Sight;
 use block_device::BlockDev;
 use runs::Listing;
 use std::alloc::Global;
@@ -52,9 +52,16 @@ pub fn survey_image<D: BlockDev, H: BlockDev, L: Listing>(
 {
     check_room(data_dev, hash_dev, &tree.shape)?;
     let path = TreePath::new(alloc, tree.shape, tree.salt, *root)?;
-    let mut sight = Sight::new(path, tree.shape);
-    let totals = survey_data(alloc, &mut sight, &tree.salt, data_dev, hash_dev, listing)?;
-    let whole_tree = say_hashes(&mut sight.path, &tree.shape, hash_dev, listing)?;
+    let mut checked_path = CheckedPath::new(path, tree.shape);
+    let totals = survey_data(
+        alloc,
+        &mut checked_path,
+        &tree.salt,
+        data_dev,
+        hash_dev,
+        listing,
+    )?;
+    let whole_tree = say_hashes(&mut checked_path.path, &tree.shape, hash_dev, listing)?;
     Ok(Survey { totals, whole_tree })
 }
 
@@ -81,24 +88,24 @@ fn check_room<D: BlockDev, H: BlockDev>(
 // Scans the data blocks, from the first on.
 fn survey_data<D: BlockDev, H: BlockDev, L: Listing>(
     alloc: Global,
-    sight: &mut Sight,
+    checked_path: &mut CheckedPath,
     salt: &Salt,
     data_dev: &mut D,
     hash_dev: &mut H,
     listing: &mut L,
 ) -> Result<Totals, SurveyFault>
-    requires { CanPass sight.old salt.now (D.state data_dev.old) (H.state hash_dev.old) }
+    requires { CanPass checked_path.old salt.now (D.state data_dev.old) (H.state hash_dev.old) }
     ensures data { IsReadOver (D.state data_dev.old) (D.state data_dev.new) }
     ensures hash { IsReadOver (H.state hash_dev.old) (H.state hash_dev.new) }
-    ensures passed { OnOk result (HasPassed sight.old sight.new) }
-    ensures ok { IfOk result (Surveys (tree_in sight.old) (seen_pass D.state H.state L.told data_dev.old hash_dev.old data_dev.new hash_dev.new listing.old listing.new)) }
+    ensures passed { OnOk result (HasPassed checked_path.old checked_path.new) }
+    ensures ok { IfOk result (Surveys (tree_in checked_path.old) (seen_pass D.state H.state L.told data_dev.old hash_dev.old data_dev.new hash_dev.new listing.old listing.new)) }
     ensures err { IfErr result (EndsPass D.state H.state data_dev.old hash_dev.old data_dev.new hash_dev.new (L.failed listing.new)) }
 {
     let mut memory = piece_room(alloc)?;
     let mut room = digest_room(alloc)?;
     let piece = memory.as_mut_slice();
     let digests = room.as_mut_slice();
-    let shape = sight.shape;
+    let shape = checked_path.shape;
     let size = shape.data_block() as usize;
     let mut counts = Counts::new();
     let mut at = 0;
@@ -108,8 +115,8 @@ fn survey_data<D: BlockDev, H: BlockDev, L: Listing>(
         'run: for k in 0..count {
             let index = at + k as u64;
             let found = digest_of(data_dev, salt, size, index, whole, &digests[k], piece);
-            sight.go_to(hash_dev, index);
-            counts.add(listing, index, sight.state(index, found))?;
+            checked_path.go_to(hash_dev, index);
+            counts.add(listing, index, checked_path.state(index, found))?;
         }
         at += count as u64;
     }

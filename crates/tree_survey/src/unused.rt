@@ -11,7 +11,7 @@ ghost use Rattle.tree_survey.specs.Hashes.{tree_of_path};
 ghost use Rattle.tree_survey.specs.Passes.{super_tree};
 ghost use Rattle.tree_survey.specs.Unused.{AreZeroFrom, IsReadDown, IsUnusedReadBy, found_from};
 
-use crate::path::{Reach, descend};
+use crate::path::{Descent, descend};
 use allocation::OutOfMemory;
 use block_device::BlockDev;
 use std::alloc::Global;
@@ -82,9 +82,9 @@ fn read_down<H: BlockDev>(path: &mut TreePath, device: &mut H, index: u64) -> u3
 {
     let levels = path.levels();
     match descend(path, device, index, levels) {
-        Reach::All => 0,
-        Reach::Bad(level) => level + 1,
-        Reach::Unread(level) => level + 1,
+        Descent::All => 0,
+        Descent::Bad(level) => level + 1,
+        Descent::Unread(level) => level + 1,
     }
 }
 

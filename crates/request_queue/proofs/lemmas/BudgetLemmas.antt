@@ -9,8 +9,8 @@ use Rattle.stack_rules.specs.declared.refusal.RemoveFault.{RemoveFault}
 use Rattle.stack_rules.specs.Records.{Configuration}
 use Rattle.stack_meaning.specs.declared.fault.IoFault.{IoFault}
 use Rattle.stack_engine.specs.Stacks.{StackRecord, AnswerRecord}
-use Rattle.request_queue.specs.declared.fault.Held.{Held}
-use Rattle.request_queue.specs.declared.fault.Held.TheVariants.{Busy, Fault}
+use Rattle.request_queue.specs.declared.fault.BusyOr.{BusyOr}
+use Rattle.request_queue.specs.declared.fault.BusyOr.TheVariants.{Busy, Fault}
 use Rattle.request_queue.specs.declared.fault.SubmitFault.{SubmitFault}
 use Rattle.request_queue.specs.declared.range.SectorRange.{SectorRange}
 use Rattle.request_queue.specs.declared.reply.Progress.{Progress}
@@ -179,13 +179,13 @@ kept-written w w' d first bytes result t order s =
     let kept = any-keeps w.stack d first (write_part bytes) (without_bytes result) s.stack s.asks in
     subst (Kept w t) (sym s.leaves) (record { same = refl; config = inr kept.config; given = omega arith; order = order })
 
-kept-load : (w w' : World) (text : List Entry) (reply : Result Unit (Held LoadFault)) (t : ℕ) → InOrder w → LoadsText w text reply w' → Kept w t w'
+kept-load : (w w' : World) (text : List Entry) (reply : Result Unit (BusyOr LoadFault)) (t : ℕ) → InOrder w → LoadsText w text reply w' → Kept w t w'
 kept-load w w' text (Ok done) t order s =
     subst (Kept w t) (sym s.leaves) (record { same = refl; config = inl (ap (λ fs. find (has_ticket t) fs) s.idle); given = omega arith; order = order })
 kept-load w w' text (Err Busy) t order s = kept-same w w' t order s.1
 kept-load w w' text (Err (Fault fault)) t order s = kept-same w w' t order s.2
 
-kept-removal : (w w' : World) (name : List ℕ) (reply : Result Unit (Held RemoveFault)) (t : ℕ) → InOrder w → Removes w name reply w' → Kept w t w'
+kept-removal : (w w' : World) (name : List ℕ) (reply : Result Unit (BusyOr RemoveFault)) (t : ℕ) → InOrder w → Removes w name reply w' → Kept w t w'
 kept-removal w w' name (Ok done) t order s =
     subst (Kept w t) (sym s.leaves) (record { same = refl; config = inl (ap (λ fs. find (has_ticket t) fs) s.idle); given = omega arith; order = order })
 kept-removal w w' name (Err Busy) t order s = kept-same w w' t order s.1

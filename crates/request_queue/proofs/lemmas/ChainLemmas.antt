@@ -14,7 +14,7 @@ use Rattle.stack_meaning.specs.Found.{FoundRecord}
 use Rattle.stack_engine.specs.Laws.{AnsweredChainsAreGood, ForgedAnswersCollide}
 use Rattle.stack_meaning.specs.May.{MayBe}
 use Rattle.stack_engine.specs.Stacks.{StackRecord, AnswerRecord}
-use Rattle.request_queue.specs.declared.fault.Held.TheVariants.{Busy, Fault}
+use Rattle.request_queue.specs.declared.fault.BusyOr.TheVariants.{Busy, Fault}
 use Rattle.request_queue.specs.declared.reply.Progress.{Progress}
 use Rattle.request_queue.specs.declared.reply.Progress.TheVariants.{More, Done}
 use Rattle.request_queue.specs.declared.reply.Reply.{Reply}

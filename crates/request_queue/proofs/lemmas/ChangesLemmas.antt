@@ -20,8 +20,8 @@ use Rattle.stack_engine.specs.Stacks.{StackRecord, AnswerRecord}
 use Rattle.stack_engine.specs.WritePieces.{WritesInPieces, piece_reached}
 use Rattle.stack_lines.specs.Touches.{TouchesOnly, leaves_of}
 use Rattle.stack_engine.proofs.lemmas.SyncLemmas.{synced-read, unsynced-read}
-use Rattle.request_queue.specs.declared.fault.Held.{Held}
-use Rattle.request_queue.specs.declared.fault.Held.TheVariants.{Busy, Fault}
+use Rattle.request_queue.specs.declared.fault.BusyOr.{BusyOr}
+use Rattle.request_queue.specs.declared.fault.BusyOr.TheVariants.{Busy, Fault}
 use Rattle.request_queue.specs.declared.fault.SubmitFault.{SubmitFault}
 use Rattle.request_queue.specs.declared.range.SectorRange.{SectorRange}
 use Rattle.request_queue.specs.declared.reply.Progress.{Progress}
@@ -168,12 +168,12 @@ run-stays w r (Ok answer) w' honest order s =
     let p = whole-answers w r (w.given + 1) answer s.begun w' honest.loaded order s.begins s.ends in
     subst (λ (x : Result SectorRange SubmitFault). Stays (run_changes w r x) (run_touches w r x) w.stack.leaves w'.stack.leaves) (sym p.1) (whole-stays w r p.0 answer w'.stack p.2)
 
-loads-stay : (these : LeafSectors) (those : Leaves) (w : World) (text : List Entry) (reply : Result Unit (Held LoadFault)) (w' : World) → LoadsText w text reply w' → Stays these those w.stack.leaves w'.stack.leaves
+loads-stay : (these : LeafSectors) (those : Leaves) (w : World) (text : List Entry) (reply : Result Unit (BusyOr LoadFault)) (w' : World) → LoadsText w text reply w' → Stays these those w.stack.leaves w'.stack.leaves
 loads-stay these those w text (Ok done) w' s = stays-same these those w.stack.leaves w'.stack.leaves (ap (λ (x : World). x.stack.leaves) s.leaves)
 loads-stay these those w text (Err Busy) w' s = world-stays these those w w' s.1
 loads-stay these those w text (Err (Fault fault)) w' s = world-stays these those w w' s.2
 
-removes-stay : (these : LeafSectors) (those : Leaves) (w : World) (name : List ℕ) (reply : Result Unit (Held RemoveFault)) (w' : World) → Removes w name reply w' → Stays these those w.stack.leaves w'.stack.leaves
+removes-stay : (these : LeafSectors) (those : Leaves) (w : World) (name : List ℕ) (reply : Result Unit (BusyOr RemoveFault)) (w' : World) → Removes w name reply w' → Stays these those w.stack.leaves w'.stack.leaves
 removes-stay these those w name (Ok done) w' s = stays-same these those w.stack.leaves w'.stack.leaves (ap (λ (x : World). x.stack.leaves) s.leaves)
 removes-stay these those w name (Err Busy) w' s = world-stays these those w w' s.1
 removes-stay these those w name (Err (Fault fault)) w' s = world-stays these those w w' s.2

@@ -20,8 +20,8 @@ use Rattle.stack_lines.specs.Standing.{name_stands_on}
 use Rattle.stack_engine.specs.KeptBlocks.{AreChecked, ReadKeeps}
 use Rattle.stack_engine.specs.Stacks.{StackRecord, AnswerRecord}
 use Rattle.stack_engine.proofs.lemmas.SyncLemmas.{synced-read, unsynced-read}
-use Rattle.request_queue.specs.declared.fault.Held.{Held}
-use Rattle.request_queue.specs.declared.fault.Held.TheVariants.{Busy, Fault}
+use Rattle.request_queue.specs.declared.fault.BusyOr.{BusyOr}
+use Rattle.request_queue.specs.declared.fault.BusyOr.TheVariants.{Busy, Fault}
 use Rattle.request_queue.specs.declared.fault.SubmitFault.{SubmitFault}
 use Rattle.request_queue.specs.declared.range.SectorRange.{SectorRange}
 use Rattle.request_queue.specs.declared.reply.Progress.{Progress}
@@ -123,12 +123,12 @@ bytes-keep w d first size (Err fault) w' checked s = same-world w w' s.1 checked
 bytes-keep w d first size (Ok answer) w' checked s =
     subst (λ (x : World). KeepsChecked w.stack x.stack) (sym s.leaves) (part-keeps w.stack s.range.device.0 s.range.first (bytes_part s.range.count) (without_chains answer) s.stack s.asks)
 
-loads-keep : (w : World) (text : List Entry) (reply : Result Unit (Held LoadFault)) (w' : World) → AreChecked w.stack → LoadsText w text reply w' → KeepsChecked w.stack w'.stack
+loads-keep : (w : World) (text : List Entry) (reply : Result Unit (BusyOr LoadFault)) (w' : World) → AreChecked w.stack → LoadsText w text reply w' → KeepsChecked w.stack w'.stack
 loads-keep w text (Ok done) w' checked s = subst (λ (x : World). KeepsChecked w.stack x.stack) (sym s.leaves) (record { capacity = refl; checked = none-checked _ w.stack.leaves w.stack.capacity })
 loads-keep w text (Err Busy) w' checked s = same-world w w' s.1 checked
 loads-keep w text (Err (Fault fault)) w' checked s = same-world w w' s.2 checked
 
-removes-keep : (w : World) (name : List ℕ) (reply : Result Unit (Held RemoveFault)) (w' : World) → AreChecked w.stack → Removes w name reply w' → KeepsChecked w.stack w'.stack
+removes-keep : (w : World) (name : List ℕ) (reply : Result Unit (BusyOr RemoveFault)) (w' : World) → AreChecked w.stack → Removes w name reply w' → KeepsChecked w.stack w'.stack
 removes-keep w name (Ok done) w' checked s = subst (λ (x : World). KeepsChecked w.stack x.stack) (sym s.leaves) (record { capacity = refl; checked = none-checked _ w.stack.leaves w.stack.capacity })
 removes-keep w name (Err Busy) w' checked s = same-world w w' s.1 checked
 removes-keep w name (Err (Fault fault)) w' checked s = same-world w w' s.2 checked

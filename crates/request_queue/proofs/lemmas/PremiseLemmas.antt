@@ -12,8 +12,8 @@ use Rattle.stack_engine.specs.Stacks.{StackRecord, AnswerRecord}
 use Rattle.stack_engine.specs.Syncs.{FailsToSync}
 use Rattle.stack_meaning.proofs.lemmas.LeafListLemmas.{AllSteady-kept, AreSteady-kept, some-steady}
 use Rattle.stack_engine.proofs.lemmas.SyncLemmas.{synced-on, synced-steady, unsynced-on, unsynced-steady}
-use Rattle.request_queue.specs.declared.fault.Held.{Held}
-use Rattle.request_queue.specs.declared.fault.Held.TheVariants.{Busy, Fault}
+use Rattle.request_queue.specs.declared.fault.BusyOr.{BusyOr}
+use Rattle.request_queue.specs.declared.fault.BusyOr.TheVariants.{Busy, Fault}
 use Rattle.request_queue.specs.declared.fault.SubmitFault.{SubmitFault}
 use Rattle.request_queue.specs.declared.reply.Progress.{Progress}
 use Rattle.request_queue.specs.declared.reply.Progress.TheVariants.{More, Done}
@@ -64,12 +64,12 @@ module _ (P Q : PartRelation) (F : List Device → Type 0) (pass : Passes P Q F)
   begins-leaves : (w : World) (r : RequestRecord) (t : ℕ) (w' : World) → Begins w r t w' → F w.stack.leaves → F w'.stack.leaves
   begins-leaves w r t w' b h = subst (λ (x : World). F x.stack.leaves) (sym b.leaves) h
 
-  loads-leaves : (w : World) (text : List Entry) (reply : Result Unit (Held LoadFault)) (w' : World) → LoadsText w text reply w' → F w.stack.leaves → F w'.stack.leaves
+  loads-leaves : (w : World) (text : List Entry) (reply : Result Unit (BusyOr LoadFault)) (w' : World) → LoadsText w text reply w' → F w.stack.leaves → F w'.stack.leaves
   loads-leaves w text (Ok done) w' s h = subst (λ (x : World). F x.stack.leaves) (sym s.leaves) h
   loads-leaves w text (Err Busy) w' s h = same-leaves w w' s.1 h
   loads-leaves w text (Err (Fault fault)) w' s h = same-leaves w w' s.2 h
 
-  removes-leaves : (w : World) (name : List ℕ) (reply : Result Unit (Held RemoveFault)) (w' : World) → Removes w name reply w' → F w.stack.leaves → F w'.stack.leaves
+  removes-leaves : (w : World) (name : List ℕ) (reply : Result Unit (BusyOr RemoveFault)) (w' : World) → Removes w name reply w' → F w.stack.leaves → F w'.stack.leaves
   removes-leaves w name (Ok done) w' s h = subst (λ (x : World). F x.stack.leaves) (sym s.leaves) h
   removes-leaves w name (Err Busy) w' s h = same-leaves w w' s.1 h
   removes-leaves w name (Err (Fault fault)) w' s h = same-leaves w w' s.2 h

@@ -19,8 +19,8 @@ use Rattle.stack_engine.specs.Laws.{AnsweredChainsAreGood, ForgedAnswersCollide}
 use Rattle.stack_engine.specs.Stacks.{StackRecord, AnswerRecord}
 use Rattle.stack_engine.specs.WritePieces.{EachWrite}
 use Rattle.stack_engine.proofs.lemmas.SyncLemmas.{synced-read, unsynced-read}
-use Rattle.request_queue.specs.declared.fault.Held.{Held}
-use Rattle.request_queue.specs.declared.fault.Held.TheVariants.{Busy, Fault}
+use Rattle.request_queue.specs.declared.fault.BusyOr.{BusyOr}
+use Rattle.request_queue.specs.declared.fault.BusyOr.TheVariants.{Busy, Fault}
 use Rattle.request_queue.specs.declared.fault.SubmitFault.{SubmitFault}
 use Rattle.request_queue.specs.declared.reply.Progress.{Progress}
 use Rattle.request_queue.specs.declared.reply.Progress.TheVariants.{More, Done}
@@ -115,12 +115,12 @@ written-put w d first bytes result w' s =
     subst (λ (x : World). Leave (part_pieces w.stack.config d first (write_part bytes) result) w.stack x.stack) (sym s.leaves)
     (write-puts w.stack d first bytes result s.stack (subst (λ x. EachWrite w.stack d first bytes x s.stack) (ending-same result) s.asks.answered))
 
-loads-put : (w : World) (text : List Entry) (reply : Result Unit (Held LoadFault)) (w' : World) → LoadsText w text reply w' → Leave [] w.stack w'.stack
+loads-put : (w : World) (text : List Entry) (reply : Result Unit (BusyOr LoadFault)) (w' : World) → LoadsText w text reply w' → Leave [] w.stack w'.stack
 loads-put w text (Ok done) w' s = same-leaves w.stack w'.stack (ap (λ (x : World). x.stack.leaves) s.leaves)
 loads-put w text (Err Busy) w' s = same-world w w' s.1
 loads-put w text (Err (Fault fault)) w' s = same-world w w' s.2
 
-removes-put : (w : World) (name : List ℕ) (reply : Result Unit (Held RemoveFault)) (w' : World) → Removes w name reply w' → Leave [] w.stack w'.stack
+removes-put : (w : World) (name : List ℕ) (reply : Result Unit (BusyOr RemoveFault)) (w' : World) → Removes w name reply w' → Leave [] w.stack w'.stack
 removes-put w name (Ok done) w' s = same-leaves w.stack w'.stack (ap (λ (x : World). x.stack.leaves) s.leaves)
 removes-put w name (Err Busy) w' s = same-world w w' s.1
 removes-put w name (Err (Fault fault)) w' s = same-world w w' s.2

@@ -8,7 +8,7 @@ use Rattle.stack_rules.specs.Names.{mapped}
 use Rattle.stack_meaning.specs.Leaves.{AreSteady}
 use Rattle.stack_lines.specs.Touches.{leaves_of}
 use Rattle.stack_engine.specs.Stacks.{StackRecord, AnswerRecord}
-use Rattle.request_queue.specs.declared.fault.Held.TheVariants.{Busy, Fault}
+use Rattle.request_queue.specs.declared.fault.BusyOr.TheVariants.{Busy, Fault}
 use Rattle.request_queue.specs.declared.reply.Progress.{Progress}
 use Rattle.request_queue.specs.declared.range.SectorRange.{SectorRange}
 use Rattle.request_queue.specs.declared.reply.Progress.TheVariants.{More, Done}

@@ -10,8 +10,8 @@ use Rattle.stack_rules.specs.declared.refusal.RemoveFault.{RemoveFault}
 use Rattle.stack_rules.specs.Records.{Configuration}
 use Rattle.stack_meaning.specs.declared.fault.IoFault.{IoFault}
 use Rattle.stack_engine.specs.Stacks.{StackRecord, AnswerRecord}
-use Rattle.request_queue.specs.declared.fault.Held.{Held}
-use Rattle.request_queue.specs.declared.fault.Held.TheVariants.{Busy, Fault}
+use Rattle.request_queue.specs.declared.fault.BusyOr.{BusyOr}
+use Rattle.request_queue.specs.declared.fault.BusyOr.TheVariants.{Busy, Fault}
 use Rattle.request_queue.specs.declared.fault.SubmitFault.{SubmitFault}
 use Rattle.request_queue.specs.declared.range.SectorRange.{SectorRange}
 use Rattle.request_queue.specs.declared.reply.Progress.{Progress}
@@ -166,12 +166,12 @@ waits-written w d first bytes result w' s =
     let kept = any-keeps w.stack d first (write_part bytes) (without_bytes result) s.stack s.asks in
     subst (λ (x : World). waiting x ≤ waiting w) (sym s.leaves) (subst (λ (c : Configuration). waiting_of c w.in_flight ≤ waiting w) (sym kept.config) (omega arith))
 
-waits-load : (w : World) (text : List Entry) (reply : Result Unit (Held LoadFault)) (w' : World) → LoadsText w text reply w' → waiting w' ≤ waiting w
+waits-load : (w : World) (text : List Entry) (reply : Result Unit (BusyOr LoadFault)) (w' : World) → LoadsText w text reply w' → waiting w' ≤ waiting w
 waits-load w text (Ok done) w' s = omega (arith, waits-idle w _ w' s.idle s.leaves)
 waits-load w text (Err Busy) w' s = waits-same w w' s.1
 waits-load w text (Err (Fault fault)) w' s = waits-same w w' s.2
 
-waits-removal : (w : World) (name : List ℕ) (reply : Result Unit (Held RemoveFault)) (w' : World) → Removes w name reply w' → waiting w' ≤ waiting w
+waits-removal : (w : World) (name : List ℕ) (reply : Result Unit (BusyOr RemoveFault)) (w' : World) → Removes w name reply w' → waiting w' ≤ waiting w
 waits-removal w name (Ok done) w' s = omega (arith, waits-idle w _ w' s.idle s.leaves)
 waits-removal w name (Err Busy) w' s = waits-same w w' s.1
 waits-removal w name (Err (Fault fault)) w' s = waits-same w w' s.2

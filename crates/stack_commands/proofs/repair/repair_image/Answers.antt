@@ -17,7 +17,7 @@ returns-in-None-clause-ok g c =
       copies = c.args.words.now.copies.items;
       are = refl;
       told = c.in-Ok.ensures.ok;
-      repairs = repairs-by c.args.words.now.fec None (calls g.I.Images.relations g.I.Dev.BlockDev.state c.trusted_in.new.images c.by_copies.new.desk.0) _ c.args.words.now.copies.items _ _ _ c.in-None.is repairs;
+      repairs = repairs-by c.args.words.now.fec None (calls g.I.Images.relations g.I.Dev.BlockDev.state c.trusted_in.new.images c.by_copies.new.context.0) _ c.args.words.now.copies.items _ _ _ c.in-None.is repairs;
     })
     (rw (c.as_slice-copies.ensures.value, c.sector_at.ensures) at c.by_copies.ensures.ok)
 
@@ -30,7 +30,7 @@ returns-in-None-clause-err g c =
       copies = c.args.words.now.copies.items;
       are = refl;
       told = c.in-Ok.ensures.ok;
-      ends = ends-by c.args.words.now.fec None (calls g.I.Images.relations g.I.Dev.BlockDev.state c.trusted_in.new.images c.by_copies.new.desk.0) _ c.args.words.now.copies.items _ _ _ _ fault c.in-None.is ends;
+      ends = ends-by c.args.words.now.fec None (calls g.I.Images.relations g.I.Dev.BlockDev.state c.trusted_in.new.images c.by_copies.new.context.0) _ c.args.words.now.copies.items _ _ _ _ fault c.in-None.is ends;
     }))
     (rw (c.as_slice-copies.ensures.value, c.sector_at.ensures) at c.by_copies.ensures.err)
 
@@ -43,7 +43,7 @@ returns-in-Some-clause-ok g c =
       copies = c.args.words.now.copies.items;
       are = refl;
       told = c.in-Ok.ensures.ok;
-      repairs = repairs-by c.args.words.now.fec (Some c.in-Some.fec) (calls g.I.Images.relations g.I.Dev.BlockDev.state c.trusted_in.new.images c.by_parity.new.desk.0) _ c.args.words.now.copies.items _ _ _ c.in-Some.is repairs;
+      repairs = repairs-by c.args.words.now.fec (Some c.in-Some.fec) (calls g.I.Images.relations g.I.Dev.BlockDev.state c.trusted_in.new.images c.by_parity.new.context.0) _ c.args.words.now.copies.items _ _ _ c.in-Some.is repairs;
     })
     (rw (c.as_slice-copies.ensures.value, c.sector_at.ensures) at c.by_parity.ensures.ok)
 
@@ -56,6 +56,6 @@ returns-in-Some-clause-err g c =
       copies = c.args.words.now.copies.items;
       are = refl;
       told = c.in-Ok.ensures.ok;
-      ends = ends-by c.args.words.now.fec (Some c.in-Some.fec) (calls g.I.Images.relations g.I.Dev.BlockDev.state c.trusted_in.new.images c.by_parity.new.desk.0) _ c.args.words.now.copies.items _ _ _ _ fault c.in-Some.is ends;
+      ends = ends-by c.args.words.now.fec (Some c.in-Some.fec) (calls g.I.Images.relations g.I.Dev.BlockDev.state c.trusted_in.new.images c.by_parity.new.context.0) _ c.args.words.now.copies.items _ _ _ _ fault c.in-Some.is ends;
     }))
     (rw (c.as_slice-copies.ensures.value, c.sector_at.ensures) at c.by_parity.ensures.err)

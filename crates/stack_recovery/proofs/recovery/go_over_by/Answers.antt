@@ -33,7 +33,7 @@ pieces-init g c =
       within = omega arith;
       all = all;
       few = omega (arith, all, c.requires.few);
-      pace = c.new-pace.ensures.pace;
+      piece_limit = c.new-piece_limit.ensures.piece_limit;
       unfailed = refl;
       noted = refl;
     }
@@ -78,7 +78,7 @@ pieces-preserved-then-run g c =
       within = inside;
       all = u.all;
       few = u.few;
-      pace = u.pace;
+      piece_limit = u.piece_limit;
       unfailed = u.unfailed;
       noted = notes-some c.pieces.noted c.note.new.noted _ c.in_ok-note.ensures.ok ∙ u.noted;
     }
@@ -180,7 +180,7 @@ pieces-preserved-in-Ok g c =
       within = omega (arith, inside, same, c.piece_at-piece.ensures.inside);
       all = u.all;
       few = u.few;
-      pace = c.after_bytes-pace.ensures.pace;
+      piece_limit = c.after_bytes-piece_limit.ensures.piece_limit;
       unfailed = c.in_ok-write-in-Ok.ensures.moved.failures ∙ u.unfailed;
       noted = notes-some c.pieces.noted c.note-in-Ok.new.noted _ c.in_ok-note-in-Ok.ensures.ok ∙ u.noted;
     }
@@ -243,7 +243,7 @@ pieces-preserved-then-branch g c =
       within = omega (arith, inside, same, c.piece_at-piece.ensures.inside);
       all = u.all;
       few = u.few;
-      pace = c.after_loss-pace.ensures;
+      piece_limit = c.after_loss-piece_limit.ensures;
       unfailed = u.unfailed;
       noted = notes-some c.pieces.noted c.lose_piece.new.noted _ noting ∙ u.noted;
     }
@@ -271,7 +271,7 @@ pieces-preserved g c =
       within = u.within;
       all = u.all;
       few = u.few;
-      pace = c.after_failure-pace.ensures.pace;
+      piece_limit = c.after_failure-piece_limit.ensures.piece_limit;
       unfailed = u.unfailed;
       noted = ap (λ (m : Option (List Run)). is_some m) noted ∙ u.noted;
     }

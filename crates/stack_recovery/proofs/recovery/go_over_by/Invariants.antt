@@ -1,7 +1,7 @@
 use Rattle.std.proofs.Common.{◌≡◌, ◌-◌, ◌+◌, ◌*◌, ◌≤◌, ◌^◌, drop, is_some}
 use Rattle.stack_rules.specs.Names.{mapped, size}
 use Rattle.rescue_map.specs.Aheads.{marks_ahead}
-use Rattle.stack_recovery.specs.Pieces.{IsPace}
+use Rattle.stack_recovery.specs.Pieces.{IsPieceLimit}
 use Rattle.stack_recovery.specs.Recoveries.{sides}
 use Rattle.stack_recovery.proofs.UnderwayLemmas.{IsUnderway}
 use Rattle.stack_recovery.proofs.recovery.go_over_by.Given as goal
@@ -15,11 +15,11 @@ invariant-pieces g l = record {
   within : l.at ≤ l.sectors;
   all : l.sectors ≡ size l.fn.stack.config (mapped l.d.0);
   few : l.sectors ≤ 2 ^ 54;
-  pace : IsPace l.pace.most;
+  piece_limit : IsPieceLimit l.piece_limit.most;
   unfailed : (g.O.BlockDev.state l.out).failures ≡ (g.O.BlockDev.state l.fn.out).failures;
   noted : is_some l.noted ≡ is_some l.fn.noted;
 }
 
 -- a piece that is lost in part makes the next one shorter
 abbrev pub decreases-pieces : goal.decreases-pieces
-decreases-pieces g l = 256 * (l.sectors - l.at) + l.pace.most
+decreases-pieces g l = 256 * (l.sectors - l.at) + l.piece_limit.most

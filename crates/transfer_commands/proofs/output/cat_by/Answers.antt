@@ -32,16 +32,16 @@ pub pieces-init : goal.pieces-init
 pieces-init g c =
     let old : CatSide = cat_side c.args.stack.now (g.W.Write.contents c.args.writer.now.inner) in
     let none : 0 ≡ c.args.range.first - c.args.range.first = omega arith in
-    let begun : IsCatting c.args.d.0 c.args.range.first 0 (c.args.range.first + c.args.range.count) old old c.new-pace.result =
-    catting-none c.args.d.0 c.args.range.first (c.args.range.first + c.args.range.count) old c.new-pace.result c.new-pace.ensures.first in
-    let here : IsCatting c.args.d.0 c.args.range.first (c.args.range.first - c.args.range.first) (c.args.range.first + c.args.range.count) old old c.new-pace.result =
-    subst (λ (k : ℕ). IsCatting c.args.d.0 c.args.range.first k (c.args.range.first + c.args.range.count) old old c.new-pace.result) none begun in
+    let begun : IsCatting c.args.d.0 c.args.range.first 0 (c.args.range.first + c.args.range.count) old old c.new-piece_limit.result =
+    catting-none c.args.d.0 c.args.range.first (c.args.range.first + c.args.range.count) old c.new-piece_limit.result c.new-piece_limit.ensures.first in
+    let here : IsCatting c.args.d.0 c.args.range.first (c.args.range.first - c.args.range.first) (c.args.range.first + c.args.range.count) old old c.new-piece_limit.result =
+    subst (λ (k : ℕ). IsCatting c.args.d.0 c.args.range.first k (c.args.range.first + c.args.range.count) old old c.new-piece_limit.result) none begun in
     record {
       so_far = here.so_far;
       catting = here;
       from = omega arith;
       within = omega arith;
-      pace = c.new-pace.ensures.pace;
+      piece_limit = c.new-piece_limit.ensures.piece_limit;
     }
 
 pub pieces-preserved-in-Ok : goal.pieces-preserved-in-Ok
@@ -61,22 +61,22 @@ pieces-preserved-in-Ok g c =
     let piece = subst (λ (s : ℕ). EachBytes c.pieces.stack c.args.d.0 s n (Ok bytes) c.read_bytes.new.self) here counted in
     let spent_at = subst (λ (m : ℕ). ReadsAtMost (piece_budget c.pieces.stack c.args.d.0 c.pieces.at m) c.pieces.stack.leaves c.read_bytes.new.self.leaves) number c.in-Ok.ensures.spent in
     let spent = subst (λ (s : ℕ). ReadsAtMost (piece_budget c.pieces.stack c.args.d.0 s n) c.pieces.stack.leaves c.read_bytes.new.self.leaves) here spent_at in
-    let aligned : EndsAligned c.pieces.stack.config c.args.d.0 (first + k) (c.args.range.first + c.args.range.count) c.pieces.pace.most n =
-    subst (λ (s : ℕ). EndsAligned c.pieces.stack.config c.args.d.0 s (c.args.range.first + c.args.range.count) c.pieces.pace.most n) here
-    (subst (λ (x : Configuration). EndsAligned x c.args.d.0 c.pieces.at (c.args.range.first + c.args.range.count) c.pieces.pace.most n) c.config-in-pieces.ensures.value c.piece_at-piece.ensures.ends) in
-    let next : IsCatting c.args.d.0 first (k + n) (c.args.range.first + c.args.range.count) old new c.after_bytes-pace.result =
-    catting-had c.args.d.0 first k (c.args.range.first + c.args.range.count) old now c.pieces.pace c.after_bytes-pace.result before.catting n c.read_bytes.new.self bytes (g.W.Write.contents c.put.new.self.inner)
-    c.after_bytes-pace.ensures.first aligned piece spent c.in_ok-put-in-Ok.ensures.writes.ok in
+    let aligned : EndsAligned c.pieces.stack.config c.args.d.0 (first + k) (c.args.range.first + c.args.range.count) c.pieces.piece_limit.most n =
+    subst (λ (s : ℕ). EndsAligned c.pieces.stack.config c.args.d.0 s (c.args.range.first + c.args.range.count) c.pieces.piece_limit.most n) here
+    (subst (λ (x : Configuration). EndsAligned x c.args.d.0 c.pieces.at (c.args.range.first + c.args.range.count) c.pieces.piece_limit.most n) c.config-in-pieces.ensures.value c.piece_at-piece.ensures.ends) in
+    let next : IsCatting c.args.d.0 first (k + n) (c.args.range.first + c.args.range.count) old new c.after_bytes-piece_limit.result =
+    catting-had c.args.d.0 first k (c.args.range.first + c.args.range.count) old now c.pieces.piece_limit c.after_bytes-piece_limit.result before.catting n c.read_bytes.new.self bytes (g.W.Write.contents c.put.new.self.inner)
+    c.after_bytes-piece_limit.ensures.first aligned piece spent c.in_ok-put-in-Ok.ensures.writes.ok in
     let count = c.from-count.ensures in
     let sum : k + n ≡ c.pieces.at + c.from-count.result - first = omega (arith, before.from, count) in
-    let summed : IsCatting c.args.d.0 first (c.pieces.at + c.from-count.result - first) (c.args.range.first + c.args.range.count) old new c.after_bytes-pace.result =
-    subst (λ (m : ℕ). IsCatting c.args.d.0 first m (c.args.range.first + c.args.range.count) old new c.after_bytes-pace.result) sum next in
+    let summed : IsCatting c.args.d.0 first (c.pieces.at + c.from-count.result - first) (c.args.range.first + c.args.range.count) old new c.after_bytes-piece_limit.result =
+    subst (λ (m : ℕ). IsCatting c.args.d.0 first m (c.args.range.first + c.args.range.count) old new c.after_bytes-piece_limit.result) sum next in
     record {
       so_far = summed.so_far;
       catting = summed;
       from = omega (arith, before.from);
       within = omega (arith, c.piece_at-piece.ensures.inside, count);
-      pace = c.after_bytes-pace.ensures.pace;
+      piece_limit = c.after_bytes-piece_limit.ensures.piece_limit;
     }
 
 pub returns-then-piece-clause-err : goal.returns-then-piece-clause-err
@@ -131,12 +131,12 @@ pieces-preserved g c =
     let now : CatSide = cat_side c.pieces.stack (g.W.Write.contents c.pieces.writer.inner) in
     let counted = subst (λ (m : ℕ). EachBytes c.pieces.stack c.args.d.0 c.pieces.at m (Err c.in-Err.fault) c.read_bytes.new.self) number (record { any = c.in-Err.ensures.any; steady = c.in-Err.ensures.steady }) in
     let piece = subst (λ (s : ℕ). EachBytes c.pieces.stack c.args.d.0 s n (Err c.in-Err.fault) c.read_bytes.new.self) here counted in
-    let next : IsCatting c.args.d.0 first k (c.args.range.first + c.args.range.count) old (cat_side c.read_bytes.new.self now.written) c.after_failure-pace.result =
-    catting-again c.args.d.0 first k (c.args.range.first + c.args.range.count) old now c.pieces.pace c.after_failure-pace.result before.catting n c.read_bytes.new.self c.in-Err.fault piece in
+    let next : IsCatting c.args.d.0 first k (c.args.range.first + c.args.range.count) old (cat_side c.read_bytes.new.self now.written) c.after_failure-piece_limit.result =
+    catting-again c.args.d.0 first k (c.args.range.first + c.args.range.count) old now c.pieces.piece_limit c.after_failure-piece_limit.result before.catting n c.read_bytes.new.self c.in-Err.fault piece in
     record {
       so_far = next.so_far;
       catting = next;
       from = before.from;
       within = before.within;
-      pace = c.after_failure-pace.ensures.pace;
+      piece_limit = c.after_failure-piece_limit.ensures.piece_limit;
     }

@@ -4,7 +4,7 @@ use Rattle.tree_path.proofs.lemmas.AtMostLemmas.{at_most-fewer}
 use Rattle.tree_repair.specs.Coverage.{AreGoodFrom}
 use Rattle.tree_repair.specs.Jobs.{job}
 use Rattle.tree_repair.proofs.BillLemmas.{at_most-then, piece-few}
-use Rattle.tree_repair.specs.Bills.{piece_of}
+use Rattle.tree_repair.specs.AccessBudgets.{piece_of}
 use Rattle.tree_repair.proofs.GoodLemmas.{good-more, good-none}
 use Rattle.tree_repair.proofs.good_row.are_good.Goals as goal
 

@@ -1,7 +1,7 @@
 use Rattle.std.proofs.Common.{◌≡◌, ◌≤◌, ◌-◌, ◌*◌, ◌/◌, ℕ, arith, map, refl, subst, sym}
 use Rattle.verity_format.specs.Image.{data_sectors}
 use Rattle.verity_format.proofs.lemmas.DeviceLemmas.{only_read-none}
-use Rattle.tree_repair.specs.Bills.{LeavesWorld, data_over, nothing_due, reading}
+use Rattle.tree_repair.specs.AccessBudgets.{LeavesWorld, data_over, nothing_due, reading}
 use Rattle.tree_repair.specs.Coverage.{AreGoodFrom}
 use Rattle.tree_repair.specs.Jobs.{job}
 use Rattle.tree_repair.specs.Worlds.{IsWorldRead, RepairWorld, repair_world}

@@ -1,7 +1,7 @@
 use Rattle.std.proofs.Common.{◌≡◌, ◌≤◌, ◌-◌, ℕ, suc, length, map, take, sym, ap, ◌∙◌, subst, arith}
 use Rattle.std.proofs.lemmas.List.{length-take-le}
 use Rattle.tree_shape.specs.Shape.{levels}
-use Rattle.tree_repair.specs.Bills.{LeavesWorld, block_read, nothing_due}
+use Rattle.tree_repair.specs.AccessBudgets.{LeavesWorld, block_read, nothing_due}
 use Rattle.tree_repair.specs.Jobs.{job}
 use Rattle.tree_repair.specs.Parity.{IsGoodNow, end_at}
 use Rattle.tree_repair.specs.Runs.{CanRun, size_at}

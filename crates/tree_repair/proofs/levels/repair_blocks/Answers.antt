@@ -1,9 +1,9 @@
 use Rattle.std.proofs.Common.{◌≡◌, ◌+◌, ◌-◌, ◌^◌, ℕ, sym, ap, arith, inl, inr, subst}
 use Rattle.std.proofs.lemmas.Bool.{cases_lt}
 use Rattle.tree_shape.specs.Shape.{ancestor, per_block}
-use Rattle.tree_repair.proofs.LookLemmas.{first-begins, next-begins, same-above}
+use Rattle.tree_repair.proofs.BlockCheckLemmas.{first-begins, next-begins, same-above}
 use Rattle.tree_shape.proofs.lemmas.ShapeFaultLemmas.{blocks-le}
-use Rattle.tree_repair.specs.Bills.{LeavesWorld, checks_over}
+use Rattle.tree_repair.specs.AccessBudgets.{LeavesWorld, checks_over}
 use Rattle.tree_repair.proofs.BillLemmas.{leaves-none, leaves-then}
 use Rattle.tree_repair.specs.ParityBounds.{blocks_over}
 use Rattle.tree_repair.proofs.CountLemmas.{count-fewer, count-next}

@@ -1,6 +1,6 @@
 use Rattle.std.proofs.Common.{◌≡◌, ◌<◌, ◌≤◌, ◌+◌, ◌-◌, ◌%◌, ◌^◌, None}
 use Rattle.tree_shape.specs.Shape.{per_block}
-use Rattle.tree_repair.specs.Bills.{LeavesWorld, checks_over}
+use Rattle.tree_repair.specs.AccessBudgets.{LeavesWorld, checks_over}
 use Rattle.tree_repair.specs.Coverage.{IsOfRowBefore}
 use Rattle.tree_repair.specs.Jobs.{job}
 use Rattle.tree_repair.specs.ParityBounds.{LeavesNoted, blocks_over}

@@ -3,7 +3,7 @@ use Rattle.std.proofs.Math.Nat.{zero-mod}
 use Rattle.tree_shape.specs.Shape.{per_block}
 use Rattle.tree_shape.proofs.lemmas.ShapeFaultLemmas.{blocks-le}
 use Rattle.tree_shape.proofs.lemmas.ShapeLemmas.{pow_pos}
-use Rattle.tree_repair.specs.Bills.{LeavesWorld, height_over}
+use Rattle.tree_repair.specs.AccessBudgets.{LeavesWorld, height_over}
 use Rattle.tree_repair.specs.ParityBounds.{blocks_over}
 use Rattle.tree_repair.proofs.BillLemmas.{leaves-end, leaves-none, leaves-then}
 use Rattle.tree_repair.proofs.HeightLemmas.{rows-next}

@@ -1,11 +1,11 @@
 use Rattle.std.proofs.Common.{◌≡◌, ◌<◌, ◌≤◌, ◌-◌, ◌+◌, ◌%◌, ◌^◌, None}
 use Rattle.tree_shape.specs.Shape.{per_block}
-use Rattle.tree_repair.specs.Bills.{LeavesWorld, height_over}
+use Rattle.tree_repair.specs.AccessBudgets.{LeavesWorld, height_over}
 use Rattle.tree_repair.specs.Coverage.{IsFromTo}
 use Rattle.tree_repair.specs.Jobs.{job}
 use Rattle.tree_repair.specs.ParityBounds.{LeavesNoted, blocks_over}
 use Rattle.tree_repair.specs.Passes.{HasNoted}
-use Rattle.tree_repair.specs.Tries.{IsOfTree}
+use Rattle.tree_repair.specs.ParitySearches.{IsOfTree}
 use Rattle.tree_repair.proofs.levels.repair_height.Given as goal
 
 abbrev pub invariant-rows : goal.invariant-rows

@@ -3,7 +3,7 @@ use Rattle.tree_repair.specs.Coverage.{IsLookedAt}
 use Rattle.tree_repair.specs.Jobs.{job}
 use Rattle.tree_repair.proofs.CountLemmas.{row-unnoted}
 use Rattle.tree_repair.proofs.HeightLemmas.{row-all, row-cut}
-use Rattle.tree_repair.proofs.LookLemmas.{looked-cut, row-above}
+use Rattle.tree_repair.proofs.BlockCheckLemmas.{looked-cut, row-above}
 use Rattle.tree_repair.proofs.PassLemmas.{noted-behind, noted-read}
 use Rattle.tree_repair.proofs.RunLemmas.{can-read}
 use Rattle.tree_repair.proofs.levels.repair_row.Goals as goal

@@ -1,7 +1,7 @@
 use Rattle.std.proofs.Common.{◌≡◌, ◌-◌, ℕ, suc, ap, ◌∙◌, subst, sym, arith}
 use Rattle.tree_repair.specs.Parity.{IsPlace}
 use Rattle.tree_repair.specs.Runs.{size_at}
-use Rattle.tree_repair.specs.Tries.{IsCoveredOr}
+use Rattle.tree_repair.specs.ParitySearches.{IsCoveredOr}
 use Rattle.tree_repair.proofs.ParityLemmas.{covered-data, covered-hash}
 use Rattle.tree_repair.proofs.parity.covered_at.Goals as goal
 

@@ -1,6 +1,6 @@
 use Rattle.std.proofs.Common.{◌+◌, take, subst, sym}
 use Rattle.std.proofs.lemmas.List.{take_all}
-use Rattle.tree_repair.specs.Tries.{AreCovered}
+use Rattle.tree_repair.specs.ParitySearches.{AreCovered}
 use Rattle.tree_repair.proofs.TryLemmas.{covered-next}
 use Rattle.tree_repair.proofs.parity.covered_of.Goals as goal
 

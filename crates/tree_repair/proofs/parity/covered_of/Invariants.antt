@@ -1,5 +1,5 @@
 use Rattle.std.proofs.Common.{take}
-use Rattle.tree_repair.specs.Tries.{AreCovered}
+use Rattle.tree_repair.specs.ParitySearches.{AreCovered}
 use Rattle.tree_repair.proofs.parity.covered_of.Given as goal
 
 -- those so far

@@ -5,7 +5,7 @@ use Rattle.tree_shape.specs.Digests.{digest}
 use Rattle.verity_format.proofs.lemmas.DeviceLemmas.{only_read-none}
 use Rattle.tree_repair.specs.Jobs.{job}
 use Rattle.tree_repair.specs.Runs.{IsRefusal}
-use Rattle.tree_repair.specs.Tries.{trial}
+use Rattle.tree_repair.specs.ParitySearches.{trial}
 use Rattle.tree_repair.proofs.TryLemmas.{made-or}
 use Rattle.tree_repair.proofs.RunLemmas.{world-none}
 use Rattle.tree_repair.specs.ParityBounds.{round_bill}

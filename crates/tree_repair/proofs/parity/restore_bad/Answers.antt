@@ -4,7 +4,7 @@ use Rattle.std.proofs.lemmas.List.{take_all}
 use Rattle.verity_format.proofs.lemmas.DeviceLemmas.{only_read-none, only_read-then}
 use Rattle.tree_repair.specs.Jobs.{job}
 use Rattle.tree_repair.specs.Passes.{AreBack}
-use Rattle.tree_repair.specs.Tries.{AreSought}
+use Rattle.tree_repair.specs.ParitySearches.{AreSought}
 use Rattle.fec_area.specs.declared.layout.Layout.{Layout}
 use Rattle.tree_repair.proofs.BackLemmas.{back-next, back-none}
 use Rattle.tree_repair.proofs.LosingLemmas.{all-sought-alike, alike-permuted}

@@ -4,7 +4,7 @@ use Rattle.tree_repair.specs.Jobs.{job}
 use Rattle.tree_repair.specs.ParityBounds.{IsAskedWithin, TellsOfHash, parity_bill, sought_among}
 use Rattle.tree_repair.specs.Passes.{AreBack}
 use Rattle.tree_repair.specs.Runs.{HasRun}
-use Rattle.tree_repair.specs.Tries.{AreSought, IsOfTree}
+use Rattle.tree_repair.specs.ParitySearches.{AreSought, IsOfTree}
 use Rattle.tree_repair.proofs.parity.restore_bad.Given as goal
 
 -- the blocks so far

@@ -1,6 +1,6 @@
 use Rattle.std.proofs.Common.{Bool, false, inl, inr, refl, subst, sym}
 use Rattle.tree_repair.specs.Jobs.{job}
-use Rattle.tree_repair.specs.Tries.{IsSoughtAt, trial}
+use Rattle.tree_repair.specs.ParitySearches.{IsSoughtAt, trial}
 use Rattle.tree_repair.proofs.TryLemmas.{sought-behind}
 use Rattle.verity_format.proofs.lemmas.DeviceLemmas.{only_read-none}
 use Rattle.tree_repair.proofs.RunLemmas.{can-read, has-behind, has-none, has-read, laid-read, world-none}

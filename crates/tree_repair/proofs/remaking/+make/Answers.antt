@@ -2,7 +2,7 @@ use Rattle.std.proofs.Common.{◌≡◌, ◌<◌, ◌+◌, ◌-◌, ◌*◌, ◌
 use Rattle.tree_shape.specs.Digests.{digest}
 use Rattle.tree_shape.proofs.lemmas.ShapeFactLemmas.{levels-few}
 use Rattle.hash_tree.specs.Tree.{filled}
-use Rattle.tree_repair.specs.Bills.{LeavesWorld, LeavesBlock, left_of, made_over}
+use Rattle.tree_repair.specs.AccessBudgets.{LeavesWorld, LeavesBlock, left_of, made_over}
 use Rattle.tree_repair.proofs.AskedLemmas.{make-ends}
 use Rattle.tree_repair.proofs.BillLemmas.{leaves-none, leaves-then}
 use Rattle.tree_repair.specs.Remaking.{ground}

@@ -1,6 +1,6 @@
 use Rattle.std.proofs.Common.{◌+◌, ◌-◌}
 use Rattle.hash_tree.specs.Tree.{filled}
-use Rattle.tree_repair.specs.Bills.{LeavesWorld, left_of, made_over}
+use Rattle.tree_repair.specs.AccessBudgets.{LeavesWorld, left_of, made_over}
 use Rattle.tree_repair.specs.Remaking.{IsOver, ground}
 use Rattle.tree_repair.specs.Worlds.{AreBothRead}
 use Rattle.tree_repair.proofs.MakeLemmas.{digests}

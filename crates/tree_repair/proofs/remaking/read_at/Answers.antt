@@ -1,9 +1,9 @@
 use Rattle.std.proofs.Common.{◌≡◌, ◌≤◌, ◌-◌, IsTrue, map, suc, ap, refl, subst, sym, ◌∙◌, arith}
 use Rattle.verity_format.specs.Image.{data_sectors, tree_sectors}
 use Rattle.verity_format.proofs.lemmas.DeviceLemmas.{only_read-none}
-use Rattle.tree_repair.specs.Bills.{LeavesBlock, made_over}
+use Rattle.tree_repair.specs.AccessBudgets.{LeavesBlock, made_over}
 use Rattle.tree_repair.proofs.AskedLemmas.{made-data, made-hash}
-use Rattle.tree_repair.specs.Grounds.{IsOverIn, stands_in}
+use Rattle.tree_repair.specs.StoredTrees.{IsOverIn, stands_in}
 use Rattle.tree_path.specs.Unused.{digests_in}
 use Rattle.tree_repair.specs.Remaking.{IsSure}
 use Rattle.tree_repair.specs.Runs.{size_at}

@@ -2,7 +2,7 @@ use Rattle.std.proofs.Common.{◌≡◌, ◌+◌, ◌-◌, ℕ, suc, inl, inr, a
 use Rattle.std.proofs.lemmas.Bool.{cases_lt}
 use Rattle.tree_shape.specs.Shape.{ancestor}
 use Rattle.tree_shape.proofs.lemmas.ShapeFactLemmas.{levels-few}
-use Rattle.tree_repair.specs.Bills.{LeavesWorld}
+use Rattle.tree_repair.specs.AccessBudgets.{LeavesWorld}
 use Rattle.tree_path.specs.Unused.{digests_in}
 use Rattle.tree_repair.specs.Remaking.{IsUnlike, ground, made_on}
 use Rattle.tree_repair.specs.Runs.{size_at}

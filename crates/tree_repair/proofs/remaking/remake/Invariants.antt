@@ -1,6 +1,6 @@
 use Rattle.std.proofs.Common.{◌≤◌, ◌+◌, ℕ, suc}
 use Rattle.tree_shape.specs.Shape.{ancestor}
-use Rattle.tree_repair.specs.Bills.{LeavesWorld}
+use Rattle.tree_repair.specs.AccessBudgets.{LeavesWorld}
 use Rattle.tree_repair.proofs.AskedLemmas.{untried_of}
 use Rattle.tree_repair.specs.Remaking.{IsUnlike, ground, made_on}
 use Rattle.tree_repair.specs.Worlds.{AreBothRead}

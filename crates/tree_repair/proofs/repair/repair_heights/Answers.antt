@@ -2,7 +2,7 @@ use Rattle.std.proofs.Common.{◌≡◌, ◌+◌, ◌-◌, ℕ, sym, subst, List
 use Rattle.std.proofs.lemmas.List.{length-replicate}
 use Rattle.tree_shape.proofs.lemmas.ShapeFactLemmas.{levels-few}
 use Rattle.tree_shape.specs.Shape.{levels}
-use Rattle.tree_repair.specs.Bills.{LeavesWorld, pass_over}
+use Rattle.tree_repair.specs.AccessBudgets.{LeavesWorld, pass_over}
 use Rattle.tree_repair.proofs.BillLemmas.{leaves-end, leaves-none}
 use Rattle.tree_repair.proofs.CountLemmas.{count-down, counts-all, counts_over}
 use Rattle.tree_repair.proofs.HeightLemmas.{heights-next, heights-pass, heights_over}

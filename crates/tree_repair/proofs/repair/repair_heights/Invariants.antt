@@ -1,6 +1,6 @@
 use Rattle.std.proofs.Common.{◌≤◌, ◌+◌, None}
 use Rattle.tree_shape.specs.Shape.{levels}
-use Rattle.tree_repair.specs.Bills.{LeavesWorld}
+use Rattle.tree_repair.specs.AccessBudgets.{LeavesWorld}
 use Rattle.tree_repair.proofs.CountLemmas.{counts_over}
 use Rattle.tree_repair.proofs.HeightLemmas.{heights_over}
 use Rattle.tree_repair.specs.Coverage.{IsFromUp}

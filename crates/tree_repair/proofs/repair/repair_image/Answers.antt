@@ -1,7 +1,7 @@
 use Rattle.std.proofs.Common.{ap, false, inl, inr, subst, sym, None}
 use Rattle.std.specs.Result.{result_err}
 use Rattle.tree_shape.specs.Shape.{ShapeRecord}
-use Rattle.tree_repair.specs.Bills.{LeavesWorld, nothing_due, pass_over}
+use Rattle.tree_repair.specs.AccessBudgets.{LeavesWorld, nothing_due, pass_over}
 use Rattle.tree_repair.specs.Outcomes.{IsOutcomeOf}
 use Rattle.tree_repair.specs.Runs.{Job}
 use Rattle.tree_repair.proofs.BillLemmas.{one-pass}

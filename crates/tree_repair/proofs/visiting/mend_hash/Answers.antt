@@ -1,8 +1,8 @@
 use Rattle.std.proofs.Common.{◌/◌, length, IsTrue, map, subst, sym, ap}
 use Rattle.std.specs.Prelude.{IfOk, OnErr}
 use Rattle.block_device.specs.Device.{IsInside}
-use Rattle.tree_repair.specs.Bills.{IsAskedOnce}
-use Rattle.tree_repair.specs.Looks.{tree_look}
+use Rattle.tree_repair.specs.AccessBudgets.{IsAskedOnce}
+use Rattle.tree_repair.specs.BlockChecks.{tree_look}
 use Rattle.tree_repair.specs.Mending.{IsUnmended}
 use Rattle.tree_repair.specs.Visits.{IsLooked}
 use Rattle.tree_repair.specs.Worlds.{RepairWorld, repair_world}

@@ -2,7 +2,7 @@ use Rattle.std.proofs.Common.{◌≡◌, ◌+◌, ◌-◌, ℕ, suc, ap, subst, 
 use Rattle.std.specs.Prelude.{IfOk, OnErr}
 use Rattle.tree_shape.proofs.lemmas.ShapeFactLemmas.{levels-few}
 use Rattle.tree_survey.specs.Surveys.{IsWay}
-use Rattle.tree_repair.specs.Bills.{LeavesVisit}
+use Rattle.tree_repair.specs.AccessBudgets.{LeavesVisit}
 use Rattle.tree_repair.specs.Jobs.{job}
 use Rattle.tree_repair.specs.Runs.{size_at}
 use Rattle.tree_repair.specs.Visits.{FailsToStoreBlock, IsBlockMade}

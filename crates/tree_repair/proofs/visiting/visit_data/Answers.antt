@@ -1,7 +1,7 @@
 use Rattle.std.proofs.Common.{◌/◌, map, refl, subst, sym, arith}
 use Rattle.std.specs.Prelude.{IfOk, OnErr}
 use Rattle.verity_format.proofs.lemmas.SizeLemmas.{block-inside, block-size}
-use Rattle.tree_repair.specs.Bills.{LeavesVisit}
+use Rattle.tree_repair.specs.AccessBudgets.{LeavesVisit}
 use Rattle.tree_repair.specs.Jobs.{job}
 use Rattle.tree_repair.specs.Runs.{CanRun}
 use Rattle.tree_repair.specs.Visits.{FailsToStoreBlock, IsBlockMade}

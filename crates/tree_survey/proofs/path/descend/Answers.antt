@@ -6,7 +6,7 @@ use Rattle.tree_path.specs.Steps.{HasReadAtMost, IsDown, IsStepLoaded, steps}
 use Rattle.tree_path.proofs.lemmas.AtMostLemmas.{at_most-fewer, at_most-more}
 use Rattle.tree_path.proofs.lemmas.PathLemmas.{down-bad, down-good, down-read}
 use Rattle.tree_survey.proofs.FailingLemmas.{over-full, over-then}
-use Rattle.tree_survey.proofs.ReachLemmas.{cut-off}
+use Rattle.tree_survey.proofs.DescentLemmas.{cut-off}
 use Rattle.tree_survey.proofs.path.descend.Goals as goal
 
 -- one hash block more was asked for

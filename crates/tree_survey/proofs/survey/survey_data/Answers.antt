@@ -16,13 +16,13 @@ use Rattle.tree_survey.proofs.survey.survey_data.Goals as goal
 pub pieces-init : goal.pieces-init
 pieces-init g c = record {
   shape_is = c.requires.shape;
-  so_far = underway-none c.args.sight.now c.args.salt.now (g.D.BlockDev.state c.args.data_dev.now) (g.H.BlockDev.state c.args.hash_dev.now) (g.L.Listing.told c.args.listing.now) c.new-counts.result c.requires c.new-counts.ensures;
+  so_far = underway-none c.args.checked_path.now c.args.salt.now (g.D.BlockDev.state c.args.data_dev.now) (g.H.BlockDev.state c.args.hash_dev.now) (g.L.Listing.told c.args.listing.now) c.new-counts.result c.requires c.new-counts.ensures;
   data_read = subst (λ (n : ℕ). IsReadThrough (g.D.BlockDev.state c.args.data_dev.now) n (g.D.BlockDev.state c.args.data_dev.now)) (sym (zero-mul _)) (through-none (g.D.BlockDev.state c.args.data_dev.now));
 }
 
 pub read_piece-whole-requires-clause-run : goal.read_piece-whole-requires-clause-run
 read_piece-whole-requires-clause-run g c =
-    let s : ShapeRecord = c.args.sight.now.path.shape in
+    let s : ShapeRecord = c.args.checked_path.now.path.shape in
     let at : ℕ = c.pieces.at in
     let count : ℕ = c.blocks_of-count.result in
     let left : at < s.blocks = omega (arith, c.pieces-test.true, c.blocks-in-pieces.ensures.value, ap (λ (x : ShapeRecord). x.blocks) c.requires.shape) in
@@ -32,7 +32,7 @@ read_piece-whole-requires-clause-run g c =
 
 pub read_piece-whole-requires-clause-room : goal.read_piece-whole-requires-clause-room
 read_piece-whole-requires-clause-room g c =
-    let s : ShapeRecord = c.args.sight.now.path.shape in
+    let s : ShapeRecord = c.args.checked_path.now.path.shape in
     let at : ℕ = c.pieces.at in
     let count : ℕ = c.blocks_of-count.result in
     let left : at < s.blocks = omega (arith, c.pieces-test.true, c.blocks-in-pieces.ensures.value, ap (λ (x : ShapeRecord). x.blocks) c.requires.shape) in
@@ -43,7 +43,7 @@ read_piece-whole-requires-clause-room g c =
 
 pub read_piece-whole-requires-clause-few : goal.read_piece-whole-requires-clause-few
 read_piece-whole-requires-clause-few g c =
-    let s : ShapeRecord = c.args.sight.now.path.shape in
+    let s : ShapeRecord = c.args.checked_path.now.path.shape in
     let at : ℕ = c.pieces.at in
     let count : ℕ = c.blocks_of-count.result in
     let left : at < s.blocks = omega (arith, c.pieces-test.true, c.blocks-in-pieces.ensures.value, ap (λ (x : ShapeRecord). x.blocks) c.requires.shape) in
@@ -53,7 +53,7 @@ read_piece-whole-requires-clause-few g c =
 
 pub run-init : goal.run-init
 run-init g c =
-    let t = tree_in c.args.sight.now in
+    let t = tree_in c.args.checked_path.now in
     let d0 : Device = g.D.BlockDev.state c.args.data_dev.now in
     let d : Device = g.D.BlockDev.state c.pieces.data_dev in
     let d' : Device = g.D.BlockDev.state c.read_piece-whole.new.device in
@@ -63,15 +63,15 @@ run-init g c =
     let now = g.L.Listing.told c.pieces.listing in
     let plain : c.pieces.at ≡ c.pieces.at + 0 = omega arith in
     record {
-      so_far = subst (IsUnderway t d0 h0 d' h told now c.pieces.sight c.pieces.counts) plain
-          (underway-more t d0 h0 d h d' h told now c.pieces.sight c.pieces.counts c.pieces.at c.pieces.invariant.so_far c.read_piece-whole.ensures.over (over-none h));
+      so_far = subst (IsUnderway t d0 h0 d' h told now c.pieces.checked_path c.pieces.counts) plain
+          (underway-more t d0 h0 d h d' h told now c.pieces.checked_path c.pieces.counts c.pieces.at c.pieces.invariant.so_far c.read_piece-whole.ensures.over (over-none h));
       kept = λ whole. refl;
       behind = over-none d';
     }
 
 pub digest_of-found-requires-clause-run : goal.digest_of-found-requires-clause-run
 digest_of-found-requires-clause-run g c =
-    let s : ShapeRecord = c.args.sight.now.path.shape in
+    let s : ShapeRecord = c.args.checked_path.now.path.shape in
     let at : ℕ = c.pieces.at in
     let count : ℕ = c.blocks_of-count.result in
     let left : at < s.blocks = omega (arith, c.pieces-test.true, c.blocks-in-pieces.ensures.value, ap (λ (x : ShapeRecord). x.blocks) c.requires.shape) in
@@ -81,41 +81,41 @@ digest_of-found-requires-clause-run g c =
 
 pub digest_of-found-requires-clause-room : goal.digest_of-found-requires-clause-room
 digest_of-found-requires-clause-room g c =
-    let s : ShapeRecord = c.args.sight.now.path.shape in
+    let s : ShapeRecord = c.args.checked_path.now.path.shape in
     let size : length c.pieces.piece ≡ 65536 = c.pieces.auto.piece ∙ ap (λ (l : List ℕ). length l) c.as_mut_slice-piece.ensures.value ∙ c.in_ok-memory.ensures.ok in
     let most : c.data_block-size.result ≤ 4096 = omega (arith, c.data_block-size.ensures.value, (block-size s.data_block c.requires.valid.data_size).most_bytes, ap (λ (x : ShapeRecord). x.data_block) c.requires.shape) in
     omega (arith, size, most, c.run.auto.piece, c.read_piece-whole.auto.piece)
 
 pub go_to-requires : goal.go_to-requires
 go_to-requires g c =
-    let t = tree_in c.args.sight.now in
-    let low : c.pieces.at + c.run.k < c.args.sight.now.path.shape.blocks = omega (arith, c.run-test.true, c.blocks_of-count.ensures, c.pieces-test.true, c.blocks-in-pieces.ensures.value, ap (λ (s : ShapeRecord). s.blocks) c.requires.shape) in
+    let t = tree_in c.args.checked_path.now in
+    let low : c.pieces.at + c.run.k < c.args.checked_path.now.path.shape.blocks = omega (arith, c.run-test.true, c.blocks_of-count.ensures, c.pieces-test.true, c.blocks-in-pieces.ensures.value, ap (λ (s : ShapeRecord). s.blocks) c.requires.shape) in
     can-go t c.requires.valid (g.D.BlockDev.state c.args.data_dev.now) (g.H.BlockDev.state c.args.hash_dev.now) (g.D.BlockDev.state c.run.data_dev) (g.H.BlockDev.state c.run.hash_dev)
-    (g.L.Listing.told c.args.listing.now) (g.L.Listing.told c.run.listing) c.run.sight c.run.counts (c.pieces.at + c.run.k)
+    (g.L.Listing.told c.args.listing.now) (g.L.Listing.told c.run.listing) c.run.checked_path c.run.counts (c.pieces.at + c.run.k)
     c.run.invariant.so_far low c.requires.tree_fits
 
 pub add-requires-clause-ends : goal.add-requires-clause-ends
 add-requires-clause-ends g c =
-    ends-at (tree_in c.args.sight.now) c.requires.valid (g.D.BlockDev.state c.args.data_dev.now) (g.H.BlockDev.state c.args.hash_dev.now) (g.D.BlockDev.state c.run.data_dev) (g.H.BlockDev.state c.run.hash_dev)
-    (g.L.Listing.told c.args.listing.now) (g.L.Listing.told c.run.listing) c.run.sight c.run.counts (c.pieces.at + c.run.k) c.run.invariant.so_far
+    ends-at (tree_in c.args.checked_path.now) c.requires.valid (g.D.BlockDev.state c.args.data_dev.now) (g.H.BlockDev.state c.args.hash_dev.now) (g.D.BlockDev.state c.run.data_dev) (g.H.BlockDev.state c.run.hash_dev)
+    (g.L.Listing.told c.args.listing.now) (g.L.Listing.told c.run.listing) c.run.checked_path c.run.counts (c.pieces.at + c.run.k) c.run.invariant.so_far
 
 pub add-requires-clause-inside : goal.add-requires-clause-inside
 add-requires-clause-inside g c =
-    let low : c.pieces.at + c.run.k < c.args.sight.now.path.shape.blocks = omega (arith, c.run-test.true, c.blocks_of-count.ensures, c.pieces-test.true, c.blocks-in-pieces.ensures.value, ap (λ (s : ShapeRecord). s.blocks) c.requires.shape) in
-    omega (arith, low, (blocks-le c.args.sight.now.path.shape c.requires.valid).0)
+    let low : c.pieces.at + c.run.k < c.args.checked_path.now.path.shape.blocks = omega (arith, c.run-test.true, c.blocks_of-count.ensures, c.pieces-test.true, c.blocks-in-pieces.ensures.value, ap (λ (s : ShapeRecord). s.blocks) c.requires.shape) in
+    omega (arith, low, (blocks-le c.args.checked_path.now.path.shape c.requires.valid).0)
 
 pub add-requires-clause-few : goal.add-requires-clause-few
 add-requires-clause-few g c =
-    let t = tree_in c.args.sight.now in
-    let low : c.pieces.at + c.run.k < c.args.sight.now.path.shape.blocks = omega (arith, c.run-test.true, c.blocks_of-count.ensures, c.pieces-test.true, c.blocks-in-pieces.ensures.value, ap (λ (s : ShapeRecord). s.blocks) c.requires.shape) in
+    let t = tree_in c.args.checked_path.now in
+    let low : c.pieces.at + c.run.k < c.args.checked_path.now.path.shape.blocks = omega (arith, c.run-test.true, c.blocks_of-count.ensures, c.pieces-test.true, c.blocks-in-pieces.ensures.value, ap (λ (s : ShapeRecord). s.blocks) c.requires.shape) in
     are-few t c.requires.valid (g.D.BlockDev.state c.args.data_dev.now) (g.H.BlockDev.state c.args.hash_dev.now) (g.D.BlockDev.state c.run.data_dev) (g.H.BlockDev.state c.run.hash_dev)
-    (g.L.Listing.told c.args.listing.now) (g.L.Listing.told c.run.listing) c.run.sight c.run.counts (c.pieces.at + c.run.k)
+    (g.L.Listing.told c.args.listing.now) (g.L.Listing.told c.run.listing) c.run.checked_path c.run.counts (c.pieces.at + c.run.k)
     c.run.invariant.so_far low
 
 pub run-preserved : goal.run-preserved
 run-preserved g c =
-    let t = tree_in c.args.sight.now in
-    let s : ShapeRecord = c.args.sight.now.path.shape in
+    let t = tree_in c.args.checked_path.now in
+    let s : ShapeRecord = c.args.checked_path.now.path.shape in
     let d0 : Device = g.D.BlockDev.state c.args.data_dev.now in
     let dp : Device = g.D.BlockDev.state c.pieces.data_dev in
     let dq : Device = g.D.BlockDev.state c.read_piece-whole.new.device in
@@ -147,7 +147,7 @@ run-preserved g c =
     let next : at + 1 ≡ c.pieces.at + (c.run.k + 1) = omega arith in
     record {
       so_far = subst (IsUnderway t d0 h0 dk' h' told new c.go_to.new.self c.add.new.self) next
-          (underway-next t c.requires.valid d0 h0 dk h told now c.run.sight c.run.counts at c.run.invariant.so_far low c.go_to.new.self dk' h' c.go_to.ensures.gone c.digest_of-found.ensures.over c.go_to.ensures.over
+          (underway-next t c.requires.valid d0 h0 dk h told now c.run.checked_path c.run.counts at c.run.invariant.so_far low c.go_to.new.self dk' h' c.go_to.ensures.gone c.digest_of-found.ensures.over c.go_to.ensures.over
           content.content c.digest_of-found.result content.told c.add.new.self new content.over
           (rw c.state.ensures at c.in_ok-add.ensures.text.ok) (rw c.state.ensures at c.in_ok-add.ensures.added));
       kept = λ whole. (rw whole at c.digest_of-found.ensures.ends).1 ∙ c.run.invariant.kept whole;
@@ -156,8 +156,8 @@ run-preserved g c =
 
 pub pieces-preserved : goal.pieces-preserved
 pieces-preserved g c =
-    let t = tree_in c.args.sight.now in
-    let s : ShapeRecord = c.args.sight.now.path.shape in
+    let t = tree_in c.args.checked_path.now in
+    let s : ShapeRecord = c.args.checked_path.now.path.shape in
     let d0 : Device = g.D.BlockDev.state c.args.data_dev.now in
     let dp : Device = g.D.BlockDev.state c.pieces.data_dev in
     let dq : Device = g.D.BlockDev.state c.read_piece-whole.new.device in
@@ -174,7 +174,7 @@ pieces-preserved g c =
     let all : c.pieces.at + c.run.k ≡ c.pieces.at + count = omega (arith, c.run-test.false, c.run.auto.k-end) in
     record {
       shape_is = c.requires.shape;
-      so_far = subst (IsUnderway t d0 h0 dk (g.H.BlockDev.state c.run.hash_dev) (g.L.Listing.told c.args.listing.now) (g.L.Listing.told c.run.listing) c.run.sight c.run.counts) all c.run.invariant.so_far;
+      so_far = subst (IsUnderway t d0 h0 dk (g.H.BlockDev.state c.run.hash_dev) (g.L.Listing.told c.args.listing.now) (g.L.Listing.told c.run.listing) c.run.checked_path c.run.counts) all c.run.invariant.so_far;
       data_read = subst (λ (b : ℕ). IsReadThrough d0 ((c.pieces.at + count) * (b / 512)) dk) size
           (piece-read c.args.salt.now d0 dp dq dk c.data_block-size.result c.pieces.at count (c.pieces.at * n) ((c.pieces.at + count) * n) ds c.read_piece-whole.result (length-take-le count ds few)
           (subst (λ (b : ℕ). IsReadThrough d0 (c.pieces.at * (b / 512)) dp) (sym size) c.pieces.invariant.data_read)
@@ -183,16 +183,16 @@ pieces-preserved g c =
 
 pub returns-clause-ok : goal.returns-clause-ok
 returns-clause-ok g c =
-    let t = tree_in c.args.sight.now in
+    let t = tree_in c.args.checked_path.now in
     underway-all t c.requires.valid (g.D.BlockDev.state c.args.data_dev.now) (g.H.BlockDev.state c.args.hash_dev.now) (g.D.BlockDev.state c.pieces.data_dev) (g.H.BlockDev.state c.pieces.hash_dev)
-    (g.L.Listing.told c.args.listing.now) (g.L.Listing.told c.pieces.listing) c.pieces.sight c.pieces.counts c.pieces.at
+    (g.L.Listing.told c.args.listing.now) (g.L.Listing.told c.pieces.listing) c.pieces.checked_path c.pieces.counts c.pieces.at
     c.pieces.invariant.so_far (g.L.Listing.told c.close.new.listing)
     (omega (arith, c.pieces.invariant.so_far.within, c.pieces-test.false, c.blocks-in-pieces.ensures.value, ap (λ (s : ShapeRecord). s.blocks) c.requires.shape))
     c.pieces.invariant.data_read c.in_ok-close.ensures.text.ok
 
 pub bounds-digests-k : goal.bounds-digests-k
 bounds-digests-k g c =
-    let s : ShapeRecord = c.args.sight.now.path.shape in
+    let s : ShapeRecord = c.args.checked_path.now.path.shape in
     let count : ℕ = c.blocks_of-count.result in
     let ds : List (List ℕ) = c.read_piece-whole.new.digests in
     let left : c.pieces.at < s.blocks = omega (arith, c.pieces-test.true, c.blocks-in-pieces.ensures.value, ap (λ (x : ShapeRecord). x.blocks) c.requires.shape) in
@@ -209,7 +209,7 @@ returns-in_err-add-clause-hash g c = over-then c.run.invariant.so_far.hash_over 
 
 pub pieces-smaller : goal.pieces-smaller
 pieces-smaller g c =
-    let s : ShapeRecord = c.args.sight.now.path.shape in
+    let s : ShapeRecord = c.args.checked_path.now.path.shape in
     let count : ℕ = c.blocks_of-count.result in
     let left : c.pieces.at < s.blocks = omega (arith, c.pieces-test.true, c.blocks-in-pieces.ensures.value, ap (λ (x : ShapeRecord). x.blocks) c.requires.shape) in
     let piece : IsPiece s c.pieces.at count = piece-is s c.requires.valid.data_size c.pieces.at count left (c.blocks_of-count.ensures ∙ ap (λ (x : ShapeRecord). blocks_of x c.pieces.at) c.requires.shape) in

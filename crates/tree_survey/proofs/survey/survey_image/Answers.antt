@@ -19,16 +19,16 @@ returns-clause-ok g c =
     let old : Option (List ℕ) = g.L.Listing.told c.args.listing.now in
     let between : Option (List ℕ) = g.L.Listing.told c.survey_data.new.listing in
     let t : Tree = tree_under c.args.tree.now c.args.root.now in
-    let begun : tree_in c.new-sight.result ≡ t = ap tree_in c.new-sight.ensures ∙ tree-of c.args.tree.now c.args.root.now c.in_ok-path.path c.in_ok-path.ensures.ok in
-    let later : tree_of_path c.survey_data.new.sight.path ≡ t = tree-same c.new-sight.result.path c.survey_data.new.sight.path c.in_ok-totals.ensures.passed.same ∙ begun in
+    let begun : tree_in c.new-checked_path.result ≡ t = ap tree_in c.new-checked_path.ensures ∙ tree-of c.args.tree.now c.args.root.now c.in_ok-path.path c.in_ok-path.ensures.ok in
+    let later : tree_of_path c.survey_data.new.checked_path.path ≡ t = tree-same c.new-checked_path.result.path c.survey_data.new.checked_path.path c.in_ok-totals.ensures.passed.same ∙ begun in
     let found = c.in_ok-whole_tree.ensures.ok in
     record {
       fits = c.in_ok-check_room.ensures.ok;
       between = between;
-      surveys = surveys-were t (tree_in c.new-sight.result) d0 h0 d1 h1 h2 begun c.say_hashes.ensures.over old between c.in_ok-totals.totals c.in_ok-totals.ensures.ok;
+      surveys = surveys-were t (tree_in c.new-checked_path.result) d0 h0 d1 h1 h2 begun c.say_hashes.ensures.over old between c.in_ok-totals.totals c.in_ok-totals.ensures.ok;
       hashes = record {
         bad = found.found.bad;
-        are = hashes-were t (tree_of_path c.survey_data.new.sight.path) h0 h1 h2 later c.survey_data.ensures.hash c.say_hashes.ensures.over found.found;
+        are = hashes-were t (tree_of_path c.survey_data.new.checked_path.path) h0 h1 h2 later c.survey_data.ensures.hash c.say_hashes.ensures.over found.found;
       };
       hash_read = over-then c.survey_data.ensures.hash c.say_hashes.ensures.over;
       whole = found.whole_is;

@@ -2,9 +2,9 @@ use Rattle.std.proofs.Common.{◌≤◌, ◌-◌, ◌*◌, ◌/◌, ℕ, arith, 
 use Rattle.verity_format.specs.Image.{tree_sectors}
 use Rattle.tree_shape.specs.Shape.{levels}
 use Rattle.verity_format.proofs.lemmas.DeviceLemmas.{only_read-none}
-use Rattle.tree_repair.specs.Bills.{LeavesWorld, nothing_due, reading}
+use Rattle.tree_repair.specs.AccessBudgets.{LeavesWorld, nothing_due, reading}
 use Rattle.tree_repair.specs.Jobs.{job}
-use Rattle.tree_repair.specs.Tries.{IsWayOr, path_found}
+use Rattle.tree_repair.specs.ParitySearches.{IsWayOr, path_found}
 use Rattle.tree_repair.specs.Worlds.{IsWorldRead, RepairWorld, repair_world}
 use Rattle.tree_repair.proofs.BillLemmas.{leaves-read}
 use Rattle.tree_repair.proofs.RunLemmas.{tree-read}

@@ -8,7 +8,7 @@ use Rattle.verity_format.specs.Blocks.{IsOnlyRead}
 use Rattle.tree_repair.specs.declared.bad.BadBlock.{BadBlock}
 use Rattle.tree_repair.specs.declared.mending.Mended.TheVariants as mended
 use Rattle.tree_repair.specs.Runs.{Job, Visit, VisitsAll, visit}
-use Rattle.tree_repair.specs.Tries.{AreSought, IsSought, IsSoughtAt, IsTriedBehind, Trial, trial}
+use Rattle.tree_repair.specs.ParitySearches.{AreSought, IsSought, IsSoughtAt, IsTriedBehind, Trial, trial}
 use Rattle.tree_repair.specs.Worlds.{IsWorldRead, RepairWorld}
 use Rattle.tree_repair.proofs.RecordedLemmas.{IsRecordedAt, IsRecordedIn}
 use Rattle.tree_repair.proofs.KeepLemmas.{runs-before}

@@ -1,6 +1,6 @@
 use Rattle.std.proofs.Common.{arith}
 use Rattle.tree_survey.proofs.GoneLemmas.{gone-cut, gone-down, gone-stayed, gone-stopped}
-use Rattle.tree_survey.proofs.sight.Sight.go_to.Goals as goal
+use Rattle.tree_survey.proofs.checked_path.CheckedPath.go_to.Goals as goal
 
 pub returns-then-top-self-clause-gone : goal.returns-then-top-self-clause-gone
 returns-then-top-self-clause-gone g c =

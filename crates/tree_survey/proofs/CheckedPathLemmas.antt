@@ -18,8 +18,8 @@ use Rattle.verity_format.proofs.lemmas.DeviceLemmas.{steady-then}
 use Rattle.tree_path.proofs.lemmas.PathLemmas.{digest_on-along, digest_on-stored, leads-along, leads-higher, stored-along, stored-higher}
 use Rattle.tree_path.proofs.lemmas.SpanLemmas.{behind, lower-mod, power-least}
 use Rattle.runs.specs.declared.kind.Kind.TheVariants.{Changed, Unknown}
-use Rattle.tree_survey.specs.declared.sight.Sight.{Sight}
-use Rattle.tree_survey.specs.Sights.{IsOnWay, IsReady, read_to, state_at, state_with}
+use Rattle.tree_survey.specs.declared.checked_path.CheckedPath.{CheckedPath}
+use Rattle.tree_survey.specs.CheckedPaths.{IsOnWay, IsReady, read_to, state_at, state_with}
 use Rattle.tree_survey.specs.Surveys.{AllStand, IsLedTo, IsContentSeenAs, IsStoredBy, IsUnknownAt, IsUnreadAs, IsWay, Tree}
 
 -- ---- the hash blocks that were read
@@ -31,7 +31,7 @@ read-between false n = (omega arith, omega arith)
 
 -- ---- a device that was read
 
-pub on-was : (w : Sight) (d d' : Device) (i : ℕ) → IsOnlyRead d d' → IsOnWay w d' i → IsOnWay w d i
+pub on-was : (w : CheckedPath) (d d' : Device) (i : ℕ) → IsOnlyRead d d' → IsOnWay w d' i → IsOnWay w d i
 on-was w d d' i read on = record {
   few = on.few;
   leads = on.leads;
@@ -39,7 +39,7 @@ on-was w d d' i read on = record {
   stored = λ steady. subst (λ (im : List (List ℕ)). AreStored w.path im i (read_to w)) (read.image steady) (on.stored (steady-then read.same steady));
 }
 
-pub on-read : (w : Sight) (d d' : Device) (i : ℕ) → IsOnlyRead d d' → IsOnWay w d i → IsOnWay w d' i
+pub on-read : (w : CheckedPath) (d d' : Device) (i : ℕ) → IsOnlyRead d d' → IsOnWay w d i → IsOnWay w d' i
 on-read w d d' i read on = record {
   few = on.few;
   leads = on.leads;
@@ -47,7 +47,7 @@ on-read w d d' i read on = record {
   stored = λ steady. let was : IsTrue d.steady = subst IsTrue read.same.steady steady in subst (λ (im : List (List ℕ)). AreStored w.path im i (read_to w)) (sym (read.image was)) (on.stored was);
 }
 
-pub ready-read : (w : Sight) (d d' : Device) (i : ℕ) → IsOnlyRead d d' → IsReady w d i → IsReady w d' i
+pub ready-read : (w : CheckedPath) (d d' : Device) (i : ℕ) → IsOnlyRead d d' → IsReady w d i → IsReady w d' i
 ready-read w d d' i read r = record {
   stays = λ top is low. on-read w d d' i read (r.stays top is low);
   leads = r.leads;
@@ -98,7 +98,7 @@ module _ (s : ShapeRecord) (valid : IsShape s) (i top : ℕ) (inside : i + 1 < s
         ancestor-is s m i ∙ sym (behind (per_block s) some i 0 m (omega arith) whole apart) ∙ ap (λ (n : ℕ). n / per_block s ^ m) one ∙ sym (ancestor-is s m (i + 1))
   ]
 
-module _ (w : Sight) (valid : IsShape w.path.shape) (d : Device) (i : ℕ) (inside : i + 1 < w.path.shape.blocks) (on : IsOnWay w d i) where
+module _ (w : CheckedPath) (valid : IsShape w.path.shape) (d : Device) (i : ℕ) (inside : i + 1 < w.path.shape.blocks) (on : IsOnWay w d i) where
   pub ready-next : IsReady w d (i + 1)
   ready-next = record {
     stays = λ top is low.
@@ -114,7 +114,7 @@ module _ (w : Sight) (valid : IsShape w.path.shape) (d : Device) (i : ℕ) (insi
   }
 
 -- the first one
-pub ready-none : (w : Sight) (d : Device) → w.good ≡ levels w.path.shape → IsReady w d 0
+pub ready-none : (w : CheckedPath) (d : Device) → w.good ≡ levels w.path.shape → IsReady w d 0
 ready-none w d none = record {
   stays = λ top is low. absurd (is.top (omega (arith, low, none)) (zero-mod (per_block w.path.shape ^ suc top)));
   leads = λ top is low. record { up = λ l high under. absurd (omega (arith, high, under, low, none)) };
@@ -138,7 +138,7 @@ not-positive n e = elim (cases_lt 0 n) [
   | inr not ↦ omega (arith, not)
 ]
 
-module _ (t : Tree) (w : Sight) (d : Device) (i : ℕ) (is : IsPathOf t.shape t.salt t.root w.path) (on : IsOnWay w d i) (data_failed hash_failed : Type 0) (unread : w.unread ≡ true → hash_failed) (content : List ℕ) where
+module _ (t : Tree) (w : CheckedPath) (d : Device) (i : ℕ) (is : IsPathOf t.shape t.salt t.root w.path) (on : IsOnWay w d i) (data_failed hash_failed : Type 0) (unread : w.unread ≡ true → hash_failed) (content : List ℕ) where
   way : IsWay t i w.good w.path
   way = record { is = is; few = omega (arith, on.few, ap levels is.shape_is); leads = on.leads }
 

@@ -9,20 +9,20 @@ use Rattle.tree_path.specs.Path.{PathRecord, IsPathOf, LeadsTo, AreStored, block
 use Rattle.tree_path.specs.Spans.{IsTopAt}
 use Rattle.runs.specs.declared.kind.Kind.TheVariants.{Changed, Unknown}
 use Rattle.runs.specs.Kinds.{State}
-use Rattle.tree_survey.specs.declared.sight.Sight.{Sight}
+use Rattle.tree_survey.specs.declared.checked_path.CheckedPath.{CheckedPath}
 use Rattle.tree_survey.specs.Failing.{HasFailedRead}
 
 -- nothing was read
-abbrev pub none_read : PathRecord → ShapeRecord → Sight
+abbrev pub none_read : PathRecord → ShapeRecord → CheckedPath
 none_read path shape = record { path = path; shape = shape; good = levels path.shape; unread = false }
 
 -- the lowest level whose hash block was read: the one below those that verify, if it could be read
-abbrev pub read_to : Sight → ℕ
+abbrev pub read_to : CheckedPath → ℕ
 read_to w = if w.unread then w.good else w.good - 1
 
 -- From a level up the hash blocks on the path to data block i verify. The one below that level, if there is one and it could be
 -- read, doesn't. On a steady device the blocks that were read are the stored ones.
-pub record IsOnWay (w : Sight) (device : Device) (i : ℕ) : Type 0 where
+pub record IsOnWay (w : CheckedPath) (device : Device) (i : ℕ) : Type 0 where
   pub few : w.good ≤ levels w.path.shape
   pub leads : LeadsTo w.path i w.good
   pub bad : 0 < w.good → w.unread ≡ false → digest w.path.salt (block_of w.path (w.good - 1)) ≢ digest_on w.path i w.good
@@ -30,19 +30,19 @@ pub record IsOnWay (w : Sight) (device : Device) (i : ℕ) : Type 0 where
 
 -- Data block i is the next one, and the greatest subtree that begins there has `top` levels: the hash blocks from that level up
 -- stay on the path. If one of them doesn't verify, the path ends there as before.
-pub record IsReady (w : Sight) (device : Device) (i : ℕ) : Type 0 where
+pub record IsReady (w : CheckedPath) (device : Device) (i : ℕ) : Type 0 where
   pub stays : (top : ℕ) → IsTopAt (per_block w.path.shape) (levels w.path.shape) i top → top < w.good → IsOnWay w device i
   pub leads : (top : ℕ) → IsTopAt (per_block w.path.shape) (levels w.path.shape) i top → w.good ≤ top → LeadsTo w.path i top
   pub stored : IsTrue device.steady → (top : ℕ) → IsTopAt (per_block w.path.shape) (levels w.path.shape) i top → w.good ≤ top → AreStored w.path device.image i top
 
-pub record CanGoDown (w : Sight) (device : Device) (i : ℕ) : Type 0 where
+pub record CanGoDown (w : CheckedPath) (device : Device) (i : ℕ) : Type 0 where
   pub index : i < w.path.shape.blocks
   pub fits : tree_sectors w.path.shape ≤ device.size
   pub shape : w.shape ≡ w.path.shape
   pub ready : IsReady w device i
 
 -- the hash blocks down to the first that doesn't verify are on the path to data block i too, and nothing is read
-pub record HasStayed (old new : Sight) (i : ℕ) : Type 0 where
+pub record HasStayed (old new : CheckedPath) (i : ℕ) : Type 0 where
   pub is : new ≡ old
   pub top : ℕ
   pub is_top : IsTopAt (per_block old.path.shape) (levels old.path.shape) i top
@@ -50,7 +50,7 @@ pub record HasStayed (old new : Sight) (i : ℕ) : Type 0 where
 
 -- The hash blocks on the path to data block i were read, down to the first that doesn't verify. If that block couldn't be read,
 -- a read failed in this call, or the block is the one that couldn't be read before.
-pub record HasGone (old new : Sight) (device device' : Device) (i : ℕ) : Type 0 where
+pub record HasGone (old new : CheckedPath) (device device' : Device) (i : ℕ) : Type 0 where
   pub same : IsPathOf old.path.shape old.path.salt old.path.root new.path
   pub shape : new.shape ≡ old.shape
   pub on : IsOnWay new device i
@@ -65,5 +65,5 @@ state_with p i (Some found) = state_by p i found
 state_with p i None = Some Changed
 
 -- the state of a data block at the end of a path; none for the digest if the block couldn't be read
-abbrev pub state_at : Sight → ℕ → Option (List ℕ) → State
+abbrev pub state_at : CheckedPath → ℕ → Option (List ℕ) → State
 state_at w i found = if nat_lt 0 w.good then Some Unknown else state_with w.path i found

@@ -14,10 +14,10 @@ use Rattle.tree_repair.specs.declared.mending.Mended.{Mended}
 use Rattle.tree_repair.specs.declared.mending.Mended.TheVariants as mended
 use Rattle.tree_repair.specs.Coverage.{IsPassedBy}
 use Rattle.tree_repair.specs.Laws.{block_of_height}
-use Rattle.tree_repair.specs.Mending.{IsMended, Look}
+use Rattle.tree_repair.specs.Mending.{IsMended, BlockCheck}
 use Rattle.tree_repair.specs.Runs.{IsVisited, Job, VisitsAll, Visit, look_at, own}
 use Rattle.tree_repair.specs.Standing.{standing_bytes}
-use Rattle.tree_repair.specs.Tries.{IsCutOff}
+use Rattle.tree_repair.specs.ParitySearches.{IsCutOff}
 use Rattle.tree_repair.specs.Worlds.{RepairWorld}
 
 -- ---- how many
@@ -29,7 +29,7 @@ first_counts (inr b) = 0
 
 -- 1 if a block was treated as corrupt because a call of its device failed at that moment; 0 if it is valid or other bytes were
 -- read
-abbrev pub unread_look : (l : Look) → (bytes : List ℕ) → (done : Bool) → (m : Mended) → IsMended l bytes done m → ℕ
+abbrev pub unread_look : (l : BlockCheck) → (bytes : List ℕ) → (done : Bool) → (m : Mended) → IsMended l bytes done m → ℕ
 unread_look l bytes done mended.Good found = 0
 unread_look l bytes done (mended.Copy k) found = first_counts found.bad
 unread_look l bytes done mended.Remade found = first_counts found.bad

@@ -10,7 +10,7 @@ use Rattle.tree_repair.specs.declared.place.Row.{Row}
 use Rattle.tree_repair.specs.Coverage.{IsLookedAt, IsVisitedIn}
 use Rattle.tree_repair.specs.Jobs.{IsRow}
 use Rattle.tree_repair.specs.Runs.{Job, VisitsAll, Visit}
-use Rattle.tree_repair.specs.Tries.{IsCutOff}
+use Rattle.tree_repair.specs.ParitySearches.{IsCutOff}
 use Rattle.tree_repair.specs.Worlds.{IsWorldRead, RepairWorld}
 use Rattle.tree_repair.proofs.RowLemmas.{per_block-some}
 use Rattle.tree_repair.proofs.RunLemmas.{runs-read, runs-then, world-none}

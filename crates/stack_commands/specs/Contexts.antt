@@ -1,4 +1,4 @@
--- What the functions of the commands that print do with what they are lent (`Desk`): it is said of the opener and the writer
+-- What the functions of the commands that print do with what they are lent (`Context`): it is said of the opener and the writer
 -- before the call, and of what stands behind the two references after it.
 use Rattle.std.specs.Prelude.{◌≡◌, ◌⊎◌, ℕ, Bool, true, List, Option, ⊤}
 use Rattle.std.specs.Borrow.{Bor, MutBor}
@@ -41,7 +41,7 @@ use Rattle.scan_commands.specs.DeviceLines.{load_text}
 use Rattle.stack_files.specs.declared.stack_file.StackFile.{StackFile}
 use Rattle.stack_files.specs.OpenStacks.{stack_words}
 use Rattle.stack_rules.specs.Records.{Configuration}
-use Rattle.stack_commands.specs.declared.desk.Desk.{Desk}
+use Rattle.stack_commands.specs.declared.context.Context.{Context}
 use Rattle.stack_commands.specs.declared.fault.CommandFault.{CommandFault}
 use Rattle.stack_commands.specs.Diffing.{ComparesImages, IsComparingEnd}
 use Rattle.stack_commands.specs.Endings.{IsEnd, IsSilent}
@@ -51,17 +51,17 @@ use Rattle.stack_commands.specs.StackCommands.{IsListEnd, IsReadEnd, IsWriteEnd,
 use Rattle.stack_commands.specs.Uses.{IsTreesEnd}
 use Rattle.stack_commands.specs.Verifying.{ChecksImage, GoesOverImage, IsCheckCommandEnd, IsGoingOverEnd}
 
--- what stands behind a desk's references when it was used
-abbrev pub DeskLeft : Type 0 → Type 0 → Type 0
-DeskLeft S T = MutBor S × (MutBor (CountedRecord T) × ⊤)
+-- what stands behind a context's references when it was used
+abbrev pub ContextLeft : Type 0 → Type 0 → Type 0
+ContextLeft S T = MutBor S × (MutBor (CountedRecord T) × ⊤)
 
--- the words of functions that are lent a desk name these
+-- the words of functions that are lent a context name these
 abbrev transfer_words : StackFile → ℕ → Transfer → PutWords
 transfer_words file cache transfer = put_words (stack_words file) cache transfer.source.now (write_request transfer)
 
--- ---- with a desk: `Does..` and the like what is printed, `Ends..` how it ends early
+-- ---- with a context: `Does..` and the like what is printed, `Ends..` how it ends early
 
-module _ {S D T E : Type 0} (relations : Opener S D) (state : D → Device) (contents : T → Option (List ℕ)) (old : Desk S T E) (new : DeskLeft S T) where
+module _ {S D T E : Type 0} (relations : Opener S D) (state : D → Device) (contents : T → Option (List ℕ)) (old : Context S T E) (new : ContextLeft S T) where
   abbrev desk_calls : Calls S D
   desk_calls = calls relations state old.images.now new.0.now
 
@@ -169,7 +169,7 @@ module _ {S D T E : Type 0} (relations : Opener S D) (state : D → Device) (con
   EndsWriting file cache transfer = IsWriteEnd desk_calls (transfer_words file cache transfer) desk_failed
 
 -- nothing is written ahead of what ends a command, unless it is the writing that fails
-abbrev pub IsSilentOn : {S T E : Type 0} → (T → Option (List ℕ)) → Desk S T E → DeskLeft S T → CommandFault → Type 0
+abbrev pub IsSilentOn : {S T E : Type 0} → (T → Option (List ℕ)) → Context S T E → ContextLeft S T → CommandFault → Type 0
 IsSilentOn contents old new fault = IsSilent fault (contents old.writer.now.inner) (contents new.1.0.now.inner)
 
 -- ---- with a writer alone

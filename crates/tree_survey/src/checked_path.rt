@@ -2,9 +2,9 @@
 ghost use Rattle.std.specs.Prelude.{◌≡◌};
 ghost use Rattle.tree_shape.specs.Shape.{levels};
 ghost use Rattle.tree_survey.specs.Failing.{IsReadOver};
-ghost use Rattle.tree_survey.specs.Sights.{CanGoDown, HasGone, none_read, state_at, state_by};
+ghost use Rattle.tree_survey.specs.CheckedPaths.{CanGoDown, HasGone, none_read, state_at, state_by};
 
-use crate::path::{Reach, descend};
+use crate::path::{Descent, descend};
 use block_device::BlockDev;
 use runs::Kind;
 use tree_path::{TreePath, top_at};
@@ -14,20 +14,20 @@ use verity_format::is_same;
 /// The path, its shape, the level from which up its hash blocks verify, and whether the hash block below that level can't be
 /// read.
 #[derive(Drop)]
-pub(crate) struct Sight {
+pub(crate) struct CheckedPath {
     pub(crate) path: TreePath,
     pub(crate) shape: Shape,
     pub(crate) good: u32,
     pub(crate) unread: bool,
 }
 
-impl Sight {
+impl CheckedPath {
     /// Returns a path of which nothing was read.
-    pub(crate) fn new(path: TreePath, shape: Shape) -> Sight
+    pub(crate) fn new(path: TreePath, shape: Shape) -> CheckedPath
         ensures { result ≡ none_read path shape }
     {
         let good = path.levels();
-        Sight {
+        CheckedPath {
             path,
             shape,
             good,
@@ -47,9 +47,9 @@ impl Sight {
             return;
         }
         match descend(&mut self.path, device, index, top) {
-            Reach::All => self.end(0, false),
-            Reach::Bad(level) => self.end(level + 1, false),
-            Reach::Unread(level) => self.end(level + 1, true),
+            Descent::All => self.end(0, false),
+            Descent::Bad(level) => self.end(level + 1, false),
+            Descent::Unread(level) => self.end(level + 1, true),
         }
     }
 

@@ -1,0 +1,65 @@
+//! The lengths of the next pieces of a recovery.
+ghost use Rattle.std.specs.Prelude.{◌≡◌, ◌≤◌, ◌<◌, ◌/◌};
+ghost use Rattle.stack_recovery.specs.Pieces.{IsPieceLimit};
+ghost use Rattle.stack_recovery.specs.PieceLimits.{IsFirstPieceLimit};
+
+const MOST_PIECE: u32 = 128;
+
+/// The most sectors of the next piece, and the end of the last piece that couldn't be read whole. Pieces get shorter up to this
+/// sector, and longer after it.
+#[derive(Clone, Copy)]
+pub struct PieceLimit {
+    pub most: u32,
+    pub doubt: u64,
+}
+
+impl PieceLimit {
+    /// Returns the limit before any sector is known.
+    pub fn new() -> PieceLimit
+        ensures piece_limit { IsPieceLimit result.most }
+        ensures first { IsFirstPieceLimit result }
+    {
+        PieceLimit {
+            most: MOST_PIECE,
+            doubt: 0,
+        }
+    }
+
+    /// Returns the limit after a piece of `count` sectors was read; `at` is the next sector. As long as no read failed, it stays
+    /// the first one.
+    pub fn after_bytes(self, count: u32, at: u64) -> PieceLimit
+        requires { IsPieceLimit count }
+        ensures piece_limit { IsPieceLimit result.most }
+        ensures first { IsFirstPieceLimit self → IsFirstPieceLimit result }
+    {
+        let most = if at < self.doubt {
+            (count / 2).max(1)
+        } else {
+            count.max(self.most).min(MOST_PIECE / 2) * 2
+        };
+        PieceLimit {
+            most,
+            doubt: self.doubt,
+        }
+    }
+
+    /// Returns the limit after lost sectors.
+    pub fn after_loss() -> PieceLimit
+        ensures { IsPieceLimit result.most }
+    {
+        PieceLimit { most: 1, doubt: 0 }
+    }
+
+    /// Returns the limit after a piece of `count` sectors, which ends before sector `end`, couldn't be read whole.
+    pub fn after_failure(count: u32, end: u64) -> PieceLimit
+        requires some { 2 ≤ count }
+        requires few { count ≤ 128 }
+        ensures piece_limit { IsPieceLimit result.most }
+        ensures less { result.most < count }
+    {
+        PieceLimit {
+            most: count / 2,
+            doubt: end,
+        }
+    }
+}
