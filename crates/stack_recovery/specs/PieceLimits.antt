@@ -1,4 +1,4 @@
--- the limit on the pieces of a recovery.
+-- The limit on the pieces of a recovery.
 use Rattle.std.specs.Prelude.{◌≡◌}
 use Rattle.stack_recovery.specs.declared.piece_limit.PieceLimit.{PieceLimit}
 
