@@ -1,5 +1,8 @@
 pub mod Commands
+pub mod CommandEnds
 pub mod Desks
+pub mod EndingObjects
+pub mod EndingParts
 pub mod Endings
 pub mod FaultTexts
 pub mod Invocations

@@ -1,9 +1,12 @@
 //! The commands of the program: words and a reader in, a written text and a status out.
 #![tactic(auto)]
 
+mod command_end;
 mod copy;
 mod desk;
 mod ending;
+mod ending_object;
+mod ending_parts;
 mod fault;
 mod fault_texts;
 mod invocation;
