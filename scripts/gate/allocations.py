@@ -39,7 +39,7 @@ PLACES = {
     "program_io": (4, VALUES),
     "runs": (9, VALUES),
     "scan_commands": (20, VALUES),
-    "stack_commands": (3, VALUES),
+    "stack_commands": (15, VALUES),
     "stack_lines": (2, CACHE),
     "verified_cache": (5, CACHE),
     "verity_commands": (9, VALUES),

@@ -6,7 +6,7 @@ from images import Drawn, run_diff, run_dump, run_format, run_partitions, run_ta
 from nbd import Service
 from recovery import check_size, facts_of as lost_facts, lines_of, looked_up, recovered, with_map
 from repairs import run_repair
-from replies import Json, Octets
+from replies import Json, Octets, ending_object
 from session import MOST_SECTORS, SUBMISSION_RULES, Session, Usage, check_request, costs
 from stack import SECTOR, Fault, FileImage, MemoryImage, Stack
 from tables import TextFault, read_stack
@@ -138,7 +138,7 @@ def gone_over(options, name, stack, out, files):
         runs, had = recovered(stack, device, out)
     if unwritten:
         # an object comes at the end, and what ends it alone
-        return ([] if b"json" in options else lines_of(runs, had)[:-1]) + [unwritten], REFUSED
+        return [ending_object(unwritten)] if b"json" in options else [*lines_of(runs, had)[:-1], unwritten], REFUSED
     lines = [Json(lost_facts(runs, had))] if b"json" in options else lines_of(runs, had)
     return lines, DONE if all(had) else FAULT
 
@@ -304,6 +304,8 @@ def run(words, given, files, features, cuts=()):
     name = b"".join(words[:1]).decode("latin-1")
     if name in OUTPUT_IS_DATA and name in features["commands"]:
         return Octets(b"", line), status
+    if status != USAGE and b"json" in cut_words(words[1:], name)[0]:
+        return Noted([ending_object(line)], warnings), status
     return Noted([line], warnings), status
 
 

@@ -7,7 +7,7 @@ from files import WHOLE, Noted, Stop
 from partitions import lines_of, root_lines, stack_lines, table_facts, table_of, warning_lines
 from pins import read_pin
 from protection import check_aligned, check_one_size, check_parity_of, compared_parity, found, measured, protect
-from replies import Json
+from replies import Json, ending_object
 from stack import SECTOR
 from tables import digits_of
 from verity import (ImageFault, Superblock, bare_tree, check_data, check_sizes, dump_facts, format_images, read_superblock,
@@ -169,7 +169,7 @@ def run_diff(options, words, files, _given, _features):
         facts = difference_facts(kinds, most)
         if b"all" in options:
             facts["hash_blocks"] = [{"level": level, "index": index} for level, index in bad]
-        return [fault.encode()] if fault else [Json(facts)], FAULT if differ else DONE
+        return [ending_object(fault.encode()) if fault else Json(facts)], FAULT if differ else DONE
     return ahead + [line.encode() for line in lines], FAULT if differ else DONE
 
 

@@ -1,6 +1,7 @@
 """What a command prints where that isn't lines that are known to the byte."""
 
 import json
+import re
 
 
 class Json:
@@ -14,6 +15,19 @@ class Json:
 
     def allows(self, line):
         return line == self.text()
+
+
+def ending_object(line):
+    """The line that ends a command early as the object that `--json` has for it."""
+    text = line.decode()
+    found = re.fullmatch(r"text fault (\d+) (\d+) (\d+) (.*)", text, re.S)
+    if found:
+        return Json({"kind": "text fault", "entry": int(found[1]), "line": int(found[2]), "number": int(found[3]), "name": found[4]})
+    found = re.fullmatch(r"(\w+) (?:(\d+) )?([^ ]*)(?: (.*))?", text, re.S)
+    if not found or not found[2] and found[1] not in ("refused", "fault"):
+        return Json({"kind": text})
+    parts = {"kind": found[1], "number": found[2] and int(found[2]), "name": found[3], "detail": found[4]}
+    return Json({key: value for key, value in parts.items() if value is not None})
 
 
 class Octets:

@@ -10,7 +10,7 @@ use Rattle.program_io.specs.declared.fault.WriteFault.{WriteFault}
 use Rattle.stack_commands.specs.declared.fault.CommandFault.{CommandFault}
 use Rattle.stack_commands.specs.declared.fault.CommandFault.TheVariants.{Usage, NoMemory, Stack, Linux, Request, Io, Recovering, Stream, Verity, Fec, Partitions, Trees, Session, Service}
 use Rattle.verity_commands.proofs.EndingLemmas.{quiet as verity-quiet}
-use Rattle.stack_commands.specs.Commands.{ExplainsUsage, IsEndOr, IsTold, TellsErrors, Told, is_output_failed, is_usage}
+use Rattle.stack_commands.specs.Commands.{ExplainsUsage, IsEndAsOr, IsEndOr, IsTold, TellsErrors, Told, is_output_failed, is_usage}
 use Rattle.stack_commands.specs.Endings.{IsSilent}
 
 pub quiet : (fault : CommandFault) (bytes : Option (List ℕ)) → IsSilent fault bytes bytes
@@ -30,15 +30,15 @@ quiet (Session fault) bytes = tt
 quiet (Service fault) bytes = refl
 
 -- how an end is told: by the writer, or elsewhere
-pub told-here : (cat : Bool) (fault : CommandFault) (old new : Option (List ℕ)) (told : Told) (status : ℕ) → cat ≡ false
-    → IsEndOr told.failed fault old new status → TellsErrors fault told → IsTold cat fault old new told status
-told-here cat fault old new told status is ends kept = subst (λ (b : Bool). IsTold b fault old new told status) (sym is) (ends, kept)
+pub told-here : (cat json : Bool) (fault : CommandFault) (old new : Option (List ℕ)) (told : Told) (status : ℕ) → cat ≡ false
+    → IsEndAsOr json told.failed fault old new status → TellsErrors fault told → IsTold cat json fault old new told status
+told-here cat json fault old new told status is ends kept = subst (λ (b : Bool). IsTold b json fault old new told status) (sym is) (ends, kept)
 
-pub told-elsewhere : (cat : Bool) (fault : CommandFault) (output before : Option (List ℕ)) (told : Told) (status : ℕ) → cat ≡ true
+pub told-elsewhere : (cat json : Bool) (fault : CommandFault) (output before : Option (List ℕ)) (told : Told) (status : ℕ) → cat ≡ true
     → (is_usage fault ≡ true → ExplainsUsage told.words told.old before told.errors_failed) → (is_usage fault ≡ false → before ≡ told.old)
-    → IsEndOr told.errors_failed fault before told.new status → IsTold cat fault output output told status
-told-elsewhere cat fault output before told status is explained unsaid ends =
-    subst (λ (b : Bool). IsTold b fault output output told status) (sym is) (refl, record { before = before; explained = explained; unsaid = unsaid; ends = ends })
+    → IsEndOr told.errors_failed fault before told.new status → IsTold cat json fault output output told status
+told-elsewhere cat json fault output before told status is explained unsaid ends =
+    subst (λ (b : Bool). IsTold b json fault output output told status) (sym is) (refl, record { before = before; explained = explained; unsaid = unsaid; ends = ends })
 
 -- OUT doesn't fail before there is a command
 pub usage-no_output : (fault : CommandFault) → is_usage fault ≡ true → is_output_failed fault ≡ false

@@ -1,4 +1,5 @@
 pub mod EndingLemmas
+mod EndingObjectLemmas
 pub mod OpeningLemmas
 mod LinuxLemmas
 mod RefusalLemmas

@@ -1,5 +1,5 @@
 -- What the program does with the words behind its name.
-use Rattle.std.specs.Prelude.{◌≡◌, ◌⊎◌, ◌||◌, ℕ, Bool, true, false, List, [], ◌∷◌, codes, Option, Some, IfSome}
+use Rattle.std.specs.Prelude.{◌≡◌, ◌⊎◌, ◌&&◌, ◌||◌, ℕ, Bool, true, false, not, List, [], ◌∷◌, codes, Option, Some, IfSome}
 use Rattle.std.specs.Io.KnownBytes.{Appends}
 use Rattle.std.specs.Str.{bytes_eq}
 use Rattle.stack_commands.specs.declared.fault.CommandFault.{CommandFault}
@@ -7,7 +7,7 @@ use Rattle.stack_commands.specs.declared.fault.CommandFault.TheVariants.{Fec, Re
 use Rattle.scan_commands.specs.declared.recovering_fault.RecoveringFault.TheVariants.{Pass}
 use Rattle.scan_commands.specs.declared.rescue_fault.PassFault.{PassFault}
 use Rattle.scan_commands.specs.declared.rescue_fault.PassFault.TheVariants as pass
-use Rattle.stack_commands.specs.Endings.{IsEnd, IsSilent, ending_text}
+use Rattle.stack_commands.specs.Endings.{IsEnd, IsEndAs, IsSilent, ending_text}
 use Rattle.fec_commands.specs.declared.fault.FecFault.TheVariants as fec_fault
 use Rattle.verity_commands.specs.declared.verity_fault.VerityFault.TheVariants as verity_fault
 use Rattle.program_io.specs.Streams.{Streams}
@@ -25,12 +25,6 @@ use Rattle.stack_commands.specs.Uses.{IsUsageEnd, Uses}
 pub record IsCommandOf (words : List (List ℕ)) (texts : OptionTexts) (invocation : InvocationRecord) : Type 0 where
   pub invoked : invoked words ≡ Some invocation
   pub options : options_said words ≡ Some texts
-
--- the words are no command, or memory ran out while they were read, and nothing was opened; or their command ended early
-abbrev pub IsRunEnd : {S D T G : Type 0} → List (List ℕ) → Uses S D T G → Bool → CommandFault → Type 0
-IsRunEnd words u failed fault =
-    (IsUsageEnd fault (IsNoCommand words) × (u.new ≡ u.old) × (u.images.new ≡ u.images.old) × (u.notes.new ≡ u.notes.old))
-    ⊎ ((invocation : InvocationRecord) × (texts : OptionTexts) × IsCommandOf words texts invocation × FailsCommand texts invocation u failed fault × AreCommandNotes invocation u.notes)
 
 -- the command of that name writes data for another program: the bytes of a device, the replies to a client
 abbrev pub writes_data : List ℕ → Bool
@@ -57,6 +51,17 @@ abbrev pub is_output_failed : CommandFault → Bool
 is_output_failed (Recovering (Pass fault)) = is_output fault
 is_output_failed fault = false
 
+-- `--json` asks for an object of each end but a usage error
+abbrev pub object_asked : Bool → CommandFault → Bool
+object_asked json fault = json && not (is_usage fault)
+
+-- The words are no command, or memory ran out while they were read, and nothing was opened; or their command ended early. The last
+-- argument says whether an object of the end is asked for.
+abbrev pub IsRunEnd : {S D T G : Type 0} → List (List ℕ) → Uses S D T G → Bool → CommandFault → Bool → Type 0
+IsRunEnd words u failed fault json =
+    (IsUsageEnd fault (IsNoCommand words) × (u.new ≡ u.old) × (u.images.new ≡ u.images.old) × (u.notes.new ≡ u.notes.old) × (json ≡ false))
+    ⊎ ((invocation : InvocationRecord) × (texts : OptionTexts) × IsCommandOf words texts invocation × FailsCommand texts invocation u failed fault × AreCommandNotes invocation u.notes × (json ≡ object_asked texts.json fault))
+
 -- the words; whether the writer failed; what was written to the errors' writer before and by now, and whether that failed
 pub record Told : Type 0 where
   pub words : List (List ℕ)
@@ -79,7 +84,11 @@ pub record ExplainsUsage (words : List (List ℕ)) (old new : Option (List ℕ))
 abbrev pub IsEndOr : Bool → CommandFault → Option (List ℕ) → Option (List ℕ) → ℕ → Type 0
 IsEndOr failed fault old new status = IsEnd fault old new status ⊎ ((status ≡ 1) × (failed ≡ true))
 
--- the same among the errors, after the explanation of a usage error
+-- its text or its object was printed and its status answered, or the writer failed
+abbrev pub IsEndAsOr : Bool → Bool → CommandFault → Option (List ℕ) → Option (List ℕ) → ℕ → Type 0
+IsEndAsOr json failed fault old new status = IsEndAs json fault old new status ⊎ ((status ≡ 1) × (failed ≡ true))
+
+-- the text among the errors, after the explanation of a usage error
 pub record IsToldElsewhere (fault : CommandFault) (told : Told) (status : ℕ) : Type 0 where
   pub before : Option (List ℕ)
   pub explained : is_usage fault ≡ true → ExplainsUsage told.words told.old before told.errors_failed
@@ -98,23 +107,24 @@ pub record TellsErrors (fault : CommandFault) (told : Told) : Type 0 where
   pub unsaid : is_usage fault ≡ false → is_output_failed fault ≡ false → before ≡ told.old
   pub repeated : IsRepeated told.failed fault before told.new told.errors_failed
 
--- how an end is told: printed; where the output is data among the errors, and nothing is written
-abbrev pub IsTold : Bool → CommandFault → Option (List ℕ) → Option (List ℕ) → Told → ℕ → Type 0
-IsTold false fault old new told status = IsEndOr told.failed fault old new status × TellsErrors fault told
-IsTold true fault old new told status = (new ≡ old) × IsToldElsewhere fault told status
+-- how an end is told: printed; if the output is data, among the errors, and nothing is written
+abbrev pub IsTold : Bool → Bool → CommandFault → Option (List ℕ) → Option (List ℕ) → Told → ℕ → Type 0
+IsTold false json fault old new told status = IsEndAsOr json told.failed fault old new status × TellsErrors fault told
+IsTold true json fault old new told status = (new ≡ old) × IsToldElsewhere fault told status
 
--- A command ended early: its text is printed and its status answered, or that can't be written. Where the writer had
--- failed before, that stays known. Among the errors the text follows what the command printed there.
+-- A command ended early: its text, or the object of its line, is printed and its status answered, or that can't be written. If the
+-- writer had failed before, that stays known. Among the errors the text follows what the command printed there.
 pub record EndsCommand {S D T G : Type 0} (u : Uses S D T G) (told : Told) (status : ℕ) : Type 0 where
   pub fault : CommandFault
+  pub json : Bool
   pub before : Streams
   pub unwritten : Bool
   pub notes : Notes
   pub begun : notes.old ≡ told.old
   pub noted : is_usage fault ≡ false → is_output_failed fault ≡ false → notes.failed ≡ true → told.errors_failed ≡ true
-  pub fails : IsRunEnd told.words (record u { new = before; notes = notes }) unwritten fault
+  pub fails : IsRunEnd told.words (record u { new = before; notes = notes }) unwritten fault json
   pub kept : unwritten ≡ true → told.failed ≡ true
-  pub told_so : IsTold (output_is_data told.words) fault before.output u.new.output (record told { old = notes.new }) status
+  pub told_so : IsTold (output_is_data told.words) json fault before.output u.new.output (record told { old = notes.new }) status
 
 -- the command of some words succeeded
 abbrev pub IsCommandDone : {S D T G : Type 0} → List (List ℕ) → Uses S D T G → Type 0

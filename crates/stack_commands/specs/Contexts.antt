@@ -44,7 +44,7 @@ use Rattle.stack_rules.specs.Records.{Configuration}
 use Rattle.stack_commands.specs.declared.context.Context.{Context}
 use Rattle.stack_commands.specs.declared.fault.CommandFault.{CommandFault}
 use Rattle.stack_commands.specs.Diffing.{ComparesImages, IsComparingEnd}
-use Rattle.stack_commands.specs.Endings.{IsEnd, IsSilent}
+use Rattle.stack_commands.specs.Endings.{IsEnd, IsEndAs, IsSilent}
 use Rattle.stack_commands.specs.Invocations.{CatsSectors, CopiesSectors, IsCatCommandEnd, IsCopyWordsEnd, IsLoadWordsEnd, IsPageEnd, IsReadWordsEnd, IsScanWordsEnd, IsWriteWordsEnd, ListsDevices, PrintsPage, ReadsDevice, ScansSectors, WritesDevice}
 use Rattle.stack_commands.specs.Repairing.{IsParityWordsEnd, IsRepairWordsEnd, RepairsImage}
 use Rattle.stack_commands.specs.StackCommands.{IsListEnd, IsReadEnd, IsWriteEnd, PrintsDevices, PrintsReply, PrintsWritten}
@@ -189,3 +189,7 @@ module _ {T : Type 0} (contents : T → Option (List ℕ)) (old new : CountedRec
   -- why a command ended early, with its status, or the status 1 where that can't be written
   abbrev pub IsToldBy : CommandFault → ℕ → Type 0
   IsToldBy fault status = IsEnd fault (contents old.inner) (contents new.inner) status ⊎ ((status ≡ 1) × (new.failed ≡ true))
+
+  -- the same, and as an object if one is asked for
+  abbrev pub IsToldAs : Bool → CommandFault → ℕ → Type 0
+  IsToldAs json fault status = IsEndAs json fault (contents old.inner) (contents new.inner) status ⊎ ((status ≡ 1) × (new.failed ≡ true))

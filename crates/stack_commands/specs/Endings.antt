@@ -1,5 +1,5 @@
 -- What a command prints where it ends early, and its status.
-use Rattle.std.specs.Prelude.{◌≡◌, ℕ, Bool, true, List, [], Option}
+use Rattle.std.specs.Prelude.{◌≡◌, ◌⊎◌, ℕ, Bool, true, List, [], Option, Some}
 use Rattle.std.specs.Io.KnownBytes.{Appends}
 use Rattle.command_line.specs.declared.fault.WordsFault.{WordsFault}
 use Rattle.command_line.specs.declared.fault.WordsFault.TheVariants as words
@@ -8,6 +8,7 @@ use Rattle.stack_commands.specs.declared.fault.CommandFault.TheVariants.{Usage, 
 use Rattle.linux_rules.specs.declared.refusal.LinuxFault.{LinuxFault}
 use Rattle.linux_rules.specs.declared.refusal.LinuxFault.TheVariants as linux
 use Rattle.nbd_protocol.specs.declared.fault.ServiceFault.TheVariants as service
+use Rattle.stack_commands.specs.EndingObjects.{ending_object}
 use Rattle.stack_session.specs.declared.fault.SessionFault.TheVariants.{WriteFault}
 use Rattle.verity_commands.specs.Endings as verity
 use Rattle.verity_commands.specs.Texts.{verity_text}
@@ -65,6 +66,14 @@ ending_status fault = 1
 -- its text was printed, and its status answered
 abbrev pub IsEnd : CommandFault → Option (List ℕ) → Option (List ℕ) → ℕ → Type 0
 IsEnd fault old new status = (status ≡ ending_status fault) × Appends old new (ending_text fault)
+
+-- the object of its line was printed, and its status answered
+abbrev pub IsObjectEnd : CommandFault → Option (List ℕ) → Option (List ℕ) → ℕ → Type 0
+IsObjectEnd fault old new status = (status ≡ ending_status fault) × ((object : List ℕ) × ((ending_object (ending_text fault) ≡ Some object) × Appends old new object))
+
+-- its text was printed, or the object of its line if one is asked for; then it is the text only if it has no line, or memory ran out
+abbrev pub IsEndAs : Bool → CommandFault → Option (List ℕ) → Option (List ℕ) → ℕ → Type 0
+IsEndAs json fault old new status = IsEnd fault old new status ⊎ ((json ≡ true) × IsObjectEnd fault old new status)
 
 -- a line can't be written: the writer failed
 abbrev pub IsReplyUnwritten : Bool → CommandFault → Type 0

@@ -1,6 +1,9 @@
 pub mod Commands
 pub mod Contexts
 pub mod Diffing
+pub mod CommandEnds
+pub mod EndingObjects
+pub mod EndingParts
 pub mod Endings
 pub mod FaultTexts
 pub mod Invocations

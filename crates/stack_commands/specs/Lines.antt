@@ -9,6 +9,7 @@ use Rattle.command_parser.specs.declared.parser.CommandLine.{CommandLine}
 use Rattle.image_commands.specs.Drawing.{Drawing}
 use Rattle.image_files.specs.Opener.{Opener, calls}
 use Rattle.partition_commands.specs.Warnings.{Notes}
+use Rattle.stack_commands.specs.declared.command_end.CommandEnd.{CommandEnd}
 use Rattle.stack_commands.specs.declared.fault.CommandFault.{CommandFault}
 use Rattle.stack_commands.specs.Commands.{IsCommandDone, IsRunEnd}
 use Rattle.stack_commands.specs.Invocations.{AreCommandNotes, FailsCommand, Succeeds}
@@ -28,8 +29,8 @@ module _ {S D G F R T : Type 0} (relations : Opener S D) (state : D → Device) 
   abbrev pub DoesWords : List (List ℕ) → Type 0
   DoesWords words = IsCommandDone words all_used
 
-  abbrev pub EndsWords : List (List ℕ) → CommandFault → Type 0
-  EndsWords words = IsRunEnd words all_used writer'.failed
+  abbrev pub EndsWords : List (List ℕ) → CommandEnd → Type 0
+  EndsWords words ended = IsRunEnd words all_used writer'.failed ended.fault ended.json
 
   -- by what they say
   abbrev pub DoesLine : CommandLine → Type 0

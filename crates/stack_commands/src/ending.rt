@@ -1,9 +1,11 @@
 //! How a command ends early: what is printed, and the status.
-ghost use Rattle.std.specs.Prelude.{true, ◌≡◌};
+ghost use Rattle.std.specs.Prelude.{true, ◌≡◌, IfSome, Some, string_bytes};
 ghost use Rattle.program_io.specs.Counted.{Writes};
-ghost use Rattle.stack_commands.specs.Contexts.{IsToldBy};
+ghost use Rattle.stack_commands.specs.Contexts.{IsToldAs, IsToldBy};
+ghost use Rattle.stack_commands.specs.EndingObjects.{ending_object};
 ghost use Rattle.stack_commands.specs.Endings.{ending_status, ending_text};
 
+use crate::ending_object::ending_object;
 use crate::fault::CommandFault;
 use crate::fault_texts::{
     io_status, recovering_status, request_status, say_linux_refusal, say_recovering_fault,
@@ -14,7 +16,9 @@ use io_fault_text::{say_io_fault, say_no_memory, say_usage};
 use nbd_server::ServiceFault;
 use partition_commands::{partitions_status, say_partitions_fault};
 use program_io::{Counted, WriteFault};
+use std::alloc::Global;
 use std::io::Write;
+use std::str;
 use verity_commands::{say_tree_fault, say_verity_fault, tree_status, verity_status};
 
 const REFUSED: u8 = 1;
@@ -25,8 +29,64 @@ const FAULT: u8 = 3;
 
 const BROKEN_CLIENT: u8 = 4;
 
-/// Prints why a command ends early, and answers its status: 1 where that can't be written. A failure of the writer stays
-/// known.
+/// Prints why a command ends early, as an object if `json` is set and memory suffices for it, and returns its status: 1 if that
+/// can't be written. A failure of the writer stays known.
+pub fn end_as<W: Write>(
+    alloc: Global,
+    writer: &mut Counted<W>,
+    fault: CommandFault<'_>,
+    json: bool,
+) -> u8
+    ensures told { IsToldAs W.contents writer.old writer.new json fault.entry result }
+    ensures failed { writer.old.failed ≡ true → writer.new.failed ≡ true }
+{
+    if !json {
+        return end(writer, fault);
+    }
+    match object_of(alloc, fault) {
+        Some(object) => put_object(writer, fault, object.as_str()),
+        None => end(writer, fault),
+    }
+}
+
+// The object of the line of a fault; `None` if it has no line, or if memory runs out.
+fn object_of(alloc: Global, fault: CommandFault<'_>) -> Option<String>
+    ensures { IfSome result (λ object. ending_object (ending_text fault.entry) ≡ Some (string_bytes object)) }
+{
+    let mut kept = Counted::new(Vec::new(alloc));
+    match say_fault(&mut kept, fault) {
+        Ok(()) => {
+            let line = kept.into_inner();
+            object_in(alloc, line.as_slice())
+        }
+        Err(_) => None,
+    }
+}
+
+// The object of the first line of a text.
+fn object_in(alloc: Global, bytes: &[u8]) -> Option<String>
+    ensures { IfSome result (λ object. ending_object bytes.now ≡ Some (string_bytes object)) }
+{
+    match str::from_utf8(bytes) {
+        Ok(text) => ending_object(alloc, text),
+        Err(_error) => None,
+    }
+}
+
+// Prints the object of a fault.
+fn put_object<W: Write>(writer: &mut Counted<W>, fault: CommandFault<'_>, object: &str) -> u8
+    requires { ending_object (ending_text fault) ≡ Some object.now }
+    ensures told { IsToldAs W.contents writer.old writer.new true fault.entry result }
+    ensures failed { writer.old.failed ≡ true → writer.new.failed ≡ true }
+{
+    match writer.put(object.as_bytes()) {
+        Ok(()) => status_of(fault),
+        Err(_) => REFUSED,
+    }
+}
+
+/// Prints the line that says why a command ends early, and returns its status: 1 if that can't be written. A failure of the
+/// writer stays known.
 pub fn end<W: Write>(writer: &mut Counted<W>, fault: CommandFault<'_>) -> u8
     ensures told { IsToldBy W.contents writer.old writer.new fault.entry result }
     ensures failed { writer.old.failed ≡ true → writer.new.failed ≡ true }

@@ -1,10 +1,13 @@
 //! The commands of the program: words and a reader in, a written text and a status out.
 #![tactic(auto)]
 
+mod command_end;
 mod context;
 mod copy;
 mod diff;
 mod ending;
+mod ending_object;
+mod ending_parts;
 mod fault;
 mod fault_texts;
 mod invocation;

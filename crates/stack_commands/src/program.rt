@@ -4,12 +4,13 @@ ghost use Rattle.program_io.specs.Streams.{streams};
 ghost use Rattle.image_commands.specs.Drawing.{drawing};
 ghost use Rattle.image_files.specs.Opener.{calls};
 ghost use Rattle.partition_commands.specs.Warnings.{notes_of};
-ghost use Rattle.stack_commands.specs.Commands.{EndsCommand, ExplainsUsage, IsCommandDone, IsRepeated, is_output_failed, is_usage, output_is_data, told_to, writes_data};
-ghost use Rattle.stack_commands.specs.Contexts.{IsToldBy};
+ghost use Rattle.stack_commands.specs.Commands.{EndsCommand, ExplainsUsage, IsCommandDone, IsRepeated, is_output_failed, is_usage, object_asked, output_is_data, told_to, writes_data};
+ghost use Rattle.stack_commands.specs.Contexts.{IsToldAs};
 ghost use Rattle.stack_commands.specs.Lines.{DoesWords, EndsWords};
 ghost use Rattle.stack_commands.specs.Uses.{uses};
 
-use crate::ending::end;
+use crate::command_end::CommandEnd;
+use crate::ending::{end, end_as};
 use crate::fault::CommandFault;
 use crate::invocation::invoke;
 use command_parser::{misuse_of, parse};
@@ -51,31 +52,34 @@ pub fn command<I: Images, G: Generators + Progress + Watchers, S: Read, W: Write
 {
     match run(alloc, images, generators, words, reader, writer, errors) {
         Ok(()) => DONE,
-        Err(fault) => {
+        Err(ended) => {
+            let CommandEnd { fault, json } = ended;
             explain(alloc, errors, words, fault);
             if output_is_data(words) {
                 end(errors, fault)
             } else {
                 tell_output(errors, fault);
-                report_end(writer, errors, fault)
+                report_end(alloc, writer, errors, fault, json)
             }
         }
     }
 }
 
-// Prints why a command ends early, and returns its status. If the writer failed, the reason is printed among the errors too. If
-// it is the reason that wasn't written, the status is 1.
+// Prints why a command ends early, as an object if `json` is set, and returns its status. If the writer failed, the reason is
+// printed among the errors too. If it is the reason that wasn't written, the status is 1.
 fn report_end<W: Write, E: Write>(
+    alloc: Global,
     writer: &mut Counted<W>,
     errors: &mut Counted<E>,
     fault: CommandFault<'_>,
+    json: bool,
 ) -> u8
-    ensures told { IsToldBy W.contents writer.old writer.new fault.entry result }
+    ensures told { IsToldAs W.contents writer.old writer.new json fault.entry result }
     ensures failed { writer.old.failed ≡ true → writer.new.failed ≡ true }
     ensures errors_failed { errors.old.failed ≡ true → errors.new.failed ≡ true }
     ensures errors { IsRepeated writer.new.failed fault.entry (E.contents errors.old.inner) (E.contents errors.new.inner) errors.new.failed }
 {
-    let status = end(writer, fault);
+    let status = end_as(alloc, writer, fault, json);
     let flushed = writer.flush();
     if writer.failed() {
         let _repeated = end(errors, fault);
@@ -165,12 +169,26 @@ fn run<'a, I: Images, G: Generators + Progress + Watchers, S: Read, W: Write, E:
     reader: &mut Counted<S>,
     writer: &mut Counted<W>,
     errors: &mut Counted<E>,
-) -> Result<(), CommandFault<'a>>
+) -> Result<(), CommandEnd<'a>>
     requires reader { reader.old.failed ≡ false }
     requires writer { writer.old.failed ≡ false }
     ensures ok { OnOk result (DoesWords I.relations I.Dev.state S.remaining W.contents images.old images.new (drawing G.gives G.Generator.stream generators.old generators.new) reader.old reader.new writer.old writer.new (notes_of E.contents errors.old errors.new) (map string_bytes words.now)) }
     ensures err { IfErr result (EndsWords I.relations I.Dev.state S.remaining W.contents images.old images.new (drawing G.gives G.Generator.stream generators.old generators.new) reader.old reader.new writer.old writer.new (notes_of E.contents errors.old errors.new) (map string_bytes words.now)) }
 {
     let line = parse(alloc, words)?;
-    invoke(alloc, images, generators, line, reader, writer, errors)
+    let json = line.options.json;
+    match invoke(alloc, images, generators, line, reader, writer, errors) {
+        Ok(()) => Ok(()),
+        Err(fault) => Err(command_end(fault, json)),
+    }
+}
+
+// How a command ends early, with `--json` or without it: `usage` stays a line.
+fn command_end(fault: CommandFault<'_>, json: bool) -> CommandEnd<'_>
+    ensures { result ≡ record { fault = fault.entry; json = object_asked json fault.entry } }
+{
+    CommandEnd {
+        fault,
+        json: json && !is_usage(fault),
+    }
 }
