@@ -11,4 +11,5 @@ pub mod OpenParts
 pub mod Promises
 pub mod Calls
 pub mod Drafts
+pub mod NewFiles
 pub mod SystemFiles

@@ -79,6 +79,7 @@ impl<'a, R: AllocGlobal> FileImages<'a, R> {
 impl<R: Files<File = File> + AllocGlobal + Input> Images for FileImages<'_, R> {
     ghost use Rattle.image_files.specs.Drafts.{Replaces, Tries};
     ghost use Rattle.image_files.specs.FileRelations.{file_relations};
+    ghost use Rattle.image_files.specs.NewFiles.{Makes};
     ghost use Rattle.image_files.specs.SystemFiles.{system_relations};
     ghost use Rattle.image_files.specs.declared.system_calls.SystemCalls.{SystemCalls};
 
@@ -89,6 +90,7 @@ impl<R: Files<File = File> + AllocGlobal + Input> Images for FileImages<'_, R> {
       id = λ window. any_id window.inner;
       opened = λ window. any_opened window.inner;
       locked = λ images. images.locks.files.items;
+      made = λ path. (before after : SystemCalls R) × Makes system_relations before path after;
       replaced = λ path bytes outcome. (before after : SystemCalls R) × Replaces system_relations before path bytes outcome after;
       tried = λ path outcome. (before after : SystemCalls R) × Tries system_relations before path outcome after;
     }) };
