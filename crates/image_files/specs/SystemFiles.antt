@@ -1,4 +1,4 @@
--- Calls of the operating system by which a text is replaced, as evidence: the definition isn't unfoldable, so code knows it
+-- Calls of the operating system by which a text is replaced or a file made, as evidence: the definition isn't unfoldable, so code knows it
 -- only from a call of `SystemCalls`.
 use Rattle.std.specs.Prelude.{ℕ, Bool, true, false, List, Result, Ok, Err}
 use Rattle.std.specs.Fs.{new_options, with_create_new, with_read, with_write}
