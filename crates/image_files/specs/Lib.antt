@@ -12,4 +12,5 @@ pub mod Promises
 pub mod Calls
 pub mod Drafts
 pub mod NewFiles
+pub mod Sizes
 pub mod SystemFiles
