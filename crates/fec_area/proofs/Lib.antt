@@ -7,4 +7,5 @@ pub mod WritingLemmas
 mod HandingLemmas
 pub mod SumLemmas
 pub mod AskingLemmas
+pub mod GivenLemmas
 pub mod lemmas

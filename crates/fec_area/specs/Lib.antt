@@ -5,3 +5,5 @@ pub mod Handing
 pub mod Checking
 pub mod Restoring
 pub mod Asking
+pub mod Given
+pub mod GivenRestored
