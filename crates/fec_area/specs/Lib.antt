@@ -7,3 +7,4 @@ pub mod Restoring
 pub mod Asking
 pub mod Given
 pub mod GivenRestored
+pub mod GivenParity
