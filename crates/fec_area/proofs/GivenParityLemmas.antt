@@ -88,6 +88,6 @@ module _ {D H P : Type 0} (asks : D → Call → D → Type 0) (does : H → Cal
         here.of_parity,
         subst (λ (m : ℕ). GivesFirst asks does l (first_rounds l (m + 1)) d h d'' h'') (sym here.count)
             (first-then asks does l (first_rounds l n) (round_indices l n) (first_rounds l (n + 1)) [] (sym (gathered-next (round_indices l) n) ∙ sym (append-nil (first_rounds l n ++ round_indices l n))) (λ x y. AreParities l x y 0 here.stored) d h d' h' d'' h''
-                here.blocks first),
+            here.blocks first),
       );
     }

@@ -70,8 +70,8 @@ returns-in_err-least-clause-err g c =
     rw (p.1, p.2)
     (pair-cause c.args.tree.now.shape (g.D.BlockDev.state c.args.data_dev.now) (g.H.BlockDev.state c.args.hash_dev.now) (g.D.BlockDev.state c.compare_tree.new.data_dev) (g.H.BlockDev.state c.compare_tree.new.hash_dev) _ c.in_err-least.ensures.fault)
 
-pub returns-then-clause-calls : goal.returns-then-clause-calls
-returns-then-clause-calls g c = (refl, refl)
+pub returns-then-is_too_small-clause-calls : goal.returns-then-is_too_small-clause-calls
+returns-then-is_too_small-clause-calls g c = (refl, refl)
 
 pub returns-in_err-least-clause-calls : goal.returns-in_err-least-clause-calls
 returns-in_err-least-clause-calls g c =
