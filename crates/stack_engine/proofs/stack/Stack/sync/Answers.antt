@@ -1,8 +1,7 @@
-use Rattle.std.proofs.Common.{◌≡◌, List, length, map, refl, sym, ap, ◌∙◌, subst}
+use Rattle.std.proofs.Common.{◌≡◌, length, map, refl, sym, ap, ◌∙◌, subst}
 use Rattle.std.proofs.lemmas.List.{with_items_is}
 use Rattle.stack_meaning.specs.Leaves.{AreRead}
 use Rattle.stack_engine.specs.Stacks.{StackRecord, IsStack}
-use Rattle.block_device.specs.Device.{Device}
 use Rattle.stack_engine.specs.Syncs.{MakesSyncs, NeverFail}
 use Rattle.stack_engine.proofs.CachedLemmas.{cached-read}
 use Rattle.stack_engine.proofs.lemmas.PieceLemmas.{piece-sound}
