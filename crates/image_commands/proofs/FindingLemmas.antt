@@ -18,7 +18,7 @@ pub no-tree-end : (memory : Type 0) (device device' : Device) (first : ℕ) (pin
     → IsNoTree (behind device first) first pin device' fault → IsPlacedSuperEnd memory device first pin failed (no_tree_fault fault)
 no-tree-end memory device device' first pin failed (Unread fault) cause = inl (device', cause)
 no-tree-end memory device device' first pin failed Misplaced cause = inr cause
-no-tree-end memory device device' first pin failed (Unlike mismatch) cause = inr cause
+no-tree-end memory device device' first pin failed (Unlike mismatch) cause = inr (device', cause)
 
 -- of a tree without a superblock
 pub compared-alone : (s : SuperRecord) (d h d' h' : Device) (first : ℕ) (root : List ℕ) (failed : Bool) (fault : ImageFault)
