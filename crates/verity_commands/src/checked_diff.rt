@@ -12,7 +12,7 @@ ghost use Rattle.verity_commands.specs.Diffs.{CanCompareTwo};
 use crate::checked_object::say_object;
 use crate::diff::{DiffForm, is_unchanged, say_totals};
 use crate::open_trees::{OpenTrees, open_trees};
-use crate::paths::{HashPaths, TwoHashes};
+use crate::paths::{HashPaths, TwoHashes, close_both};
 use crate::tree_fault::TreeFault;
 use block_device::BlockDev;
 use image_files::Images;
@@ -52,7 +52,9 @@ pub fn check_images<'a, I: Images, W: Write>(
     ensures err { IfErr result (FailsToCheckImages I.relations I.Dev.state images.old images.new W.contents writer.old writer.new paths.entry trusted.now form) }
 {
     let OpenTrees { mut two, pair } = open_trees(images, paths, trusted)?;
-    check(alloc, &mut two, &pair, form, writer)
+    let ended = check(alloc, &mut two, &pair, form, writer);
+    close_both(images, &paths, two);
+    ended
 }
 
 fn check<'a, D: BlockDev, W: Write>(
