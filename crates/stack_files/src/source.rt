@@ -8,8 +8,7 @@ use crate::opening_fault::OpeningFault;
 use block_device::BlockDev;
 use image_files::{FileText, Images, UnopenedFile, read_text};
 
-/// The most bytes of a stack text.
-pub const MOST_TEXT: usize = 1 << 20;
+const MOST_TEXT: usize = 1 << 20;
 
 // One sector more than a write may have, so that the queue refuses a longer file.
 const MOST_BYTES: usize = 2049 * 512;
