@@ -2,6 +2,7 @@
 use Rattle.std.proofs.Common.{◌≡◌, ◌≤◌, ◌<◌, ◌+◌, ◌*◌, ◌/◌, ◌%◌, ◌^◌, ℕ, List, [], length, get_or, Option, Some, None, refl, sym, ap, ◌∙◌, subst, arith}
 use Rattle.std.specs.Io.KnownBytes.{Appends}
 use Rattle.std.proofs.Math.Nat.{zero-div, zero-mul}
+use Rattle.std.proofs.lemmas.List.{append-nil}
 use Rattle.block_device.specs.Device.{Device}
 use Rattle.tree_shape.specs.Shape.{ShapeRecord, ancestor, per_block}
 use Rattle.tree_shape.proofs.lemmas.ShapeFactLemmas.{two}
@@ -113,6 +114,10 @@ first-below t (Unlike f) first = tt
 first-below t NoMemory first = tt
 first-below t Write first = tt
 
+nothing : (told : Option (List ℕ)) → Appends told told []
+nothing None = tt
+nothing (Some bytes) = sym (append-nil bytes)
+
 -- nothing, before a data block was compared
 pub reported-none : (t : Trees) (d e d' e' : Device) (told : Option (List ℕ)) (most : Option ℕ) (fault : DifferenceFault) → IsFirstBlock fault → IsReported t (difference_world d e d' e' told told) most fault
 reported-none t d e d' e' told most fault first =
@@ -123,7 +128,7 @@ reported-none t d e d' e' told most fault first =
       few = omega arith;
       seen = record { seen = λ i low. absurd (omega (arith, low)); stored = λ steady steady' i low. absurd (omega (arith, low)) };
       end = first-below t fault first;
-      printed_are = listed-all most [] start told told told none none.printed;
+      printed_are = listed-all most [] start told told told none (nothing told);
     })
 
 -- the runs of the data blocks before the one whose path couldn't be read

@@ -77,7 +77,7 @@ returns-in-Err-clause-before g c =
     let way = way-then w0 w at top top c.in-Err.fault u.trees (omega arith) c.in-Err.ensures.way in
     reported-runs w0 w d0 e0 d e c.requires.have (g.D.BlockDev.state c.descend.new.first) (g.E.BlockDev.state c.descend.new.second)
     (g.L.Listing.told c.args.listing.now) (g.L.Listing.told c.spans.listing) (g.L.Listing.told c.close.new.listing) c.args.most (progress c.spans.tally c.spans.changed at) u c.in-Err.fault
-    (below-way w0 d0 e0 c.requires.have at top is c.in-Err.fault way) c.in_ok-close.ensures.text.ok
+    (below-way w0 d0 e0 c.requires.have at top is c.in-Err.fault way) c.in_ok-close-in-Err.ensures.text.ok
 
 pub overflow_add-changed : goal.overflow_add-changed
 overflow_add-changed g c =
@@ -128,15 +128,15 @@ spans-preserved g c =
     let i : DifferenceWorld = difference_world d0 e0 d e old now in
     elim c.if-stop.branch [
       | then-stop+in_ok-close v ↦
-          let new : Option (List ℕ) = g.L.Listing.told v.close.new.listing in
+          let new : Option (List ℕ) = g.L.Listing.told v.close-then-stop.new.listing in
           let i' : DifferenceWorld = difference_world d0 e0 d' e' old new in
           let n : IsNext w0 w w' i i' at top level count = next-of w0 w w' d0 e0 d e d' e' old now new at top level count c.in-Ok.stop.same u.trees c.spans-test.true is u.first_read.read u.second_read.read h span in
           let same : digest_on w'.first at level ≡ digest_on w'.second at level = (bytes_eq-Decides _ _).0 (sym h.test ∙ v.if-stop.true) in
           let counted : c.spans.changed ≡ count_of Changed (u.compared ++ replicate count None) = omega (arith, u.counted, count_of-append Changed u.compared (replicate count None), count_of-had Changed count) in
           rw (v.listing-is, v.tally-is, v.changed-is) (record {
-            so_far = underway-next w0 w w' d0 e0 have i i' c.args.most (progress c.spans.tally c.spans.changed at) (progress v.close.new.self c.spans.changed (at + count)) top level count None u n
+            so_far = underway-next w0 w w' d0 e0 have i i' c.args.most (progress c.spans.tally c.spans.changed at) (progress v.close-then-stop.new.self c.spans.changed (at + count)) top level count None u n
                 (seen-same w0 w w' d0 e0 have i i' at top level count n same) (stored-same w0 w w' d0 e0 have i i' at top level count n same)
-                (listed-had c.args.most u.compared c.spans.tally v.close.new.self old now new count (count-some w0 w w' d0 e0 have i i' at top level count n) u.listed v.in_ok-close.ensures.text.ok v.in_ok-close.ensures.last v.in_ok-close.ensures.limit)
+                (listed-had c.args.most u.compared c.spans.tally v.close-then-stop.new.self old now new count (count-some w0 w w' d0 e0 have i i' at top level count n) u.listed v.in_ok-close.ensures.text.ok v.in_ok-close.ensures.last v.in_ok-close.ensures.limit)
                 counted refl;
             kept = v.in_ok-close.ensures.text.kept ∙ c.spans.invariant.kept;
           })
