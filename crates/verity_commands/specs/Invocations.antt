@@ -6,7 +6,7 @@ use Rattle.command_line.specs.declared.words.verify.VerifyWords.{VerifyWords}
 use Rattle.command_line.specs.words.Diff.{DiffRecord, diff_record}
 use Rattle.command_line.specs.words.Verify.{VerifyRecord, verify_record}
 use Rattle.program_io.specs.Counted.{CountedRecord}
-use Rattle.image_commands.specs.declared.trusted.TrustedRoot.{TrustedRoot}
+use Rattle.image_pin.specs.declared.trusted.TrustedRoot.{TrustedRoot}
 use Rattle.image_commands.specs.Places.{TwoPlaces}
 use Rattle.image_files.specs.Opener.{Calls, Opener, calls}
 use Rattle.tree_difference.specs.declared.trees.TrustedTrees.{TrustedTrees}

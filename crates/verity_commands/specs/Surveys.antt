@@ -7,7 +7,7 @@ use Rattle.image_commands.specs.declared.finding.NoTree.{NoTree}
 use Rattle.image_commands.specs.declared.finding.NoTree.TheVariants as no_tree
 use Rattle.image_commands.specs.declared.paths.TwoImages.{TwoImages}
 use Rattle.image_commands.specs.declared.places.Bounds.{Bounds}
-use Rattle.image_commands.specs.declared.trusted.TrustedRoot.{TrustedRoot}
+use Rattle.image_pin.specs.declared.trusted.TrustedRoot.{TrustedRoot}
 use Rattle.image_commands.specs.Finding.{IsNoTree, ReadsSuper}
 use Rattle.image_commands.specs.Openings.{FailsToOpenTwo, OpensTwo, TwoPaths}
 use Rattle.image_commands.specs.Places.{TwoPlaces, before, behind, data_end}

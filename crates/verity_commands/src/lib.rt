@@ -30,7 +30,7 @@ pub use pinned::invoke_format_pinned;
 pub use placed::{invoke_dump, invoke_format, invoke_table, invoke_verify};
 pub use places::{sector_at, trusted_in};
 pub use status::verity_status;
-pub use survey::{SurveyOrder, say_totals, survey_images};
+pub use survey::{SurveyOrder, is_all_good, say_totals, survey_images};
 pub use texts::{say_image_fault, say_verity_fault};
 pub use tree_fault::TreeFault;
 pub use tree_fault_text::{say_tree_fault, tree_status};

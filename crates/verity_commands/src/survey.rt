@@ -8,9 +8,10 @@ use crate::tree_fault::TreeFault;
 use block_device::BlockDev;
 use device_adapters::{Watchers, bytes_before};
 use image_commands::{
-    Bounds, ImagePair, ImagePaths, TrustedRoot, data_end, find_tree, open_two, place_parts, watch,
+    Bounds, ImagePair, ImagePaths, data_end, find_tree, open_two, place_parts, watch,
 };
 use image_files::Images;
+use image_pin::TrustedRoot;
 use program_io::{Counted, WriteFault};
 use std::alloc::Global;
 use std::io::Write;
@@ -140,7 +141,7 @@ fn survey_lines<'a, D: BlockDev, H: BlockDev, W: Write>(
 }
 
 /// Whether all data blocks and all hash blocks are good.
-pub(crate) fn is_all_good(found: Survey) -> bool
+pub fn is_all_good(found: Survey) -> bool
     ensures { result ≡ is_all_good found }
 {
     found.totals.changed == 0 && found.totals.unknown == 0 && found.whole_tree
