@@ -1,6 +1,6 @@
 -- Copies of a device's readable sectors to an image, and how a copy ends early.
 use Rattle.std.specs.Prelude.{◌≡◌, ◌⊎◌, ℕ, ◌<◌, Bool, true, false, IsTrue, List, Option, option_map}
-use Rattle.block_device.specs.Device.{Device, HasFailed, synced}
+use Rattle.block_device.specs.Device.{Device, IsUnsynced, synced}
 use Rattle.program_io.specs.Counted.{CountedRecord}
 use Rattle.device_adapters.specs.Differing.{differing}
 use Rattle.image_files.specs.declared.images.OpenImage.{OpenImage}
@@ -66,12 +66,12 @@ pub record CopiesTo {S D : Type 0} (is_differing : Bool) (w : Calls S D) (map : 
   pub passed : PassesTo is_differing w map d (moving m.old (record m.new { out = unsynced })) counts
   pub durable : m.new.out ≡ synced unsynced
 
--- the pass was completed, but OUT's sync failed
+-- the pass was completed, but OUT's sync failed, which changed no sector
 pub record FailsToSync {S D : Type 0} (is_differing : Bool) (w : Calls S D) (map : Option (List ℕ)) (d : ℕ) (m : Moving) (fault : PassFault) : Type 0 where
   pub counts : Counts
   pub unsynced : Device
   pub passed : PassesTo is_differing w map d (moving m.old (record m.new { out = unsynced })) counts
-  pub failed : HasFailed unsynced m.new.out
+  pub failed : IsUnsynced unsynced m.new.out
   pub sure : IsTrue unsynced.never_fails → ⊥
   pub is : fault ≡ Output
 
