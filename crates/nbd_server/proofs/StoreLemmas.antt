@@ -4,7 +4,9 @@ use Rattle.std.specs.Int.{div_ceil}
 use Rattle.std.specs.Prelude.{◌⊎◌, IfErr, IsTrue, OnOk, not, nat_le, if◌then◌else◌}
 use Rattle.std.proofs.lemmas.List.{drop-replicate, length-append, length-replicate, take-append-drop, take-append-le, take-replicate}
 use Rattle.std.proofs.Math.Seq.{take-append-add}
+use Rattle.std.proofs.lemmas.Bool.{le-leb}
 use Rattle.allocation.specs.Refusal.{IsOutOfMemory}
+use Rattle.alignment.specs.Lengths.{aligned_len}
 use Rattle.stack_rules.specs.Names.{mapped, may_write, size}
 use Rattle.stack_rules.specs.Records.{Configuration}
 use Rattle.stack_meaning.specs.declared.fault.IoFault.{IoFault}
@@ -37,6 +39,7 @@ use Rattle.nbd_protocol.specs.Exports.{ExportRecord, IsExport}
 use Rattle.nbd_protocol.specs.Headers.{error_of}
 use Rattle.nbd_server.specs.Premises.{AreExportSectors}
 use Rattle.nbd_server.specs.Sectors.{IsStored, IsStoredAtOnce, IsPartPut, FailsToPutAll, FailsToPutAtOnce, FailsToZero, EndsPut, StopsPut, most_run_bytes}
+use Rattle.nbd_server.specs.Zeros.{IsNextRun, WritesInRuns, no_run, a_run, last_run, lacks_run, WroteRun, most_run_sectors}
 use Rattle.nbd_server.proofs.FetchLemmas.{named-below}
 
 abbrev pub ended : IoFault → Result Unit IoFault
@@ -92,6 +95,15 @@ lacks-first w d first bytes some refused = inr (refl, record { count = 0; few = 
 pub zero-fails : (w : World) (d first : ℕ) (bytes : List ℕ) (w' : World) (result : Result Unit RequestError) → IfErr result (λ error. FailsToPutAtOnce w d first bytes error w') → IfErr result (λ error. FailsToZero w d first bytes error w')
 zero-fails w d first bytes w' (Ok done) p = tt
 zero-fails w d first bytes w' (Err error) p = inl p.put
+
+-- the write of a run ended so, or its allocation was refused
+pub wrote-run : (w : World) (d first : ℕ) (bytes : List ℕ) (w' : World) (result : Result Unit RequestError) → OnOk result (IsStoredAtOnce w d first bytes w') → IfErr result (λ error. FailsToPutAtOnce w d first bytes error w')
+    → WroteRun w d first bytes result w'
+wrote-run w d first bytes w' (Ok done) ok err = ok.steps
+wrote-run w d first bytes w' (Err error) ok err = inl (err.fault, err.told, err.steps)
+
+pub run-lacks : (w : World) (d first : ℕ) (bytes : List ℕ) → IsOutOfMemory most_run_bytes → WroteRun w d first bytes (Err NoMemory) w
+run-lacks w d first bytes refused = inr (refl, refl, refused)
 
 -- memory runs out where some sector is encrypted
 abbrev pub EncryptsAt : World → ℕ → ℕ → List ℕ → IoFault → Type 0
@@ -212,13 +224,75 @@ pub record IsPut (w : World) (d first at : ℕ) (all rest : List ℕ) (w' : Worl
   pub whole : length front % 512 ≡ 0
   pub place : at ≡ first + length front / 512
   pub all_is : all ≡ front ++ rest
+  pub turns : WritesInRuns d first (length all) w front (Ok tt) w'
 
 pub put-none : (w : World) (d first : ℕ) (all : List ℕ) → IsPut w d first first all all w
-put-none w d first all = record { front = []; stored = stored-none w d first; whole = refl; place = omega arith; all_is = refl }
+put-none w d first all = record { front = []; stored = stored-none w d first; whole = refl; place = omega arith; all_is = refl; turns = no_run }
+
+-- how many bytes the next run has, of so many that are left
+abbrev pub IsRunOf : World → ℕ → ℕ → ℕ → ℕ → Type 0
+IsRunOf v d at left n = n ≡ 512 * aligned_len v.stack.config d at (left / 512) most_run_sectors
+
+-- a run that is all that is left
+all-left : (v : World) (d at n : ℕ) → n % 512 ≡ 0 → n ≤ most_run_bytes → IsRunOf v d at n n
+all-left v d at n whole few =
+    let test : nat_le (n / 512) most_run_sectors ≡ true = le-leb (n / 512) most_run_sectors (omega (arith, few)) in
+    rw test (omega (arith, whole))
+
+module _ (w v w' : World) (d first at : ℕ) (all y z : List ℕ) (p : IsPut w d first at all (y ++ z) v) where
+  left-is : length (y ++ z) ≡ length all - length p.front
+  left-is = omega (arith, ap (λ (l : List ℕ). length l) p.all_is, length-append p.front (y ++ z))
+
+  next-run : (result : Result Unit IoFault) → IsRunOf v d at (length (y ++ z)) (length y) → WritesInSteps (range_at d at (length y / 512)) v y result w'
+      → IsNextRun v d (first + length p.front / 512) (length all - length p.front) y result w'
+  next-run result size steps = record {
+    size = subst (λ (k : ℕ). IsRunOf v d k (length all - length p.front) (length y)) p.place (subst (λ (n : ℕ). IsRunOf v d at n (length y)) left-is size);
+    steps = subst (λ (k : ℕ). WritesInSteps (range_at d k (length y / 512)) v y result w') p.place steps;
+  }
+
+  more-turns : IsRunOf v d at (length (y ++ z)) (length y) → WritesInSteps (range_at d at (length y / 512)) v y (Ok tt) w' → WritesInRuns d first (length all) w (p.front ++ y) (Ok tt) w'
+  more-turns size steps = a_run p.turns (next-run (Ok tt) size steps)
+
+  -- the run failed
+  fault-turns : (error : RequestError) (fault : IoFault) → error ≡ error_of fault → IsRunOf v d at (length (y ++ z)) (length y) → WritesInSteps (range_at d at (length y / 512)) v y (Err fault) w'
+      → WritesInRuns d first (length all) w all (Err error) w'
+  fault-turns error fault told size steps =
+      subst (λ (l : List ℕ). WritesInRuns d first (length all) w l (Err error) w') (sym p.all_is)
+      (subst (λ (e : RequestError). WritesInRuns d first (length all) w (p.front ++ (y ++ z)) (Err e) w') (sym told) (last_run z p.turns (next-run (Err fault) size steps)))
+
+  memory-turns : (error : RequestError) → error ≡ NoMemory → w' ≡ v → IsOutOfMemory most_run_bytes → WritesInRuns d first (length all) w all (Err error) w'
+  memory-turns error told same refused =
+      subst (λ (l : List ℕ). WritesInRuns d first (length all) w l (Err error) w') (sym p.all_is)
+      (subst (λ (e : RequestError). WritesInRuns d first (length all) w (p.front ++ (y ++ z)) (Err e) w') (sym told)
+      (subst (λ (u : World). WritesInRuns d first (length all) w (p.front ++ (y ++ z)) (Err NoMemory) u) (sym same) (lacks_run (y ++ z) p.turns refused)))
+
+  pub failed-turns : (error : RequestError) → IsRunOf v d at (length (y ++ z)) (length y) → WroteRun v d at y (Err error) w' → WritesInRuns d first (length all) w all (Err error) w'
+  failed-turns error size (inl q) = fault-turns error q.0 q.1 size q.2
+  failed-turns error size (inr q) = memory-turns error q.0 q.1 q.2
+
+-- the last run has all that is left
+pub last-turns : (w v w' : World) (d first at : ℕ) (all y : List ℕ) (result : Result Unit RequestError) → IsPut w d first at all y v → length y % 512 ≡ 0 → length y ≤ most_run_bytes → WroteRun v d at y result w'
+    → WritesInRuns d first (length all) w all result w'
+last-turns w v w' d first at all y result p whole few ran = by result ran
+  where
+    rest : IsPut w d first at all (y ++ []) v
+    rest = subst (λ (l : List ℕ). IsPut w d first at all l v) (sym (append-nil y)) p
+
+    size : IsRunOf v d at (length (y ++ [])) (length y)
+    size = subst (λ (l : List ℕ). IsRunOf v d at (length l) (length y)) (sym (append-nil y)) (all-left v d at (length y) whole few)
+
+    seam : all ≡ rest.front ++ y
+    seam = rest.all_is ∙ ap (λ (l : List ℕ). rest.front ++ l) (append-nil y)
+
+    by : (r : Result Unit RequestError) → WroteRun v d at y r w' → WritesInRuns d first (length all) w all r w'
+    by (Ok done) q = subst (λ (l : List ℕ). WritesInRuns d first (length all) w l (Ok tt) w') (sym seam) (more-turns w v w' d first at all y [] rest size q)
+    by (Err error) q = failed-turns w v w' d first at all y [] rest error size q
 
 module _ (w v w' : World) (d first at : ℕ) (all y : List ℕ) where
-  pub put-more : (z : List ℕ) → length y % 512 ≡ 0 → IsPut w d first at all (y ++ z) v → IsStored v d at y w' → IsPut w d first (at + length y / 512) all z w'
-  put-more z even p q = record {
+  pub put-more : (z : List ℕ) → length y % 512 ≡ 0 → IsRunOf v d at (length (y ++ z)) (length y) → (p : IsPut w d first at all (y ++ z) v) → IsStored v d at y w' → WritesInSteps (range_at d at (length y / 512)) v y (Ok tt) w'
+      → IsPut w d first (at + length y / 512) all z w'
+  put-more z even size p q steps = record {
+    turns = more-turns w v w' d first at all y z p size steps;
     front = p.front ++ y;
     stored = stored-more w v w' d first p.front y p.whole p.stored (subst (λ k. IsStored v d k y w') p.place q);
     whole = omega (arith, length-append p.front y, p.whole, even);

@@ -1,5 +1,5 @@
 //! A READ whose reply is sent piece by piece.
-ghost use Rattle.std.specs.Prelude.{◌≡◌, ◌<◌, ◌≤◌, ◌+◌, ◌*◌, ◌%◌, ◌^◌, ◌==◌, length, true, IsTrue, IfErr, IfOk, IfSome, OnErr, OnOk};
+ghost use Rattle.std.specs.Prelude.{◌≡◌, ◌<◌, ◌≤◌, ◌+◌, ◌*◌, ◌%◌, ◌^◌, ◌==◌, length, true, IfErr, IfOk, IfSome, OnErr, OnOk};
 ghost use Rattle.program_io.specs.Counted.{Writes, WritesSome};
 ghost use Rattle.nbd_protocol.specs.Exports.{export_record};
 ghost use Rattle.nbd_protocol.specs.Chunks.{hole_chunk};
@@ -7,21 +7,23 @@ ghost use Rattle.nbd_server.specs.Content.{TellsContent};
 ghost use Rattle.nbd_server.specs.Premises.{AreBytesOf, IsDeliveryRest, ReadsTo};
 ghost use Rattle.nbd_server.specs.Status.{touched};
 ghost use Rattle.nbd_server.specs.Transmission.{FailsToReadBytes};
-ghost use Rattle.nbd_server.specs.Delivery.{IsDeliveryPiece, IsStuck, SendsPiece, WritesDelivery, WritesPiece, delivery_of, has_df, most_piece_bytes};
+ghost use Rattle.nbd_server.specs.Delivery.{AreNextBytes, IsDeliveryPiece, IsStuck, SendsPiece, WritesDelivery, WritesPiece, delivery_of, has_df, most_piece_sectors, piece_sectors};
 
 use crate::byte_range::touched;
 use crate::content::say_content;
 use crate::fetch::read_into;
 use crate::room::Room;
 use crate::status::status_at;
+use alignment::aligned_len;
 use block_device::BlockDev;
 use nbd_protocol::{Agreement, Command, Export, Header, RequestError, say_error_at, say_hole};
 use program_io::{Counted, WriteFault};
 use request_queue::Queue;
+use stack_config::Config;
 use std::io::Write;
 
-// A piece ends at a multiple of this number of bytes.
-const LARGE: u64 = 262_144;
+// The most sectors that a piece touches.
+const MOST_SECTORS: u64 = 512;
 
 const SECTOR: u64 = 512;
 
@@ -41,6 +43,13 @@ pub(crate) struct Delivery {
 pub(crate) struct Progress {
     pub(crate) done: u32,
     pub(crate) slow: u32,
+}
+
+/// The next piece: what is answered before it, and its size in bytes.
+#[derive(Clone, Copy, Debug, PartialEq, Eq)]
+pub(crate) struct Piece {
+    pub(crate) progress: Progress,
+    pub(crate) size: u32,
 }
 
 // Whether the client wants the bytes in one chunk.
@@ -84,26 +93,34 @@ impl Delivery {
     }
 
     // The size of the next piece.
-    fn piece_len(self, progress: Progress) -> u32
-        requires rest { IsDeliveryRest self progress }
+    fn piece_len(self, config: &Config, export: &Export<'_>, progress: Progress) -> u32
+        requires bytes { AreBytesOf config.now (export_record export.now) self.offset self.count }
         requires some { progress.done < self.count }
-        ensures { IsDeliveryPiece self progress result }
+        ensures { IsDeliveryPiece config.now export.now.device.0 self progress result }
     {
-        let room = room_at(self.at(progress), progress.done < progress.slow);
-        room.min(u64::from(self.count - progress.done)) as u32
+        let at = self.at(progress);
+        let left = self.count - progress.done;
+        let single = progress.done < progress.slow;
+        let sectors = piece_sectors(config, export, at, left, single);
+        let room = SECTOR * sectors - at % SECTOR;
+        room.min(u64::from(left)) as u32
     }
 }
 
-// How many bytes follow `at` in its piece, or in its sector if `single` is set.
-fn room_at(at: u64, single: bool) -> u64
+// How many sectors the next piece touches, of those that `left` bytes from `at` on touch: one if `single` is set. Otherwise it
+// splits no unit and no data block that fits in one piece.
+fn piece_sectors(config: &Config, export: &Export<'_>, at: u64, left: u32, single: bool) -> u64
+    requires bytes { AreBytesOf config.now (export_record export.now) at left }
+    requires some { 0 < left }
+    ensures value { result ≡ piece_sectors config.now export.now.device.0 at left single }
     ensures some { 0 < result }
-    ensures few { result ≤ most_piece_bytes }
-    ensures single { IsTrue single → at % 512 + result ≤ 512 }
+    ensures few { result ≤ most_piece_sectors }
 {
     if single {
-        return SECTOR - at % SECTOR;
+        return 1;
     }
-    LARGE - at % LARGE
+    let sectors = touched(at, left) as u64;
+    aligned_len(config, export.device, at / SECTOR, sectors, MOST_SECTORS)
 }
 
 // Writes the chunks of a piece, and flushes the writer.
@@ -114,7 +131,7 @@ fn say_piece<W: Write>(
     content: &[u8],
 ) -> Result<(), WriteFault>
     requires rest { IsDeliveryRest delivery progress }
-    requires piece { IsDeliveryPiece delivery progress (length content.now) }
+    requires piece { AreNextBytes delivery progress (length content.now) }
     ensures { WritesSome W.contents writer.old writer.new
         (TellsContent delivery.cookie (progress.done + length content.now == delivery.count) (delivery.offset + progress.done) content.now) result }
 {
@@ -133,7 +150,7 @@ fn say_zeros<W: Write>(
     size: u32,
 ) -> Result<(), WriteFault>
     requires rest { IsDeliveryRest delivery progress }
-    requires piece { IsDeliveryPiece delivery progress size }
+    requires piece { AreNextBytes delivery progress size }
     ensures { Writes W.contents writer.old writer.new
         (hole_chunk (progress.done + size == delivery.count) delivery.cookie (delivery.offset + progress.done) size) result }
 {
@@ -190,17 +207,18 @@ fn deliver_piece<D: BlockDev, W: Write>(
     queue: &mut Queue<D>,
     export: &Export<'_>,
     delivery: Delivery,
-    progress: Progress,
+    piece: Piece,
     writer: &mut Counted<W>,
 ) -> Result<Option<Progress>, WriteFault>
     requires bytes { AreBytesOf queue.old.stack.config (export_record export.now) delivery.offset delivery.count }
-    requires some { progress.done < delivery.count }
-    ensures ok { IfOk result (WritesPiece W.contents writer.old writer.new export.now delivery progress queue.old queue.new) }
-    ensures err { OnErr result (SendsPiece (export_record export.now) delivery progress queue.old queue.new) }
+    requires piece { IsDeliveryPiece queue.old.stack.config export.now.device.0 delivery piece.progress piece.size }
+    ensures ok { IfOk result (WritesPiece W.contents writer.old writer.new export.now delivery piece.progress queue.old queue.new) }
+    ensures err { OnErr result (SendsPiece (export_record export.now) delivery piece.progress queue.old queue.new) }
     ensures kept { IfOk result (λ _. writer.new.failed ≡ writer.old.failed) }
     ensures failed { OnErr result (writer.new.failed ≡ true) }
 {
-    let size = delivery.piece_len(progress);
+    let progress = piece.progress;
+    let size = piece.size;
     let at = delivery.at(progress);
     match read_piece(room, queue, export, at, size) {
         Ok(()) => {
@@ -240,9 +258,10 @@ fn deliver_next<D: BlockDev, W: Write>(
     ensures kept { IfOk result (λ _. writer.new.failed ≡ writer.old.failed) }
     ensures failed { OnErr result (writer.new.failed ≡ true) }
 {
-    let size = delivery.piece_len(progress);
+    let config = queue.stack().config();
+    let size = delivery.piece_len(config, export, progress);
     let at = delivery.at(progress);
-    let status = status_at(queue.stack().config(), export, at, size);
+    let status = status_at(config, export, at, size);
     if status.zeros {
         say_zeros(writer, delivery, progress, status.count)?;
         return Ok(Some(Progress {
@@ -250,7 +269,8 @@ fn deliver_next<D: BlockDev, W: Write>(
             slow: progress.slow,
         }));
     }
-    deliver_piece(room, queue, export, delivery, progress, writer)
+    let piece = Piece { progress, size };
+    deliver_piece(room, queue, export, delivery, piece, writer)
 }
 
 /// Answers a READ piece by piece, up to the first sector that can't be read. Each piece is sent as soon as it is read.

@@ -1,0 +1,37 @@
+//! The NBD service of one device.
+ghost use Rattle.std.specs.Prelude.{◌≡◌, IfNone, IfSome};
+ghost use Rattle.program_io.specs.Streams.{streams};
+ghost use Rattle.nbd_protocol.specs.Exports.{HasNoExport};
+ghost use Rattle.nbd_protocol.specs.Streaming.{HasRead, HasWritten, result_fault};
+ghost use Rattle.volumes.specs.Services.{ServesDevice};
+
+use block_device::SyncDev;
+use nbd_server::{Export, ServiceFault, serve};
+use program_io::Counted;
+use request_queue::Queue;
+use std::alloc::Global;
+use std::io::{Read, Write};
+
+/// Serves the mapped device with that name, as the only export, to a client until it ends the session or disconnects between
+/// two messages. Returns what [`serve`] returns.
+///
+/// `None` if no device has the name, the name is longer than 4,096 bytes, or the device's size in bytes doesn't fit in 64
+/// bits; nothing is read or written then.
+pub fn serve_device<D: SyncDev, R: Read, W: Write>(
+    alloc: Global,
+    queue: &mut Queue<D>,
+    name: &[u8],
+    reader: &mut Counted<R>,
+    writer: &mut Counted<W>,
+) -> Option<Result<(), ServiceFault>>
+    ensures none { IfNone result (HasNoExport queue.old.stack.config name.now) }
+    ensures same { IfNone result ((queue.new ≡ queue.old) × (reader.new ≡ reader.old) × (writer.new ≡ writer.old)) }
+    ensures some { IfSome result (ServesDevice name.now queue.old queue.new
+        (streams (R.remaining reader.old.inner) (W.contents writer.old.inner)) (streams (R.remaining reader.new.inner) (W.contents writer.new.inner))) }
+    ensures counted { IfSome result (λ served. HasRead 0 reader.old reader.new (result_fault served) × HasWritten writer.old writer.new (result_fault served)) }
+{
+    let Some(export) = Export::of(queue.stack().config(), name) else {
+        return None;
+    };
+    Some(serve(alloc, queue, &[export], reader, writer))
+}
