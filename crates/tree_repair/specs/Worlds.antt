@@ -23,12 +23,10 @@ pub record IsWorldRead (w w' : RepairWorld) : Type 0 where
   pub data_copies_read : AreEachRead w.data_copies w'.data_copies
   pub hash_copies_read : AreEachRead w.hash_copies w'.hash_copies
 
--- only the hash device was accessed, by reads
-pub record IsHashReadAlone (w w' : RepairWorld) : Type 0 where
-  pub data_is : w'.data_dev ≡ w.data_dev
-  pub read : IsOnlyRead w.hash_dev w'.hash_dev
-  pub data_copies_are : w'.data_copies ≡ w.data_copies
-  pub hash_copies_are : w'.hash_copies ≡ w.hash_copies
+-- the parity device was only read, and its failure counter didn't decrease
+pub record IsParityRead (old new : Device) : Type 0 where
+  pub read : IsOnlyRead old new
+  pub more : old.failures ≤ new.failures
 
 -- the data device and the hash device were only read, failures are counted, and no copy was accessed
 pub record AreBothRead (w w' : RepairWorld) : Type 0 where
