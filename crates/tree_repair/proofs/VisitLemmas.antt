@@ -10,10 +10,10 @@ use Rattle.tree_path.specs.Path.{PathRecord, digest_on}
 use Rattle.tree_survey.specs.Surveys.{IsWay}
 use Rattle.tree_repair.specs.declared.mending.Mended.{Mended}
 use Rattle.tree_repair.specs.declared.mending.Mended.TheVariants as mended
-use Rattle.tree_repair.specs.Mending.{IsBareOf, IsFoundNowhere, IsMended, IsNotRemade, IsAllowedPut, IsUnmended}
+use Rattle.tree_repair.specs.Mending.{BlockCheck, IsBareOf, IsFoundNowhere, IsMended, IsNotRemade, IsAllowedPut, IsUnmended}
 use Rattle.tree_repair.specs.Remaking.{IsMadeBeneath, IsNowhereBeneath}
 use Rattle.tree_repair.specs.Runs.{IsVisited, Job, visit}
-use Rattle.tree_repair.specs.Sources.{AreEachRead}
+use Rattle.tree_repair.specs.Sources.{AreEachRead, AreNotIn}
 use Rattle.tree_repair.specs.Worlds.{AreBothRead, RepairWorld, repair_world}
 use Rattle.tree_repair.proofs.MakeLemmas.{over-before, unlike-before}
 use Rattle.tree_repair.specs.Visits.{FailsToStoreBlock, IsHashLooked, IsHashSeen, IsHashUnmended, IsLooked, IsBlockMade, IsTreePut, KeepsData, data_look, hash_look}
@@ -69,6 +69,12 @@ module _ (j : Job) (p : PathRecord) (l i : ℕ) (a m b : RepairWorld) where
   pub hash-same : IsFoundNowhere (hash_look j p l i a.hash_dev m.hash_dev a.hash_copies m.hash_copies) → AreBothRead m b → IsSameDevice a.hash_dev b.hash_dev
   hash-same found beneath = same-then found.read.same (same-then found.beneath_read.same beneath.devices.hash_read.same)
 
+  -- the block is in no copy, as the copies are afterwards
+  abbrev IsInNone : IsFoundNowhere (hash_look j p l i a.hash_dev m.hash_dev a.hash_copies m.hash_copies) → List Device → Type 0
+  IsInNone found copies =
+      let seen : BlockCheck = hash_look j p l i a.hash_dev m.hash_dev a.hash_copies m.hash_copies in
+      AreNotIn a.hash_copies copies seen.copy_first seen.w (length a.hash_copies)
+
   module _ (kept : KeepsData a m) (found : IsFoundNowhere (hash_look j p l i a.hash_dev m.hash_dev a.hash_copies m.hash_copies)) (beneath : AreBothRead m b) where
     before : AreOnlyRead a.data_dev a.hash_dev m.data_dev m.hash_dev
     before = record { data_read = subst (IsOnlyRead a.data_dev) (sym kept.device_is) (only_read-none a.data_dev); hash_read = only_read-then found.read found.beneath_read }
@@ -85,7 +91,7 @@ module _ (j : Job) (p : PathRecord) (l i : ℕ) (a m b : RepairWorld) where
         more = found.more;
         bad = found.bad;
         copies_read = subst (AreEachRead a.hash_copies) (sym beneath.hash_copies_are) found.copies_read;
-        none = found.none;
+        none = subst (IsInNone found) (sym beneath.hash_copies_are) found.none;
         beneath_read = only_read-then found.beneath_read beneath.devices.hash_read;
         beneath_more = omega (arith, found.beneath_more, beneath.hash_more);
       };
@@ -105,7 +111,7 @@ module _ (j : Job) (p : PathRecord) (l i : ℕ) (a m b : RepairWorld) where
         more = found.more;
         bad = found.bad;
         copies_read = subst (AreEachRead a.hash_copies) (sym (put.hash_copies_are ∙ beneath.hash_copies_are)) found.copies_read;
-        none = found.none;
+        none = subst (IsInNone found) (sym (put.hash_copies_are ∙ beneath.hash_copies_are)) found.none;
         between = b.hash_dev;
         beneath_read = only_read-then found.beneath_read beneath.devices.hash_read;
         beneath_more = omega (arith, found.beneath_more, beneath.hash_more);

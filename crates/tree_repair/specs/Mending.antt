@@ -69,7 +69,7 @@ pub record IsFoundBeneath (l : BlockCheck) (bytes : List ℕ) (done : Bool) : Ty
   pub more : l.old.failures ≤ seen.failures
   pub bad : IsBad l.old l.first l.w seen
   pub copies_read : AreEachRead l.copies l.copies'
-  pub none : AreNotIn l.copies l.copy_first l.w (length l.copies)
+  pub none : AreNotIn l.copies l.copies' l.copy_first l.w (length l.copies)
   pub between : Device
   pub beneath_read : IsOnlyRead seen between
   pub beneath_more : seen.failures ≤ between.failures
@@ -98,7 +98,7 @@ pub record IsFoundNowhere (l : BlockCheck) : Type 0 where
   pub more : l.old.failures ≤ seen.failures
   pub bad : IsBad l.old l.first l.w seen
   pub copies_read : AreEachRead l.copies l.copies'
-  pub none : AreNotIn l.copies l.copy_first l.w (length l.copies)
+  pub none : AreNotIn l.copies l.copies' l.copy_first l.w (length l.copies)
   pub beneath_read : IsOnlyRead seen l.new
   pub beneath_more : seen.failures ≤ l.new.failures
 
