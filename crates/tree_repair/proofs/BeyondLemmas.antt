@@ -19,8 +19,7 @@ use Rattle.tree_repair.specs.Passes.{IsPass, bad_of}
 use Rattle.tree_repair.specs.Repairs.{job_of}
 use Rattle.tree_repair.specs.Runs.{Job, Visit, VisitsAll, visit}
 use Rattle.tree_repair.specs.ParitySearches.{AreSought, IsBlockUnmade, IsSought, IsSoughtAt, IsTriedBehind, IsUncovered, IsVain, Trial, trial}
-use Rattle.tree_repair.specs.UnreadBlocks.{HasCountedNone}
-use Rattle.tree_repair.specs.Worlds.{IsParityRead, IsWorldRead, RepairWorld}
+use Rattle.tree_repair.specs.Worlds.{HasCountedNone, IsParityRead, IsWorldRead, RepairWorld}
 use Rattle.tree_repair.proofs.ExcuseLemmas.{counted-left, counted-right, passed-for, runs-own}
 use Rattle.tree_repair.proofs.KeepLemmas.{runs-before}
 use Rattle.tree_repair.proofs.RunLemmas.{parity-none, parity-then, runs-one, runs-read, runs-then, world-none, world-then}

@@ -12,12 +12,12 @@ use Rattle.verity_format.specs.Blocks.{IsOnlyRead}
 use Rattle.tree_repair.specs.declared.mending.Mended.{Mended}
 use Rattle.tree_repair.specs.declared.mending.Mended.TheVariants as mended
 use Rattle.tree_repair.specs.Coverage.{IsPassedBy}
-use Rattle.tree_repair.specs.UnreadBlocks.{AreUnreadCounted, HasCountedNone, IsLeftAlone, IsTreatedRightly, StandsIntact, Throughout, first_counts, if_data, if_hash, unread_data, unread_hash, unread_look, unread_visit}
+use Rattle.tree_repair.specs.UnreadBlocks.{AreUnreadCounted, IsLeftAlone, IsTreatedRightly, StandsIntact, Throughout, first_counts, if_data, if_hash, unread_data, unread_hash, unread_look, unread_visit}
 use Rattle.tree_repair.specs.Mending.{IsAllowedPut, IsMended, BlockCheck}
 use Rattle.tree_repair.specs.Runs.{IsVisited, Job, OtherStays, VisitsAll, Visit, look_at, other, own}
 use Rattle.tree_repair.specs.Sources.{IsBad, IsOther, Wanted, bytes_on_device}
 use Rattle.tree_repair.specs.ParitySearches.{IsCutOff}
-use Rattle.tree_repair.specs.Worlds.{IsWorldRead, RepairWorld}
+use Rattle.tree_repair.specs.Worlds.{HasCountedNone, IsWorldRead, RepairWorld}
 use Rattle.tree_repair.proofs.LawLemmas.{formed-chain, way-digest}
 use Rattle.tree_repair.proofs.RunLemmas.{world-none}
 

@@ -18,8 +18,7 @@ use Rattle.tree_repair.specs.Repairs.{LiesOn, job_of}
 use Rattle.tree_repair.specs.Runs.{IsDone, Job, VisitsAll, Visit}
 use Rattle.tree_repair.specs.Standing.{IsLeftGoodIn, IsSteadyImage, IsWorldSteady, StandsGood}
 use Rattle.tree_repair.specs.ParitySearches.{IsCutOff}
-use Rattle.tree_repair.specs.UnreadBlocks.{HasCountedNone}
-use Rattle.tree_repair.specs.Worlds.{RepairWorld}
+use Rattle.tree_repair.specs.Worlds.{HasCountedNone, RepairWorld}
 use Rattle.tree_repair.proofs.ApartLemmas.{above-from}
 use Rattle.tree_repair.proofs.ExcuseLemmas.{counted-left, counted-right, passed-for, runs-own}
 use Rattle.tree_repair.proofs.RunLemmas.{runs-then, world-none}

@@ -11,11 +11,11 @@ use Rattle.tree_survey.specs.Surveys.{IsWay}
 use Rattle.tree_repair.specs.declared.mending.Mended.{Mended}
 use Rattle.tree_repair.specs.declared.mending.Mended.TheVariants as mended
 use Rattle.tree_repair.specs.Mending.{BlockCheck, IsBareOf, IsFoundNowhere, IsMended, IsNotRemade, IsAllowedPut, IsUnmended}
-use Rattle.tree_repair.specs.Remaking.{IsMadeBeneath, IsNowhereBeneath}
+use Rattle.tree_repair.specs.Remaking.{IsMadeBeneath, IsNowhereBeneath, lost_hash}
 use Rattle.tree_repair.specs.Runs.{IsVisited, Job, visit}
 use Rattle.tree_repair.specs.Sources.{AreEachRead, AreNotIn}
 use Rattle.tree_repair.specs.Worlds.{AreBothRead, RepairWorld, repair_world}
-use Rattle.tree_repair.proofs.MakeLemmas.{over-before, unlike-before}
+use Rattle.tree_repair.proofs.MakeLemmas.{nowhere-before, over-before}
 use Rattle.tree_repair.specs.Visits.{FailsToStoreBlock, IsHashLooked, IsHashSeen, IsHashUnmended, IsLooked, IsBlockMade, IsTreePut, KeepsData, data_look, hash_look}
 
 plain-bare : (parity : Bool) (m : Mended) → IsNotRemade m → IsBareOf parity m
@@ -83,7 +83,7 @@ module _ (j : Job) (p : PathRecord) (l i : ℕ) (a m b : RepairWorld) where
     data-more = omega (arith, ap (λ (d : Device). d.failures) kept.device_is, beneath.data_more)
 
     -- it can't be made
-    pub lost-seen : IsNowhereBeneath j.tree.shape j.tree.salt m.data_dev m.hash_dev l i (digest_on p i (l + 1)) → IsHashSeen j p l i a b [] true mended.Lost
+    pub lost-seen : IsNowhereBeneath (lost_hash j.tree.shape j.tree.salt l i (digest_on p i (l + 1))) m.data_dev m.hash_dev b.data_dev b.hash_dev → IsHashSeen j p l i a b [] true mended.Lost
     lost-seen none = record {
       looked = record {
         seen = found.seen;
@@ -95,7 +95,8 @@ module _ (j : Job) (p : PathRecord) (l i : ℕ) (a m b : RepairWorld) where
         beneath_read = only_read-then found.beneath_read beneath.devices.hash_read;
         beneath_more = omega (arith, found.beneath_more, beneath.hash_more);
       };
-      made_of = λ from low. unlike-before j.tree.shape j.tree.salt a.data_dev a.hash_dev m.data_dev m.hash_dev before from (l + 1 - from) (ancestor j.tree.shape (l + 1) i) (digest_on p i (l + 1)) (none from low);
+      made_of = nowhere-before (lost_hash j.tree.shape j.tree.salt l i (digest_on p i (l + 1))) a.data_dev a.hash_dev m.data_dev m.hash_dev b.data_dev b.hash_dev before
+          (omega (arith, ap (λ (d : Device). d.failures) kept.device_is)) (omega (arith, found.more, found.beneath_more)) none;
       data_stays = (only_read-then before.data_read beneath.devices.data_read, data-more);
       copies_are = beneath.data_copies_are ∙ kept.copies_are;
     }

@@ -15,8 +15,7 @@ use Rattle.tree_repair.specs.Parity.{IsCoveredAt}
 use Rattle.tree_repair.specs.Repairs.{SeeksByParity, job_of}
 use Rattle.tree_repair.specs.Runs.{Job, Visit, VisitsAll}
 use Rattle.tree_repair.specs.ParitySearches.{IsBroughtBack, IsCutOff, IsGoodBehind, IsMadeOther, IsUncovered, Trial, trial}
-use Rattle.tree_repair.specs.UnreadBlocks.{HasCountedNone}
-use Rattle.tree_repair.specs.Worlds.{IsParityRead, RepairWorld}
+use Rattle.tree_repair.specs.Worlds.{HasCountedNone, IsParityRead, RepairWorld}
 
 -- ---- blocks that aren't sought by parity
 

@@ -8,12 +8,11 @@ use Rattle.tree_repair.specs.declared.outcome.Outcome.{Outcome}
 use Rattle.tree_repair.specs.declared.outcome.Outcome.TheVariants.{Partly, Whole}
 use Rattle.tree_repair.specs.declared.repair.Plan.{Plan}
 use Rattle.tree_repair.specs.Coverage.{IsFromUp, IsVisitAt}
-use Rattle.tree_repair.specs.UnreadBlocks.{HasCountedNone}
 use Rattle.tree_repair.specs.Noting.{found_of}
 use Rattle.tree_repair.specs.Repairs.{LiesOn, job_of}
 use Rattle.tree_repair.specs.Runs.{IsDone, Job, VisitsAll, Visit}
 use Rattle.tree_repair.specs.Standing.{IsSteadyImage, IsWorldSteady, StandsGood}
-use Rattle.tree_repair.specs.Worlds.{RepairWorld}
+use Rattle.tree_repair.specs.Worlds.{HasCountedNone, RepairWorld}
 
 -- ---- why a block is corrupt after a pass
 

@@ -1,8 +1,13 @@
 -- The devices of a repair.
-use Rattle.std.specs.Prelude.{◌≡◌, ◌≤◌, List}
+use Rattle.std.specs.Prelude.{◌≡◌, ◌-◌, ◌^◌, ◌<◌, ◌≤◌, List}
 use Rattle.block_device.specs.Device.{Device}
 use Rattle.verity_format.specs.Blocks.{AreOnlyRead, IsOnlyRead}
 use Rattle.tree_repair.specs.Sources.{AreEachRead}
+
+-- no failure was counted, and the counter is below its maximum
+pub record HasCountedNone (old new : Device) : Type 0 where
+  pub none : new.failures ≤ old.failures
+  pub below : new.failures < 2 ^ 64 - 1
 
 -- the data device, the hash device, and the copies of each
 pub record RepairWorld : Type 0 where
