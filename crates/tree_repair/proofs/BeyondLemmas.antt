@@ -66,9 +66,9 @@ none-failed : (w w' : RepairWorld) (p p' : Device) → AreCounting w w' p p' →
 none-failed w w' p p' more none failed = any failed
   where
     any : HasAnyFailed w.data_dev w.hash_dev p w'.data_dev w'.hash_dev p' → ⊥
-    any (inl (inl data)) = unfailed w.data_dev w'.data_dev more.data_more none.data_none data
-    any (inl (inr hash)) = unfailed w.hash_dev w'.hash_dev more.hash_more none.hash_none hash
-    any (inr parity) = unfailed p p' more.parity_more none.parity_none parity
+    any (inl (inl one)) = unfailed w.data_dev w'.data_dev more.data_more none.data_none one
+    any (inl (inr two)) = unfailed w.hash_dev w'.hash_dev more.hash_more none.hash_none two
+    any (inr three) = unfailed p p' more.parity_more none.parity_none three
 
 -- ---- a block that is sought
 

@@ -125,8 +125,8 @@ failed-since a b c more then (inr most) = elim (cases_lt a.failures (2 ^ 64 - 1)
 ]
 
 pub one-failed-since : (a b c : RepairWorld) → AreBothRead a b → AreBothRead b c → HasOneFailedIn b c → HasOneFailedIn a c
-one-failed-since a b c p q (inl data) = inl (failed-since a.data_dev b.data_dev c.data_dev p.data_more q.data_more data)
-one-failed-since a b c p q (inr hash) = inr (failed-since a.hash_dev b.hash_dev c.hash_dev p.hash_more q.hash_more hash)
+one-failed-since a b c p q (inl one) = inl (failed-since a.data_dev b.data_dev c.data_dev p.data_more q.data_more one)
+one-failed-since a b c p q (inr two) = inr (failed-since a.hash_dev b.hash_dev c.hash_dev p.hash_more q.hash_more two)
 
 times-more : (d h d1 h1 d2 h2 : Device) (n : ℕ) → d1.failures ≤ d2.failures → h1.failures ≤ h2.failures → HaveFailedTimes d h n d1 h1 → HaveFailedTimes d h n d2 h2
 times-more d h d1 h1 d2 h2 n more then (inl few) = inl (omega (arith, few, more, then))
@@ -187,18 +187,18 @@ nowhere-before x d h d1 h1 d2 h2 read more then none = record {
 
 -- if no failure was counted, it was made from the data
 none-unread : (d h d1 h1 : Device) (n : ℕ) → HasCountedNone d d1 → HasCountedNone h h1 → HaveFailedTimes d h n d1 h1 → n ≡ 0
-none-unread d h d1 h1 n data hash (inl few) = omega (arith, few, data.none, hash.none)
-none-unread d h d1 h1 n data hash (inr (inl end)) = absurd (omega (arith, end, data.below))
-none-unread d h d1 h1 n data hash (inr (inr end)) = absurd (omega (arith, end, hash.below))
+none-unread d h d1 h1 n one two (inl few) = omega (arith, few, one.none, two.none)
+none-unread d h d1 h1 n one two (inr (inl end)) = absurd (omega (arith, end, one.below))
+none-unread d h d1 h1 n one two (inr (inr end)) = absurd (omega (arith, end, two.below))
 
 first-unlike : (x : LostHash) (d h : Device) (n unread : ℕ) → unread ≡ 0 → AreUnlikeFrom x d h 0 (suc n) unread → IsUnlike x.salt d h x.digest_is (made_on (ground x.shape x.salt d h 0) x.level x.index)
 first-unlike x d h n unread none (inl (unlike, more)) = unlike
 first-unlike x d h n unread none (inr (rest, (is, more))) = absurd (omega (arith, none, is))
 
 pub unlike-data : (x : LostHash) (d h d1 h1 : Device) → HasCountedNone d d1 → HasCountedNone h h1 → IsNowhereBeneath x d h d1 h1 → IsUnlike x.salt d h x.digest_is (made_on (ground x.shape x.salt d h 0) x.level x.index)
-unlike-data x d h d1 h1 data hash none =
+unlike-data x d h d1 h1 one two none =
     let all : x.level + 1 - 0 ≡ suc x.level = omega arith in
-    first-unlike x d h x.level none.unread (none-unread d h d1 h1 none.unread data hash none.counted) (subst (λ (n : ℕ). AreUnlikeFrom x d h 0 n none.unread) all none.each)
+    first-unlike x d h x.level none.unread (none-unread d h d1 h1 none.unread one two none.counted) (subst (λ (n : ℕ). AreUnlikeFrom x d h 0 n none.unread) all none.each)
 
 -- ---- the last digest was put
 
