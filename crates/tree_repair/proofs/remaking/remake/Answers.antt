@@ -8,7 +8,7 @@ use Rattle.tree_repair.specs.Remaking.{IsNowhereFrom, lost_hash}
 use Rattle.tree_repair.specs.Runs.{size_at}
 use Rattle.tree_repair.proofs.AskedLemmas.{tried-all, tried-at, untried_of}
 use Rattle.tree_repair.proofs.BillLemmas.{leaves-none}
-use Rattle.tree_repair.proofs.MakeLemmas.{both-none, both-then, nowhere-next, nowhere-none, unlike-before}
+use Rattle.tree_repair.proofs.MakeLemmas.{both-none, both-then, nowhere-next, nowhere-none, over-before, unlike-before}
 use Rattle.tree_repair.proofs.remaking.remake.Goals as goal
 
 pub overflow_add-from : goal.overflow_add-from
@@ -74,6 +74,23 @@ heights-preserved g c =
             | inl failed ↦ inl failed
             | inr other ↦ inr (unlike-before s salt d h d1 h1 c.heights.invariant.read.devices from (level + 1 - from) (ancestor s (level + 1) c.args.index) c.args.sought.now.digest other)
           ]);
+    }
+
+pub returns-then-is_made-clause-made : goal.returns-then-is_made-clause-made
+returns-then-is_made-clause-made g c = λ yes.
+    let s = c.args.sought.now.repair.now.shape in
+    let salt = c.args.sought.now.repair.now.salt in
+    let d = c.args.image.now.data_dev in
+    let h = c.args.image.now.hash_dev in
+    let d1 = c.heights.image.data_dev in
+    let h1 = c.heights.image.hash_dev in
+    let from : ℕ = c.heights.from - 1 in
+    let level = c.args.level in
+    let over = rw c.block_on_path-number.ensures.value at c.is_made.ensures.stand c.if-is_made.true in
+    record {
+      from = from;
+      beneath = omega (arith, c.heights.invariant.high, c.heights-test.true);
+      stand = over-before s salt d h d1 h1 c.heights.invariant.read.devices from (level + 1 - from) (ancestor s (level + 1) c.args.index) c.is_made.new.block over;
     }
 
 pub returns-then-is_made-clause-none : goal.returns-then-is_made-clause-none
