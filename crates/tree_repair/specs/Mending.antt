@@ -1,7 +1,7 @@
 -- The result of a check of a block: it is valid; or it is corrupt and was found elsewhere; or it is lost. Reads of its device
 -- never decrease its failure counter, so each counted failure stays.
 use Rattle.std.specs.Prelude.{◌≡◌, ◌≤◌, ℕ, ◌*◌, ◌/◌, Bool, true, false, IsTrue, List, [], ◌∷◌, length}
-use Rattle.block_device.specs.Call.{Call, Read, Sync, Write}
+use Rattle.block_device.specs.Call.{Call, Write}
 use Rattle.block_device.specs.Device.{Device, IsWritten, sectors_of, spliced}
 use Rattle.tree_shape.specs.Digests.{digest}
 use Rattle.verity_format.specs.Blocks.{IsOnlyRead}
