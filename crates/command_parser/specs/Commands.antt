@@ -75,7 +75,7 @@ stack_commands more =
     ∷ command (codes "write") (cache ∷ [])
     ∷ command (codes "session") (cache ∷ [])
     ∷ command (codes "nbd") (cache ∷ flag (codes "all") ∷ [])
-    ∷ command (codes "scan") (cache ∷ value_option (codes "map") ∷ progress ∷ json ∷ [])
+    ∷ command (codes "scan") (cache ∷ value_option (codes "map") ∷ progress ∷ json ∷ flag (codes "chart") ∷ [])
     ∷ command (codes "copy") (cache ∷ flag (codes "differing") ∷ value_option (codes "map") ∷ progress ∷ [])
     ∷ command (codes "cat") (cache ∷ value_option (codes "first") ∷ value_option (codes "count") ∷ progress ∷ [])
     ∷ command (codes "store") (cache ∷ value_option (codes "first") ∷ progress ∷ [])

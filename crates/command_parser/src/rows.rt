@@ -184,6 +184,12 @@ const LINUX: OptionRow = OptionRow {
     has_value: false,
 };
 
+const CHART: OptionRow = OptionRow {
+    name: "chart",
+    others: &[],
+    has_value: false,
+};
+
 /// All commands.
 pub static COMMANDS: [CommandRow; 18] = [
     CommandRow {
@@ -265,7 +271,7 @@ pub static COMMANDS: [CommandRow; 18] = [
     },
     CommandRow {
         name: "scan",
-        options: &[CACHE, MAP, PROGRESS, JSON],
+        options: &[CACHE, MAP, PROGRESS, JSON, CHART],
     },
     CommandRow {
         name: "copy",

@@ -2,9 +2,11 @@
 //! JSON.
 #![tactic(auto)]
 
+mod chart;
 mod copy;
 mod device_lines;
 mod devices;
+mod form;
 mod lost_json;
 mod map_file;
 mod map_texts;
@@ -19,6 +21,7 @@ mod turns;
 pub use copy::{CopyPlan, copy_device};
 pub use device_lines::say_devices;
 pub use devices::devices_line;
+pub use form::{ReportForm, report_form};
 pub use map_file::{MapFile, MapPath, read_map};
 pub use map_texts::say_pass_fault;
 pub use passing::Passing;
