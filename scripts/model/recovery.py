@@ -58,6 +58,13 @@ def lines_of(runs, had):
     return lines + [b"read %d lost %d" % (sum(had), len(had) - sum(had))]
 
 
+def chart_of(had):
+    """A map of the sectors: at most 16 rows of 64 characters, `x` for some sectors of which one is lost, and else `.`."""
+    width = max(-(-len(had) // 1024), 1)
+    cells = [b"." if all(had[first:first + width]) else b"x" for first in range(0, len(had), width)]
+    return [b"chart %d" % width, *[b"".join(cells[first:first + 64]) for first in range(0, len(cells), 64)]]
+
+
 def facts_of(runs, had):
     """The same as JSON."""
     return {"lost": len(had) - sum(had), "read": sum(had), "runs": [run_facts(*run) for run in runs]}

@@ -36,7 +36,6 @@ pub struct OptionWords<'a> {
     pub json: bool,
     pub check: bool,
     pub linux: bool,
-    pub chart: bool,
 }
 
 /// Whether an option of parity is there.

@@ -13,7 +13,7 @@ const SESSION_USAGE: &str = "dmstack session [--cache N] BINDING...";
 const NBD_USAGE: &str = "dmstack nbd [--cache N] [--all] STACK NAME BINDING...";
 
 const SCAN_USAGE: &str =
-    "dmstack scan [--cache N] [--map FILE] [--progress] [--json] STACK NAME BINDING...";
+    "dmstack scan [--cache N] [--map FILE] [--progress] [--json] [--chart] STACK NAME BINDING...";
 
 const COPY_USAGE: &str =
     "dmstack copy [--cache N] [--differing] [--map FILE] [--progress] STACK NAME OUT BINDING...";

@@ -1,11 +1,14 @@
 //! A map of a device's lost sectors.
-ghost use Rattle.std.specs.Prelude.{◌≡◌, ◌+◌, ◌-◌, ◌<◌, ◌≤◌};
+ghost use Rattle.std.specs.Prelude.{◌≡◌, ◌+◌, ◌-◌, ◌<◌, ◌≤◌, IfErr, OnOk};
 ghost use Rattle.program_io.specs.Counted.{Writes};
 ghost use Rattle.stack_recovery.specs.Texts.{lost_text};
+ghost use Rattle.scan_commands.specs.Reports.{EndsChart, TellsChart};
 ghost use Rattle.scan_commands.specs.Charts.{cell_mark, cell_text, cell_width, cells_text, chart_text, charted_text, row_end, touches};
 
+use crate::recovering_fault::RecoveringFault;
+use crate::report::tell_counts;
 use program_io::{Counted, WriteFault};
-use stack_recovery::{Counts, Listing, LostRun};
+use stack_recovery::{Counts, KeptRuns, Listing, LostRun};
 use std::io::Write;
 
 /// The greatest number of cells of a map, and the cells of a row.
@@ -13,12 +16,30 @@ const CELLS: u64 = 1024;
 
 const ROW: u64 = 64;
 
-/// Prints a line for each lost run, and a map of all sectors.
+/// Prints a line for each lost run, a map of all sectors, and the counts if no sector is lost.
 ///
 /// # Errors
 ///
-/// `WriteFault` if the writer failed.
-pub(crate) fn say_charted<W: Write>(
+/// - `NoMemory` if memory ran out for a run.
+/// - `Write` if not all can be written.
+/// - `Lost` with the counts if sectors are lost.
+pub(crate) fn tell_chart<'a, W: Write>(
+    kept: &KeptRuns,
+    counts: Counts,
+    writer: &mut Counted<W>,
+) -> Result<(), RecoveringFault<'a>>
+    ensures ok { OnOk result (TellsChart W.contents kept.now counts writer.old writer.new) }
+    ensures err { IfErr result (EndsChart W.contents kept.now counts writer.old writer.new) }
+{
+    if kept.refused {
+        return Err(RecoveringFault::NoMemory);
+    }
+    say_charted(writer, kept.runs.as_slice(), counts)?;
+    tell_counts(counts, writer)
+}
+
+// Prints a line for each lost run, and a map of all sectors.
+fn say_charted<W: Write>(
     writer: &mut Counted<W>,
     runs: &[LostRun],
     counts: Counts,

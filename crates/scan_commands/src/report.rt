@@ -2,9 +2,8 @@
 ghost use Rattle.std.specs.Prelude.{IfErr, OnOk};
 ghost use Rattle.program_io.specs.Counted.{Writes};
 ghost use Rattle.scan_commands.specs.Counting.{EndsCounts, TellsCountsBy, counts_text};
-ghost use Rattle.scan_commands.specs.Reports.{EndsChart, EndsObject, TellsChart, TellsObject};
+ghost use Rattle.scan_commands.specs.Reports.{EndsObject, TellsObject};
 
-use crate::chart::say_charted;
 use crate::lost_json::lost_line;
 use crate::recovering_fault::RecoveringFault;
 use program_io::{Counted, WriteFault};
@@ -44,28 +43,6 @@ pub fn say_counts<W: Write>(writer: &mut Counted<W>, read: u64, lost: u64) -> Re
     ensures { Writes W.contents writer.old writer.new (counts_text read lost) result }
 {
     writer.print(format_args!("read {read} lost {lost}\n"))
-}
-
-/// Prints a line for each lost run, a map of all sectors, and the counts if no sector is lost.
-///
-/// # Errors
-///
-/// - `NoMemory` if memory ran out for a run.
-/// - `Write` if not all can be written.
-/// - `Lost` with the counts if sectors are lost.
-pub(crate) fn tell_chart<'a, W: Write>(
-    kept: &KeptRuns,
-    counts: Counts,
-    writer: &mut Counted<W>,
-) -> Result<(), RecoveringFault<'a>>
-    ensures ok { OnOk result (TellsChart W.contents kept.now counts writer.old writer.new) }
-    ensures err { IfErr result (EndsChart W.contents kept.now counts writer.old writer.new) }
-{
-    if kept.refused {
-        return Err(RecoveringFault::NoMemory);
-    }
-    say_charted(writer, kept.runs.as_slice(), counts)?;
-    tell_counts(counts, writer)
 }
 
 /// Prints one JSON object with the counts and the lost runs.

@@ -5,11 +5,12 @@ ghost use Rattle.scan_commands.specs.Passes.{CanPass};
 ghost use Rattle.scan_commands.specs.Counting.{EndsPrintedBy, PrintedBy};
 ghost use Rattle.scan_commands.specs.Scans.{EndsReporting, IsScanEnd, PrintsScan, ReportsScan, words_to_scan};
 
+use crate::chart::tell_chart;
 use crate::form::ReportForm;
 use crate::map_file::map_at;
 use crate::passing::{Passing, run_pass};
 use crate::recovering_fault::RecoveringFault;
-use crate::report::{tell_chart, tell_counts, tell_object};
+use crate::report::{tell_counts, tell_object};
 use block_device::BlockDev;
 use device_adapters::Progress;
 use image_files::Images;
@@ -75,9 +76,9 @@ fn report_scan<'a, I: Images, D: BlockDev, W: Write, P: Progress>(
             tell_counts(counts, writer)
         }
         ReportForm::Chart => {
-            let mut kept = KeptRuns::new(alloc);
-            let found = run_pass(alloc, images, passing, map, &mut kept, progress)?;
-            tell_chart(&kept, found, writer)
+            let mut runs = KeptRuns::new(alloc);
+            let charted = run_pass(alloc, images, passing, map, &mut runs, progress)?;
+            tell_chart(&runs, charted, writer)
         }
         ReportForm::Object => {
             let mut kept = KeptRuns::new(alloc);
