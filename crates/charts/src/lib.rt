@@ -2,5 +2,7 @@
 #![tactic(auto)]
 
 mod chart;
+mod form;
 
 pub use chart::{Marks, is_touched, say_chart};
+pub use form::{ReportForm, report_form};

@@ -221,6 +221,7 @@ pub static COMMANDS: [CommandRow; 18] = [
             NO_SUPERBLOCK,
             ALL,
             JSON,
+            CHART,
             PROGRESS,
             FEC,
             FEC_ROOTS,

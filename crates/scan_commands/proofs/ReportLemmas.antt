@@ -5,7 +5,7 @@ use Rattle.stack_recovery.specs.declared.recovery.Counts.{Counts}
 use Rattle.stack_recovery.specs.Listings.{Listed, listed}
 use Rattle.stack_recovery.specs.LostRuns.{LostRun}
 use Rattle.stack_recovery.specs.Texts.{lost_text}
-use Rattle.scan_commands.specs.declared.form.ReportForm.{ReportForm}
+use Rattle.charts.specs.declared.form.ReportForm.{ReportForm}
 use Rattle.scan_commands.specs.declared.recovering_fault.RecoveringFault.{RecoveringFault}
 use Rattle.scan_commands.specs.Reports.{AreKept, Early, IsUnreported, Reports, Whole, kept_text}
 

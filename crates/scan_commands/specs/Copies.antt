@@ -20,7 +20,7 @@ use Rattle.stack_recovery.specs.declared.recovery.Counts.{Counts}
 use Rattle.stack_recovery.specs.Listings.{Listed}
 use Rattle.stack_recovery.specs.Recoveries.{sides}
 use Rattle.scan_commands.specs.declared.copy.CopyPlan.{CopyPlan}
-use Rattle.scan_commands.specs.declared.form.ReportForm.TheVariants.{Lines}
+use Rattle.charts.specs.declared.form.ReportForm.TheVariants.{Lines}
 use Rattle.scan_commands.specs.declared.recovering_fault.RecoveringFault.{RecoveringFault}
 use Rattle.scan_commands.specs.declared.recovering_fault.RecoveringFault.TheVariants.{OutputTooSmall}
 use Rattle.scan_commands.specs.Counting.{IsPassEnd, IsRecoveryStackless, listed_by}

@@ -12,8 +12,8 @@ use Rattle.stack_recovery.specs.LostRuns.{LostRun}
 use Rattle.stack_recovery.specs.Texts.{lost_text}
 use Rattle.scan_commands.specs.declared.recovering_fault.RecoveringFault.{RecoveringFault}
 use Rattle.scan_commands.specs.declared.recovering_fault.RecoveringFault.TheVariants.{Lost, LostAsSaid, NoMemory, Write}
-use Rattle.scan_commands.specs.declared.form.ReportForm.{ReportForm}
-use Rattle.scan_commands.specs.declared.form.ReportForm.TheVariants.{Lines, Chart, Object}
+use Rattle.charts.specs.declared.form.ReportForm.{ReportForm}
+use Rattle.charts.specs.declared.form.ReportForm.TheVariants.{Lines, Chart, Object}
 use Rattle.scan_commands.specs.Charts.{charted_text}
 use Rattle.scan_commands.specs.Counting.{IsCountsEnd, TellsCounts, counts_text}
 

@@ -15,7 +15,7 @@ use Rattle.stack_recovery.specs.declared.recovery.Counts.{Counts}
 use Rattle.stack_recovery.specs.Listings.{Listed}
 use Rattle.stack_recovery.specs.Recoveries.{sides}
 use Rattle.scan_commands.specs.declared.recovering_fault.RecoveringFault.{RecoveringFault}
-use Rattle.scan_commands.specs.declared.form.ReportForm.{ReportForm}
+use Rattle.charts.specs.declared.form.ReportForm.{ReportForm}
 use Rattle.scan_commands.specs.declared.scan.ScanPlan.{ScanPlan}
 use Rattle.scan_commands.specs.Counting.{IsPassEnd, IsRecoveryStackless}
 use Rattle.scan_commands.specs.Reports.{IsUnreported, Reports}

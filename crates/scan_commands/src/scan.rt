@@ -6,12 +6,12 @@ ghost use Rattle.scan_commands.specs.Counting.{EndsPrintedBy, PrintedBy};
 ghost use Rattle.scan_commands.specs.Scans.{EndsReporting, IsScanEnd, PrintsScan, ReportsScan, words_to_scan};
 
 use crate::chart::tell_chart;
-use crate::form::ReportForm;
 use crate::map_file::map_at;
 use crate::passing::{Passing, run_pass};
 use crate::recovering_fault::RecoveringFault;
 use crate::report::{tell_counts, tell_object};
 use block_device::BlockDev;
+use charts::ReportForm;
 use device_adapters::Progress;
 use image_files::Images;
 use program_io::Counted;

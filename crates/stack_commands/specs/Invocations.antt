@@ -29,7 +29,7 @@ use Rattle.stack_commands.specs.Endings.{IsSilent, IsReplyUnwritten}
 use Rattle.transfer_commands.specs.Writes.{PutWords, put_words}
 use Rattle.request_queue.specs.Requests.{a_read, a_write}
 use Rattle.scan_commands.specs.Copies.{CopyWords, IsCopyEnd, PrintsCopy, copy_words}
-use Rattle.scan_commands.specs.Forms.{report_form}
+use Rattle.charts.specs.Forms.{report_form}
 use Rattle.scan_commands.specs.Scans.{IsScanEnd, PrintsScan, ScanWords, scan_words}
 use Rattle.stack_files.specs.NamedDevices.{DeviceWords}
 use Rattle.transfer_commands.specs.StoredFiles.{FileWords, IsFileEnd, PrintsFileStored, file_words}

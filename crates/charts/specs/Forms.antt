@@ -1,7 +1,7 @@
--- How the result of a scan is reported.
+-- How a command reports what it found.
 use Rattle.std.specs.Prelude.{Bool, true, false}
-use Rattle.scan_commands.specs.declared.form.ReportForm.{ReportForm}
-use Rattle.scan_commands.specs.declared.form.ReportForm.TheVariants.{Lines, Chart, Object}
+use Rattle.charts.specs.declared.form.ReportForm.{ReportForm}
+use Rattle.charts.specs.declared.form.ReportForm.TheVariants.{Lines, Chart, Object}
 
 -- by the options `--json` and `--chart`
 abbrev pub report_form : Bool → Bool → ReportForm

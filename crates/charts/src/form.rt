@@ -1,13 +1,13 @@
-//! How the result of a scan is reported.
+//! How a command reports what it found.
 ghost use Rattle.std.specs.Prelude.{◌≡◌};
-ghost use Rattle.scan_commands.specs.Forms.{report_form};
+ghost use Rattle.charts.specs.Forms.{report_form};
 
-/// How the result of a scan is reported.
+/// How a command reports what it found.
 #[derive(Clone, Copy, Debug, PartialEq, Eq)]
 pub enum ReportForm {
-    /// A line for each lost run as it is found, and the counts.
+    /// A line for each run as it is found, and the counts.
     Lines,
-    /// A line for each lost run, a map of the lost sectors, and the counts, all after the pass.
+    /// A line for each run, a map, and the counts, all at the end.
     Chart,
     /// One JSON object.
     Object,
