@@ -1,5 +1,6 @@
 """Going over a whole device: which sectors can be had, which are lost, and what a copy has then."""
 
+from charts import chart_lines
 from configuration import Refused
 from files import LONGEST_NAME, Stop
 from rescue_map import FAULTS, MapFault, is_of_scan, marks_of, text_of
@@ -60,9 +61,7 @@ def lines_of(runs, had):
 
 def chart_of(had):
     """A map of the sectors: at most 16 rows of 64 characters, `x` for some sectors of which one is lost, and else `.`."""
-    width = max(-(-len(had) // 1024), 1)
-    cells = [b"." if all(had[first:first + width]) else b"x" for first in range(0, len(had), width)]
-    return [b"chart %d" % width, *[b"".join(cells[first:first + 64]) for first in range(0, len(cells), 64)]]
+    return [line.encode() for line in chart_lines(["." if it else "x" for it in had])]
 
 
 def facts_of(runs, had):

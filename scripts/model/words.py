@@ -14,7 +14,7 @@ TREE = (b"data-block", b"hash-block", b"blocks", b"salt")
 OPTIONS = {
     "format": (*TREE, b"uuid", b"hash-offset", b"no-superblock", b"grow", b"progress", b"fec", b"fec-roots",
                b"pin"),
-    "verify": (*TREE, b"hash-offset", b"root-hash-file", b"no-superblock", b"all", b"json", b"progress",
+    "verify": (*TREE, b"hash-offset", b"root-hash-file", b"no-superblock", b"all", b"json", b"chart", b"progress",
                b"fec", b"fec-roots", b"pin"),
     "dump": (b"hash-offset", b"json", b"pin"),
     "table": (*TREE, b"hash-offset", b"root-hash-file", b"name", b"no-superblock", b"pin"),
@@ -232,6 +232,8 @@ def read_verify(options, words):
     """DATA, HASH, the root, the sizes, and the place."""
     check_tree_values(options, (b"salt",))
     if b"json" in options and b"all" not in options or b"no-superblock" in options and b"all" in options:
+        raise Usage
+    if b"chart" in options and (b"all" not in options or b"json" in options):
         raise Usage
     check_pin(options)
     (data_path, hash_path), rest = at_least(words, 2)
