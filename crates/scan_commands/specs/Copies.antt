@@ -20,6 +20,7 @@ use Rattle.stack_recovery.specs.declared.recovery.Counts.{Counts}
 use Rattle.stack_recovery.specs.Listings.{Listed}
 use Rattle.stack_recovery.specs.Recoveries.{sides}
 use Rattle.scan_commands.specs.declared.copy.CopyPlan.{CopyPlan}
+use Rattle.charts.specs.declared.form.ReportForm.TheVariants.{Lines}
 use Rattle.scan_commands.specs.declared.recovering_fault.RecoveringFault.{RecoveringFault}
 use Rattle.scan_commands.specs.declared.recovering_fault.RecoveringFault.TheVariants.{OutputTooSmall}
 use Rattle.scan_commands.specs.Counting.{IsPassEnd, IsRecoveryStackless, listed_by}
@@ -106,7 +107,7 @@ pub record StopsCopy {S D : Type 0} (w : Calls S D) (words : CopyWords) (before 
 
 -- no sector is lost, and all was reported
 abbrev pub PrintsCopy : {S D : Type 0} → Calls S D → CopyWords → Option (List ℕ) → Option (List ℕ) → Type 0
-PrintsCopy w words old new = Reports (Copies w words) false old new
+PrintsCopy w words old new = Reports (Copies w words) Lines old new
 
 -- the device has so many sectors, which are more than the image has
 abbrev pub IsOutputTooSmall : Device → ℕ → RecoveringFault → Type 0
@@ -127,7 +128,7 @@ IsOutputUncopied w words out fault = IsRecoveryStackless (FailsToFindOutput w wo
 -- nothing is printed if the copy doesn't begin
 abbrev pub IsCopyEnd : {S D : Type 0} → Calls S D → CopyWords → Option (List ℕ) → Option (List ℕ) → Bool → RecoveringFault → Type 0
 IsCopyEnd w words old new failed fault =
-    ((new ≡ old) × IsOutputUncopied w words.words words.out fault) ⊎ IsUnreported (StopsCopy w words) (Copies w words) false old new failed fault
+    ((new ≡ old) × IsOutputUncopied w words.words words.out fault) ⊎ IsUnreported (StopsCopy w words) (Copies w words) Lines old new failed fault
 
 -- ---- in terms of the arguments of a call
 

@@ -5,6 +5,7 @@ ghost use Rattle.stack_commands.specs.Contexts.{DoesScan, EndsScan};
 use crate::context::Context;
 use crate::fault::CommandFault;
 use crate::words::stack_file;
+use charts::report_form;
 use command_line::ScanWords;
 use device_adapters::Progress;
 use image_files::Images;
@@ -13,7 +14,7 @@ use stack_files::NamedDevice;
 use std::alloc::Global;
 use std::io::Write;
 
-/// `scan [--cache N] [--map FILE] [--progress] [--json] STACK NAME BINDING...`
+/// `scan [--cache N] [--map FILE] [--progress] [--json | --chart] STACK NAME BINDING...`
 pub fn invoke_scan<'a, I: Images, W: Write, P: Progress>(
     alloc: Global,
     context: Context<'_, I, W>,
@@ -32,12 +33,14 @@ pub fn invoke_scan<'a, I: Images, W: Write, P: Progress>(
         map,
         progress: is_shown,
         json,
+        chart,
     } = words;
     if is_shown {
         progress.begin();
     }
     let file = stack_file(stack, &bindings);
     let device = NamedDevice { name, cache };
-    let plan = ScanPlan { device, map, json };
+    let form = report_form(json, chart);
+    let plan = ScanPlan { device, map, form };
     Ok(scan_device(alloc, images, file, plan, writer, progress)?)
 }

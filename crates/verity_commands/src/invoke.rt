@@ -7,6 +7,7 @@ use crate::diff::{DiffForm, diff_images};
 use crate::paths::HashPaths;
 use crate::survey::{SurveyOrder, survey_images};
 use crate::tree_fault::TreeFault;
+use charts::report_form;
 use command_line::{DiffWords, VerifyWords};
 use device_adapters::Watchers;
 use image_files::Images;
@@ -34,7 +35,7 @@ pub fn invoke_survey<'a, I: Images, S: Watchers, W: Write>(
         data: words.data_path,
         hash: words.hash_path,
         hash_first: words.hash_offset / SECTOR,
-        json: words.json,
+        form: report_form(words.json, words.chart),
         progress: words.progress,
     };
     survey_images(alloc, images, watchers, order, trusted, writer)

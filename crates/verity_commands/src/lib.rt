@@ -14,6 +14,7 @@ mod placed;
 mod places;
 mod status;
 mod survey;
+mod survey_chart;
 mod survey_object;
 mod texts;
 mod tree_fault;

@@ -1,11 +1,12 @@
--- What `scan [--cache N] [--map FILE] [--progress] [--json] STACK NAME BINDING...` says.
-use Rattle.std.specs.Prelude.{codes, Bool, List, Option, Ok, map, ℕ}
+-- What `scan [--cache N] [--map FILE] [--progress] [--json | --chart] STACK NAME BINDING...` says.
+use Rattle.std.specs.Prelude.{codes, ◌&&◌, Bool, List, Option, Ok, map, ℕ}
 use Rattle.command_line.specs.Bindings.{BindingRecord, binding_record}
 use Rattle.command_line.specs.BindingWords.{bindings_of}
 use Rattle.command_line.specs.FormatOptions.{OptionTexts, text_of}
-use Rattle.command_line.specs.Misuses.{Reading, when}
+use Rattle.command_line.specs.Misuses.{Reading, refuse_if, when}
 use Rattle.command_line.specs.Positional.{positional}
 use Rattle.command_line.specs.Values.{cache_said, map_said}
+use Rattle.command_line.specs.declared.misuse.Cause.TheVariants.{WithChart}
 use Rattle.command_line.specs.declared.words.scan.ScanWords.{ScanWords}
 
 pub record ScanRecord : Type 0 where
@@ -16,6 +17,7 @@ pub record ScanRecord : Type 0 where
   pub map : Option (List ℕ)
   pub progress : Bool
   pub json : Bool
+  pub chart : Bool
 
 unfoldable pub scan_said : OptionTexts → List (List ℕ) → Reading ScanRecord
 scan_said texts words =
@@ -23,6 +25,7 @@ scan_said texts words =
     when (positional (codes "NAME") stack.1) (λ name.
     when (cache_said texts.cache) (λ cache.
     when (map_said texts.map) (λ path.
+    when (refuse_if (texts.json && texts.chart) (codes "--json") WithChart) (λ b.
     when (bindings_of name.1) (λ bindings. Ok (record {
       cache = cache;
       stack = stack.0;
@@ -31,7 +34,8 @@ scan_said texts words =
       map = path;
       progress = texts.progress;
       json = texts.json;
-    }))))))
+      chart = texts.chart;
+    })))))))
 
 -- what the program's own value says
 abbrev pub scan_record : ScanWords → ScanRecord
@@ -43,4 +47,5 @@ scan_record w = record {
   map = text_of w.map;
   progress = w.progress;
   json = w.json;
+  chart = w.chart;
 }

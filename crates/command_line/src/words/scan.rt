@@ -1,4 +1,4 @@
-//! `scan [--cache N] [--map FILE] [--progress] [--json] STACK NAME BINDING...`
+//! `scan [--cache N] [--map FILE] [--progress] [--json | --chart] STACK NAME BINDING...`
 ghost use Rattle.command_line.specs.Invocations.{scan};
 ghost use Rattle.command_line.specs.Reading.{ReadsAs};
 ghost use Rattle.command_line.specs.FormatOptions.{option_texts, texts_of};
@@ -8,6 +8,7 @@ use crate::binding_words::bindings_of;
 use crate::bindings::Binding;
 use crate::fault::WordsFault;
 use crate::invocation::Invocation;
+use crate::misuse::{Cause, refuse_if};
 use crate::option_words::OptionWords;
 use crate::positional::positional;
 use crate::values::{cache_of, map_of};
@@ -23,9 +24,10 @@ pub struct ScanWords<'a> {
     pub map: Option<&'a str>,
     pub progress: bool,
     pub json: bool,
+    pub chart: bool,
 }
 
-/// `[--cache N] [--map FILE] [--progress] [--json] STACK NAME BINDING...`
+/// `[--cache N] [--map FILE] [--progress] [--json | --chart] STACK NAME BINDING...`
 #[tactic(auto, unfolding(crate::specs::words::Scan::scan_said))]
 pub fn scan_of<'a>(
     alloc: Global,
@@ -38,6 +40,7 @@ pub fn scan_of<'a>(
     let (name, words) = positional("NAME", words)?;
     let cache = cache_of(options.cache)?;
     let map = map_of(options.map)?;
+    refuse_if(options.json && options.chart, "--json", Cause::WithChart)?;
     let bindings = bindings_of(alloc, words)?;
     Ok(Invocation::Scan(ScanWords {
         cache,
@@ -47,5 +50,6 @@ pub fn scan_of<'a>(
         map,
         progress: options.progress,
         json: options.json,
+        chart: options.chart,
     }))
 }
