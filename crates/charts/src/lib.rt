@@ -5,4 +5,4 @@ mod chart;
 mod form;
 
 pub use chart::{Marks, is_touched, say_chart};
-pub use form::{ReportForm, report_form};
+pub use form::ReportForm;

@@ -29,7 +29,6 @@ use Rattle.stack_commands.specs.Endings.{IsSilent, IsReplyUnwritten}
 use Rattle.transfer_commands.specs.Writes.{PutWords, put_words}
 use Rattle.request_queue.specs.Requests.{a_read, a_write}
 use Rattle.scan_commands.specs.Copies.{CopyWords, IsCopyEnd, PrintsCopy, copy_words}
-use Rattle.charts.specs.Forms.{report_form}
 use Rattle.scan_commands.specs.Scans.{IsScanEnd, PrintsScan, ScanWords, scan_words}
 use Rattle.stack_files.specs.NamedDevices.{DeviceWords}
 use Rattle.transfer_commands.specs.StoredFiles.{FileWords, IsFileEnd, PrintsFileStored, file_words}
@@ -122,7 +121,7 @@ IsStoreCommandEnd w s old new failed fault = BySource s
 -- ---- a whole device
 
 abbrev pub scanned : ScanRecord → ScanWords
-scanned s = scan_words (device_on s.stack s.name s.cache s.bindings) s.map (report_form s.json s.chart)
+scanned s = scan_words (device_on s.stack s.name s.cache s.bindings) s.map s.form
 
 abbrev pub ScansSectors : {S D : Type 0} → Calls S D → ScanRecord → Option (List ℕ) → Option (List ℕ) → Type 0
 ScansSectors w s old new = PrintsScan w (scanned s) old new

@@ -5,7 +5,6 @@ ghost use Rattle.stack_commands.specs.Contexts.{DoesScan, EndsScan};
 use crate::context::Context;
 use crate::fault::CommandFault;
 use crate::words::stack_file;
-use charts::report_form;
 use command_line::ScanWords;
 use device_adapters::Progress;
 use image_files::Images;
@@ -32,15 +31,13 @@ pub fn invoke_scan<'a, I: Images, W: Write, P: Progress>(
         bindings,
         map,
         progress: is_shown,
-        json,
-        chart,
+        form,
     } = words;
     if is_shown {
         progress.begin();
     }
     let file = stack_file(stack, &bindings);
     let device = NamedDevice { name, cache };
-    let form = report_form(json, chart);
     let plan = ScanPlan { device, map, form };
     Ok(scan_device(alloc, images, file, plan, writer, progress)?)
 }

@@ -1,5 +1,4 @@
 -- What the commands on hash trees print by their words, and how they end early.
-use Rattle.charts.specs.Forms.{report_form}
 use Rattle.std.specs.Prelude.{ℕ, ◌/◌, Bool, true, false, List, Option}
 use Rattle.block_device.specs.Device.{Device}
 use Rattle.command_line.specs.declared.words.diff.DiffWords.{DiffWords}
@@ -47,10 +46,10 @@ abbrev pub survey_at : VerifyRecord → TwoPlaces
 survey_at v = record { paths = record { data_path = v.data_path; hash_path = v.hash_path }; first = v.hash_offset / 512 }
 
 abbrev pub SurveysAt : {S D : Type 0} → Calls S D → VerifyRecord → TrustedRoot → Option (List ℕ) → Option (List ℕ) → Type 0
-SurveysAt w v trusted old new = PrintsGood (report_form v.json v.chart) w (survey_at v) trusted old new
+SurveysAt w v trusted old new = PrintsGood v.form w (survey_at v) trusted old new
 
 abbrev pub IsSurveyWordsEnd : {S D : Type 0} → Calls S D → VerifyRecord → TrustedRoot → Option (List ℕ) → Option (List ℕ) → Bool → TreeFault → Type 0
-IsSurveyWordsEnd w v trusted old new failed fault = IsSurveyFilesEnd (report_form v.json v.chart) w (survey_at v) trusted old new failed fault
+IsSurveyWordsEnd w v trusted old new failed fault = IsSurveyFilesEnd v.form w (survey_at v) trusted old new failed fault
 
 -- ---- as a call sees them, by the program's own words
 

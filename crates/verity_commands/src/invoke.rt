@@ -7,7 +7,6 @@ use crate::diff::{DiffForm, diff_images};
 use crate::paths::HashPaths;
 use crate::survey::{SurveyOrder, survey_images};
 use crate::tree_fault::TreeFault;
-use charts::report_form;
 use command_line::{DiffWords, VerifyWords};
 use device_adapters::Watchers;
 use image_files::Images;
@@ -35,7 +34,7 @@ pub fn invoke_survey<'a, I: Images, S: Watchers, W: Write>(
         data: words.data_path,
         hash: words.hash_path,
         hash_first: words.hash_offset / SECTOR,
-        form: report_form(words.json, words.chart),
+        form: words.form,
         progress: words.progress,
     };
     survey_images(alloc, images, watchers, order, trusted, writer)

@@ -1,11 +1,12 @@
 -- What `verify [--all [--json | --chart]] [--hash-offset BYTES] [--root-hash-file FILE | --pin FILE] [--progress] DATA HASH [ROOT]` says.
 use Rattle.std.specs.Prelude.{◌&&◌, not, codes, Bool, List, Ok, ℕ}
+use Rattle.charts.specs.declared.form.ReportForm.{ReportForm}
 use Rattle.command_line.specs.FormatOptions.{OptionTexts}
 use Rattle.command_line.specs.Misuses.{Reading, refuse_if, when}
 use Rattle.command_line.specs.Positional.{positional, root_or_pin_alone}
-use Rattle.command_line.specs.Values.{RootOrPinRecord, offset_of, root_or_pin_record}
+use Rattle.command_line.specs.Values.{RootOrPinRecord, offset_of, report_form, root_or_pin_record}
 use Rattle.command_line.specs.OptionGroups.{in_superblock}
-use Rattle.command_line.specs.declared.misuse.Cause.TheVariants.{WithChart, WithoutAll}
+use Rattle.command_line.specs.declared.misuse.Cause.TheVariants.{WithoutAll}
 use Rattle.command_line.specs.declared.words.verify.VerifyWords.{VerifyWords}
 
 pub record VerifyRecord : Type 0 where
@@ -14,8 +15,7 @@ pub record VerifyRecord : Type 0 where
   pub root : RootOrPinRecord
   pub hash_offset : ℕ
   pub all : Bool
-  pub json : Bool
-  pub chart : Bool
+  pub form : ReportForm
   pub progress : Bool
 
 unfoldable pub verify_said : OptionTexts → List (List ℕ) → Reading VerifyRecord
@@ -25,7 +25,7 @@ verify_said texts words =
     when (in_superblock texts) (λ a.
     when (refuse_if (texts.json && not texts.all) (codes "--json") WithoutAll) (λ b.
     when (refuse_if (texts.chart && not texts.all) (codes "--chart") WithoutAll) (λ c.
-    when (refuse_if (texts.json && texts.chart) (codes "--json") WithChart) (λ d.
+    when (report_form texts.json texts.chart) (λ form.
     when (offset_of texts.hash_offset) (λ hash_offset.
     when (root_or_pin_alone texts.pin texts.root_hash_file hash_path.1) (λ root.
     Ok (record {
@@ -34,8 +34,7 @@ verify_said texts words =
       root = root;
       hash_offset = hash_offset;
       all = texts.all;
-      json = texts.json;
-      chart = texts.chart;
+      form = form;
       progress = texts.progress;
     })))))))))
 
@@ -47,7 +46,6 @@ verify_record w = record {
   root = root_or_pin_record w.root;
   hash_offset = w.hash_offset;
   all = w.all;
-  json = w.json;
-  chart = w.chart;
+  form = w.form;
   progress = w.progress;
 }

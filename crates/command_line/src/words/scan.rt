@@ -8,10 +8,10 @@ use crate::binding_words::bindings_of;
 use crate::bindings::Binding;
 use crate::fault::WordsFault;
 use crate::invocation::Invocation;
-use crate::misuse::{Cause, refuse_if};
 use crate::option_words::OptionWords;
 use crate::positional::positional;
-use crate::values::{cache_of, map_of};
+use crate::values::{cache_of, map_of, report_form};
+use charts::ReportForm;
 use std::alloc::Global;
 
 /// A device is gone over, where a map is kept but for what that says was had.
@@ -23,8 +23,7 @@ pub struct ScanWords<'a> {
     pub bindings: Vec<Binding<'a>>,
     pub map: Option<&'a str>,
     pub progress: bool,
-    pub json: bool,
-    pub chart: bool,
+    pub form: ReportForm,
 }
 
 /// `[--cache N] [--map FILE] [--progress] [--json | --chart] STACK NAME BINDING...`
@@ -40,7 +39,7 @@ pub fn scan_of<'a>(
     let (name, words) = positional("NAME", words)?;
     let cache = cache_of(options.cache)?;
     let map = map_of(options.map)?;
-    refuse_if(options.json && options.chart, "--json", Cause::WithChart)?;
+    let form = report_form(options.json, options.chart)?;
     let bindings = bindings_of(alloc, words)?;
     Ok(Invocation::Scan(ScanWords {
         cache,
@@ -49,7 +48,6 @@ pub fn scan_of<'a>(
         bindings,
         map,
         progress: options.progress,
-        json: options.json,
-        chart: options.chart,
+        form,
     }))
 }

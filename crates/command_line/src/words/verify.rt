@@ -10,7 +10,8 @@ use crate::invocation::Invocation;
 use crate::misuse::{Cause, Misuse, refuse_if};
 use crate::option_words::{OptionWords, in_superblock};
 use crate::positional::{positional, root_or_pin_alone};
-use crate::values::{RootOrPin, offset_of};
+use crate::values::{RootOrPin, offset_of, report_form};
+use charts::ReportForm;
 
 /// A verity image is checked.
 #[derive(Drop)]
@@ -20,8 +21,7 @@ pub struct VerifyWords<'a> {
     pub root: RootOrPin<'a>,
     pub hash_offset: u64,
     pub all: bool,
-    pub json: bool,
-    pub chart: bool,
+    pub form: ReportForm,
     pub progress: bool,
 }
 
@@ -51,7 +51,7 @@ pub fn verify_words<'a>(
     in_superblock(options)?;
     refuse_if(options.json && !options.all, "--json", Cause::WithoutAll)?;
     refuse_if(options.chart && !options.all, "--chart", Cause::WithoutAll)?;
-    refuse_if(options.json && options.chart, "--json", Cause::WithChart)?;
+    let form = report_form(options.json, options.chart)?;
     let hash_offset = offset_of(options.hash_offset)?;
     match root_or_pin_alone(options.pin, options.root_hash_file, words) {
         Ok(root) => Ok(VerifyWords {
@@ -60,8 +60,7 @@ pub fn verify_words<'a>(
             root,
             hash_offset,
             all: options.all,
-            json: options.json,
-            chart: options.chart,
+            form,
             progress: options.progress,
         }),
         Err(misuse) => Err(misuse),
