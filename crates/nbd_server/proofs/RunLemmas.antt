@@ -45,13 +45,9 @@ bytes-led e w offset bytes (Err error) w' (inr p) = led-then EachPart w p.1 w' (
 part-led : (e : ExportRecord) (w : World) (offset : ℕ) (bytes : List ℕ) (outcome : RequestOutcome) (w' : World) → WritesPart e w offset bytes outcome w' → IsLed EachPart w w'
 part-led e w offset bytes outcome w' p = led-then EachPart w p.2 w' (framed-led e w offset bytes p.1 p.2 p.3) p.4.put.led
 
-written-led : (e : ExportRecord) (w : World) (offset : ℕ) (bytes : List ℕ) (outcome : RequestOutcome) (w' : World) → WritesExport e w offset bytes outcome w' ⊎ WritesPart e w offset bytes outcome w' → IsLed EachPart w w'
-written-led e w offset bytes outcome w' (inl p) = bytes-led e w offset bytes outcome w' p
-written-led e w offset bytes outcome w' (inr p) = part-led e w offset bytes outcome w' p
-
 write-led : (e : ExportRecord) (w : World) (offset : ℕ) (bytes : List ℕ) (outcome : RequestOutcome) (w' : World) → WritesAny e w offset bytes outcome w' → IsLed EachPart w w'
 write-led e w offset [] outcome w' p = stays-led w w' p.1
-write-led e w offset (byte ∷ more) outcome w' p = written-led e w offset (byte ∷ more) outcome w' p.0
+write-led e w offset (byte ∷ more) outcome w' p = elim p.0 [ inl q ↦ bytes-led e w offset (byte ∷ more) outcome w' q | inr q ↦ part-led e w offset (byte ∷ more) outcome w' q ]
 
 -- by one write of the queue, or by several
 pub once-export : (e : ExportRecord) (w : World) (offset : ℕ) (bytes : List ℕ) (outcome : RequestOutcome) (w' : World) → WritesAtOnce e w offset bytes outcome w' → WritesExport e w offset bytes outcome w'

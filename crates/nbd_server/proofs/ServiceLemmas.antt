@@ -231,13 +231,9 @@ bytes-config e w offset bytes (Err error) w' (inr p) = unstored-config p.1 e.dev
 part-config : (e : ExportRecord) (w : World) (offset : ℕ) (bytes : List ℕ) (outcome : RequestOutcome) (w' : World) → WritesPart e w offset bytes outcome w' → w'.stack.config ≡ w.stack.config
 part-config e w offset bytes outcome w' p = p.4.put.put.any.config ∙ framed-config e w offset bytes p.1 p.2 p.3
 
-written-config : (e : ExportRecord) (w : World) (offset : ℕ) (bytes : List ℕ) (outcome : RequestOutcome) (w' : World) → WritesExport e w offset bytes outcome w' ⊎ WritesPart e w offset bytes outcome w' → w'.stack.config ≡ w.stack.config
-written-config e w offset bytes outcome w' (inl p) = bytes-config e w offset bytes outcome w' p
-written-config e w offset bytes outcome w' (inr p) = part-config e w offset bytes outcome w' p
-
 write-config : (e : ExportRecord) (w : World) (offset : ℕ) (bytes : List ℕ) (outcome : RequestOutcome) (w' : World) → WritesAny e w offset bytes outcome w' → w'.stack.config ≡ w.stack.config
 write-config e w offset [] outcome w' p = same-config w w' p.1
-write-config e w offset (byte ∷ more) outcome w' p = written-config e w offset (byte ∷ more) outcome w' p.0
+write-config e w offset (byte ∷ more) outcome w' p = elim p.0 [ inl q ↦ bytes-config e w offset (byte ∷ more) outcome w' q | inr q ↦ part-config e w offset (byte ∷ more) outcome w' q ]
 
 payload-config : (e : ExportRecord) (w : World) (offset : ℕ) (bytes : List ℕ) (outcome : RequestOutcome) (w' : World) → WritesPayload e w offset bytes outcome w' → w'.stack.config ≡ w.stack.config
 payload-config e w offset [] outcome w' p = same-config w w' p.1

@@ -1,13 +1,12 @@
 -- Sectors that are put at once, and zeros by one run after another.
-use Rattle.std.proofs.Common.{◌≡◌, ◌<◌, ◌≤◌, ℕ, ◌+◌, ◌-◌, ◌*◌, ◌/◌, ◌%◌, ◌==◌, nat_lt, Bool, true, false, List, [], ◌++◌, length, take, drop, replicate, refl, ap, sym, ◌∙◌, subst, append_assoc, append-nil, arith, inl, inr, Result, Ok, Err}
-use Rattle.std.specs.Int.{div_ceil}
-use Rattle.std.specs.Prelude.{◌⊎◌, IfErr, IsTrue, OnOk, not, nat_le, if◌then◌else◌}
-use Rattle.std.proofs.lemmas.List.{drop-replicate, length-append, length-replicate, take-append-drop, take-append-le, take-replicate}
+use Rattle.std.proofs.Common.{◌≡◌, ◌<◌, ◌≤◌, ℕ, ◌+◌, ◌-◌, ◌*◌, ◌/◌, ◌%◌, true, List, [], ◌++◌, length, take, refl, ap, sym, ◌∙◌, subst, append_assoc, append-nil, arith, inl, inr, Result, Ok, Err}
+use Rattle.std.specs.Prelude.{◌⊎◌, IfErr, OnOk, nat_le}
+use Rattle.std.proofs.lemmas.List.{length-append, take-append-le}
 use Rattle.std.proofs.Math.Seq.{take-append-add}
 use Rattle.std.proofs.lemmas.Bool.{le-leb}
 use Rattle.allocation.specs.Refusal.{IsOutOfMemory}
 use Rattle.alignment.specs.Lengths.{aligned_len}
-use Rattle.stack_rules.specs.Names.{mapped, may_write, size}
+use Rattle.stack_rules.specs.Names.{mapped}
 use Rattle.stack_rules.specs.Records.{Configuration}
 use Rattle.stack_meaning.specs.declared.fault.IoFault.{IoFault}
 use Rattle.stack_meaning.specs.declared.fault.IoFault.TheVariants as io
@@ -19,13 +18,10 @@ use Rattle.stack_engine.specs.WritePieces.{AnyWrite, EachWrite, InTurn, WritesIn
 use Rattle.stack_engine.proofs.lemmas.WritePieceLemmas.{any-then, write-none}
 use Rattle.request_queue.specs.declared.fault.BytesFault.{BytesFault}
 use Rattle.request_queue.specs.declared.fault.BytesFault.TheVariants.{Failed}
-use Rattle.request_queue.specs.declared.fault.SubmitFault.{SubmitFault}
-use Rattle.request_queue.specs.declared.fault.SubmitFault.TheVariants.{NoSuchDevice, OutOfRange, Length, ReadOnly}
 use Rattle.request_queue.specs.declared.range.SectorRange.{SectorRange}
 use Rattle.request_queue.specs.AtOnce.{BytesWritten, WritesInSteps, write_range}
 use Rattle.request_queue.specs.Parts.{EachPart}
 use Rattle.request_queue.specs.Ranges.{bytes_range, range_at}
-use Rattle.request_queue.specs.Requests.{writable_sectors}
 use Rattle.request_queue.specs.Runs.{IsLed}
 use Rattle.request_queue.specs.WholeRuns.{WritesWhole}
 use Rattle.request_queue.specs.World.{World}
@@ -35,12 +31,9 @@ use Rattle.request_queue.proofs.lemmas.BytesLemmas.{bytes_range-ok}
 use Rattle.request_queue.proofs.lemmas.LedLemmas.{led-none, led-then}
 use Rattle.nbd_protocol.specs.declared.request_error.RequestError.{RequestError}
 use Rattle.nbd_protocol.specs.declared.request_error.RequestError.TheVariants.{NoMemory, InputOutput}
-use Rattle.nbd_protocol.specs.Exports.{ExportRecord, IsExport}
 use Rattle.nbd_protocol.specs.Headers.{error_of}
-use Rattle.nbd_server.specs.Premises.{AreExportSectors}
 use Rattle.nbd_server.specs.Sectors.{IsStored, IsStoredAtOnce, IsPartPut, FailsToPutAll, FailsToPutAtOnce, FailsToZero, EndsPut, StopsPut, most_run_bytes}
 use Rattle.nbd_server.specs.Zeros.{IsNextRun, WritesInRuns, no_run, a_run, last_run, lacks_run, WroteRun, most_run_sectors}
-use Rattle.nbd_server.proofs.FetchLemmas.{named-below}
 
 abbrev pub ended : IoFault → Result Unit IoFault
 ended fault = Err fault
@@ -145,32 +138,6 @@ module _ (w : World) (d first : ℕ) (bytes : List ℕ) (w' : World) where
   pub run-stored : (result : Result Unit RequestError) → OnOk result (IsStoredAtOnce w d first bytes w') → OnOk result (IsStored w d first bytes w')
   run-stored (Ok done) p = p.stored
   run-stored (Err error) p = tt
-
--- ---- why none is refused
-
-last-tests : (e m : Bool) (x : SectorRange) (fault : SubmitFault) → e ≡ true → m ≡ true → (if not e then Err Length else if not m then Err ReadOnly else Ok x) ≡ Err fault → ⊥
-last-tests false m x fault whole may h = let clash : false ≡ true = whole in cc
-last-tests true false x fault whole may h = let clash : false ≡ true = may in cc
-last-tests true true x fault whole may h = let clash : Ok x ≡ Err fault = h in cc
-
-module _ (c : Configuration) (bytes : List ℕ) (x : SectorRange) (fault : SubmitFault) (whole : (length bytes % 512 == 0) ≡ true) (may : IsTrue (may_write c (mapped x.device.0))) where
-  all-tests : (a b e : Bool) → a ≡ false → b ≡ false → e ≡ true → writable_sectors c bytes (if a then Err NoSuchDevice else if b then Err OutOfRange else if not e then Err Length else Ok x) ≡ Err fault → ⊥
-  all-tests true b e one two three h = let clash : true ≡ false = one in cc
-  all-tests false true e one two three h = let clash : true ≡ false = two in cc
-  all-tests false false false one two three h = let clash : false ≡ true = three in cc
-  all-tests false false true one two three h = last-tests (length bytes % 512 == 0) (may_write c (mapped x.device.0)) x fault whole may h
-
--- sectors of an export that may be written are written, or fail
-pub not-refused : (c : Configuration) (e : ExportRecord) (first : ℕ) (bytes : List ℕ) (fault : SubmitFault) → IsExport c e → AreExportSectors e first bytes → write_range c e.device first bytes ≡ Err fault → ⊥
-not-refused c e first bytes fault export sectors h =
-    let there : e.device < length c.devices = named-below c e.name e.device export.found in
-    let one : nat_le (length c.devices) e.device ≡ false = grind (arith, there) in
-    let count : div_ceil (length bytes) 512 ≡ length bytes / 512 = omega (arith, sectors.whole) in
-    let inside : first + length bytes / 512 ≤ size c (mapped e.device) = omega (arith, sectors.inside, sectors.whole, export.size) in
-    let two : nat_lt (size c (mapped e.device)) (first + div_ceil (length bytes) 512) ≡ false = grind (arith, inside, count) in
-    let three : (length bytes % 512 == 0) ≡ true = grind (arith, sectors.whole) in
-    all-tests c bytes (range_at e.device first (length bytes / 512)) fault three (sym export.writable ∙ sectors.allowed)
-    (nat_le (length c.devices) e.device) (nat_lt (size c (mapped e.device)) (first + div_ceil (length bytes) 512)) (length bytes % 512 == 0) one two three h
 
 -- ---- runs one after another
 
@@ -317,18 +284,3 @@ module _ (w v w' : World) (d first at : ℕ) (all y : List ℕ) where
   pub put-err : (result : Result Unit RequestError) → IsPut w d first at all y v → IfErr result (λ error. FailsToZero v d at y error w') → IfErr result (λ error. FailsToZero w d first all error w')
   put-err (Ok done) p q = tt
   put-err (Err error) p q = put-last-ends error p q
-
--- ---- zeros
-
-pub length-zeros : (before behind : List ℕ) (n : ℕ) → length (before ++ (replicate n 0 ++ behind)) ≡ length before + (n + length behind)
-length-zeros before behind n = omega (arith, length-append before (replicate n 0 ++ behind), length-append {A = ℕ} (replicate n 0) behind, length-replicate {A = ℕ} n 0)
-
--- the first of them, and the others
-pub zeros-split : (before behind : List ℕ) (m n : ℕ) → m ≤ n → before ++ (replicate n 0 ++ behind) ≡ (before ++ (replicate m 0 ++ [])) ++ ([] ++ (replicate (n - m) 0 ++ behind))
-zeros-split before behind m n few =
-    let halves : replicate n 0 ≡ replicate m 0 ++ replicate (n - m) 0 =
-    sym (take-append-drop m (replicate n 0)) ∙ ap (λ l. l ++ drop m (replicate n 0)) (take-replicate m n 0 few) ∙ ap (λ l. replicate m 0 ++ l) (drop-replicate m n 0) in
-    ap (λ l. before ++ (l ++ behind)) halves
-    ∙ ap (λ l. before ++ l) (append_assoc (replicate m 0) (replicate (n - m) 0) behind)
-    ∙ sym (append_assoc before (replicate m 0) (replicate (n - m) 0 ++ behind))
-    ∙ ap (λ l. (before ++ l) ++ (replicate (n - m) 0 ++ behind)) (sym (append-nil (replicate m 0)))

@@ -7,23 +7,20 @@ ghost use Rattle.nbd_server.specs.Content.{TellsContent};
 ghost use Rattle.nbd_server.specs.Premises.{AreBytesOf, IsDeliveryRest, ReadsTo};
 ghost use Rattle.nbd_server.specs.Status.{touched};
 ghost use Rattle.nbd_server.specs.Transmission.{FailsToReadBytes};
-ghost use Rattle.nbd_server.specs.Delivery.{AreNextBytes, IsDeliveryPiece, IsStuck, SendsPiece, WritesDelivery, WritesPiece, delivery_of, has_df, most_piece_sectors, piece_sectors};
+ghost use Rattle.nbd_server.specs.Delivery.{AreNextBytes, IsDeliveryPiece, IsStuck, SendsPiece, WritesDelivery, WritesPiece, delivery_of, has_df};
 
 use crate::byte_range::touched;
 use crate::content::say_content;
 use crate::fetch::read_into;
+use crate::piece::piece_sectors;
 use crate::room::Room;
 use crate::status::status_at;
-use alignment::aligned_len;
 use block_device::BlockDev;
 use nbd_protocol::{Agreement, Command, Export, Header, RequestError, say_error_at, say_hole};
 use program_io::{Counted, WriteFault};
 use request_queue::Queue;
 use stack_config::Config;
 use std::io::Write;
-
-// The most sectors that a piece touches.
-const MOST_SECTORS: u64 = 512;
 
 const SECTOR: u64 = 512;
 
@@ -105,22 +102,6 @@ impl Delivery {
         let room = SECTOR * sectors - at % SECTOR;
         room.min(u64::from(left)) as u32
     }
-}
-
-// How many sectors the next piece touches, of those that `left` bytes from `at` on touch: one if `single` is set. Otherwise it
-// splits no unit and no data block that fits in one piece.
-fn piece_sectors(config: &Config, export: &Export<'_>, at: u64, left: u32, single: bool) -> u64
-    requires bytes { AreBytesOf config.now (export_record export.now) at left }
-    requires some { 0 < left }
-    ensures value { result ≡ piece_sectors config.now export.now.device.0 at left single }
-    ensures some { 0 < result }
-    ensures few { result ≤ most_piece_sectors }
-{
-    if single {
-        return 1;
-    }
-    let sectors = touched(at, left) as u64;
-    aligned_len(config, export.device, at / SECTOR, sectors, MOST_SECTORS)
 }
 
 // Writes the chunks of a piece, and flushes the writer.

@@ -1,8 +1,6 @@
 //! The NBD service of one device.
 ghost use Rattle.std.specs.Prelude.{◌≡◌, IfNone, IfSome};
-ghost use Rattle.program_io.specs.Streams.{streams};
 ghost use Rattle.nbd_protocol.specs.Exports.{HasNoExport};
-ghost use Rattle.nbd_protocol.specs.Streaming.{HasRead, HasWritten, result_fault};
 ghost use Rattle.volumes.specs.Services.{ServesDevice};
 
 use block_device::SyncDev;
@@ -26,9 +24,7 @@ pub fn serve_device<D: SyncDev, R: Read, W: Write>(
 ) -> Option<Result<(), ServiceFault>>
     ensures none { IfNone result (HasNoExport queue.old.stack.config name.now) }
     ensures same { IfNone result ((queue.new ≡ queue.old) × (reader.new ≡ reader.old) × (writer.new ≡ writer.old)) }
-    ensures some { IfSome result (ServesDevice name.now queue.old queue.new
-        (streams (R.remaining reader.old.inner) (W.contents writer.old.inner)) (streams (R.remaining reader.new.inner) (W.contents writer.new.inner))) }
-    ensures counted { IfSome result (λ served. HasRead 0 reader.old reader.new (result_fault served) × HasWritten writer.old writer.new (result_fault served)) }
+    ensures some { IfSome result (ServesDevice R.remaining W.contents name.now queue.old queue.new reader.old reader.new writer.old writer.new) }
 {
     let Some(export) = Export::of(queue.stack().config(), name) else {
         return None;

@@ -3,7 +3,8 @@ use Rattle.std.proofs.lemmas.Result.{err_from_is_err_and}
 use Rattle.alignment.specs.Lengths.{aligned_len}
 use Rattle.nbd_protocol.specs.Exports.{IsExport, export_record}
 use Rattle.nbd_server.specs.Zeros.{zeros_of}
-use Rattle.nbd_server.proofs.StoreLemmas.{IsPut, IsRunOf, failed-turns, last-turns, length-zeros, put-ends, put-err, put-more, put-none, put-ok, zeros-split}
+use Rattle.nbd_server.proofs.StoreLemmas.{IsPut, IsRunOf, failed-turns, last-turns, put-ends, put-err, put-more, put-none, put-ok}
+use Rattle.nbd_server.proofs.ZeroLemmas.{length-zeros, zeros-split}
 use Rattle.nbd_server.proofs.store.store_zeros.Goals as goal
 
 pub runs-init : goal.runs-init

@@ -1,7 +1,8 @@
 use Rattle.std.proofs.Common.{◌<◌, arith, length}
 use Rattle.std.proofs.lemmas.Result.{err_from_is_err_and}
 use Rattle.nbd_server.specs.Zeros.{zeros_of}
-use Rattle.nbd_server.proofs.StoreLemmas.{lacks-first, length-zeros, run-lacks, run-stored, wrote-run, zero-fails}
+use Rattle.nbd_server.proofs.StoreLemmas.{lacks-first, run-lacks, run-stored, wrote-run, zero-fails}
+use Rattle.nbd_server.proofs.ZeroLemmas.{length-zeros}
 use Rattle.nbd_server.proofs.store.zero_run.Goals as goal
 
 pub returns-in_err-bytes-clause-err : goal.returns-in_err-bytes-clause-err

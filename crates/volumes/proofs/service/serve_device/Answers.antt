@@ -1,4 +1,4 @@
-use Rattle.std.proofs.Common.{ℕ, List, ap, ◌∙◌, subst, refl}
+use Rattle.std.proofs.Common.{ℕ, List, ap, ◌∙◌, subst}
 use Rattle.std.specs.Borrow.{Bor}
 use Rattle.stack_rules.specs.Records.{Configuration}
 use Rattle.stack_engine.specs.Stacks.{StackRecord}
@@ -26,4 +26,6 @@ returns-clause-some g c =
       named = ap (λ (b : Bor (List ℕ)). b.now) c.in-Some.ensures.some.1;
       is = subst (λ (x : Configuration). IsExport x e) at c.in-Some.ensures.some.0;
       service = c.serve.ensures.service;
+      reads = c.serve.ensures.reader;
+      writes = c.serve.ensures.writer;
     }

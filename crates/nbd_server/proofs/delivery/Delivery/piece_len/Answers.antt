@@ -13,12 +13,12 @@ pub returns : goal.returns
 returns c =
     let is = rw c.at-at.ensures at c.piece_sectors-sectors.ensures.value in
     let sectors = c.piece_sectors-sectors.result in
-    let some : 0 < c.min.result = omega (arith, c.min.ensures, c.piece_sectors-sectors.ensures.some, c.requires.some, c.from.ensures) in
+    let some : 0 < c.min.result = omega (arith, c.min.ensures, c.piece_sectors-sectors.ensures.few.0, c.requires.some, c.from.ensures) in
     record {
       value = omega (arith, is, c.at-at.ensures, c.min.ensures, c.from.ensures);
       bytes = record {
         some = some;
-        few = omega (arith, c.min.ensures, c.piece_sectors-sectors.ensures.few);
+        few = omega (arith, c.min.ensures, c.piece_sectors-sectors.ensures.few.1);
         inside = omega (arith, c.min.ensures, c.from.ensures, c.requires.some);
       };
       single = λ below.

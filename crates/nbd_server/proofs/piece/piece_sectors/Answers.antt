@@ -1,7 +1,7 @@
 use Rattle.std.proofs.Common.{arith}
 use Rattle.nbd_protocol.specs.Exports.{export_record}
 use Rattle.nbd_server.proofs.FetchLemmas.{sectors-of}
-use Rattle.nbd_server.proofs.delivery.piece_sectors.Goals as goal
+use Rattle.nbd_server.proofs.piece.piece_sectors.Goals as goal
 
 pub aligned_len-requires-clause-inside : goal.aligned_len-requires-clause-inside
 aligned_len-requires-clause-inside c =
