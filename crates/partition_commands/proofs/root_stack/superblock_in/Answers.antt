@@ -17,12 +17,11 @@ returns-in-Err-read_pinned-clause-err g c =
     let after : Device = windowed (g.D.BlockDev.state new.inner) new.part in
     let same : windowed (g.D.BlockDev.state window.inner) window.part ≡ windowed old c.args.part =
     ap (λ (x : Device). windowed x window.part) (ap g.D.BlockDev.state c.in-Ok.ensures.ok.0) ∙ ap (windowed old) c.in-Ok.ensures.ok.1 in
-    let fault = c.in-Err-read_pinned.fault in
-    (
+    let fault = c.in-Err-read_pinned.fault in (
       new.inner,
       subst (λ (r : PartitionRefusal). IsPartSuperEnd old (g.D.BlockDev.state new.inner) c.args.part c.args.pin.now r) (sym c.unpinned_refusal.ensures)
-      (unpinned-end old (g.D.BlockDev.state new.inner) c.args.part new.part c.args.pin.now fault
-      (subst (λ (x : Device). IsPinnedCause x c.args.pin.now after fault) same c.in-Err-read_pinned.ensures.err)),
+          (unpinned-end old (g.D.BlockDev.state new.inner) c.args.part new.part c.args.pin.now fault
+          (subst (λ (x : Device). IsPinnedCause x c.args.pin.now after fault) same c.in-Err-read_pinned.ensures.err)),
     )
 
 pub returns-in-Ok-read_pinned-clause-ok : goal.returns-in-Ok-read_pinned-clause-ok
