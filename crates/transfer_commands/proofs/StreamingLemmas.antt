@@ -1,5 +1,5 @@
 -- Bytes of a device, out and in.
-use Rattle.std.proofs.Common.{◌≡◌, ℕ, Bool, List, Option, subst, inl, inr}
+use Rattle.std.proofs.Common.{◌≡◌, ◌+◌, ℕ, Bool, List, Option, subst, inl, inr}
 use Rattle.image_files.specs.Opener.{Calls}
 use Rattle.stack_rules.specs.Names.{mapped, size}
 use Rattle.stack_engine.specs.Stacks.{StackRecord}
