@@ -1,5 +1,5 @@
 -- Covered blocks that are read, call after call.
-use Rattle.std.proofs.Common.{◌≡◌, ◌⊎◌, ◌+◌, ◌-◌, ◌*◌, ◌/◌, ◌<◌, ◌≤◌, ◌++◌, ◌∷◌, ◌∙◌, [], ℕ, zero, suc, Bool, true, false, cond, not, nat_lt, IsTrue, List, length, inl, inr, refl, sym, ap, subst, arith, append_assoc}
+use Rattle.std.proofs.Common.{◌≡◌, ◌⊎◌, ◌+◌, ◌-◌, ◌*◌, ◌/◌, ◌<◌, ◌≤◌, ◌++◌, ◌∷◌, ◌∙◌, [], ℕ, zero, suc, Bool, true, false, cond, not, List, length, inl, inr, refl, sym, ap, subst, arith, append_assoc}
 use Rattle.std.proofs.lemmas.Bool.{and_left, cases_Bool, cases_lt, le-ltb, lt-ltb}
 use Rattle.std.proofs.lemmas.List.{append-nil}
 use Rattle.block_device.specs.Call.{Call, Calls, Read}
@@ -7,7 +7,7 @@ use Rattle.block_device.proofs.lemmas.CallLemmas.{calls-append}
 use Rattle.fec_area.specs.declared.layout.Layout.{Layout}
 use Rattle.fec_area.specs.declared.restoring.LostBlock.{LostBlock}
 use Rattle.fec_area.specs.Asking.{is_among, is_kept}
-use Rattle.fec_area.specs.Given.{GivenBlock, Gives, GivesAll, GivesBlock, GivesFirst, HoldGiven, OfGiven, data_read, data_reads, gathered, hash_read, hash_reads, index_at, indices_of, kept_index_at}
+use Rattle.fec_area.specs.Given.{GivenBlock, Gives, GivesAll, GivesBlock, GivesFirst, HoldGiven, data_read, data_reads, gathered, hash_read, hash_reads, index_at, indices_of, kept_index_at}
 use Rattle.fec_area.specs.GivenRestored.{GivesByParity, GivesLost, GivesNoParity, kept_index, kept_indices}
 use Rattle.fec_area.specs.Handing.{round_sectors}
 use Rattle.fec_area.specs.Layouts.{IsLayout, code_rounds, covered, covered_blocks}
@@ -95,9 +95,9 @@ kept-same sought places valid inside are i =
     let kept = is_kept l lost sought.index j in
     elim (cases_Bool (is_among places i)) [
       | inl taken ↦ kept-lost l round places i taken ∙ sym (ap (λ b. cond b (j ∷ []) []) (lost-there l lost places sought.index i are taken))
-      | inr other ↦ kept-other l round places i other ∙ elim (cases_lt j (covered_blocks l)) [
-        | inl here ↦ index-here l round i here ∙ sym (ap (λ b. cond b (j ∷ []) []) (kept-there l lost places sought.index i valid inside are other here))
-        | inr past ↦ index-past l round i past ∙ sym (ap (λ b. cond b (j ∷ []) []) (and_left (is_beside l sought.index j) (not (is_among lost j)) (beside-past l sought.index j past)))
+      | inr other ↦ elim (cases_lt j (covered_blocks l)) [
+        | inl here ↦ kept-other l round places i other ∙ index-here l round i here ∙ sym (ap (λ b. cond b (j ∷ []) []) (kept-there l lost places sought.index i valid inside are other here))
+        | inr past ↦ kept-other l round places i other ∙ index-past l round i past ∙ sym (ap (λ b. cond b (j ∷ []) []) (and_left (is_beside l sought.index j) (not (is_among lost j)) (beside-past l sought.index j past)))
       ]
     ]
 
@@ -225,7 +225,7 @@ module _ {D H P : Type 0} (asks : D → Call → D → Type 0) (does : H → Cal
 
   pub lost-stopped : GivesNoParity reads l round d h p d' h' p' ⊎ GivesByParity asks does reads l round here FirstLost d h p d' h' p' false
       → GivesNoParity reads l (round_of l sought.index) d h p d' h' p' ⊎ GivesLost asks does reads sought bytes d h p d' h' p' false
-  lost-stopped (inl none) = inl (none.0, parity-at none.0 false none.1, none.2)
+  lost-stopped (inl none) = inl (none.0, parity-at none.0 false none.1, none.2, none.3)
   lost-stopped (inr given) = inr record {
     parity = given.parity;
     of_parity = parity-at given.parity true given.of_parity;

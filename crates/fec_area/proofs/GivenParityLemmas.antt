@@ -1,10 +1,10 @@
 -- Parity that is read and compared, round after round.
-use Rattle.std.proofs.Common.{◌≡◌, ◌≢◌, ◌∙◌, ◌+◌, ◌*◌, ◌<◌, ◌≤◌, ℕ, suc, Bool, true, false, List, [], ◌∷◌, ◌++◌, length, inl, inr, refl, sym, ap, subst, arith}
+use Rattle.std.proofs.Common.{◌≡◌, ◌∙◌, ◌+◌, ◌*◌, ◌<◌, ℕ, suc, true, false, List, [], ◌∷◌, ◌++◌, length, inl, inr, refl, sym, ap, subst, arith}
 use Rattle.std.proofs.lemmas.List.{append-nil, length-append}
 use Rattle.block_device.specs.Call.{Call, Calls, Read}
 use Rattle.block_device.proofs.lemmas.CallLemmas.{calls-last}
 use Rattle.fec_area.specs.declared.layout.Layout.{Layout}
-use Rattle.fec_area.specs.Given.{GivesAll, GivesFirst, gathered, round_indices}
+use Rattle.fec_area.specs.Given.{GivesAll, GivesFirst, round_indices}
 use Rattle.fec_area.specs.GivenParity.{ChecksPart, ChecksRounds, ChecksTo, first_rounds, parity_reads}
 use Rattle.fec_area.specs.Handing.{AreParities, round_sectors}
 use Rattle.fec_area.specs.Layouts.{IsParityOf, code_rounds}

@@ -1,5 +1,5 @@
 -- The calls that reconstruct a lost block, and what the bytes that they returned make of it, whatever these are.
-use Rattle.std.specs.Prelude.{◌≡◌, ◌⊎◌, ◌<◌, ◌+◌, ◌-◌, ◌*◌, ℕ, Bool, true, false, List, [], ◌∷◌, Result, Ok, Err, if◌then◌else◌}
+use Rattle.std.specs.Prelude.{◌≡◌, ◌⊎◌, ◌+◌, ◌-◌, ◌*◌, ℕ, Bool, true, false, List, [], ◌∷◌, Result, Ok, Err, if◌then◌else◌}
 use Rattle.block_device.specs.Call.{Call, Read}
 use Rattle.fec_area.specs.declared.code.Gap.{Gap}
 use Rattle.fec_area.specs.declared.layout.Layout.{Layout}
