@@ -32,6 +32,7 @@ EXAMPLE = "an example for users of the library, whose errors are `anyhow`'s"
 # Of each crate how many places it has, and why.
 PLACES = {
     "command_parser": (11, PARSER),
+    "example_nbd": (3, EXAMPLE),
     "example_stack": (3, EXAMPLE),
     "example_verified_block": (2, EXAMPLE),
     "image_commands": (12, VALUES),

@@ -63,6 +63,18 @@ def entries_of(text):
     return found
 
 
+def entries_for(name, options, words):
+    """The entries of a command's options: of several for one option, the one whose head ends with the command in brackets, else
+    the one without brackets."""
+    found = {}
+    for head, said in options:
+        option, of = head.split()[0], re.search(r" \((\w+)\)$", head)
+        taken = re.search(rf"{re.escape(option)}(?![\w-])", words)
+        if taken and (of and of[1] == name or not of and option not in found):
+            found[option] = (head[: of.start()] if of else head, said)
+    return [*found.values()]
+
+
 def filled(text, indent):
     return textwrap.fill(text, WIDTH, initial_indent=indent, subsequent_indent=indent, break_on_hyphens=False, break_long_words=False)
 
@@ -91,7 +103,7 @@ def pages_of(page, readme):
     for head, said in commands:
         words = plain(head)
         name = words.split()[0]
-        own = [it for it in options if re.search(rf"{re.escape(it[0].split()[0])}(?![\w-])", words)]
+        own = entries_for(name, options, words)
         lines = [textwrap.fill(f"dmstack {words}", WIDTH, subsequent_indent="    ", break_on_hyphens=False), ""]
         lines += ["\n\n".join(filled(it, "") for it in paragraphs_of(said))]
         if own:

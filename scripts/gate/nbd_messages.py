@@ -15,8 +15,8 @@ NONE, OFFSET_DATA, OFFSET_HOLE, BLOCK_STATUS, ERROR, ERROR_OFFSET = 0, 1, 2, 5, 
 HOLE_AND_ZERO = 3
 EPERM, EIO, ENOMEM, EINVAL, ENOSPC = 1, 5, 12, 22, 28
 MOST = 32 << 20
-# where a piece of a READ ends that is answered piece by piece, and the blocks of zeros at its ends that are holes; where what a
-# BLOCK_STATUS reads ends, if it is of one extent
+# the sectors in bytes that a piece of a READ touches at most that is answered piece by piece, and where what a BLOCK_STATUS reads
+# ends; the blocks of zeros at the ends of a piece that are holes; where what a BLOCK_STATUS reads ends, if it is of one extent
 PIECE, BLOCK, PART = 256 << 10, 4096, 64 << 10
 GREETING = MAGIC + OPTION_MAGIC + struct.pack(">H", 3)
 
@@ -145,12 +145,13 @@ class Export:
         return at
 
     def pieces(self, offset, length, cookie, again):
-        """A piece that fails is read sector by sector, up to the one that fails; `zero` lines at its beginning are a hole."""
+        """Pieces of lines without units and data blocks. One that fails is read sector by sector, up to the one that fails; `zero`
+        lines at its beginning are a hole."""
         at, end = offset, offset + length
         slow = end if again else offset
         while at < end:
             step = SECTOR if at < slow else PIECE
-            stop = min(end, at - at % step + step)
+            stop = min(end, at - at % SECTOR + step)
             behind = self.hole_end(at, stop)
             if behind > at:
                 yield chunk(OFFSET_HOLE, struct.pack(">QI", at, behind - at), cookie, int(behind == end))

@@ -4,7 +4,7 @@ from configuration import Configuration, Leaf, Refused, check_leaves
 from files import WHOLE, Files, Noted, Stop
 from images import Drawn, run_diff, run_dump, run_format, run_partitions, run_table, run_verify
 from nbd import Service
-from recovery import check_size, facts_of as lost_facts, lines_of, looked_up, recovered, with_map
+from recovery import chart_of, check_size, facts_of as lost_facts, lines_of, looked_up, recovered, with_map
 from repairs import run_repair
 from replies import Json, Octets, ending_object
 from session import MOST_SECTORS, SUBMISSION_RULES, Session, Usage, check_request, costs
@@ -137,15 +137,21 @@ def gone_over(options, name, stack, out, files):
     else:
         runs, had = recovered(stack, device, out)
     if unwritten:
-        # an object comes at the end, and what ends it alone
-        return [ending_object(unwritten)] if b"json" in options else [*lines_of(runs, had)[:-1], unwritten], REFUSED
+        # an object or a map comes at the end, and what ends it alone
+        if b"json" in options:
+            return [ending_object(unwritten)], REFUSED
+        return [*lines_of(runs, had)[:-1] * (b"chart" not in options), unwritten], REFUSED
     lines = [Json(lost_facts(runs, had))] if b"json" in options else lines_of(runs, had)
+    if b"chart" in options:
+        lines[-1:-1] = chart_of(had)
     return lines, DONE if all(had) else FAULT
 
 
 def run_scan(options, words, files, _given, features):
     (path, name), rest, _, _ = read_on_stack(options, words, 2)
     check_map(options)
+    if b"json" in options and b"chart" in options:
+        raise Usage
     stack = loaded(stack_text(path, files), rest, files, features)
     return gone_over(options, name, stack, None, files)
 

@@ -118,11 +118,7 @@ def compared(first, second, most):
     except Bad as bad:
         fault = str(bad)
     if fault is not None:
-        # a run that may still grow isn't printed yet
-        closed = kinds[:]
-        while closed and closed[-1] is not None:
-            closed.pop()
-        return run_lines(closed, most) + [fault], kinds, fault
+        return run_lines(kinds, most) + [fault], kinds, fault
     sizes = first.tree.blocks, second.tree.blocks
     kinds += ["removed"] * (sizes[0] - sizes[1]) + ["added"] * (sizes[1] - sizes[0])
     changed = kinds.count("changed")

@@ -2,6 +2,7 @@
 
 from uuid import UUID
 
+from charts import chart_lines
 from differences import Stored, compared, longest_runs, run_lines, unlike
 from files import WHOLE, Noted, Stop
 from partitions import lines_of, root_lines, stack_lines, table_facts, table_of, warning_lines
@@ -94,7 +95,7 @@ def run_verify(options, words, files, _given, _features):
         tree, salt = superblock.tree(), superblock.salt
     image = image[first * SECTOR:]
     if b"all" in options:
-        return surveyed(data, image, tree, salt, root, b"json" in options)
+        return surveyed(data, image, tree, salt, root, b"json" in options, b"chart" in options)
     verdict = verify_images(data, image, tree, salt, root, first)
     if verdict != "matches":
         return [verdict.encode()], FAULT
@@ -104,12 +105,12 @@ def run_verify(options, words, files, _given, _features):
     return [verdict.encode()], DONE
 
 
-def surveyed(data, image, tree, salt, root, as_json):
+def surveyed(data, image, tree, salt, root, as_json, as_chart=False):
     check_sizes(tree, data, image)
-    return told_survey(*survey(data, image, tree, salt, root), as_json)
+    return told_survey(*survey(data, image, tree, salt, root), as_json, as_chart)
 
 
-def told_survey(states, bad, as_json):
+def told_survey(states, bad, as_json, as_chart=False):
     """What is told of data blocks in those states, and of those hash blocks."""
     counts = [("good", states.count(None))] + [(kind, states.count(kind)) for kind in ("changed", "unknown")]
     status = DONE if set(states) == {None} and not bad else FAULT
@@ -118,6 +119,7 @@ def told_survey(states, bad, as_json):
         hash_blocks = [{"level": level, "index": index} for level, index in bad]
         return [Json({**dict(counts), "runs": runs, "hash_blocks": hash_blocks})], status
     lines = run_lines(states, None) + ["hash %d %d" % it for it in bad]
+    lines += chart_lines(["x" if it == "changed" else "?" if it else "." for it in states]) if as_chart else []
     lines.append(" ".join("%s %d" % it for it in counts))
     return [line.encode() for line in lines], status
 

@@ -239,8 +239,7 @@ class Service:
         """
         slow = at
         while at < end:
-            step = SECTOR if at < slow else PIECE
-            behind = min(end, at - at % step + step)
+            behind = self.piece_end(at, end, at < slow)
             hole = self.zeros_end(at, behind)
             if hole > at:
                 yield hole == end, OFFSET_HOLE, struct.pack(">QI", at, hole - at)
@@ -256,6 +255,12 @@ class Service:
                 continue
             yield from told(at, octets, behind == end)
             at = behind
+
+    def piece_end(self, at, end, single):
+        """Where the next piece ends: with its first sector, or where units and data blocks do."""
+        first = at // SECTOR
+        count = 1 if single else self.stack.aligned_len(self.device, first, -(-end // SECTOR) - first, PIECE // SECTOR)
+        return min(end, (first + count) * SECTOR)
 
     def zeros_end(self, at, end):
         """Where the sectors end, from that of the byte on, that the lines alone make zeros."""

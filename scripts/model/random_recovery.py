@@ -54,7 +54,7 @@ class Recoveries(Sessions):
             return self.stream_run(device, stack, name, words)
         if self.chance(0.4):
             if self.has("forms", "json") and self.chance(0.4):
-                options.append(b"--json")
+                options.append(self.pick([b"--json", b"--json", b"--chart"]))
             return Run([b"scan"] + options + self.stack_words(stack, name) + words, self.input_stack)
         sectors = (device.sectors if device else 4) + self.pick([0, 0, 0, 0, 1, 5, -1])
         content = self.content(3) * (sectors // 3 + 1)

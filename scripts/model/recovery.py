@@ -1,5 +1,6 @@
 """Going over a whole device: which sectors can be had, which are lost, and what a copy has then."""
 
+from charts import chart_lines
 from configuration import Refused
 from files import LONGEST_NAME, Stop
 from rescue_map import FAULTS, MapFault, is_of_scan, marks_of, text_of
@@ -56,6 +57,11 @@ def lines_of(runs, had):
     lines = [b"lost %d %d %s" % (first, count, fault.removeprefix("fault ").encode())
              for first, count, fault in runs]
     return lines + [b"read %d lost %d" % (sum(had), len(had) - sum(had))]
+
+
+def chart_of(had):
+    """A map of the sectors: at most 16 rows of 64 characters, `x` for some sectors of which one is lost, and else `.`."""
+    return [line.encode() for line in chart_lines(["." if it else "x" for it in had])]
 
 
 def facts_of(runs, had):

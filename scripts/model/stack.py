@@ -166,6 +166,28 @@ class Stack:
             else:
                 yield ZEROS if isinstance(target, Zero) else UNKNOWN, part
 
+    def ends_units(self, lower, sector):
+        """Whether a sector is the last one of each unit and data block in which it lies, down to the leaves."""
+        if isinstance(lower, Leaf):
+            return True
+        target, at, _ = next(self.runs(lower, sector, 1))
+        if isinstance(target, (Zero, Error)):
+            return True
+        if isinstance(target, (Linear, Striped, Unstriped)):
+            below, place, _ = next(self.lower_runs(target, at, 1))
+            return self.ends_units(below, place)
+        if isinstance(target, Crypt):
+            size, place = target.unit(), target.offset + at
+        else:
+            size, place = target.data_block // SECTOR, at
+        return (at + 1) % size == 0 and self.ends_units(self.configuration.lower(target.device), place)
+
+    def aligned_len(self, device, first, rest, most):
+        """How many sectors the next piece of a transfer has: up to the last one that ends units and data blocks, if one does."""
+        if rest <= most:
+            return rest
+        return next((count for count in range(most, 0, -1) if self.ends_units(device, first + count - 1)), most)
+
     def read_run(self, lower, first, count):
         if isinstance(lower, Leaf):
             self.moved.reads += count

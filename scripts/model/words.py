@@ -14,18 +14,18 @@ TREE = (b"data-block", b"hash-block", b"blocks", b"salt")
 OPTIONS = {
     "format": (*TREE, b"uuid", b"hash-offset", b"no-superblock", b"grow", b"progress", b"fec", b"fec-roots",
                b"pin"),
-    "verify": (*TREE, b"hash-offset", b"root-hash-file", b"no-superblock", b"all", b"json", b"progress",
+    "verify": (*TREE, b"hash-offset", b"root-hash-file", b"no-superblock", b"all", b"json", b"chart", b"progress",
                b"fec", b"fec-roots", b"pin"),
     "dump": (b"hash-offset", b"json", b"pin"),
     "table": (*TREE, b"hash-offset", b"root-hash-file", b"name", b"no-superblock", b"pin"),
     "repair": (b"hash-offset", b"root-hash-file", b"check", b"fec", b"fec-roots", b"pin"),
     "load": (b"json",), "read": (b"cache",), "write": (b"cache",), "session": (b"cache",), "nbd": (b"cache", b"all"),
-    "scan": (b"cache", b"map", b"progress", b"json"), "copy": (b"cache", b"map", b"differing", b"progress"),
+    "scan": (b"cache", b"map", b"progress", b"json", b"chart"), "copy": (b"cache", b"map", b"differing", b"progress"),
     "cat": (b"cache", b"first", b"count", b"progress"), "store": (b"cache", b"first", b"progress"),
     "partitions": (b"sector-size", b"stack", b"root", b"json", b"pin"), "diff": (b"all", b"blocks", b"json", b"old-pin", b"pin"),
     "manual": (), "version": (),
 }
-FLAGS = (b"all", b"stack", b"no-superblock", b"grow", b"json", b"differing", b"progress", b"check")
+FLAGS = (b"all", b"stack", b"no-superblock", b"grow", b"json", b"differing", b"progress", b"check", b"chart")
 # veritysetup's names of options that have another here; `diff` counts runs by its --blocks, and has none.
 OTHER_NAMES = {b"data-block-size": b"data-block", b"hash-block-size": b"hash-block",
                b"data-blocks": b"blocks", b"fec-device": b"fec"}
@@ -232,6 +232,8 @@ def read_verify(options, words):
     """DATA, HASH, the root, the sizes, and the place."""
     check_tree_values(options, (b"salt",))
     if b"json" in options and b"all" not in options or b"no-superblock" in options and b"all" in options:
+        raise Usage
+    if b"chart" in options and (b"all" not in options or b"json" in options):
         raise Usage
     check_pin(options)
     (data_path, hash_path), rest = at_least(words, 2)

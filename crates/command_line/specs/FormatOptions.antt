@@ -50,6 +50,7 @@ pub record OptionTexts : Type 0 where
   pub json : Bool
   pub check : Bool
   pub linux : Bool
+  pub chart : Bool
 
 -- what the program's own value says
 abbrev pub text_of : Option (Bor (List ℕ)) → Option (List ℕ)
@@ -87,6 +88,7 @@ option_texts words = record {
   json = words.json;
   check = words.check;
   linux = words.linux;
+  chart = words.chart;
 }
 
 -- each value is the one that its text says; where there is no text, it is 4,096 for a block size, and none for the others

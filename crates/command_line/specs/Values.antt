@@ -3,12 +3,14 @@ use Rattle.std.specs.Prelude.{ℕ, Bool, true, false, ◌==◌, ◌||◌, ◌%�
 use Rattle.std.specs.Borrow.{Bor}
 use Rattle.std.specs.Result.{result_ok}
 use Rattle.std.specs.Str.{bytes_eq}
+use Rattle.charts.specs.declared.form.ReportForm.{ReportForm}
+use Rattle.charts.specs.declared.form.ReportForm.TheVariants as form
 use Rattle.hex.specs.Hex.{decode_sized}
 use Rattle.dm_table.specs.Names.{is_mapped_name}
 use Rattle.dm_table.specs.Numbers.{number, number_if}
 use Rattle.command_line.specs.FormatOptions.{texts_of}
 use Rattle.command_line.specs.Misuses.{Reading, misused, refuse_if, wanted, when}
-use Rattle.command_line.specs.declared.misuse.Cause.TheVariants.{CacheBlocks, FilePath, MappedName, Missing, Number, Offset, RootHash, RunCount, SectorSize, WithPin, WithRoot, WithStack}
+use Rattle.command_line.specs.declared.misuse.Cause.TheVariants.{CacheBlocks, FilePath, MappedName, Missing, Number, Offset, RootHash, RunCount, SectorSize, WithChart, WithPin, WithRoot, WithStack}
 use Rattle.command_line.specs.declared.values.PartitionForm.{PartitionForm}
 use Rattle.command_line.specs.declared.values.PartitionForm.TheVariants.{Lines, Object, Stack, Root, Pin as PinForm}
 use Rattle.command_line.specs.declared.values.RootOrPin.{RootOrPin}
@@ -96,6 +98,13 @@ pub data FormRecord : Type 0 where
   stack : FormRecord
   root : List ℕ → FormRecord
   pin : List ℕ → FormRecord
+
+-- how a command reports; at most one of `--json` and `--chart` is given
+abbrev pub report_form : Bool → Bool → Reading ReportForm
+report_form false false = Ok form.Lines
+report_form false true = Ok form.Chart
+report_form true false = Ok form.Object
+report_form true true = misused (codes "--json") WithChart
 
 -- at most one of `--root ROOT`, `--stack` and `--json` is given
 unfoldable pub form_without_pin : Option (List ℕ) → Bool → Bool → Reading FormRecord

@@ -63,6 +63,8 @@ pub enum Cause {
     WithStack,
     /// It conflicts with `--root`.
     WithRoot,
+    /// It conflicts with `--chart`.
+    WithChart,
     /// It is a device's name beside `--all`.
     NameWithAll,
     /// It needs `--all`.

@@ -36,6 +36,7 @@ pub struct OptionWords<'a> {
     pub json: bool,
     pub check: bool,
     pub linux: bool,
+    pub chart: bool,
 }
 
 /// Whether an option of parity is there.

@@ -2,9 +2,10 @@
 ghost use Rattle.std.specs.Prelude.{◌≡◌};
 ghost use Rattle.command_line.specs.FormatOptions.{text_of};
 ghost use Rattle.command_line.specs.Misuses.{ReadsValue};
-ghost use Rattle.command_line.specs.Values.{cache_said, count_said, first_said, form_of, form_record, form_with_pin, form_without_pin, map_said, name_said, offset_of, path_said, pin_of, root_of, root_or_pin_record, root_or_pin_said, root_said, runs_said, sector_size_of};
+ghost use Rattle.command_line.specs.Values.{cache_said, count_said, first_said, form_of, form_record, form_with_pin, form_without_pin, map_said, name_said, offset_of, path_said, pin_of, report_form, root_of, root_or_pin_record, root_or_pin_said, root_said, runs_said, sector_size_of};
 
 use crate::misuse::{Cause, Misuse, refuse_if};
+use charts::ReportForm;
 use dm_table::is_mapped_name;
 use table_text::number;
 use tree_shape::Digest;
@@ -211,6 +212,18 @@ pub fn root_or_pin_said<'a>(
     };
     let path = path_of(option, file)?;
     Ok(RootOrPin::Pin(path))
+}
+
+/// How a command reports, by `--json` and `--chart`, of which at most one is given.
+pub fn report_form<'a>(json: bool, chart: bool) -> Result<ReportForm, Misuse<'a>>
+    ensures { ReadsValue (λ form. form) (report_form json chart) result }
+{
+    match (json, chart) {
+        (false, false) => Ok(ReportForm::Lines),
+        (false, true) => Ok(ReportForm::Chart),
+        (true, false) => Ok(ReportForm::Object),
+        (true, true) => Err(Misuse::new("--json", Cause::WithChart)),
+    }
 }
 
 /// How partitions are printed, by `--pin FILE`, `--root ROOT`, `--stack` and `--json`, of which at most one is given.

@@ -48,6 +48,7 @@ texts_in rows = record {
   json = is_there (codes "json") rows;
   check = is_there (codes "check") rows;
   linux = is_there (codes "linux") rows;
+  chart = is_there (codes "chart") rows;
 }
 
 -- the positional words

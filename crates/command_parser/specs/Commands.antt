@@ -31,6 +31,9 @@ progress = flag (codes "progress")
 abbrev pub json : OptionText
 json = flag (codes "json")
 
+abbrev pub chart : OptionText
+chart = flag (codes "chart")
+
 abbrev pub offset : OptionText
 offset = value_option (codes "hash-offset")
 
@@ -61,7 +64,7 @@ command name options = record { name = name; options = options }
 abbrev pub image_commands : List CommandText → List CommandText
 image_commands more =
     command (codes "format") (tree_options (value_option (codes "uuid") ∷ offset ∷ bare_option ∷ flag (codes "grow") ∷ progress ∷ fec_options (pin ∷ [])))
-    ∷ command (codes "verify") (tree_options (offset ∷ root_file ∷ bare_option ∷ flag (codes "all") ∷ json ∷ progress ∷ fec_options (pin ∷ [])))
+    ∷ command (codes "verify") (tree_options (offset ∷ root_file ∷ bare_option ∷ flag (codes "all") ∷ json ∷ chart ∷ progress ∷ fec_options (pin ∷ [])))
     ∷ command (codes "dump") (offset ∷ json ∷ pin ∷ [])
     ∷ command (codes "table") (tree_options (offset ∷ root_file ∷ value_option (codes "name") ∷ bare_option ∷ pin ∷ []))
     ∷ command (codes "repair") (offset ∷ root_file ∷ flag (codes "check") ∷ fec_options (pin ∷ []))
@@ -75,7 +78,7 @@ stack_commands more =
     ∷ command (codes "write") (cache ∷ [])
     ∷ command (codes "session") (cache ∷ [])
     ∷ command (codes "nbd") (cache ∷ flag (codes "all") ∷ [])
-    ∷ command (codes "scan") (cache ∷ value_option (codes "map") ∷ progress ∷ json ∷ [])
+    ∷ command (codes "scan") (cache ∷ value_option (codes "map") ∷ progress ∷ json ∷ chart ∷ [])
     ∷ command (codes "copy") (cache ∷ flag (codes "differing") ∷ value_option (codes "map") ∷ progress ∷ [])
     ∷ command (codes "cat") (cache ∷ value_option (codes "first") ∷ value_option (codes "count") ∷ progress ∷ [])
     ∷ command (codes "store") (cache ∷ value_option (codes "first") ∷ progress ∷ [])

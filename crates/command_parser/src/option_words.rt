@@ -40,6 +40,7 @@ pub fn option_words<'a>(found: &ArgMatches<'a>) -> OptionWords<'a>
         json: is_there(found, "json"),
         check: is_there(found, "check"),
         linux: is_there(found, "linux"),
+        chart: is_there(found, "chart"),
     }
 }
 

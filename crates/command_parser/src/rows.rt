@@ -184,6 +184,12 @@ const LINUX: OptionRow = OptionRow {
     has_value: false,
 };
 
+const CHART: OptionRow = OptionRow {
+    name: "chart",
+    others: &[],
+    has_value: false,
+};
+
 /// All commands.
 pub static COMMANDS: [CommandRow; 18] = [
     CommandRow {
@@ -215,6 +221,7 @@ pub static COMMANDS: [CommandRow; 18] = [
             NO_SUPERBLOCK,
             ALL,
             JSON,
+            CHART,
             PROGRESS,
             FEC,
             FEC_ROOTS,
@@ -265,7 +272,7 @@ pub static COMMANDS: [CommandRow; 18] = [
     },
     CommandRow {
         name: "scan",
-        options: &[CACHE, MAP, PROGRESS, JSON],
+        options: &[CACHE, MAP, PROGRESS, JSON, CHART],
     },
     CommandRow {
         name: "copy",

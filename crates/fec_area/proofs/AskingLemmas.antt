@@ -166,7 +166,7 @@ among-from : (xs : List ℕ) (j k : ℕ) → k < length xs → slice_index xs k 
 among-from xs j k lt e = list_any_at (λ n. n == j) xs k 0 lt (eq-eqb (slice_index xs k) j e)
 
 -- at a lost place stands no block that is kept
-lost-there : (l : Layout) (lost places : List ℕ) (index i : ℕ) → AreLostPlaces l lost index places → is_among places i ≡ true → is_kept l lost index (i * code_rounds l + round_of l index) ≡ false
+pub lost-there : (l : Layout) (lost places : List ℕ) (index i : ℕ) → AreLostPlaces l lost index places → is_among places i ≡ true → is_kept l lost index (i * code_rounds l + round_of l index) ≡ false
 lost-there l lost places index i are among =
     let n = code_rounds l in
     let r = round_of l index in
@@ -185,7 +185,7 @@ lost-there l lost places index i are among =
     ]
 
 -- at another one it is kept
-kept-there : (l : Layout) (lost places : List ℕ) (index i : ℕ) → IsLayout l → index < covered_blocks l → AreLostPlaces l lost index places → is_among places i ≡ false
+pub kept-there : (l : Layout) (lost places : List ℕ) (index i : ℕ) → IsLayout l → index < covered_blocks l → AreLostPlaces l lost index places → is_among places i ≡ false
     → i * code_rounds l + round_of l index < covered_blocks l → is_kept l lost index (i * code_rounds l + round_of l index) ≡ true
 kept-there l lost places index i valid inside are apart here =
     let n = code_rounds l in

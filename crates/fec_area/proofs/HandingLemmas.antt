@@ -16,7 +16,7 @@ round_writes-last s r (first ∷ more) parity =
     let same : r + 1 + length more ≡ r + suc (length more) = omega arith in
     ap (λ (calls : List Call). Write (r * s) first true ∷ calls) (round_writes-last s (r + 1) more parity ∙ ap (λ (n : ℕ). round_writes s (r + 1) more ++ Write (n * s) parity true ∷ []) same)
 
-parities-last : (l : Layout) (d h : List (List ℕ)) (r : ℕ) (rounds : List (List ℕ)) (parity : List ℕ) → AreParities l d h r rounds → IsParityOf l d h (r + length rounds) parity → AreParities l d h r (rounds ++ parity ∷ [])
+pub parities-last : (l : Layout) (d h : List (List ℕ)) (r : ℕ) (rounds : List (List ℕ)) (parity : List ℕ) → AreParities l d h r rounds → IsParityOf l d h (r + length rounds) parity → AreParities l d h r (rounds ++ parity ∷ [])
 parities-last l d h r [] parity before here = let same : r + 0 ≡ r = omega arith in (subst (λ (n : ℕ). IsParityOf l d h n parity) same here, tt)
 parities-last l d h r (first ∷ more) parity before here =
     let same : r + suc (length more) ≡ r + 1 + length more = omega arith in

@@ -4,7 +4,9 @@ pub mod PlaceLemmas
 pub mod RoundLemmas
 pub mod RestoringLemmas
 pub mod WritingLemmas
-mod HandingLemmas
+pub mod HandingLemmas
 pub mod SumLemmas
 pub mod AskingLemmas
+pub mod GivenLemmas
+pub mod GivenParityLemmas
 pub mod lemmas

@@ -1,7 +1,7 @@
 -- Lost blocks of a round by their places.
 use Rattle.std.proofs.Common.{◌≡◌, ◌≢◌, ℕ, ◌+◌, ◌-◌, ◌*◌, ◌/◌, ◌%◌, ◌<◌, ◌≤◌, true, false, not, ◌&&◌, nat_lt, IsTrue, List, [], ◌∷◌, ◌++◌, length, take, subst, inl, inr, refl, sym, ap, ◌∙◌, arith, length-append}
 use Rattle.std.specs.Prelude.{slice_index, EachIndex, count_by, ◌==◌}
-use Rattle.std.proofs.lemmas.Bool.{and_from, and_parts, cases_lt, eq-eqb, eqb-true, lt-ltb, ltb-true, ne_eqb, not_from_false}
+use Rattle.std.proofs.lemmas.Bool.{and_from, and_left, le-ltb, and_parts, cases_lt, eq-eqb, eqb-true, lt-ltb, ltb-true, ne_eqb, not_from_false}
 use Rattle.std.proofs.lemmas.Grind.{div_ceil_times}
 use Rattle.std.proofs.lemmas.List.{get_or_append_left, get_or-append-add, ext_get_or, take_all}
 use Rattle.std.proofs.lemmas.List.Sums.{count_by_more_no, count_by_more_yes}
@@ -11,7 +11,7 @@ use Rattle.verity_format.specs.Blocks.{block_at}
 use Rattle.fec_area.specs.declared.layout.Layout.{Layout}
 use Rattle.fec_area.specs.Layouts.{IsLayout, covered, covered_blocks, round_bytes, code_rounds}
 use Rattle.fec_area.specs.Rounds.{AreRestored, IsFormerly}
-use Rattle.fec_area.specs.Restoring.{AreLostPlaces, IsAmong, IsBefore, IsFirstRestored, IsLostPlace, IsMadeAgain, LostBlocksComeBack, is_beside, round_of}
+use Rattle.fec_area.specs.Restoring.{AreLostPlaces, IsAmong, IsBefore, IsFirstRestored, IsLostPlace, IsMadeAgain, IsRestoredBy, LostBlocksComeBack, is_beside, round_of}
 use Rattle.fec_area.proofs.LayoutLemmas.{covered-past}
 
 -- the rounds have room for all blocks
@@ -45,6 +45,12 @@ beside-covered l index j e =
     let round = j % code_rounds l == round_of l index in
     let both = and_parts (front && round) (not (j == index)) e in
     ltb-true j (covered_blocks l) (and_parts front round both.0).0
+
+pub beside-past : (l : Layout) (index j : ℕ) → covered_blocks l ≤ j → is_beside l index j ≡ false
+beside-past l index j past =
+    let front = nat_lt j (covered_blocks l) in
+    let round = j % code_rounds l == round_of l index in
+    and_left (front && round) (not (j == index)) (and_left front round (le-ltb j (covered_blocks l) past))
 
 pub beside-round : (l : Layout) (index j : ℕ) → is_beside l index j ≡ true → j % code_rounds l ≡ round_of l index
 beside-round l index j e =
@@ -177,15 +183,18 @@ before-formerly l d h d' h' parity lost places index valid inside are before = r
       ];
 }
 
-pub made-again : (l : Layout) (d h image : List (List ℕ)) (lost places : List ℕ) (index : ℕ) (bytes : List ℕ) → IsLayout l → index < covered_blocks l → length bytes ≡ l.block → AreLostPlaces l lost index places
-    → IsFirstRestored l d h (round_of l index) (block_at image (round_bytes l) (round_of l index)) places bytes → IsMadeAgain l d h image lost index bytes
-made-again l d h image lost places index bytes valid inside size are restored d' h' before =
+pub restored-by : (l : Layout) (d h : List (List ℕ)) (parity lost places : List ℕ) (index : ℕ) (bytes : List ℕ) → IsLayout l → index < covered_blocks l → length bytes ≡ l.block → AreLostPlaces l lost index places
+    → IsFirstRestored l d h (round_of l index) parity places bytes → IsRestoredBy l d h parity lost index bytes
+restored-by l d h parity lost places index bytes valid inside size are restored d' h' before =
     let round = round_of l index in
-    let parity = block_at image (round_bytes l) round in
     let former = before-formerly l d h d' h' parity lost places index valid inside are before in
     let at : slice_index places 0 * code_rounds l + round ≡ index = ap (λ n. n * code_rounds l + round) are.own ∙ div-add-mod' index (code_rounds l) in
     ext_get_or 0 bytes (covered l d' h' index) (size ∙ sym before.whole)
     (λ c lt. restored d' h' former c lt ∙ ap (λ n. slice_index (covered l d' h' n) c) at)
+
+pub made-again : (l : Layout) (d h image : List (List ℕ)) (lost places : List ℕ) (index : ℕ) (bytes : List ℕ) → IsLayout l → index < covered_blocks l → length bytes ≡ l.block → AreLostPlaces l lost index places
+    → IsFirstRestored l d h (round_of l index) (block_at image (round_bytes l) (round_of l index)) places bytes → IsMadeAgain l d h image lost index bytes
+made-again l d h image lost places index bytes valid inside size are restored = restored-by l d h (block_at image (round_bytes l) (round_of l index)) lost places index bytes valid inside size are restored
 
 -- the first column of the sums
 pub first-restored : (l : Layout) (d h : List (List ℕ)) (round : ℕ) (parity places sums bytes : List ℕ) → 0 < length places → length bytes ≡ l.block

@@ -5,3 +5,6 @@ pub mod Handing
 pub mod Checking
 pub mod Restoring
 pub mod Asking
+pub mod Given
+pub mod GivenRestored
+pub mod GivenParity

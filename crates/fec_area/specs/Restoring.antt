@@ -34,11 +34,14 @@ pub record IsBefore (l : Layout) (data_image hash_image former_data former_hash 
   pub stands : IsParityOf l former_data former_hash (round_of l index) parity
   pub same : (j : ℕ) → IsTrue (is_beside l index j) → (IsAmong lost j → ⊥) → covered l data_image hash_image j ≡ covered l former_data former_hash j
 
--- the bytes are the block of every such former image, given the stored parity
+-- the bytes are the block of every such former image, given that parity
+abbrev pub IsRestoredBy : Layout → List (List ℕ) → List (List ℕ) → List ℕ → List ℕ → ℕ → List ℕ → Type 0
+IsRestoredBy l data_image hash_image parity lost index bytes =
+    (former_data former_hash : List (List ℕ)) → IsBefore l data_image hash_image former_data former_hash parity lost index → bytes ≡ covered l former_data former_hash index
+
+-- given the stored parity
 abbrev pub IsMadeAgain : Layout → List (List ℕ) → List (List ℕ) → List (List ℕ) → List ℕ → ℕ → List ℕ → Type 0
-IsMadeAgain l data_image hash_image parity_image lost index bytes =
-    (former_data former_hash : List (List ℕ)) → IsBefore l data_image hash_image former_data former_hash (block_at parity_image (round_bytes l) (round_of l index)) lost index
-    → bytes ≡ covered l former_data former_hash index
+IsMadeAgain l data_image hash_image parity_image lost index bytes = IsRestoredBy l data_image hash_image (block_at parity_image (round_bytes l) (round_of l index)) lost index bytes
 
 -- ---- the call
 

@@ -1,8 +1,10 @@
 //! Comparing parity with the parity stored on a device.
 ghost use Rattle.std.specs.Prelude.{◌≡◌, ◌≤◌, IfErr, IfOk, OnErr, length};
 ghost use Rattle.std.specs.Str.{bytes_eq};
+ghost use Rattle.block_device.specs.Call.{DeviceDoes};
 ghost use Rattle.verity_format.specs.Blocks.{IsOnlyRead};
 ghost use Rattle.fec_area.specs.Checking.{Checks, ChecksBy, FailsToCheck};
+ghost use Rattle.fec_area.specs.GivenParity.{ChecksOver, ChecksParity};
 ghost use Rattle.fec_area.specs.Layouts.{IsLaidOn, parity_sectors, round_bytes};
 ghost use Rattle.fec_area.specs.Rounds.{CanSum, OnlyReadsCovered};
 ghost use Rattle.fec_area.specs.Writing.{AnyFails};
@@ -19,7 +21,8 @@ use std::alloc::Global;
 /// Returns the first round whose parity differs from the parity stored from the beginning of `parity_dev` on, or
 /// `None` if no round differs.
 ///
-/// Each covered block is read once, and so is the parity up to that round.
+/// The covered blocks of each round and then its parity are read once, in order, up to that round, and nothing else is
+/// read. The result is true of the bytes that these reads returned.
 ///
 /// # Errors
 ///
@@ -37,6 +40,7 @@ pub fn check_parity<D: BlockDev, H: BlockDev, P: BlockDev>(
     ensures read { OnlyReadsCovered D.state H.state data_dev.old hash_dev.old data_dev.new hash_dev.new }
     ensures parity { IsOnlyRead (P.state parity_dev.old) (P.state parity_dev.new) }
     ensures ok { IfOk result (Checks layout.now D.state H.state P.state data_dev.old hash_dev.old parity_dev.old) }
+    ensures calls { ChecksParity (DeviceDoes D.state D.does) (DeviceDoes H.state H.does) (DeviceDoes P.state P.does) layout.now data_dev.old hash_dev.old parity_dev.old data_dev.new hash_dev.new parity_dev.new result }
     ensures err { IfErr result (FailsToCheck layout.now D.state H.state P.state data_dev.old hash_dev.old parity_dev.old data_dev.new hash_dev.new parity_dev.new) }
 {
     let needed = layout.parity_sectors();
@@ -80,6 +84,7 @@ fn check_rounds<D: BlockDev, H: BlockDev, P: BlockDev>(
     ensures read { OnlyReadsCovered D.state H.state data_dev.old hash_dev.old data_dev.new hash_dev.new }
     ensures parity { IsOnlyRead (P.state parity_dev.old) (P.state parity_dev.new) }
     ensures ok { IfOk result (ChecksBy code.now D.state H.state P.state data_dev.old hash_dev.old parity_dev.old) }
+    ensures calls { ChecksOver (DeviceDoes D.state D.does) (DeviceDoes H.state H.does) (DeviceDoes P.state P.does) code.now.layout.now data_dev.old hash_dev.old parity_dev.old data_dev.new hash_dev.new parity_dev.new result }
     ensures err { OnErr result (AnyFails D.state H.state P.state data_dev.old hash_dev.old parity_dev.old data_dev.new hash_dev.new parity_dev.new) }
 {
     let sectors = (stored.len() / 512) as u64;

@@ -1,6 +1,8 @@
 //! Reading the blocks that parity covers from two devices.
-ghost use Rattle.std.specs.Prelude.{◌≡◌, ◌<◌, ℕ, IsOk, OnOk, OnErr, length, slice_index};
+ghost use Rattle.std.specs.Prelude.{◌≡◌, ◌<◌, ℕ, IsOk, OnOk, OnErr, is_ok, length, slice_index};
+ghost use Rattle.block_device.specs.Call.{DeviceDoes};
 ghost use Rattle.fec_area.specs.Asking.{AsksBlock};
+ghost use Rattle.fec_area.specs.Given.{GivesBlock};
 ghost use Rattle.fec_area.specs.Layouts.{IsCovered, IsLaidOn, covered_blocks};
 ghost use Rattle.fec_area.specs.Rounds.{BothNeverFail, CountsFailures, NeitherFails, OneFails, OnlyReadsCovered};
 
@@ -26,6 +28,7 @@ pub(crate) fn read_covered<D: BlockDev, H: BlockDev>(
     ensures err { OnErr result (OneFails D.state H.state data_dev.old hash_dev.old data_dev.new hash_dev.new) }
     ensures sure { BothNeverFail (D.state data_dev.old) (H.state hash_dev.old) → IsOk result }
     ensures asks { AsksBlock layout.now index D.state H.state data_dev.old hash_dev.old data_dev.new hash_dev.new }
+    ensures given { GivesBlock (DeviceDoes D.state D.does) (DeviceDoes H.state H.does) layout.now index block.new data_dev.old hash_dev.old data_dev.new hash_dev.new (is_ok result) }
     ensures counted { CountsFailures D.state H.state data_dev.old hash_dev.old data_dev.new hash_dev.new }
 {
     let sectors = u64::from(layout.block / 512);

@@ -1,8 +1,10 @@
 //! Reconstruction of a lost block from the other blocks of its round and the parity.
 ghost use Rattle.std.specs.Prelude.{◌≡◌, ◌<◌, ◌≤◌, ◌/◌, IfErr, IfOk, IsOk, OnErr, OnOk, is_ok, length};
 ghost use Rattle.allocation.specs.Asked.{WasRefused};
+ghost use Rattle.block_device.specs.Call.{DeviceDoes};
 ghost use Rattle.verity_format.specs.Blocks.{IsOnlyRead};
 ghost use Rattle.fec_area.specs.Asking.{AsksForFirst, AsksKept};
+ghost use Rattle.fec_area.specs.GivenRestored.{GivesFirstLost, RestoresOver};
 ghost use Rattle.fec_area.specs.Layouts.{IsLaidOn, IsLayout, covered_blocks, parity_sectors};
 ghost use Rattle.fec_area.specs.Restoring.{AreLostPlaces, FailsToRestore, IsOtherCause, MakesAgain, RestoresFirst, is_beside};
 ghost use Rattle.fec_area.specs.Rounds.{AllNeverFail, CanRestore, CountsFailures, OnlyReadsCovered};
@@ -67,8 +69,8 @@ impl From<OutOfMemory> for RestoreFault {
 
 /// Reconstructs a lost block into `block`.
 ///
-/// It reads no more sectors than the remaining blocks of the round and the round's parity have; lost blocks may be
-/// unreadable. Memory use: the round's parity, sums of the same size, and 64 KiB for each lost block of the round
+/// It reads the round's parity once and then each remaining block of the round once, and nothing else; lost blocks may
+/// be unreadable. The bytes are the block that the code gives for the bytes that these reads returned. Memory use: the round's parity, sums of the same size, and 64 KiB for each lost block of the round
 /// (twice that while the list grows), less than 4 MiB in all.
 ///
 /// # Errors
@@ -93,6 +95,7 @@ pub fn restore_block<D: BlockDev, H: BlockDev, P: BlockDev>(
     ensures bytes { OnOk result (MakesAgain sought.now (D.state data_dev.old) (H.state hash_dev.old) (P.state parity_dev.old) block.new) }
     ensures err { IfErr result (FailsToRestore sought.now D.state H.state P.state data_dev.old hash_dev.old parity_dev.old data_dev.new hash_dev.new parity_dev.new) }
     ensures sure { IfErr result (IsOtherCause (D.state data_dev.old) (H.state hash_dev.old) (P.state parity_dev.old)) }
+    ensures calls { RestoresOver (DeviceDoes D.state D.does) (DeviceDoes H.state H.does) (DeviceDoes P.state P.does) sought.now block.new data_dev.old hash_dev.old parity_dev.old data_dev.new hash_dev.new parity_dev.new result }
     ensures asks { AsksKept sought.now (is_ok result) D.state H.state P.state data_dev.old hash_dev.old parity_dev.old data_dev.new hash_dev.new parity_dev.new }
     ensures counted { CountsFailures D.state H.state data_dev.old hash_dev.old data_dev.new hash_dev.new }
     ensures parity_counted { (P.state parity_dev.old).failures ≤ (P.state parity_dev.new).failures }
@@ -179,6 +182,7 @@ fn restore_first<D: BlockDev, H: BlockDev, P: BlockDev>(
     ensures first { OnOk result (RestoresFirst gap.now (D.state data_dev.old) (H.state hash_dev.old) (P.state parity_dev.old) block.new) }
     ensures err { OnErr result (AnyFails D.state H.state P.state data_dev.old hash_dev.old parity_dev.old data_dev.new hash_dev.new parity_dev.new) }
     ensures sure { AllNeverFail (D.state data_dev.old) (H.state hash_dev.old) (P.state parity_dev.old) → IsOk result }
+    ensures calls { GivesFirstLost (DeviceDoes D.state D.does) (DeviceDoes H.state H.does) (DeviceDoes P.state P.does) gap.now block.new data_dev.old hash_dev.old parity_dev.old data_dev.new hash_dev.new parity_dev.new (is_ok result) }
     ensures asks { AsksForFirst gap.now (is_ok result) D.state H.state P.state data_dev.old hash_dev.old parity_dev.old data_dev.new hash_dev.new parity_dev.new }
     ensures counted { CountsFailures D.state H.state data_dev.old hash_dev.old data_dev.new hash_dev.new }
     ensures parity_counted { (P.state parity_dev.old).failures ≤ (P.state parity_dev.new).failures }

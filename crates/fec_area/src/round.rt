@@ -1,6 +1,8 @@
 //! A round of codewords, summed position by position: its parity, or its lost blocks.
 ghost use Rattle.std.specs.Prelude.{◌≡◌, ◌+◌, ◌*◌, ◌<◌, ◌-◌, IsOk, OnOk, OnErr, EachIndex, is_ok, length, slice_index};
+ghost use Rattle.block_device.specs.Call.{DeviceDoes};
 ghost use Rattle.fec_area.specs.Asking.{AsksAt, AsksPlace, AsksRound, is_among};
+ghost use Rattle.fec_area.specs.Given.{GivesKept, GivesParity, GivesPlace, GivesRestored};
 ghost use Rattle.fec_area.specs.Layouts.{code_rounds};
 ghost use Rattle.fec_area.specs.Rounds.{Adds, AddsKept, BothNeverFail, CanAdd, CanAddKept, CanRestore, CanSum, CountsFailures, NeitherFails, OneFails, OnlyReadsCovered, Restores, SumsUp};
 
@@ -24,6 +26,7 @@ pub(crate) fn sum_parity<D: BlockDev, H: BlockDev>(
     ensures ok { OnOk result (NeitherFails D.state H.state data_dev.old hash_dev.old data_dev.new hash_dev.new) }
     ensures parity { OnOk result (SumsUp code.now (D.state data_dev.old) (H.state hash_dev.old) round parity.new) }
     ensures err { OnErr result (OneFails D.state H.state data_dev.old hash_dev.old data_dev.new hash_dev.new) }
+    ensures given { GivesParity (DeviceDoes D.state D.does) (DeviceDoes H.state H.does) code.now.layout.now round parity.new data_dev.old hash_dev.old data_dev.new hash_dev.new (is_ok result) }
 {
     let count = code.layout.roots;
     parity.fill(0);
@@ -48,6 +51,7 @@ pub(crate) fn restore_blocks<D: BlockDev, H: BlockDev>(
     ensures ok { OnOk result (NeitherFails D.state H.state data_dev.old hash_dev.old data_dev.new hash_dev.new) }
     ensures restored { OnOk result (Restores gap.now (D.state data_dev.old) (H.state hash_dev.old) parity.now sums.new) }
     ensures err { OnErr result (OneFails D.state H.state data_dev.old hash_dev.old data_dev.new hash_dev.new) }
+    ensures given { GivesRestored (DeviceDoes D.state D.does) (DeviceDoes H.state H.does) gap.now parity.now sums.new data_dev.old hash_dev.old data_dev.new hash_dev.new (is_ok result) }
     ensures sure { BothNeverFail (D.state data_dev.old) (H.state hash_dev.old) → IsOk result }
     ensures asks { AsksRound gap.now (is_ok result) D.state H.state data_dev.old hash_dev.old data_dev.new hash_dev.new }
     ensures counted { CountsFailures D.state H.state data_dev.old hash_dev.old data_dev.new hash_dev.new }
@@ -81,6 +85,7 @@ fn add_kept<D: BlockDev, H: BlockDev>(
     ensures ok { OnOk result (NeitherFails D.state H.state data_dev.old hash_dev.old data_dev.new hash_dev.new) }
     ensures added { OnOk result (AddsKept gap.now D.state H.state data_dev.old hash_dev.old place sums.old sums.new) }
     ensures err { OnErr result (OneFails D.state H.state data_dev.old hash_dev.old data_dev.new hash_dev.new) }
+    ensures given { GivesKept (DeviceDoes D.state D.does) (DeviceDoes H.state H.does) gap.now place sums.old sums.new data_dev.old hash_dev.old data_dev.new hash_dev.new (is_ok result) }
     ensures sure { BothNeverFail (D.state data_dev.old) (H.state hash_dev.old) → IsOk result }
     ensures asks { AsksPlace gap.now place D.state H.state data_dev.old hash_dev.old data_dev.new hash_dev.new }
     ensures counted { CountsFailures D.state H.state data_dev.old hash_dev.old data_dev.new hash_dev.new }
@@ -114,6 +119,7 @@ fn add_place<D: BlockDev, H: BlockDev>(
     ensures ok { OnOk result (NeitherFails D.state H.state data_dev.old hash_dev.old data_dev.new hash_dev.new) }
     ensures added { OnOk result (Adds code.now D.state H.state data_dev.old hash_dev.old round place sums.old sums.new) }
     ensures err { OnErr result (OneFails D.state H.state data_dev.old hash_dev.old data_dev.new hash_dev.new) }
+    ensures given { GivesPlace (DeviceDoes D.state D.does) (DeviceDoes H.state H.does) code.now round place sums.old sums.new data_dev.old hash_dev.old data_dev.new hash_dev.new (is_ok result) }
     ensures sure { BothNeverFail (D.state data_dev.old) (H.state hash_dev.old) → IsOk result }
     ensures asks { AsksAt code.now round place D.state H.state data_dev.old hash_dev.old data_dev.new hash_dev.new }
     ensures counted { CountsFailures D.state H.state data_dev.old hash_dev.old data_dev.new hash_dev.new }

@@ -4,6 +4,10 @@ use Rattle.std.specs.Prelude.{IfErr, IsErrAnd}
 use Rattle.image_commands.proofs.lemmas.EndingLemmas.{quiet as image-quiet}
 use Rattle.verity_commands.specs.declared.verity_fault.VerityFault.{VerityFault}
 use Rattle.verity_commands.specs.declared.verity_fault.VerityFault.TheVariants as verity
+use Rattle.command_line.specs.CommandWords.{RefusesWords}
+use Rattle.command_line.specs.FormatOptions.{OptionTexts}
+use Rattle.command_line.specs.ImageValues.{options_read}
+use Rattle.command_line.specs.Misuses.{misuse_record}
 use Rattle.command_line.specs.declared.fault.WordsFault.{WordsFault}
 use Rattle.command_line.specs.declared.fault.WordsFault.TheVariants as words
 use Rattle.verity_commands.specs.Endings.{IsUnsaid, IsVerityQuiet, words_ending}
@@ -30,7 +34,7 @@ err-from (Err e) P fault is holds = subst P (sym is) holds
 pub at-fault : {T E : Type 0} (r : Result T E) (P : E → Type 0) (fault : E) → r ≡ Err fault → IfErr r P → P fault
 at-fault {T} {E} r P fault is holds = subst (λ (x : Result T E). IfErr x P) is holds
 
--- words that say no value, and memory that ran out while they were read
-pub unsaid : (fault : WordsFault) → IsUnsaid (words_ending fault)
-unsaid (words.Usage misuse) = tt
-unsaid words.NoMemory = tt
+-- an option that states no value
+pub unsaid : (texts : OptionTexts) (fault : WordsFault) → RefusesWords (options_read texts) fault → IsUnsaid texts (words_ending fault)
+unsaid texts (words.Usage misuse) refused = (misuse_record misuse, refused)
+unsaid texts words.NoMemory refused = refused

@@ -16,6 +16,7 @@ use Rattle.image_commands.specs.Drawing.{Drawing}
 use Rattle.image_commands.specs.Places.{TwoPlaces}
 use Rattle.image_files.specs.Opener.{Calls, Opener, calls}
 use Rattle.verity_commands.specs.declared.verity_fault.VerityFault.{VerityFault}
+use Rattle.verity_commands.specs.declared.verity_fault.VerityFault.TheVariants.{Usage}
 use Rattle.verity_commands.specs.Endings.{IsUnsaid}
 use Rattle.verity_commands.specs.Placed.{FormatsAt, IsSaidFormatEnd}
 use Rattle.verity_commands.specs.Places.{image_places}
@@ -29,6 +30,7 @@ use Rattle.command_line.specs.words.FecVerify.{FecVerifyRecord, fec_verify_recor
 use Rattle.fec_commands.specs.Fitting.{FitsFile, IsUnfit}
 use Rattle.fec_commands.specs.Growing.{IsProtectionEnd, Protects}
 use Rattle.fec_commands.specs.Images.{FailsToOpenThree, OpensThree}
+use Rattle.fec_commands.specs.Layings.{is_roots}
 use Rattle.fec_commands.specs.Sizes.{says_two_sizes}
 use Rattle.fec_commands.specs.Verifying.{IsFecQuiet, IsVerifyThreeEnd, VerifiesThree}
 
@@ -70,10 +72,10 @@ pub record FormatsFec {S D T G : Type 0} (texts : OptionTexts) (w : Calls S D) (
   pub made : MakesFec texts w d f text
   pub printed : Appends old new text
 
--- the arguments give no value, and nothing was opened
-pub record EndsUnsaid {S D : Type 0} (w : Calls S D) (fault : FecFault) : Type 0 where
+-- a codeword can't have so many bytes of parity, or an option states no value; and nothing was opened
+pub record EndsUnsaid {S D : Type 0} (texts : OptionTexts) (w : Calls S D) (f : FecFormatRecord) (fault : FecFault) : Type 0 where
   pub cause : VerityFault
-  pub unsaid : IsUnsaid cause
+  pub unsaid : ((cause ≡ Usage) × (is_roots f.fec.roots ≡ false)) ⊎ IsUnsaid texts cause
   pub is : fault ≡ Verity cause
   pub same : w.new ≡ w.old
 
@@ -118,7 +120,7 @@ pub record EndsUntold {S D T G : Type 0} (texts : OptionTexts) (w : Calls S D) (
 -- one of these; nothing is printed, unless the writer is what failed
 abbrev pub IsFormatFecEnd : {S D T G : Type 0} → OptionTexts → Calls S D → Drawing T G → FecFormatRecord → Option (List ℕ) → Option (List ℕ) → Bool → FecFault → Type 0
 IsFormatFecEnd texts w d f old new failed fault =
-    (EndsUnsaid w fault ⊎ (EndsUnlike texts w fault ⊎ (EndsUnfit texts w f fault ⊎ (EndsUnmade texts w d f fault ⊎ (EndsUnguarded texts w d f fault ⊎ EndsUntold texts w d f failed fault)))))
+    (EndsUnsaid texts w f fault ⊎ (EndsUnlike texts w fault ⊎ (EndsUnfit texts w f fault ⊎ (EndsUnmade texts w d f fault ⊎ (EndsUnguarded texts w d f fault ⊎ EndsUntold texts w d f failed fault)))))
     × IsFecQuiet fault old new
 
 -- ---- `verify --fec`
@@ -145,8 +147,14 @@ pub record EndsOpened {S D : Type 0} (w : Calls S D) (v : FecVerifyRecord) (old 
   pub opened : OpensThree (record w { new = between }) (verify_places v.verify) v.fec false three
   pub ends : IsVerifyThreeEnd (record w { old = between }) three v old new failed fault
 
+-- `--all` was given, which doesn't go with parity, or a codeword can't have so many bytes of it; and nothing was opened
+pub record EndsMisused {S D : Type 0} (w : Calls S D) (v : FecVerifyRecord) (fault : FecFault) : Type 0 where
+  pub misused : (v.verify.all ≡ true) ⊎ (is_roots v.fec.roots ≡ false)
+  pub is : fault ≡ Verity Usage
+  pub same : w.new ≡ w.old
+
 abbrev pub IsVerifyFecEnd : {S D : Type 0} → Calls S D → FecVerifyRecord → Option (List ℕ) → Option (List ℕ) → Bool → FecFault → Type 0
-IsVerifyFecEnd w v old new failed fault = (EndsUnsaid w fault × (new ≡ old)) ⊎ (IsVerifyUnopened w v old new fault ⊎ EndsOpened w v old new failed fault)
+IsVerifyFecEnd w v old new failed fault = (EndsMisused w v fault × (new ≡ old)) ⊎ (IsVerifyUnopened w v old new fault ⊎ EndsOpened w v old new failed fault)
 
 -- ---- in terms of the program's arguments, the opener and the writer, each before and after, and the source of generators
 

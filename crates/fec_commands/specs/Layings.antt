@@ -1,10 +1,11 @@
 -- The layout of the parity of a verity image, by its superblock.
-use Rattle.std.specs.Prelude.{◌≡◌, ◌≢◌, ◌⊎◌, ℕ, ◌<◌, ◌≤◌, Option}
+use Rattle.std.specs.Prelude.{◌≡◌, ◌≢◌, ◌⊎◌, ℕ, ◌<◌, ◌≤◌, ◌&&◌, nat_le, Bool, Option}
 use Rattle.block_device.specs.Device.{Device}
 use Rattle.fec_area.specs.Layouts.{IsLaidOn, IsLayoutOf}
 use Rattle.image_commands.specs.declared.fault.ImageFault.{ImageFault}
 use Rattle.image_commands.specs.declared.fault.ImageFault.TheVariants.{Unaligned, Unpinned, Verify}
-use Rattle.image_commands.specs.Finding.{IsTreeUnaligned, IsTreeUnpinned, ReadsSuper}
+use Rattle.image_commands.specs.Finding.{IsTreeUnaligned, ReadsSuper}
+use Rattle.image_pin.specs.PinnedReads.{ReadsUnpinned}
 use Rattle.image_pin.specs.declared.pin.Pin.{Pin}
 use Rattle.verity_commands.specs.Endings.{IsImageEnd}
 use Rattle.verity_format.specs.declared.verifying.VerifyFault.{VerifyFault}
@@ -21,6 +22,9 @@ use Rattle.fec_commands.specs.declared.image.LaidTree.{LaidTree}
 -- a codeword of dm-verity-fec has 2 to 24 bytes of parity
 abbrev pub IsRoots : ℕ → Type 0
 IsRoots roots = (2 ≤ roots) × (roots ≤ 24)
+
+abbrev pub is_roots : ℕ → Bool
+is_roots roots = nat_le 2 roots && nat_le roots 24
 
 -- The superblock was read once and has the values of the pin, if there is one. The layout is that of its tree, and the covered
 -- blocks are within the two devices.
@@ -50,7 +54,7 @@ pub record HasOtherSizes (hash_dev : Device) (first : ℕ) (pin : Option Pin) : 
 abbrev pub IsSuperUnread : Device → Device → ℕ → Option Pin → Device → ImageFault → Type 0
 IsSuperUnread data_dev hash_dev first pin hash_dev' (Verify fault) = IsReadCause hash_dev hash_dev' fault ⊎ AreDataShort data_dev hash_dev first pin fault
 IsSuperUnread data_dev hash_dev first pin hash_dev' Unaligned = IsTreeUnaligned hash_dev first pin
-IsSuperUnread data_dev hash_dev first pin hash_dev' (Unpinned mismatch) = IsTreeUnpinned hash_dev pin mismatch
+IsSuperUnread data_dev hash_dev first pin hash_dev' (Unpinned mismatch) = ReadsUnpinned hash_dev pin hash_dev' mismatch
 IsSuperUnread data_dev hash_dev first pin hash_dev' fault = ⊥
 
 -- why there is no layout

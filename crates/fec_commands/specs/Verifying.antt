@@ -12,7 +12,7 @@ use Rattle.fec_area.specs.Layouts.{parity_sectors}
 use Rattle.image_files.specs.Opener.{Calls, Opener, calls}
 use Rattle.image_commands.specs.declared.comparing.ImagePair.{ImagePair}
 use Rattle.image_commands.specs.declared.fault.ImageFault.{ImageFault}
-use Rattle.image_commands.specs.declared.trusted.TrustedRoot.{TrustedRoot}
+use Rattle.image_pin.specs.declared.trusted.TrustedRoot.{TrustedRoot}
 use Rattle.image_commands.specs.Comparing.{IsComparedEnd}
 use Rattle.image_commands.specs.Endings.{IsQuiet}
 use Rattle.image_commands.specs.Places.{before, behind, tree_start}

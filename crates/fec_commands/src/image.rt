@@ -41,7 +41,7 @@ pub(crate) struct Extent {
 
 /// Returns whether a codeword may have so many bytes of parity: 2 to 24.
 pub(crate) fn is_roots(roots: u32) -> bool
-    ensures { result ≡ (nat_le 2 roots && nat_le roots 24) }
+    ensures { result ≡ is_roots roots }
 {
     roots >= 2 && roots <= 24
 }

@@ -89,7 +89,10 @@ pub fn invoke_verify_fec<'a, I: Images, S: Watchers, W: Write>(
     ensures ok { OnOk result (VerifiesFecByWords words.now I.relations I.Dev.state images.old images.new W.contents writer.old writer.new) }
     ensures err { IfErr result (FailsToVerifyFec words.now I.relations I.Dev.state images.old images.new W.contents writer.old writer.new) }
 {
-    if words.verify.all || !is_roots(words.fec.roots) {
+    if words.verify.all {
+        return Err(FecFault::Verity(VerityFault::Usage));
+    }
+    if !is_roots(words.fec.roots) {
         return Err(FecFault::Verity(VerityFault::Usage));
     }
     let places = ImagePlaces {

@@ -2,6 +2,9 @@
 use Rattle.std.proofs.Common.{ℕ, Bool, List, Option, inl, inr}
 use Rattle.block_device.specs.Device.{Device}
 use Rattle.image_pin.specs.declared.pin.Pin.{Pin as ImagePin}
+use Rattle.image_pin.specs.declared.pinned.PinnedFault.{PinnedFault}
+use Rattle.image_pin.specs.declared.pinned.PinnedFault.TheVariants as pinned
+use Rattle.image_pin.specs.PinnedReads.{IsPinnedCause}
 use Rattle.verity_format.specs.Superblock.{SuperRecord}
 use Rattle.verity_format.specs.Trees.{tree_alone}
 use Rattle.image_commands.specs.declared.fault.ImageFault.{ImageFault}
@@ -9,16 +12,20 @@ use Rattle.image_commands.specs.declared.fault.ImageFault.TheVariants.{DataOverl
 use Rattle.image_commands.specs.declared.finding.NoTree.{NoTree}
 use Rattle.image_commands.specs.declared.finding.NoTree.TheVariants.{Unread, Unaligned as Misplaced, Unpinned as Unlike}
 use Rattle.image_commands.specs.Comparing.{IsComparedEnd}
-use Rattle.image_commands.specs.Finding.{IsNoTree, no_tree_fault}
+use Rattle.image_commands.specs.Finding.{IsNoTree, no_tree_fault, unpinned_tree}
 use Rattle.image_commands.specs.PlacedImages.{IsPlacedSuperEnd}
 use Rattle.image_commands.specs.Places.{behind, tree_start}
 use Rattle.image_commands.specs.TreeImages.{IsTreeComparisonEnd}
+
+pub no-pinned-tree : (device : Device) (first : ℕ) (pin : Option ImagePin) (device' : Device) (fault : PinnedFault) → IsPinnedCause device pin device' fault → IsNoTree device first pin device' (unpinned_tree fault)
+no-pinned-tree device first pin device' (pinned.Unread fault) cause = cause
+no-pinned-tree device first pin device' (pinned.Unpinned mismatch) cause = cause
 
 pub no-tree-end : (memory : Type 0) (device device' : Device) (first : ℕ) (pin : Option ImagePin) (failed : Bool) (fault : NoTree)
     → IsNoTree (behind device first) first pin device' fault → IsPlacedSuperEnd memory device first pin failed (no_tree_fault fault)
 no-tree-end memory device device' first pin failed (Unread fault) cause = inl (device', cause)
 no-tree-end memory device device' first pin failed Misplaced cause = inr cause
-no-tree-end memory device device' first pin failed (Unlike mismatch) cause = inr cause
+no-tree-end memory device device' first pin failed (Unlike mismatch) cause = inr (device', cause)
 
 -- of a tree without a superblock
 pub compared-alone : (s : SuperRecord) (d h d' h' : Device) (first : ℕ) (root : List ℕ) (failed : Bool) (fault : ImageFault)

@@ -3,7 +3,9 @@ use Rattle.std.specs.Prelude.{◌≡◌, ◌⊎◌, ℕ, Bool, true, false, List
 use Rattle.block_device.specs.Device.{Device}
 use Rattle.image_pin.specs.declared.mismatch.Mismatch.{Mismatch}
 use Rattle.image_pin.specs.declared.pin.Pin.{Pin}
-use Rattle.image_pin.specs.Mismatches.{pin_mismatch}
+use Rattle.image_pin.specs.declared.pinned.PinnedFault.{PinnedFault}
+use Rattle.image_pin.specs.declared.pinned.PinnedFault.TheVariants as pinned
+use Rattle.image_pin.specs.PinnedReads.{ReadsUnpinned, mismatch_of}
 use Rattle.verity_format.specs.Superblock.{SuperRecord}
 use Rattle.verity_format.specs.Verifying.{IsReadCause, IsReadFrom}
 use Rattle.image_commands.specs.declared.fault.ImageFault.{ImageFault}
@@ -16,11 +18,6 @@ use Rattle.image_commands.specs.Places.{is_aligned}
 abbrev pub may_begin : Option Pin → ℕ → Bool
 may_begin None first = true
 may_begin (Some pin) first = is_aligned first pin.hash_block
-
--- the first value of the superblock that differs from the pin's
-abbrev pub mismatch_of : Option Pin → SuperRecord → Option Mismatch
-mismatch_of None s = None
-mismatch_of (Some pin) s = pin_mismatch pin s
 
 -- the superblock was read, it has the values of the pin, if there is one, and a hash block begins at its sector
 pub record ReadsSuper (hash_dev : Device) (first : ℕ) (pin : Option Pin) (super : SuperRecord) : Type 0 where
@@ -40,18 +37,20 @@ pub record IsSuperUnaligned (hash_dev : Device) (first : ℕ) : Type 0 where
 abbrev pub IsTreeUnaligned : Device → ℕ → Option Pin → Type 0
 IsTreeUnaligned hash_dev first pin = (may_begin pin first ≡ false) ⊎ IsSuperUnaligned hash_dev first
 
--- it was read, and differs from the pin in that value
-pub record IsTreeUnpinned (hash_dev : Device) (pin : Option Pin) (mismatch : Mismatch) : Type 0 where
-  pub super : SuperRecord
-  pub sector : List ℕ
-  pub read : IsReadFrom hash_dev sector super
-  pub other : mismatch_of pin super ≡ Some mismatch
+-- it was read, and differs from the pin in that value; of a device that isn't seen afterwards
+abbrev pub IsTreeUnpinned : Device → Option Pin → Mismatch → Type 0
+IsTreeUnpinned hash_dev pin mismatch = (hash_dev' : Device) × ReadsUnpinned hash_dev pin hash_dev' mismatch
 
 -- why there is no tree
 abbrev pub IsNoTree : Device → ℕ → Option Pin → Device → NoTree → Type 0
 IsNoTree hash_dev first pin hash_dev' (Unread fault) = IsReadCause hash_dev hash_dev' fault
 IsNoTree hash_dev first pin hash_dev' Unaligned = IsTreeUnaligned hash_dev first pin
-IsNoTree hash_dev first pin hash_dev' (Unpinned mismatch) = IsTreeUnpinned hash_dev pin mismatch
+IsNoTree hash_dev first pin hash_dev' (Unpinned mismatch) = ReadsUnpinned hash_dev pin hash_dev' mismatch
+
+-- with which of these causes, if there is no superblock of the pin
+abbrev pub unpinned_tree : PinnedFault → NoTree
+unpinned_tree (pinned.Unread fault) = Unread fault
+unpinned_tree (pinned.Unpinned mismatch) = Unpinned mismatch
 
 -- with which fault a command ends then
 abbrev pub no_tree_fault : NoTree → ImageFault

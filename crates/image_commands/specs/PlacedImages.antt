@@ -21,12 +21,13 @@ use Rattle.image_commands.specs.declared.paths.TwoImages.{TwoImages}
 use Rattle.image_commands.specs.declared.places.Bounds.{Bounds}
 use Rattle.image_commands.specs.declared.places.HashPlace.{HashPlace}
 use Rattle.image_commands.specs.declared.table.LineWords.{LineWords}
-use Rattle.image_commands.specs.declared.trusted.TrustedRoot.{TrustedRoot}
+use Rattle.image_pin.specs.declared.trusted.TrustedRoot.{TrustedRoot}
 use Rattle.image_commands.specs.declared.watching.WatchedPlaces.{WatchedPlaces}
 use Rattle.image_pin.specs.declared.pin.Pin.{Pin}
+use Rattle.image_pin.specs.PinnedReads.{mismatch_of}
 use Rattle.image_commands.specs.Comparing.{IsComparedEnd}
 use Rattle.image_commands.specs.Endings.{IsUnopened, IsVerifyEnd}
-use Rattle.image_commands.specs.Finding.{IsTreeUnaligned, IsTreeUnpinned, ReadsSuper, mismatch_of}
+use Rattle.image_commands.specs.Finding.{IsTreeUnaligned, IsTreeUnpinned, ReadsSuper}
 use Rattle.image_commands.specs.Openings.{FailsToOpenTwo, OpensTwo}
 use Rattle.image_commands.specs.Places.{TwoPlaces, before, behind, data_end, is_aligned, tree_start, two_places}
 use Rattle.image_commands.specs.SuperblockJson.{dump_text}

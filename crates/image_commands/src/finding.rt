@@ -1,12 +1,12 @@
 //! The superblock of a hash image, read once.
 ghost use Rattle.std.specs.Prelude.{◌≡◌, IfErr, IfOk, OnOk};
 ghost use Rattle.verity_format.specs.Blocks.{IsFullRead, IsOnlyRead};
-ghost use Rattle.image_commands.specs.Finding.{IsNoTree, ReadsSuper, may_begin, mismatch_of};
+ghost use Rattle.image_commands.specs.Finding.{IsNoTree, ReadsSuper, may_begin};
 
 use crate::places::is_aligned;
 use block_device::BlockDev;
-use image_pin::{Mismatch, Pin, check_superblock};
-use verity_format::{Superblock, VerifyFault, read_superblock};
+use image_pin::{Mismatch, Pin, PinnedFault, read_pinned};
+use verity_format::{Superblock, VerifyFault};
 
 /// Why a hash image has no tree that a command may use.
 #[derive(Clone, Copy, Debug, PartialEq, Eq)]
@@ -19,14 +19,17 @@ pub enum NoTree {
     Unpinned(Mismatch),
 }
 
-impl From<VerifyFault> for NoTree {
+impl From<PinnedFault> for NoTree {
     ghost use Rattle.std.specs.Prelude.{◌≡◌};
-    ghost use Rattle.image_commands.specs.declared.finding.NoTree.TheVariants.{Unread};
+    ghost use Rattle.image_commands.specs.Finding.{unpinned_tree};
 
-    ghost from_gives = { λ fault given. given ≡ Unread fault };
+    ghost from_gives = { λ fault given. given ≡ unpinned_tree fault };
 
-    fn from(fault: VerifyFault) -> NoTree {
-        NoTree::Unread(fault)
+    fn from(fault: PinnedFault) -> NoTree {
+        match fault {
+            PinnedFault::Unread(fault) => NoTree::Unread(fault),
+            PinnedFault::Unpinned(mismatch) => NoTree::Unpinned(mismatch),
+        }
     }
 }
 
@@ -36,7 +39,7 @@ impl From<VerifyFault> for NoTree {
 ///
 /// # Errors
 ///
-/// `Unread` with the fault of `read_superblock`, `Unpinned` with the first value that differs from the pin's, or `Unaligned`.
+/// Those of `read_pinned`, or `Unaligned`.
 pub fn find_tree<H: BlockDev>(
     hash_dev: &mut H,
     first: u64,
@@ -50,11 +53,7 @@ pub fn find_tree<H: BlockDev>(
     if !may_begin(pin, first) {
         return Err(NoTree::Unaligned);
     }
-    let superblock = read_superblock(hash_dev)?;
-    match mismatch_of(pin, &superblock) {
-        Some(mismatch) => return Err(NoTree::Unpinned(mismatch)),
-        None => {}
-    }
+    let superblock = read_pinned(hash_dev, pin)?;
     let size = superblock.hash_block();
     if !is_aligned(first, size) {
         return Err(NoTree::Unaligned);
@@ -69,18 +68,5 @@ fn may_begin(pin: &Option<Pin>, first: u64) -> bool
     match pin {
         Some(pin) => is_aligned(first, pin.hash_block),
         None => true,
-    }
-}
-
-/// The first value of a superblock that differs from the pin's, if there is a pin.
-pub fn mismatch_of(pin: &Option<Pin>, superblock: &Superblock) -> Option<Mismatch>
-    ensures { result ≡ mismatch_of pin.now superblock.now }
-{
-    match pin {
-        Some(pin) => match check_superblock(pin, superblock) {
-            Ok(()) => None,
-            Err(mismatch) => Some(mismatch),
-        },
-        None => None,
     }
 }

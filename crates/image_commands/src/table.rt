@@ -1,5 +1,5 @@
 //! What a table line names beside the image.
-use crate::trusted::TrustedRoot;
+use image_pin::TrustedRoot;
 
 /// What a table line names beside the image: the root digest, and the device arguments of data and hashes.
 #[derive(Clone, Copy)]

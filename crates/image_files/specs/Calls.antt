@@ -1,5 +1,6 @@
 -- What a proof sees of a file system. S is the file system, F a file that was created.
 use Rattle.std.specs.Prelude.{◌≡◌, ◌⊎◌, ℕ, List, Result}
+use Rattle.std.specs.declared.io.ErrorKind.{ErrorKind}
 use Rattle.image_files.specs.declared.calls.CallFault.{CallFault}
 use Rattle.image_files.specs.declared.calls.CreateFault.{CreateFault}
 use Rattle.image_files.specs.declared.texts.ReplaceFault.{ReplaceFault}
@@ -16,6 +17,8 @@ pub record FileRelations (S F : Type 0) : Type 1 where
   pub resolves : S → List ℕ → Result (List ℕ) ReplaceFault → S → Type 0
   -- the name of a file, the path of the one that it is to be like, and the file, or why it isn't created
   pub creates : S → List ℕ → List ℕ → Result F CreateFault → S → Type 0
+  -- the name of a file that is created exclusively, and the file, or what the system says
+  pub makes : S → List ℕ → Result F ErrorKind → S → Type 0
   -- a file, the bytes that are written, and the file then
   pub writes : S → F → List ℕ → Result (Unit {0}) CallFault → F → S → Type 0
   pub syncs : S → F → Result (Unit {0}) CallFault → S → Type 0

@@ -25,23 +25,29 @@ pub record FileView (S D : Type 0) : Type 1 where
   pub id : D → Option FileId
   pub opened : D → List ℕ → Bool → Type 0
   pub locked : S → List FileId
+  -- the device of all sectors of its file, and what the system said of how many they are
+  pub whole : D → Device
+  pub sized : D → ℕ → Type 0
+  -- which calls made the file under a path, or found one there
+  pub made : List ℕ → Type 0
   -- which calls replaced the text under a path, and which tried to
   pub replaced : List ℕ → List ℕ → Result (Unit {0}) ReplaceFault → Type 0
   pub tried : List ℕ → Result (Unit {0}) ReplaceFault → Type 0
 
--- a file as it was opened under its path, of its own size, and which one it is
+-- a file as it was opened under its path, of the size that the system said of it, and which one it is
 pub record IsOpenFile {S D : Type 0} (view : FileView S D) (image : OpenImage D) (path : List ℕ) (writable : Bool) : Type 0 where
   pub asked : view.opened image.device path writable
   pub device : IsOpened (view.state image.device) writable
+  pub size : view.sized image.device (view.state image.device).size
   pub id : image.id ≡ view.id image.device
 
--- a part of one, inside of it
+-- a part of one, inside of it: of all that was opened under the path
 pub record IsOpenPart {S D : Type 0} (view : FileView S D) (image : OpenImage D) (path : List ℕ) (writable : Bool) (part : Part) : Type 0 where
   pub asked : view.opened image.device path writable
-  pub whole : Device
-  pub is : IsOpened whole writable
-  pub inside : LiesInside whole part
-  pub device : view.state image.device ≡ windowed whole part
+  pub is : IsOpened (view.whole image.device) writable
+  pub size : view.sized image.device (view.whole image.device).size
+  pub inside : LiesInside (view.whole image.device) part
+  pub device : view.state image.device ≡ windowed (view.whole image.device) part
   pub id : image.id ≡ view.id image.device
 
 abbrev pub OpensFile : {D F : Type 0} → (OpenImage D → Type 0) → Result (OpenImage D) F → Type 0
@@ -53,10 +59,10 @@ abbrev pub LocksFile : {S D F : Type 0} → FileView S D → Bool → Result (Op
 LocksFile view writable (Ok image) old new = Locks writable image.id (view.locked old) (view.locked new)
 LocksFile view writable (Err fault) old new = LocksAtMost (view.locked old) (view.locked new)
 
--- the system said that no regular file is under the path, or the file there has that many sectors
-abbrev pub Grows : List ℕ → ℕ → Result (Unit {0}) OpenFault → Type 0
-Grows path sectors (Ok done) = ((said : Metadata) × IsOfPath path said × (IsFile (file_type said) → ⊥)) ⊎ ((file : File) × Opened path true file × IsLongEnough file (sectors * 512))
-Grows path sectors (Err fault) = Unit {0}
+-- the system said that no regular file is under the path; or the file was made where there was none, and has that many sectors
+abbrev pub Grows : Type 0 → List ℕ → ℕ → Result (Unit {0}) OpenFault → Type 0
+Grows Made path sectors (Ok done) = ((said : Metadata) × IsOfPath path said × (IsFile (file_type said) → ⊥)) ⊎ (Made × ((file : File) × Opened path true file × IsLongEnough file (sectors * 512)))
+Grows Made path sectors (Err fault) = Unit {0}
 
 -- whether a regular file ends inside a sector, by the size that the system said of the path
 abbrev pub EndsInPart : List ℕ → Result Bool OpenFault → Type 0
@@ -75,7 +81,7 @@ file_relations {D = D} view = record {
   tells = λ old path most outcome new. WasMade {D = D} old (ReadText path most outcome) new × LocksNoMore view old new;
   takes = λ old path device new. WasMade old (Close path device) new × LocksNoMore view old new;
   takes_part = λ old path part device new. WasMade old (ClosePart path part device) new × LocksNoMore view old new;
-  grows = λ old path sectors outcome new. WasMade {D = D} old (Grow path sectors outcome) new × LocksAtMost (view.locked old) (view.locked new) × Grows path sectors outcome;
+  grows = λ old path sectors outcome new. WasMade {D = D} old (Grow path sectors outcome) new × LocksAtMost (view.locked old) (view.locked new) × Grows (view.made path) path sectors outcome;
   measures = λ old path outcome new. WasMade {D = D} old (Measure path outcome) new × LocksNoMore view old new × EndsInPart path outcome;
   compares = λ old path other outcome new. WasMade {D = D} old (Compare path other outcome) new × LocksNoMore view old new;
   replaces = λ old path bytes outcome new. WasMade {D = D} old (Replace path bytes outcome) new × LocksNoMore view old new × view.replaced path bytes outcome;

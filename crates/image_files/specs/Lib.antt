@@ -11,4 +11,6 @@ pub mod OpenParts
 pub mod Promises
 pub mod Calls
 pub mod Drafts
+pub mod NewFiles
+pub mod Sizes
 pub mod SystemFiles

@@ -1,16 +1,22 @@
--- Calls of the operating system by which a text is replaced, as evidence: the definition isn't unfoldable, so code knows it
+-- Calls of the operating system by which a text is replaced or a file made, as evidence: the definition isn't unfoldable, so code knows it
 -- only from a call of `SystemCalls`.
-use Rattle.std.specs.Prelude.{ℕ, List, Result}
+use Rattle.std.specs.Prelude.{ℕ, Bool, true, false, List, Result, Ok, Err}
+use Rattle.std.specs.Fs.{new_options, with_create_new, with_read, with_write}
 use Rattle.std.specs.declared.fs.File.{File}
+use Rattle.std.specs.declared.fs.options.OpenOptions.{OpenOptions}
+use Rattle.std.specs.declared.io.ErrorKind.{ErrorKind}
+use Rattle.std.specs.declared.io.ErrorKind.TheVariants.{AlreadyExists}
 use Rattle.image_files.specs.Calls.{FileRelations}
 use Rattle.image_files.specs.declared.calls.CallFault.{CallFault}
 use Rattle.image_files.specs.declared.calls.CreateFault.{CreateFault}
+use Rattle.image_files.specs.declared.calls.CreateFault.TheVariants.{Exists, Failed}
 use Rattle.image_files.specs.declared.seal.Seal.{Seal}
 use Rattle.image_files.specs.declared.texts.ReplaceFault.{ReplaceFault}
 
--- a call, its arguments, and its outcome where it has one
+-- a call, its arguments, and its outcome where it has one; `OpenBy` is one call by these options, apart from the mode
 pub data SystemCall : Type 0 where
   Resolve : List ℕ → Result (List ℕ) ReplaceFault → SystemCall
+  OpenBy : OpenOptions → List ℕ → Result File ErrorKind → SystemCall
   Create : List ℕ → List ℕ → Result File CreateFault → SystemCall
   Write : File → List ℕ → Result (Unit {0}) CallFault → File → SystemCall
   Sync : File → Result (Unit {0}) CallFault → SystemCall
@@ -27,10 +33,21 @@ pub was-asked : {S : Type 0} (old : S) (call : SystemCall) (new : S) → Seal �
 unfolding WasAsked
 was-asked old call new seal = tt
 
+-- options of a file that is created, and refused where its name is taken: nothing that stands there is opened or emptied
+abbrev pub exclusive : Bool → OpenOptions
+exclusive read = with_create_new (with_write (with_read new_options read) true) true
+
+-- the system created a file exclusively, or said that its name is taken
+abbrev pub CreatesNew : {S : Type 0} → S → List ℕ → Result File CreateFault → S → Type 0
+CreatesNew old name (Ok file) new = WasAsked old (OpenBy (exclusive false) name (Ok file)) new
+CreatesNew old name (Err Exists) new = WasAsked old (OpenBy (exclusive false) name (Err AlreadyExists)) new
+CreatesNew old name (Err Failed) new = Unit {0}
+
 abbrev pub system_relations : {S : Type 0} → FileRelations S File
 system_relations = record {
   resolves = λ old path outcome new. WasAsked old (Resolve path outcome) new;
-  creates = λ old name like outcome new. WasAsked old (Create name like outcome) new;
+  creates = λ old name like outcome new. WasAsked old (Create name like outcome) new × CreatesNew old name outcome new;
+  makes = λ old name outcome new. WasAsked old (OpenBy (exclusive true) name outcome) new;
   writes = λ old file bytes result file' new. WasAsked old (Write file bytes result file') new;
   syncs = λ old file result new. WasAsked old (Sync file result) new;
   renames = λ old from to result new. WasAsked old (Rename from to result) new;

@@ -3,6 +3,7 @@ ghost use Rattle.std.specs.Prelude.{◌≡◌, Err, IfErr, IfOk, Ok, string_byte
 ghost use Rattle.image_files.specs.Calls.{FileRelations, IsNoDraft};
 
 use crate::texts::ReplaceFault;
+use std::io::ErrorKind;
 use thiserror::Error;
 
 /// A call that failed.
@@ -43,6 +44,14 @@ pub trait FileCalls {
     fn create(&mut self, name: &str, like: &str) -> Result<Self::File, CreateFault>
         ensures outcome { relations.creates self.old name.now like.now result self.new }
         ensures same { IfErr result (λ fault. self.new ≡ self.old) };
+
+    /// Creates an empty file of this name, exclusively: what stands under the name isn't opened.
+    ///
+    /// # Errors
+    ///
+    /// What the system says; `AlreadyExists` if the name is taken.
+    fn make(&mut self, name: &str) -> Result<Self::File, ErrorKind>
+        ensures { relations.makes self.old name.now result self.new };
 
     /// Writes all these bytes into a file.
     fn write(&mut self, file: &mut Self::File, bytes: &[u8]) -> Result<(), CallFault>

@@ -5,6 +5,7 @@ ghost use Rattle.block_device.specs.File.{IsOpened};
 ghost use Rattle.block_device.specs.FileCalls.{Opened};
 ghost use Rattle.block_device.specs.FileId.{file_id, file_of};
 ghost use Rattle.image_files.specs.FileLocks.{Locks, LocksAtMost};
+ghost use Rattle.image_files.specs.Sizes.{IsSized, any_sized};
 
 use crate::file_locks::FileLocks;
 use crate::file_texts::FileTexts;
@@ -51,6 +52,7 @@ fn open_file<R: Files<File = File>>(
     writable: bool,
 ) -> Result<FileDev, OpenFault>
     ensures state { IfOk result (λ f. IsOpened (⟦<FileDev as BlockDev>⟧.state f) writable) }
+    ensures size { IfOk result (λ f. IsSized f (⟦<FileDev as BlockDev>⟧.state f).size) }
     ensures locked { IfOk result (λ f. Locks writable (file_id f) locks.old.files.items locks.new.files.items × Opened path.now writable (file_of f)) }
     ensures same { OnErr result (locks.new.files.items ≡ locks.old.files.items) }
 {
@@ -79,6 +81,7 @@ impl<'a, R: AllocGlobal> FileImages<'a, R> {
 impl<R: Files<File = File> + AllocGlobal + Input> Images for FileImages<'_, R> {
     ghost use Rattle.image_files.specs.Drafts.{Replaces, Tries};
     ghost use Rattle.image_files.specs.FileRelations.{file_relations};
+    ghost use Rattle.image_files.specs.NewFiles.{Makes};
     ghost use Rattle.image_files.specs.SystemFiles.{system_relations};
     ghost use Rattle.image_files.specs.declared.system_calls.SystemCalls.{SystemCalls};
 
@@ -89,6 +92,9 @@ impl<R: Files<File = File> + AllocGlobal + Input> Images for FileImages<'_, R> {
       id = λ window. any_id window.inner;
       opened = λ window. any_opened window.inner;
       locked = λ images. images.locks.files.items;
+      whole = λ window. ⟦<AnyDev as BlockDev>⟧.state window.inner;
+      sized = λ window sectors. any_sized window.inner sectors;
+      made = λ path. (before after : SystemCalls R) × Makes system_relations before path after;
       replaced = λ path bytes outcome. (before after : SystemCalls R) × Replaces system_relations before path bytes outcome after;
       tried = λ path outcome. (before after : SystemCalls R) × Tries system_relations before path outcome after;
     }) };

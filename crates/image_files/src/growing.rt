@@ -1,7 +1,12 @@
 //! Files that are made.
+ghost use Rattle.std.specs.Prelude.{IfErr, OnOk};
+ghost use Rattle.image_files.specs.NewFiles.{FailsToMake, Makes};
+ghost use Rattle.image_files.specs.SystemFiles.{system_relations};
+ghost use Rattle.image_files.specs.declared.system_calls.SystemCalls.{SystemCalls as Calls};
+
 use crate::calls::{CallFault, FileCalls};
-use crate::one_place::target_of;
 use crate::system_calls::SystemCalls;
+use crate::texts::ReplaceFault;
 use block_device::OpenFault;
 use std::fs::File;
 use std::io::ErrorKind;
@@ -12,16 +17,29 @@ use std::rt::Files;
 /// # Errors
 ///
 /// What the system answered.
-pub fn make_file<R: Files<File = File> + AllocGlobal>(rt: &R, path: &str) -> Result<(), OpenFault> {
-    let Some(target) = target_of(rt, path)? else {
-        return Err(OpenFault::OtherFault);
+pub fn make_file<R: Files<File = File> + AllocGlobal>(rt: &R, path: &str) -> Result<(), OpenFault>
+    ensures { OnOk result ((before after : Calls R) × Makes system_relations before path.now after) }
+{
+    make_by(&mut SystemCalls::new(rt), path)?;
+    Ok(())
+}
+
+// The same by the calls of a file system.
+fn make_by<C: FileCalls>(calls: &mut C, path: &str) -> Result<(), OpenFault>
+    ensures ok { OnOk result (Makes C.relations calls.old path.now calls.new) }
+    ensures err { IfErr result (λ fault. FailsToMake C.relations calls.old path.now fault calls.new) }
+{
+    let target = match calls.resolve(path) {
+        Ok(target) => target,
+        Err(ReplaceFault::NoMemory) => return Err(OpenFault::NoMemory),
+        Err(_) => return Err(OpenFault::OtherFault),
     };
-    match File::create_new(rt, target.as_str()) {
-        Ok(_) => {}
-        Err(error) if error.kind() == ErrorKind::AlreadyExists => return Ok(()),
-        Err(error) => return Err(OpenFault::from(error.kind())),
+    match calls.make(target.as_str()) {
+        Ok(file) => drop(file),
+        Err(ErrorKind::AlreadyExists) => return Ok(()),
+        Err(kind) => return Err(OpenFault::from(kind)),
     }
-    match SystemCalls::new(rt).sync_folder(target.as_str()) {
+    match calls.sync_folder(target.as_str()) {
         Ok(()) => Ok(()),
         Err(CallFault) => Err(OpenFault::OtherFault),
     }

@@ -1,5 +1,6 @@
 //! The operating system's files.
 ghost use Rattle.image_files.specs.Calls.{IsNoDraft};
+ghost use Rattle.image_files.specs.SystemFiles.{CreatesNew, OpenBy, WasAsked};
 
 use crate::calls::{CallFault, CreateFault, FileCalls};
 use crate::texts::ReplaceFault;
@@ -78,12 +79,23 @@ impl<R: Files<File = File> + AllocGlobal> SystemCalls<'_, R> {
         }
     }
 
-    fn create_new(&self, name: &str, mode: u32) -> Result<File, CreateFault> {
-        let mut options = OpenOptions::new();
-        options.write(true).create_new(true).mode(mode);
-        match options.open(self.rt, name) {
+    // Opens a file by these options, with the mode if it is created. Trusted: that the body makes this call.
+    #[tactic(auto, using(crate::proofs::FileLemmas::asked_of))]
+    fn open_by(&self, options: &mut OpenOptions, mode: u32, name: &str) -> Result<File, ErrorKind>
+        ensures { WasAsked self.now (OpenBy options.old name.now result) self.now }
+    {
+        match options.mode(mode).open(self.rt, name) {
             Ok(file) => Ok(file),
-            Err(error) if error.kind() == ErrorKind::AlreadyExists => Err(CreateFault::Exists),
+            Err(error) => Err(error.kind()),
+        }
+    }
+
+    fn create_new(&self, name: &str, mode: u32) -> Result<File, CreateFault>
+        ensures { CreatesNew self.now name.now result self.now }
+    {
+        match self.open_by(OpenOptions::new().write(true).create_new(true), mode, name) {
+            Ok(file) => Ok(file),
+            Err(ErrorKind::AlreadyExists) => Err(CreateFault::Exists),
             Err(_) => Err(CreateFault::Failed),
         }
     }
@@ -130,6 +142,15 @@ impl<R: Files<File = File> + AllocGlobal> FileCalls for SystemCalls<'_, R> {
             return Err(CreateFault::Failed);
         }
         Ok(file)
+    }
+
+    fn make(&mut self, name: &str) -> Result<File, ErrorKind> {
+        let mut options = OpenOptions::new();
+        self.open_by(
+            options.read(true).write(true).create_new(true),
+            NEW_FILE,
+            name,
+        )
     }
 
     fn write(&mut self, file: &mut File, bytes: &[u8]) -> Result<(), CallFault> {

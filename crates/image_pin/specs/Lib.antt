@@ -3,4 +3,5 @@ pub mod Faults
 pub mod Fields
 pub mod PinTexts
 pub mod Mismatches
+pub mod PinnedReads
 pub mod Laws

@@ -39,6 +39,7 @@ pub fn cause_text(cause: Cause) -> &'static str
         Cause::WithPin => "not with --pin",
         Cause::WithStack => "not with --stack",
         Cause::WithRoot => "not with --root",
+        Cause::WithChart => "not with --chart",
         Cause::NameWithAll => "no device name goes with --all",
         Cause::WithoutAll => "only with --all",
         Cause::WithoutFec => "only with --fec",

@@ -13,7 +13,7 @@ const SESSION_USAGE: &str = "dmstack session [--cache N] BINDING...";
 const NBD_USAGE: &str = "dmstack nbd [--cache N] [--all] STACK NAME BINDING...";
 
 const SCAN_USAGE: &str =
-    "dmstack scan [--cache N] [--map FILE] [--progress] [--json] STACK NAME BINDING...";
+    "dmstack scan [--cache N] [--map FILE] [--progress] [--json] [--chart] STACK NAME BINDING...";
 
 const COPY_USAGE: &str =
     "dmstack copy [--cache N] [--differing] [--map FILE] [--progress] STACK NAME OUT BINDING...";
@@ -28,7 +28,7 @@ const FORMAT_USAGE: &str =
     "dmstack format [--data-block N] [--hash-block N] [--blocks N] [--salt HEX] [--uuid U] [--hash-offset BYTES] [--no-superblock] [--grow] [--progress] [--fec FILE] [--fec-roots N] [--pin FILE] DATA HASH";
 
 const VERIFY_USAGE: &str =
-    "dmstack verify [--data-block N] [--hash-block N] [--blocks N] [--salt HEX] [--hash-offset BYTES] [--root-hash-file FILE] [--no-superblock] [--all] [--json] [--progress] [--fec FILE] [--fec-roots N] [--pin FILE] DATA HASH ROOT";
+    "dmstack verify [--data-block N] [--hash-block N] [--blocks N] [--salt HEX] [--hash-offset BYTES] [--root-hash-file FILE] [--no-superblock] [--all] [--json] [--chart] [--progress] [--fec FILE] [--fec-roots N] [--pin FILE] DATA HASH ROOT";
 
 const DUMP_USAGE: &str = "dmstack dump [--hash-offset BYTES] [--json] [--pin ROOT] HASH";
 

@@ -18,7 +18,8 @@ use Rattle.nbd_server.specs.Premises.{IsBare}
 use Rattle.nbd_server.specs.Sectors.{IsStored, IsStoredAtOnce, FailsToPutAtOnce, FailsToZero}
 use Rattle.nbd_server.specs.Replies.{RequestOutcome}
 use Rattle.nbd_server.specs.Status.{touched}
-use Rattle.nbd_server.specs.Transmission.{FailsToReadEnds, Flushes, IsFramed, IsPartInside, IsPart, IsSendable, reply_data, ReadsExport, ReadsEnds, ServesRequest, ServesCommand, Settles, Stays, WritesAtOnce, WritesExport, WritesGiven, WritesPart, WritesAny, room_behind, no_bytes}
+use Rattle.nbd_server.specs.Transmission.{FailsToReadEnds, Flushes, IsFramed, IsPartInside, IsPart, IsSendable, reply_data, ReadsExport, ReadsEnds, ServesRequest, ServesCommand, Settles, Stays, WritesAtOnce, WritesExport, WritesGiven, WritesPart, WritesByRuns, WritesAny, room_behind, no_bytes}
+use Rattle.nbd_server.specs.Zeros.{WritesInRuns}
 
 -- ---- what stands around some bytes
 
@@ -163,9 +164,14 @@ unsettled true Does w' error p = inl p
 -- ---- zeros
 
 some-written : (e : ExportRecord) (w : World) (offset : ℕ) (bytes : List ℕ) (outcome : RequestOutcome) (w' : World) → 0 < length bytes → WritesExport e w offset bytes outcome w' ⊎ WritesPart e w offset bytes outcome w'
-    → WritesAny e w offset bytes outcome w'
-some-written e w offset [] outcome w' some p = absurd (omega (arith, some))
-some-written e w offset (byte ∷ more) outcome w' some p = p
+    → WritesByRuns e w offset bytes outcome w' → WritesAny e w offset bytes outcome w'
+some-written e w offset [] outcome w' some p runs = absurd (omega (arith, some))
+some-written e w offset (byte ∷ more) outcome w' some p runs = (p, runs)
+
+by-runs : (e : ExportRecord) (w mid w' : World) (offset : ℕ) (bytes sectors : List ℕ) (result : Result Unit RequestError) → IsFramed e w offset bytes sectors mid
+    → WritesInRuns e.device (offset / 512) (length sectors) mid sectors result w' → WritesByRuns e w offset bytes (no_bytes result) w'
+by-runs e w mid w' offset bytes sectors (Ok done) f runs = (sectors, mid, f, runs)
+by-runs e w mid w' offset bytes sectors (Err error) f runs = inr (sectors, mid, f, runs)
 
 zeroed : (e : ExportRecord) (w mid w' : World) (offset : ℕ) (bytes sectors : List ℕ) (result : Result Unit RequestError) → IsFramed e w offset bytes sectors mid
     → OnOk result (IsStored mid e.device (offset / 512) sectors w') → IfErr result (λ error. FailsToZero mid e.device (offset / 512) sectors error w')
@@ -179,15 +185,18 @@ module _ (e : ExportRecord) (w mid w' : World) (offset len : ℕ) (some : 0 < le
   zeros-some = omega (arith, length-replicate {A = ℕ} len 0, some)
 
   pub zeros-unread : (error : RequestError) → FailsToReadEnds e w offset len w' error → WritesAny e w offset (replicate len 0) (Err error) w'
-  zeros-unread error p = some-written e w offset (replicate len 0) (Err error) w' zeros-some (inl (inl (subst (λ n. FailsToReadEnds e w offset n w' error) (sym (length-replicate {A = ℕ} len 0)) p)))
+  zeros-unread error p =
+      let unread = subst (λ n. FailsToReadEnds e w offset n w' error) (sym (length-replicate {A = ℕ} len 0)) p in
+      some-written e w offset (replicate len 0) (Err error) w' zeros-some (inl (inl unread)) (inl unread)
 
   pub zeros-written : (before behind : List ℕ) (result : Result Unit RequestError) → ReadsEnds e w offset len before behind mid → OnOk result (IsStored mid e.device (offset / 512) (before ++ (replicate len 0 ++ behind)) w')
-      → IfErr result (λ error. FailsToZero mid e.device (offset / 512) (before ++ (replicate len 0 ++ behind)) error w') → WritesAny e w offset (replicate len 0) (no_bytes result) w'
-  zeros-written before behind result p ok err =
+      → IfErr result (λ error. FailsToZero mid e.device (offset / 512) (before ++ (replicate len 0 ++ behind)) error w')
+      → WritesInRuns e.device (offset / 512) (length (before ++ (replicate len 0 ++ behind))) mid (before ++ (replicate len 0 ++ behind)) result w' → WritesAny e w offset (replicate len 0) (no_bytes result) w'
+  zeros-written before behind result p ok err runs =
       let sectors = before ++ (replicate len 0 ++ behind) in
       let framed : IsFramed e w offset (replicate len 0) sectors mid =
       record { before = before; behind = behind; ends = subst (λ n. ReadsEnds e w offset n before behind mid) (sym (length-replicate {A = ℕ} len 0)) p; sectors_are = refl } in
-      some-written e w offset (replicate len 0) (no_bytes result) w' zeros-some (zeroed e w mid w' offset (replicate len 0) sectors result framed ok err)
+      some-written e w offset (replicate len 0) (no_bytes result) w' zeros-some (zeroed e w mid w' offset (replicate len 0) sectors result framed ok err) (by-runs e w mid w' offset (replicate len 0) sectors result framed runs)
 
 -- ---- what can be sent
 

@@ -21,7 +21,7 @@ use Rattle.nbd_server.specs.Premises.{AreBytesOf, IsDeliveryRest}
 use Rattle.nbd_protocol.specs.Chunks.{error_at_chunk, hole_chunk}
 use Rattle.nbd_server.specs.Content.{TellsContent}
 use Rattle.stack_rules.specs.Records.{Configuration}
-use Rattle.nbd_server.specs.Delivery.{AnswersPiece, Delivers, delivers_none, delivers_more, DeliversPart, GoesOnReplying, IsDelivered, IsLost, IsDeliveryPiece, IsStuck, SendsPiece, at_first}
+use Rattle.nbd_server.specs.Delivery.{AnswersPiece, Delivers, delivers_none, delivers_more, DeliversPart, GoesOnReplying, IsDelivered, IsLost, AreNextBytes, IsDeliveryPiece, IsStuck, SendsPiece, at_first, next_size}
 use Rattle.nbd_server.specs.declared.delivery.Delivery.{Delivery}
 use Rattle.nbd_server.specs.declared.delivery.Progress.{Progress}
 use Rattle.nbd_server.proofs.ContentLemmas.{some-told}
@@ -68,18 +68,18 @@ module _ (e : ExportRecord) (d : Delivery) where
 
   -- a piece is behind the one before it, and done or put off once
   pub goes-inside : (p : Progress) (w : World) (chunk : List ℕ) (next : Progress) (w' : World) → GoesOnReplying e d p w chunk next w' → next.done ≤ d.count
-  goes-inside p w chunk next w' (inl s) = subst (λ (n : Progress). n.done ≤ d.count) (sym s.next_is) s.piece.inside
-  goes-inside p w chunk next w' (inr (inr s)) = subst (λ (n : Progress). n.done ≤ d.count) (sym s.next_is) s.piece.inside
-  goes-inside p w chunk next w' (inr (inl s)) = subst (λ (n : Progress). n.done ≤ d.count) (sym s.next_is) (omega (arith, s.piece.inside))
+  goes-inside p w chunk next w' (inl s) = subst (λ (n : Progress). n.done ≤ d.count) (sym s.next_is) s.piece.bytes.inside
+  goes-inside p w chunk next w' (inr (inr s)) = subst (λ (n : Progress). n.done ≤ d.count) (sym s.next_is) s.bytes.inside
+  goes-inside p w chunk next w' (inr (inl s)) = subst (λ (n : Progress). n.done ≤ d.count) (sym s.next_is) (omega (arith, s.piece.bytes.inside))
 
   pub goes-smaller : (p : Progress) (w : World) (chunk : List ℕ) (next : Progress) (w' : World) → GoesOnReplying e d p w chunk next w'
       → 2 * (d.count - next.done) + (1 - (next.slow - next.done)) < 2 * (d.count - p.done) + (1 - (p.slow - p.done))
   goes-smaller p w chunk next w' (inl s) =
-      subst (λ (n : Progress). 2 * (d.count - n.done) + (1 - (n.slow - n.done)) < 2 * (d.count - p.done) + (1 - (p.slow - p.done))) (sym s.next_is) (omega (arith, s.piece.inside, s.piece.some))
+      subst (λ (n : Progress). 2 * (d.count - n.done) + (1 - (n.slow - n.done)) < 2 * (d.count - p.done) + (1 - (p.slow - p.done))) (sym s.next_is) (omega (arith, s.piece.bytes.inside, s.piece.bytes.some))
   goes-smaller p w chunk next w' (inr (inl s)) =
-      subst (λ (n : Progress). 2 * (d.count - n.done) + (1 - (n.slow - n.done)) < 2 * (d.count - p.done) + (1 - (p.slow - p.done))) (sym s.next_is) (omega (arith, s.piece.some, put_off-behind p.done p.slow (touched (d.offset + p.done) s.size) s.several s.piece.single))
+      subst (λ (n : Progress). 2 * (d.count - n.done) + (1 - (n.slow - n.done)) < 2 * (d.count - p.done) + (1 - (p.slow - p.done))) (sym s.next_is) (omega (arith, s.piece.bytes.some, put_off-behind p.done p.slow (touched (d.offset + p.done) s.size) s.several s.piece.single))
   goes-smaller p w chunk next w' (inr (inr s)) =
-      subst (λ (n : Progress). 2 * (d.count - n.done) + (1 - (n.slow - n.done)) < 2 * (d.count - p.done) + (1 - (p.slow - p.done))) (sym s.next_is) (omega (arith, s.piece.inside, s.piece.some))
+      subst (λ (n : Progress). 2 * (d.count - n.done) + (1 - (n.slow - n.done)) < 2 * (d.count - p.done) + (1 - (p.slow - p.done))) (sym s.next_is) (omega (arith, s.bytes.inside, s.bytes.some))
 
 -- ---- what comes of a piece
 
@@ -87,16 +87,12 @@ module _ (e : ExportRecord) (d : Delivery) where
 pub single-touched : (at place size room : ℕ) → at ≡ place → 0 < size → size ≤ room → at % 512 + room ≤ 512 → touched place size ≡ 1
 single-touched at place size room is some few within = omega (arith, is, some, few, within)
 
--- the beginning of a piece is one
-touched-part : (place size part : ℕ) → 0 < part → part ≤ size → touched place size ≡ 1 → touched place part ≡ 1
-touched-part place size part some few one = omega (arith, some, few, one)
-
-pub piece-part : (d : Delivery) (p : Progress) (size part : ℕ) → IsDeliveryPiece d p size → 0 < part → part ≤ size → IsDeliveryPiece d p part
+-- the first of the next bytes
+pub piece-part : (d : Delivery) (p : Progress) (size part : ℕ) → AreNextBytes d p size → 0 < part → part ≤ size → AreNextBytes d p part
 piece-part d p size part piece some few = record {
   some = some;
   few = omega (arith, few, piece.few);
   inside = omega (arith, few, piece.inside);
-  single = λ below. touched-part (d.offset + p.done) size part some few (piece.single below);
 }
 
 -- the bytes of a piece that was read
@@ -123,10 +119,32 @@ then-inside (Err error) at size items room = tt
 pub rest-left : (c : Configuration) (e : ExportRecord) (d : Delivery) (p : Progress) → AreBytesOf c e d.offset d.count → p.done ≤ d.count → IsDeliveryRest d p
 rest-left c e d p bytes inside = record { inside = inside; small = omega (arith, bytes.within, bytes.export.fits) }
 
-module _ (e : ExportRecord) (d : Delivery) (p : Progress) (w w' : World) (size at : ℕ) (place : at ≡ d.offset + p.done) (piece : IsDeliveryPiece d p size) where
+module _ (e : ExportRecord) (d : Delivery) (p : Progress) (w w' : World) (size at : ℕ) (place : at ≡ d.offset + p.done) (piece : AreNextBytes d p size) where
   pub piece-bytes : (c : Configuration) → AreBytesOf c e d.offset d.count → AreBytesOf c e at size
   piece-bytes c bytes = record { export = bytes.export; within = omega (arith, bytes.within, piece.inside, place) }
 
+  module _ (old new : Option (List ℕ)) where
+    hole-goes : size ≤ next_size w.stack.config e.device d p → TouchZeros w.stack.config e at size → w' ≡ w
+        → GoesOnReplying e d p w (hole_chunk (p.done + size == d.count) d.cookie (d.offset + p.done) size) (record { done = p.done + size; slow = p.slow }) w'
+    hole-goes front zeros same = inr (inr (record {
+      size = size;
+      bytes = piece;
+      front = front;
+      zeros = subst (λ (k : ℕ). TouchZeros w.stack.config e k size) place zeros;
+      chunk_is = refl;
+      next_is = refl;
+      same = same;
+    }))
+
+    -- it is a hole
+    pub piece-hole : size ≤ next_size w.stack.config e.device d p → TouchZeros w.stack.config e at size → w' ≡ w → Appends old new (hole_chunk (p.done + size == d.count) d.cookie (d.offset + p.done) size)
+        → AnswersPiece e d p w w' old new (Some (record { done = p.done + size; slow = p.slow }))
+    piece-hole front zeros same a = (hole_chunk (p.done + size == d.count) d.cookie (d.offset + p.done) size, hole-goes front zeros same, a)
+
+    pub hole-stuck : size ≤ next_size w.stack.config e.device d p → TouchZeros w.stack.config e at size → w' ≡ w → SendsPiece e d p w w'
+    hole-stuck front zeros same = inl (hole_chunk (p.done + size == d.count) d.cookie (d.offset + p.done) size, record { done = p.done + size; slow = p.slow }, hole-goes front zeros same)
+
+module _ (e : ExportRecord) (d : Delivery) (p : Progress) (w w' : World) (size at : ℕ) (place : at ≡ d.offset + p.done) (piece : IsDeliveryPiece w.stack.config e.device d p size) where
   module _ (old new : Option (List ℕ)) where
     sent-goes : (n : ℕ) → n ≡ size → (content chunk : List ℕ) → ReadsExport e w at size (Ok content) w' → TellsContent d.cookie (p.done + n == d.count) (d.offset + p.done) content chunk
         → GoesOnReplying e d p w chunk (record { done = p.done + size; slow = p.slow }) w'
@@ -143,25 +161,6 @@ module _ (e : ExportRecord) (d : Delivery) (p : Progress) (w w' : World) (size a
     pub piece-sent : (n : ℕ) → n ≡ size → (content : List ℕ) → ReadsExport e w at size (Ok content) w' → Grows old new (TellsContent d.cookie (p.done + n == d.count) (d.offset + p.done) content)
         → AnswersPiece e d p w w' old new (Some (record { done = p.done + size; slow = p.slow }))
     piece-sent n is content reads a = (a.text, sent-goes n is content a.text reads a.holds, a.written)
-
-    hole-goes : TouchZeros w.stack.config e at size → w' ≡ w
-        → GoesOnReplying e d p w (hole_chunk (p.done + size == d.count) d.cookie (d.offset + p.done) size) (record { done = p.done + size; slow = p.slow }) w'
-    hole-goes zeros same = inr (inr (record {
-      size = size;
-      piece = piece;
-      zeros = subst (λ (k : ℕ). TouchZeros w.stack.config e k size) place zeros;
-      chunk_is = refl;
-      next_is = refl;
-      same = same;
-    }))
-
-    -- it is a hole
-    pub piece-hole : TouchZeros w.stack.config e at size → w' ≡ w → Appends old new (hole_chunk (p.done + size == d.count) d.cookie (d.offset + p.done) size)
-        → AnswersPiece e d p w w' old new (Some (record { done = p.done + size; slow = p.slow }))
-    piece-hole zeros same a = (hole_chunk (p.done + size == d.count) d.cookie (d.offset + p.done) size, hole-goes zeros same, a)
-
-    pub hole-stuck : TouchZeros w.stack.config e at size → w' ≡ w → SendsPiece e d p w w'
-    hole-stuck zeros same = inl (hole_chunk (p.done + size == d.count) d.cookie (d.offset + p.done) size, record { done = p.done + size; slow = p.slow }, hole-goes zeros same)
 
     -- it wasn't, and lies in several sectors
     pub piece-put_off : (error : RequestError) → ReadsExport e w at size (Err error) w' → 1 < touched at size → new ≡ old → AnswersPiece e d p w w' old new (Some (record { done = p.done; slow = p.done + size }))
@@ -185,7 +184,7 @@ module _ (e : ExportRecord) (d : Delivery) (p : Progress) (w w' : World) (size a
       size = size;
       error = error;
       piece = piece;
-      one = omega (arith, few, piece.some, place);
+      one = omega (arith, few, piece.bytes.some, place);
       reads = subst (λ (k : ℕ). ReadsExport e w k size (Err error) w') place reads;
       chunk_is = ap (λ (k : ℕ). error_at_chunk d.cookie k error) place;
     }

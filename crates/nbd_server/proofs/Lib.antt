@@ -6,6 +6,8 @@ pub mod ServiceLemmas
 pub mod StatusLemmas
 pub mod ReadStatusLemmas
 pub mod StoreLemmas
+pub mod WritableLemmas
+pub mod ZeroLemmas
 pub mod MessageLemmas
 pub mod RunLemmas
 mod ExtentLemmas

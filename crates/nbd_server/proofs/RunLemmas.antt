@@ -47,8 +47,7 @@ part-led e w offset bytes outcome w' p = led-then EachPart w p.2 w' (framed-led 
 
 write-led : (e : ExportRecord) (w : World) (offset : ℕ) (bytes : List ℕ) (outcome : RequestOutcome) (w' : World) → WritesAny e w offset bytes outcome w' → IsLed EachPart w w'
 write-led e w offset [] outcome w' p = stays-led w w' p.1
-write-led e w offset (byte ∷ more) outcome w' (inl p) = bytes-led e w offset (byte ∷ more) outcome w' p
-write-led e w offset (byte ∷ more) outcome w' (inr p) = part-led e w offset (byte ∷ more) outcome w' p
+write-led e w offset (byte ∷ more) outcome w' p = elim p.0 [ inl q ↦ bytes-led e w offset (byte ∷ more) outcome w' q | inr q ↦ part-led e w offset (byte ∷ more) outcome w' q ]
 
 -- by one write of the queue, or by several
 pub once-export : (e : ExportRecord) (w : World) (offset : ℕ) (bytes : List ℕ) (outcome : RequestOutcome) (w' : World) → WritesAtOnce e w offset bytes outcome w' → WritesExport e w offset bytes outcome w'

@@ -233,8 +233,7 @@ part-config e w offset bytes outcome w' p = p.4.put.put.any.config ∙ framed-co
 
 write-config : (e : ExportRecord) (w : World) (offset : ℕ) (bytes : List ℕ) (outcome : RequestOutcome) (w' : World) → WritesAny e w offset bytes outcome w' → w'.stack.config ≡ w.stack.config
 write-config e w offset [] outcome w' p = same-config w w' p.1
-write-config e w offset (byte ∷ more) outcome w' (inl p) = bytes-config e w offset (byte ∷ more) outcome w' p
-write-config e w offset (byte ∷ more) outcome w' (inr p) = part-config e w offset (byte ∷ more) outcome w' p
+write-config e w offset (byte ∷ more) outcome w' p = elim p.0 [ inl q ↦ bytes-config e w offset (byte ∷ more) outcome w' q | inr q ↦ part-config e w offset (byte ∷ more) outcome w' q ]
 
 payload-config : (e : ExportRecord) (w : World) (offset : ℕ) (bytes : List ℕ) (outcome : RequestOutcome) (w' : World) → WritesPayload e w offset bytes outcome w' → w'.stack.config ≡ w.stack.config
 payload-config e w offset [] outcome w' p = same-config w w' p.1

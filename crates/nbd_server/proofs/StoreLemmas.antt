@@ -1,11 +1,12 @@
 -- Sectors that are put at once, and zeros by one run after another.
-use Rattle.std.proofs.Common.{◌≡◌, ◌<◌, ◌≤◌, ℕ, ◌+◌, ◌-◌, ◌*◌, ◌/◌, ◌%◌, ◌==◌, nat_lt, Bool, true, false, List, [], ◌++◌, length, take, drop, replicate, refl, ap, sym, ◌∙◌, subst, append_assoc, append-nil, arith, inl, inr, Result, Ok, Err}
-use Rattle.std.specs.Int.{div_ceil}
-use Rattle.std.specs.Prelude.{◌⊎◌, IfErr, IsTrue, OnOk, not, nat_le, if◌then◌else◌}
-use Rattle.std.proofs.lemmas.List.{drop-replicate, length-append, length-replicate, take-append-drop, take-append-le, take-replicate}
+use Rattle.std.proofs.Common.{◌≡◌, ◌<◌, ◌≤◌, ℕ, ◌+◌, ◌-◌, ◌*◌, ◌/◌, ◌%◌, true, List, [], ◌++◌, length, take, refl, ap, sym, ◌∙◌, subst, append_assoc, append-nil, arith, inl, inr, Result, Ok, Err}
+use Rattle.std.specs.Prelude.{◌⊎◌, IfErr, OnOk, nat_le}
+use Rattle.std.proofs.lemmas.List.{length-append, take-append-le}
 use Rattle.std.proofs.Math.Seq.{take-append-add}
+use Rattle.std.proofs.lemmas.Bool.{le-leb}
 use Rattle.allocation.specs.Refusal.{IsOutOfMemory}
-use Rattle.stack_rules.specs.Names.{mapped, may_write, size}
+use Rattle.alignment.specs.Lengths.{aligned_len}
+use Rattle.stack_rules.specs.Names.{mapped}
 use Rattle.stack_rules.specs.Records.{Configuration}
 use Rattle.stack_meaning.specs.declared.fault.IoFault.{IoFault}
 use Rattle.stack_meaning.specs.declared.fault.IoFault.TheVariants as io
@@ -17,13 +18,10 @@ use Rattle.stack_engine.specs.WritePieces.{AnyWrite, EachWrite, InTurn, WritesIn
 use Rattle.stack_engine.proofs.lemmas.WritePieceLemmas.{any-then, write-none}
 use Rattle.request_queue.specs.declared.fault.BytesFault.{BytesFault}
 use Rattle.request_queue.specs.declared.fault.BytesFault.TheVariants.{Failed}
-use Rattle.request_queue.specs.declared.fault.SubmitFault.{SubmitFault}
-use Rattle.request_queue.specs.declared.fault.SubmitFault.TheVariants.{NoSuchDevice, OutOfRange, Length, ReadOnly}
 use Rattle.request_queue.specs.declared.range.SectorRange.{SectorRange}
 use Rattle.request_queue.specs.AtOnce.{BytesWritten, WritesInSteps, write_range}
 use Rattle.request_queue.specs.Parts.{EachPart}
 use Rattle.request_queue.specs.Ranges.{bytes_range, range_at}
-use Rattle.request_queue.specs.Requests.{writable_sectors}
 use Rattle.request_queue.specs.Runs.{IsLed}
 use Rattle.request_queue.specs.WholeRuns.{WritesWhole}
 use Rattle.request_queue.specs.World.{World}
@@ -33,11 +31,9 @@ use Rattle.request_queue.proofs.lemmas.BytesLemmas.{bytes_range-ok}
 use Rattle.request_queue.proofs.lemmas.LedLemmas.{led-none, led-then}
 use Rattle.nbd_protocol.specs.declared.request_error.RequestError.{RequestError}
 use Rattle.nbd_protocol.specs.declared.request_error.RequestError.TheVariants.{NoMemory, InputOutput}
-use Rattle.nbd_protocol.specs.Exports.{ExportRecord, IsExport}
 use Rattle.nbd_protocol.specs.Headers.{error_of}
-use Rattle.nbd_server.specs.Premises.{AreExportSectors}
 use Rattle.nbd_server.specs.Sectors.{IsStored, IsStoredAtOnce, IsPartPut, FailsToPutAll, FailsToPutAtOnce, FailsToZero, EndsPut, StopsPut, most_run_bytes}
-use Rattle.nbd_server.proofs.FetchLemmas.{named-below}
+use Rattle.nbd_server.specs.Zeros.{IsNextRun, WritesInRuns, no_run, a_run, last_run, lacks_run, WroteRun, most_run_sectors}
 
 abbrev pub ended : IoFault → Result Unit IoFault
 ended fault = Err fault
@@ -93,6 +89,15 @@ pub zero-fails : (w : World) (d first : ℕ) (bytes : List ℕ) (w' : World) (re
 zero-fails w d first bytes w' (Ok done) p = tt
 zero-fails w d first bytes w' (Err error) p = inl p.put
 
+-- the write of a run ended so, or its allocation was refused
+pub wrote-run : (w : World) (d first : ℕ) (bytes : List ℕ) (w' : World) (result : Result Unit RequestError) → OnOk result (IsStoredAtOnce w d first bytes w') → IfErr result (λ error. FailsToPutAtOnce w d first bytes error w')
+    → WroteRun w d first bytes result w'
+wrote-run w d first bytes w' (Ok done) ok err = ok.steps
+wrote-run w d first bytes w' (Err error) ok err = inl (err.fault, err.told, err.steps)
+
+pub run-lacks : (w : World) (d first : ℕ) (bytes : List ℕ) → IsOutOfMemory most_run_bytes → WroteRun w d first bytes (Err NoMemory) w
+run-lacks w d first bytes refused = inr (refl, refl, refused)
+
 -- memory runs out where some sector is encrypted
 abbrev pub EncryptsAt : World → ℕ → ℕ → List ℕ → IoFault → Type 0
 EncryptsAt w d first bytes fault = stopped_by fault ≡ stopped_by io.NoMemory → SomeEncrypt (said_at w.stack.config (mapped d)) first (length bytes / 512)
@@ -133,32 +138,6 @@ module _ (w : World) (d first : ℕ) (bytes : List ℕ) (w' : World) where
   pub run-stored : (result : Result Unit RequestError) → OnOk result (IsStoredAtOnce w d first bytes w') → OnOk result (IsStored w d first bytes w')
   run-stored (Ok done) p = p.stored
   run-stored (Err error) p = tt
-
--- ---- why none is refused
-
-last-tests : (e m : Bool) (x : SectorRange) (fault : SubmitFault) → e ≡ true → m ≡ true → (if not e then Err Length else if not m then Err ReadOnly else Ok x) ≡ Err fault → ⊥
-last-tests false m x fault whole may h = let clash : false ≡ true = whole in cc
-last-tests true false x fault whole may h = let clash : false ≡ true = may in cc
-last-tests true true x fault whole may h = let clash : Ok x ≡ Err fault = h in cc
-
-module _ (c : Configuration) (bytes : List ℕ) (x : SectorRange) (fault : SubmitFault) (whole : (length bytes % 512 == 0) ≡ true) (may : IsTrue (may_write c (mapped x.device.0))) where
-  all-tests : (a b e : Bool) → a ≡ false → b ≡ false → e ≡ true → writable_sectors c bytes (if a then Err NoSuchDevice else if b then Err OutOfRange else if not e then Err Length else Ok x) ≡ Err fault → ⊥
-  all-tests true b e one two three h = let clash : true ≡ false = one in cc
-  all-tests false true e one two three h = let clash : true ≡ false = two in cc
-  all-tests false false false one two three h = let clash : false ≡ true = three in cc
-  all-tests false false true one two three h = last-tests (length bytes % 512 == 0) (may_write c (mapped x.device.0)) x fault whole may h
-
--- sectors of an export that may be written are written, or fail
-pub not-refused : (c : Configuration) (e : ExportRecord) (first : ℕ) (bytes : List ℕ) (fault : SubmitFault) → IsExport c e → AreExportSectors e first bytes → write_range c e.device first bytes ≡ Err fault → ⊥
-not-refused c e first bytes fault export sectors h =
-    let there : e.device < length c.devices = named-below c e.name e.device export.found in
-    let one : nat_le (length c.devices) e.device ≡ false = grind (arith, there) in
-    let count : div_ceil (length bytes) 512 ≡ length bytes / 512 = omega (arith, sectors.whole) in
-    let inside : first + length bytes / 512 ≤ size c (mapped e.device) = omega (arith, sectors.inside, sectors.whole, export.size) in
-    let two : nat_lt (size c (mapped e.device)) (first + div_ceil (length bytes) 512) ≡ false = grind (arith, inside, count) in
-    let three : (length bytes % 512 == 0) ≡ true = grind (arith, sectors.whole) in
-    all-tests c bytes (range_at e.device first (length bytes / 512)) fault three (sym export.writable ∙ sectors.allowed)
-    (nat_le (length c.devices) e.device) (nat_lt (size c (mapped e.device)) (first + div_ceil (length bytes) 512)) (length bytes % 512 == 0) one two three h
 
 -- ---- runs one after another
 
@@ -212,13 +191,75 @@ pub record IsPut (w : World) (d first at : ℕ) (all rest : List ℕ) (w' : Worl
   pub whole : length front % 512 ≡ 0
   pub place : at ≡ first + length front / 512
   pub all_is : all ≡ front ++ rest
+  pub turns : WritesInRuns d first (length all) w front (Ok tt) w'
 
 pub put-none : (w : World) (d first : ℕ) (all : List ℕ) → IsPut w d first first all all w
-put-none w d first all = record { front = []; stored = stored-none w d first; whole = refl; place = omega arith; all_is = refl }
+put-none w d first all = record { front = []; stored = stored-none w d first; whole = refl; place = omega arith; all_is = refl; turns = no_run }
+
+-- how many bytes the next run has, of so many that are left
+abbrev pub IsRunOf : World → ℕ → ℕ → ℕ → ℕ → Type 0
+IsRunOf v d at left n = n ≡ 512 * aligned_len v.stack.config d at (left / 512) most_run_sectors
+
+-- a run that is all that is left
+all-left : (v : World) (d at n : ℕ) → n % 512 ≡ 0 → n ≤ most_run_bytes → IsRunOf v d at n n
+all-left v d at n whole few =
+    let test : nat_le (n / 512) most_run_sectors ≡ true = le-leb (n / 512) most_run_sectors (omega (arith, few)) in
+    rw test (omega (arith, whole))
+
+module _ (w v w' : World) (d first at : ℕ) (all y z : List ℕ) (p : IsPut w d first at all (y ++ z) v) where
+  left-is : length (y ++ z) ≡ length all - length p.front
+  left-is = omega (arith, ap (λ (l : List ℕ). length l) p.all_is, length-append p.front (y ++ z))
+
+  next-run : (result : Result Unit IoFault) → IsRunOf v d at (length (y ++ z)) (length y) → WritesInSteps (range_at d at (length y / 512)) v y result w'
+      → IsNextRun v d (first + length p.front / 512) (length all - length p.front) y result w'
+  next-run result size steps = record {
+    size = subst (λ (k : ℕ). IsRunOf v d k (length all - length p.front) (length y)) p.place (subst (λ (n : ℕ). IsRunOf v d at n (length y)) left-is size);
+    steps = subst (λ (k : ℕ). WritesInSteps (range_at d k (length y / 512)) v y result w') p.place steps;
+  }
+
+  more-turns : IsRunOf v d at (length (y ++ z)) (length y) → WritesInSteps (range_at d at (length y / 512)) v y (Ok tt) w' → WritesInRuns d first (length all) w (p.front ++ y) (Ok tt) w'
+  more-turns size steps = a_run p.turns (next-run (Ok tt) size steps)
+
+  -- the run failed
+  fault-turns : (error : RequestError) (fault : IoFault) → error ≡ error_of fault → IsRunOf v d at (length (y ++ z)) (length y) → WritesInSteps (range_at d at (length y / 512)) v y (Err fault) w'
+      → WritesInRuns d first (length all) w all (Err error) w'
+  fault-turns error fault told size steps =
+      subst (λ (l : List ℕ). WritesInRuns d first (length all) w l (Err error) w') (sym p.all_is)
+      (subst (λ (e : RequestError). WritesInRuns d first (length all) w (p.front ++ (y ++ z)) (Err e) w') (sym told) (last_run z p.turns (next-run (Err fault) size steps)))
+
+  memory-turns : (error : RequestError) → error ≡ NoMemory → w' ≡ v → IsOutOfMemory most_run_bytes → WritesInRuns d first (length all) w all (Err error) w'
+  memory-turns error told same refused =
+      subst (λ (l : List ℕ). WritesInRuns d first (length all) w l (Err error) w') (sym p.all_is)
+      (subst (λ (e : RequestError). WritesInRuns d first (length all) w (p.front ++ (y ++ z)) (Err e) w') (sym told)
+      (subst (λ (u : World). WritesInRuns d first (length all) w (p.front ++ (y ++ z)) (Err NoMemory) u) (sym same) (lacks_run (y ++ z) p.turns refused)))
+
+  pub failed-turns : (error : RequestError) → IsRunOf v d at (length (y ++ z)) (length y) → WroteRun v d at y (Err error) w' → WritesInRuns d first (length all) w all (Err error) w'
+  failed-turns error size (inl q) = fault-turns error q.0 q.1 size q.2
+  failed-turns error size (inr q) = memory-turns error q.0 q.1 q.2
+
+-- the last run has all that is left
+pub last-turns : (w v w' : World) (d first at : ℕ) (all y : List ℕ) (result : Result Unit RequestError) → IsPut w d first at all y v → length y % 512 ≡ 0 → length y ≤ most_run_bytes → WroteRun v d at y result w'
+    → WritesInRuns d first (length all) w all result w'
+last-turns w v w' d first at all y result p whole few ran = by result ran
+  where
+    rest : IsPut w d first at all (y ++ []) v
+    rest = subst (λ (l : List ℕ). IsPut w d first at all l v) (sym (append-nil y)) p
+
+    size : IsRunOf v d at (length (y ++ [])) (length y)
+    size = subst (λ (l : List ℕ). IsRunOf v d at (length l) (length y)) (sym (append-nil y)) (all-left v d at (length y) whole few)
+
+    seam : all ≡ rest.front ++ y
+    seam = rest.all_is ∙ ap (λ (l : List ℕ). rest.front ++ l) (append-nil y)
+
+    by : (r : Result Unit RequestError) → WroteRun v d at y r w' → WritesInRuns d first (length all) w all r w'
+    by (Ok done) q = subst (λ (l : List ℕ). WritesInRuns d first (length all) w l (Ok tt) w') (sym seam) (more-turns w v w' d first at all y [] rest size q)
+    by (Err error) q = failed-turns w v w' d first at all y [] rest error size q
 
 module _ (w v w' : World) (d first at : ℕ) (all y : List ℕ) where
-  pub put-more : (z : List ℕ) → length y % 512 ≡ 0 → IsPut w d first at all (y ++ z) v → IsStored v d at y w' → IsPut w d first (at + length y / 512) all z w'
-  put-more z even p q = record {
+  pub put-more : (z : List ℕ) → length y % 512 ≡ 0 → IsRunOf v d at (length (y ++ z)) (length y) → (p : IsPut w d first at all (y ++ z) v) → IsStored v d at y w' → WritesInSteps (range_at d at (length y / 512)) v y (Ok tt) w'
+      → IsPut w d first (at + length y / 512) all z w'
+  put-more z even size p q steps = record {
+    turns = more-turns w v w' d first at all y z p size steps;
     front = p.front ++ y;
     stored = stored-more w v w' d first p.front y p.whole p.stored (subst (λ k. IsStored v d k y w') p.place q);
     whole = omega (arith, length-append p.front y, p.whole, even);
@@ -243,18 +284,3 @@ module _ (w v w' : World) (d first at : ℕ) (all y : List ℕ) where
   pub put-err : (result : Result Unit RequestError) → IsPut w d first at all y v → IfErr result (λ error. FailsToZero v d at y error w') → IfErr result (λ error. FailsToZero w d first all error w')
   put-err (Ok done) p q = tt
   put-err (Err error) p q = put-last-ends error p q
-
--- ---- zeros
-
-pub length-zeros : (before behind : List ℕ) (n : ℕ) → length (before ++ (replicate n 0 ++ behind)) ≡ length before + (n + length behind)
-length-zeros before behind n = omega (arith, length-append before (replicate n 0 ++ behind), length-append {A = ℕ} (replicate n 0) behind, length-replicate {A = ℕ} n 0)
-
--- the first of them, and the others
-pub zeros-split : (before behind : List ℕ) (m n : ℕ) → m ≤ n → before ++ (replicate n 0 ++ behind) ≡ (before ++ (replicate m 0 ++ [])) ++ ([] ++ (replicate (n - m) 0 ++ behind))
-zeros-split before behind m n few =
-    let halves : replicate n 0 ≡ replicate m 0 ++ replicate (n - m) 0 =
-    sym (take-append-drop m (replicate n 0)) ∙ ap (λ l. l ++ drop m (replicate n 0)) (take-replicate m n 0 few) ∙ ap (λ l. replicate m 0 ++ l) (drop-replicate m n 0) in
-    ap (λ l. before ++ (l ++ behind)) halves
-    ∙ ap (λ l. before ++ l) (append_assoc (replicate m 0) (replicate (n - m) 0) behind)
-    ∙ sym (append_assoc before (replicate m 0) (replicate (n - m) 0 ++ behind))
-    ∙ ap (λ l. (before ++ l) ++ (replicate (n - m) 0 ++ behind)) (sym (append-nil (replicate m 0)))

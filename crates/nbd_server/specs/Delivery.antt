@@ -1,9 +1,11 @@
 -- A READ whose reply is sent piece by piece: each piece is sent as soon as it is read (the protocol's document, "Structured
 -- reply types": OFFSET_DATA, OFFSET_HOLE and ERROR_OFFSET).
-use Rattle.std.specs.Prelude.{◌≡◌, ◌⊎◌, ◌<◌, ◌≤◌, ℕ, ◌+◌, ◌/◌, ◌%◌, ◌==◌, ◌&&◌, Bool, not, nat_lt, List, [], ◌++◌, Option, Some, None, Result, Ok, Err, if◌then◌else◌}
+use Rattle.std.specs.Prelude.{◌≡◌, ◌⊎◌, ◌<◌, ◌≤◌, ℕ, ◌+◌, ◌-◌, ◌*◌, ◌/◌, ◌%◌, ◌==◌, ◌&&◌, min, Bool, true, false, not, nat_lt, List, [], ◌++◌, Option, Some, None, Result, Ok, Err, if◌then◌else◌}
 use Rattle.std.specs.Io.KnownBytes.{Appends}
 use Rattle.program_io.specs.Counted.{CountedRecord, WritesSome}
 use Rattle.program_io.specs.declared.fault.WriteFault.{WriteFault}
+use Rattle.alignment.specs.Lengths.{aligned_len}
+use Rattle.stack_rules.specs.Records.{Configuration}
 use Rattle.request_queue.specs.World.{World}
 use Rattle.nbd_protocol.specs.Exports.{ExportRecord, export_record}
 use Rattle.nbd_protocol.specs.Headers.{command_of, is_chunked}
@@ -40,22 +42,40 @@ delivery_of e a h = if is_chunked a h && not (has_df h) then bytes_asked h.cooki
 
 -- ---- one piece
 
--- the most bytes in a piece: 256 KiB
+-- the most sectors that a piece touches, and their bytes: 256 KiB
+abbrev pub most_piece_sectors : ℕ
+most_piece_sectors = 512
+
 abbrev pub most_piece_bytes : ℕ
 most_piece_bytes = 262144
 
--- the next bytes after those that are answered; before `slow` a piece lies in one sector
-pub record IsDeliveryPiece (d : Delivery) (p : Progress) (size : ℕ) : Type 0 where
+-- How many sectors the next piece touches, of those that `left` bytes of a device from byte `at` on touch. If single is set it
+-- is one; otherwise the last of them ends each unit and data block in which it lies, if one of the most sectors does.
+abbrev pub piece_sectors : Configuration → ℕ → ℕ → ℕ → Bool → ℕ
+piece_sectors c device at left true = 1
+piece_sectors c device at left false = aligned_len c device (at / 512) (touched at left) most_piece_sectors
+
+-- The size of the next piece: up to the end of these sectors, or to the end of the READ. Before `slow` it lies in one sector.
+abbrev pub next_size : Configuration → ℕ → Delivery → Progress → ℕ
+next_size c device d p = min (512 * piece_sectors c device (d.offset + p.done) (d.count - p.done) (nat_lt p.done p.slow) - (d.offset + p.done) % 512) (d.count - p.done)
+
+-- some bytes after those that are answered
+pub record AreNextBytes (d : Delivery) (p : Progress) (size : ℕ) : Type 0 where
   pub some : 0 < size
   pub few : size ≤ most_piece_bytes
   pub inside : p.done + size ≤ d.count
+
+-- the next piece of a READ of a device, and within which bounds it is
+pub record IsDeliveryPiece (c : Configuration) (device : ℕ) (d : Delivery) (p : Progress) (size : ℕ) : Type 0 where
+  pub value : size ≡ next_size c device d p
+  pub bytes : AreNextBytes d p size
   pub single : p.done < p.slow → touched (d.offset + p.done) size ≡ 1
 
 -- The piece was read and is sent as a hole, data and a hole at most. The last chunk says whether it is the last of the reply.
 pub record IsSent (e : ExportRecord) (d : Delivery) (p : Progress) (w : World) (chunk : List ℕ) (next : Progress) (w' : World) : Type 0 where
   pub size : ℕ
   pub content : List ℕ
-  pub piece : IsDeliveryPiece d p size
+  pub piece : IsDeliveryPiece w.stack.config e.device d p size
   pub reads : ReadsExport e w (d.offset + p.done) size (Ok content) w'
   pub told : TellsContent d.cookie (p.done + size == d.count) (d.offset + p.done) content chunk
   pub next_is : next ≡ record { done = p.done + size; slow = p.slow }
@@ -64,7 +84,7 @@ pub record IsSent (e : ExportRecord) (d : Delivery) (p : Progress) (w : World) (
 pub record IsPutOff (e : ExportRecord) (d : Delivery) (p : Progress) (w : World) (chunk : List ℕ) (next : Progress) (w' : World) : Type 0 where
   pub size : ℕ
   pub error : RequestError
-  pub piece : IsDeliveryPiece d p size
+  pub piece : IsDeliveryPiece w.stack.config e.device d p size
   pub several : 1 < touched (d.offset + p.done) size
   pub reads : ReadsExport e w (d.offset + p.done) size (Err error) w'
   pub silent : chunk ≡ []
@@ -74,15 +94,16 @@ pub record IsPutOff (e : ExportRecord) (d : Delivery) (p : Progress) (w : World)
 pub record IsLost (e : ExportRecord) (d : Delivery) (p : Progress) (w : World) (chunk : List ℕ) (w' : World) : Type 0 where
   pub size : ℕ
   pub error : RequestError
-  pub piece : IsDeliveryPiece d p size
+  pub piece : IsDeliveryPiece w.stack.config e.device d p size
   pub one : touched (d.offset + p.done) size ≡ 1
   pub reads : ReadsExport e w (d.offset + p.done) size (Err error) w'
   pub chunk_is : chunk ≡ error_at_chunk d.cookie (d.offset + p.done) error
 
--- The lines make the piece zeros, whatever the backing devices hold. Nothing is read, and a hole is sent.
+-- The lines make the first bytes of the piece zeros, whatever the backing devices hold. Nothing is read, and a hole is sent.
 pub record IsHole (e : ExportRecord) (d : Delivery) (p : Progress) (w : World) (chunk : List ℕ) (next : Progress) (w' : World) : Type 0 where
   pub size : ℕ
-  pub piece : IsDeliveryPiece d p size
+  pub bytes : AreNextBytes d p size
+  pub front : size ≤ next_size w.stack.config e.device d p
   pub zeros : TouchZeros w.stack.config e (d.offset + p.done) size
   pub chunk_is : chunk ≡ hole_chunk (p.done + size == d.count) d.cookie (d.offset + p.done) size
   pub next_is : next ≡ record { done = p.done + size; slow = p.slow }

@@ -13,6 +13,7 @@ use Rattle.nbd_protocol.specs.declared.phase.Agreement.{Agreement}
 use Rattle.nbd_server.specs.Replies.{RequestOutcome}
 use Rattle.nbd_server.specs.Status.{AreReadAsZeros, HasStatus, TouchIgnoring, TouchZeros, touched}
 use Rattle.nbd_server.specs.Sectors.{IsFetched, FailsToFetch, IsStored, IsStoredAtOnce, IsPartPut, FailsToPutAll, FailsToPutAtOnce, most_run_bytes}
+use Rattle.nbd_server.specs.Zeros.{WritesInRuns}
 use Rattle.nbd_protocol.specs.declared.header.Header.{Header}
 use Rattle.nbd_protocol.specs.declared.header.Command.{Command}
 use Rattle.nbd_protocol.specs.declared.header.Command.TheVariants.{Read, Write, Zero, Hint, Flush, Status}
@@ -90,10 +91,19 @@ WritesPart e w offset bytes outcome w' =
     (outcome ≡ Err NoMemory) × (sectors : List ℕ) × (mid : World) × IsFramed e w offset bytes sectors mid
     × IsPartPut mid e.device (offset / 512) sectors w' × IsOutOfMemory most_run_bytes
 
+-- their sectors were written in runs, unless what the first and the last sector hold besides couldn't be read
+abbrev pub WritesByRuns : ExportRecord → World → ℕ → List ℕ → RequestOutcome → World → Type 0
+WritesByRuns e w offset bytes (Ok content) w' =
+    (sectors : List ℕ) × (mid : World) × IsFramed e w offset bytes sectors mid × WritesInRuns e.device (offset / 512) (length sectors) mid sectors (Ok tt) w'
+WritesByRuns e w offset bytes (Err error) w' =
+    FailsToReadEnds e w offset (length bytes) w' error
+    ⊎ ((sectors : List ℕ) × (mid : World) × IsFramed e w offset bytes sectors mid × WritesInRuns e.device (offset / 512) (length sectors) mid sectors (Err error) w')
+
 -- a write of bytes that are written run by run
 abbrev pub WritesAny : ExportRecord → World → ℕ → List ℕ → RequestOutcome → World → Type 0
 WritesAny e w offset [] outcome w' = Stays w outcome w'
-WritesAny e w offset (byte ∷ more) outcome w' = WritesExport e w offset (byte ∷ more) outcome w' ⊎ WritesPart e w offset (byte ∷ more) outcome w'
+WritesAny e w offset (byte ∷ more) outcome w' =
+    (WritesExport e w offset (byte ∷ more) outcome w' ⊎ WritesPart e w offset (byte ∷ more) outcome w') × WritesByRuns e w offset (byte ∷ more) outcome w'
 
 -- ---- flushes
 

@@ -1,5 +1,5 @@
 //! A READ whose reply is sent piece by piece.
-ghost use Rattle.std.specs.Prelude.{◌≡◌, ◌<◌, ◌≤◌, ◌+◌, ◌*◌, ◌%◌, ◌^◌, ◌==◌, length, true, IsTrue, IfErr, IfOk, IfSome, OnErr, OnOk};
+ghost use Rattle.std.specs.Prelude.{◌≡◌, ◌<◌, ◌≤◌, ◌+◌, ◌*◌, ◌%◌, ◌^◌, ◌==◌, length, true, IfErr, IfOk, IfSome, OnErr, OnOk};
 ghost use Rattle.program_io.specs.Counted.{Writes, WritesSome};
 ghost use Rattle.nbd_protocol.specs.Exports.{export_record};
 ghost use Rattle.nbd_protocol.specs.Chunks.{hole_chunk};
@@ -7,21 +7,20 @@ ghost use Rattle.nbd_server.specs.Content.{TellsContent};
 ghost use Rattle.nbd_server.specs.Premises.{AreBytesOf, IsDeliveryRest, ReadsTo};
 ghost use Rattle.nbd_server.specs.Status.{touched};
 ghost use Rattle.nbd_server.specs.Transmission.{FailsToReadBytes};
-ghost use Rattle.nbd_server.specs.Delivery.{IsDeliveryPiece, IsStuck, SendsPiece, WritesDelivery, WritesPiece, delivery_of, has_df, most_piece_bytes};
+ghost use Rattle.nbd_server.specs.Delivery.{AreNextBytes, IsDeliveryPiece, IsStuck, SendsPiece, WritesDelivery, WritesPiece, delivery_of, has_df};
 
 use crate::byte_range::touched;
 use crate::content::say_content;
 use crate::fetch::read_into;
+use crate::piece::piece_sectors;
 use crate::room::Room;
 use crate::status::status_at;
 use block_device::BlockDev;
 use nbd_protocol::{Agreement, Command, Export, Header, RequestError, say_error_at, say_hole};
 use program_io::{Counted, WriteFault};
 use request_queue::Queue;
+use stack_config::Config;
 use std::io::Write;
-
-// A piece ends at a multiple of this number of bytes.
-const LARGE: u64 = 262_144;
 
 const SECTOR: u64 = 512;
 
@@ -41,6 +40,13 @@ pub(crate) struct Delivery {
 pub(crate) struct Progress {
     pub(crate) done: u32,
     pub(crate) slow: u32,
+}
+
+/// The next piece: what is answered before it, and its size in bytes.
+#[derive(Clone, Copy, Debug, PartialEq, Eq)]
+pub(crate) struct Piece {
+    pub(crate) progress: Progress,
+    pub(crate) size: u32,
 }
 
 // Whether the client wants the bytes in one chunk.
@@ -84,26 +90,18 @@ impl Delivery {
     }
 
     // The size of the next piece.
-    fn piece_len(self, progress: Progress) -> u32
-        requires rest { IsDeliveryRest self progress }
+    fn piece_len(self, config: &Config, export: &Export<'_>, progress: Progress) -> u32
+        requires bytes { AreBytesOf config.now (export_record export.now) self.offset self.count }
         requires some { progress.done < self.count }
-        ensures { IsDeliveryPiece self progress result }
+        ensures { IsDeliveryPiece config.now export.now.device.0 self progress result }
     {
-        let room = room_at(self.at(progress), progress.done < progress.slow);
-        room.min(u64::from(self.count - progress.done)) as u32
+        let at = self.at(progress);
+        let left = self.count - progress.done;
+        let single = progress.done < progress.slow;
+        let sectors = piece_sectors(config, export, at, left, single);
+        let room = SECTOR * sectors - at % SECTOR;
+        room.min(u64::from(left)) as u32
     }
-}
-
-// How many bytes follow `at` in its piece, or in its sector if `single` is set.
-fn room_at(at: u64, single: bool) -> u64
-    ensures some { 0 < result }
-    ensures few { result ≤ most_piece_bytes }
-    ensures single { IsTrue single → at % 512 + result ≤ 512 }
-{
-    if single {
-        return SECTOR - at % SECTOR;
-    }
-    LARGE - at % LARGE
 }
 
 // Writes the chunks of a piece, and flushes the writer.
@@ -114,7 +112,7 @@ fn say_piece<W: Write>(
     content: &[u8],
 ) -> Result<(), WriteFault>
     requires rest { IsDeliveryRest delivery progress }
-    requires piece { IsDeliveryPiece delivery progress (length content.now) }
+    requires piece { AreNextBytes delivery progress (length content.now) }
     ensures { WritesSome W.contents writer.old writer.new
         (TellsContent delivery.cookie (progress.done + length content.now == delivery.count) (delivery.offset + progress.done) content.now) result }
 {
@@ -133,7 +131,7 @@ fn say_zeros<W: Write>(
     size: u32,
 ) -> Result<(), WriteFault>
     requires rest { IsDeliveryRest delivery progress }
-    requires piece { IsDeliveryPiece delivery progress size }
+    requires piece { AreNextBytes delivery progress size }
     ensures { Writes W.contents writer.old writer.new
         (hole_chunk (progress.done + size == delivery.count) delivery.cookie (delivery.offset + progress.done) size) result }
 {
@@ -190,17 +188,18 @@ fn deliver_piece<D: BlockDev, W: Write>(
     queue: &mut Queue<D>,
     export: &Export<'_>,
     delivery: Delivery,
-    progress: Progress,
+    piece: Piece,
     writer: &mut Counted<W>,
 ) -> Result<Option<Progress>, WriteFault>
     requires bytes { AreBytesOf queue.old.stack.config (export_record export.now) delivery.offset delivery.count }
-    requires some { progress.done < delivery.count }
-    ensures ok { IfOk result (WritesPiece W.contents writer.old writer.new export.now delivery progress queue.old queue.new) }
-    ensures err { OnErr result (SendsPiece (export_record export.now) delivery progress queue.old queue.new) }
+    requires piece { IsDeliveryPiece queue.old.stack.config export.now.device.0 delivery piece.progress piece.size }
+    ensures ok { IfOk result (WritesPiece W.contents writer.old writer.new export.now delivery piece.progress queue.old queue.new) }
+    ensures err { OnErr result (SendsPiece (export_record export.now) delivery piece.progress queue.old queue.new) }
     ensures kept { IfOk result (λ _. writer.new.failed ≡ writer.old.failed) }
     ensures failed { OnErr result (writer.new.failed ≡ true) }
 {
-    let size = delivery.piece_len(progress);
+    let progress = piece.progress;
+    let size = piece.size;
     let at = delivery.at(progress);
     match read_piece(room, queue, export, at, size) {
         Ok(()) => {
@@ -240,9 +239,10 @@ fn deliver_next<D: BlockDev, W: Write>(
     ensures kept { IfOk result (λ _. writer.new.failed ≡ writer.old.failed) }
     ensures failed { OnErr result (writer.new.failed ≡ true) }
 {
-    let size = delivery.piece_len(progress);
+    let config = queue.stack().config();
+    let size = delivery.piece_len(config, export, progress);
     let at = delivery.at(progress);
-    let status = status_at(queue.stack().config(), export, at, size);
+    let status = status_at(config, export, at, size);
     if status.zeros {
         say_zeros(writer, delivery, progress, status.count)?;
         return Ok(Some(Progress {
@@ -250,7 +250,8 @@ fn deliver_next<D: BlockDev, W: Write>(
             slow: progress.slow,
         }));
     }
-    deliver_piece(room, queue, export, delivery, progress, writer)
+    let piece = Piece { progress, size };
+    deliver_piece(room, queue, export, delivery, piece, writer)
 }
 
 /// Answers a READ piece by piece, up to the first sector that can't be read. Each piece is sent as soon as it is read.

@@ -7,6 +7,7 @@ mod delivery;
 mod extent;
 mod fetch;
 mod haggling;
+mod piece;
 mod read_status;
 mod reply;
 mod room;

@@ -3,7 +3,7 @@ ghost use Rattle.std.specs.Prelude.{◌≡◌, ◌<◌, ◌≤◌, ◌+◌, ◌*
 ghost use Rattle.nbd_server.specs.Sectors.{FailsToPutAtOnce, IsStored, IsStoredAtOnce};
 ghost use Rattle.nbd_protocol.specs.Exports.{IsExport, export_record};
 ghost use Rattle.nbd_server.specs.Premises.{AreExportSectors, HaveEnds, IsZeroRun};
-ghost use Rattle.nbd_server.specs.Zeros.{FailsToPutZeros, IsRunLen, zeros_of};
+ghost use Rattle.nbd_server.specs.Zeros.{FailsToPutZeros, IsRunLen, WritesInRuns, WroteRun, zeros_of};
 
 use crate::zeros::Zeros;
 use alignment::aligned_len;
@@ -54,6 +54,7 @@ fn zero_run<D: BlockDev>(
     requires sectors { AreExportSectors (export_record export.now) first (zeros_of zeros.now) }
     ensures ok { OnOk result (IsStored queue.old export.now.device.0 first (zeros_of zeros.now) queue.new) }
     ensures err { IfErr result (FailsToPutZeros queue.old export.now.device.0 first zeros.now queue.new) }
+    ensures run { WroteRun queue.old export.now.device.0 first (zeros_of zeros.now) result queue.new }
 {
     let bytes = zeros.bytes(alloc)?;
     store(queue, export, first, bytes.as_slice())
@@ -92,6 +93,7 @@ pub(crate) fn store_zeros<D: BlockDev>(
     requires sectors { AreExportSectors (export_record export.now) first (zeros_of zeros.now) }
     ensures ok { OnOk result (IsStored queue.old export.now.device.0 first (zeros_of zeros.now) queue.new) }
     ensures err { IfErr result (FailsToPutZeros queue.old export.now.device.0 first zeros.now queue.new) }
+    ensures turns { WritesInRuns export.now.device.0 first (length (zeros_of zeros.now)) queue.old (zeros_of zeros.now) result queue.new }
 {
     let mut at = first;
     let mut rest = *zeros;

@@ -1,18 +1,25 @@
 -- How commands on partitions end early.
-use Rattle.std.proofs.Common.{◌≡◌, ◌≤◌, ℕ, Bool, sym, subst, Result, Ok, Err, arith, refl}
+use Rattle.std.proofs.Common.{◌≡◌, ◌≤◌, ℕ, Bool, Option, sym, subst, Result, Ok, Err, arith, refl}
 use Rattle.std.specs.Prelude.{IfErr, IsErrAnd}
 use Rattle.allocation.specs.Asked.{asked}
 use Rattle.allocation.specs.declared.out_of_memory.OutOfMemory.{OutOfMemory}
 use Rattle.block_device.specs.Device.{Device}
-use Rattle.image_commands.specs.declared.trusted.TrustedRoot.{TrustedRoot}
+use Rattle.device_adapters.specs.declared.part.Part.{Part}
+use Rattle.device_adapters.specs.Windows.{windowed}
+use Rattle.image_pin.specs.declared.pin.Pin.{Pin as ImagePin}
+use Rattle.image_pin.specs.declared.pinned.PinnedFault.{PinnedFault}
+use Rattle.image_pin.specs.declared.pinned.PinnedFault.TheVariants as pinned
+use Rattle.image_pin.specs.declared.trusted.TrustedRoot.{TrustedRoot}
+use Rattle.image_pin.specs.PinnedReads.{IsPinnedCause}
 use Rattle.partition_table.specs.declared.sector_size.SectorSize.{SectorSize}
 use Rattle.partition_table.specs.declared.table.PartitionTable.{PartitionTable}
+use Rattle.verity_format.specs.declared.verifying.VerifyFault.TheVariants as verify
 use Rattle.stack_rules.proofs.lemmas.PassingLemmas.{out_of_memory-more}
 use Rattle.partition_commands.specs.declared.fault.PartitionsFault.{PartitionsFault}
 use Rattle.partition_commands.specs.declared.fault.PartitionsFault.TheVariants.{NoMemory, NotLoadable, Open, Pin, Refused, Write}
 use Rattle.partition_commands.specs.Commands.{EndsUnloadable, IsEntriesEnd}
 use Rattle.partition_commands.specs.Loads.{IsLoadableEnd, IsRefusedRoom, IsStackEnd, IsStackUnloadable, stack_room}
-use Rattle.partition_commands.specs.RootCommands.{FindsPair, IsRootTextEnd, pair_text}
+use Rattle.partition_commands.specs.RootCommands.{FindsPair, IsPartSuperEnd, IsRootTextEnd, pair_text, unpinned_refusal}
 use Rattle.partition_commands.specs.RootStacks.{root_room}
 
 -- what holds of a fault holds of the result that hands it on
@@ -25,14 +32,23 @@ pub exit_room : {T : Type 0} (r : Result T PartitionsFault) (n : ℕ) (e : OutOf
 exit_room r n e is low = err-from r (IsRefusedRoom n) NoMemory is (refl, (e.asked, low, e.refused))
 
 -- a text of two partitions that isn't written
-pub say-root : {device : Device} {size : SectorSize} {trusted : TrustedRoot} (pair : FindsPair device size trusted) (failed : Bool) (fault : PartitionsFault)
-    → IsLoadableEnd pair.read_device.size (pair_text pair) failed fault → IsRootTextEnd size trusted failed device fault
-say-root {device} {size} {trusted} pair failed NoMemory ends = record { pair = pair; refused = out_of_memory-more stack_room (root_room pair.super trusted.root) (omega arith) ends }
-say-root pair failed NotLoadable ends = record { pair = pair; unloadable = ends }
-say-root pair failed Write ends = ends
-say-root pair failed (Open file) ends = absurd ends
-say-root pair failed (Pin cause) ends = absurd ends
-say-root pair failed (Refused refusal) ends = absurd ends
+pub say-root : {D : Type 0} (state : D → Device) (device : D) (size : SectorSize) (trusted : TrustedRoot) (pair : FindsPair (state device) size trusted) (failed : Bool) (fault : PartitionsFault)
+    → IsLoadableEnd pair.read_device.size (pair_text pair) failed fault → IsRootTextEnd state size trusted failed device fault
+say-root state device size trusted pair failed NoMemory ends = record { pair = pair; refused = out_of_memory-more stack_room (root_room pair.super trusted.root) (omega arith) ends }
+say-root state device size trusted pair failed NotLoadable ends = record { pair = pair; unloadable = ends }
+say-root state device size trusted pair failed Write ends = ends
+say-root state device size trusted pair failed (Open file) ends = absurd ends
+say-root state device size trusted pair failed (Pin cause) ends = absurd ends
+say-root state device size trusted pair failed (Refused refusal) ends = absurd ends
+
+-- a part of a device has no superblock of the pin
+pub unpinned-end : (old new : Device) (part part' : Part) (pin : Option ImagePin) (fault : PinnedFault)
+    → IsPinnedCause (windowed old part) pin (windowed new part') fault → IsPartSuperEnd old new part pin (unpinned_refusal fault)
+unpinned-end old new part part' pin (pinned.Unread verify.Device) cause = cause
+unpinned-end old new part part' pin (pinned.Unread verify.TooSmall) cause = cause
+unpinned-end old new part part' pin (pinned.Unread (verify.Super field)) cause = cause
+unpinned-end old new part part' pin (pinned.Unread verify.NoMemory) cause = absurd cause
+unpinned-end old new part part' pin (pinned.Unpinned mismatch) cause = (windowed new part', cause)
 
 -- a text of all partitions that isn't
 pub say-entries : (old new : Device) (size : SectorSize) (table : PartitionTable) (failed : Bool) (fault : PartitionsFault)

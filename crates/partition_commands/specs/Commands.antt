@@ -70,10 +70,11 @@ pub record EndsOutside (old new : Device) (size : SectorSize) : Type 0 where
   pub found : IsSizedTable old new size table
   pub outside : are_within new table.size table.partitions.items ≡ false
 
--- a table was found, and `load` would refuse its stack text over the disk
+-- a table was found whose partitions all end on the device, and `load` would refuse its stack text over the disk
 pub record EndsUnloadable (old new : Device) (size : SectorSize) : Type 0 where
   pub table : PartitionTable
   pub found : IsSizedTable old new size table
+  pub within : are_within new table.size table.partitions.items ≡ true
   pub unloadable : IsStackUnloadable new.size table.size table.partitions.items
 
 -- the same of a stack text: there is no table, a partition ends past the end, the text doesn't load, room was refused, or the

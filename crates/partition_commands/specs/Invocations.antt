@@ -5,7 +5,7 @@ use Rattle.command_line.specs.Values.{FormRecord, lines, object, pin, root, stac
 use Rattle.command_line.specs.declared.words.partitions.PartitionsWords.{PartitionsWords}
 use Rattle.command_line.specs.words.Partitions.{PartitionsRecord, partitions_record}
 use Rattle.program_io.specs.Counted.{CountedRecord}
-use Rattle.image_commands.specs.declared.trusted.TrustedRoot.{TrustedRoot}
+use Rattle.image_pin.specs.declared.trusted.TrustedRoot.{TrustedRoot}
 use Rattle.image_files.specs.Opener.{Calls, Opener, calls}
 use Rattle.partition_table.specs.declared.sector_size.SectorSize.{SectorSize}
 use Rattle.partition_table.specs.declared.sector_size.SectorSize.TheVariants.{Bytes4096, Bytes512}

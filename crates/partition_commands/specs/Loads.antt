@@ -5,6 +5,7 @@ use Rattle.allocation.specs.Refusal.{IsOutOfMemory}
 use Rattle.program_io.specs.Counted.{CountedRecord}
 use Rattle.partition_table.specs.declared.partition.Partition.{Partition}
 use Rattle.partition_table.specs.declared.sector_size.SectorSize.{SectorSize}
+use Rattle.stack_rules.specs.Descend.{most_devices}
 use Rattle.stack_rules.specs.Records.{Configuration, LeafRecord}
 use Rattle.stack_files.specs.declared.stack_fault.StackFault.{StackFault}
 use Rattle.stack_files.specs.declared.stack_fault.StackFault.TheVariants as stack_fault
@@ -33,7 +34,7 @@ IsUnloadable sectors text = (2 ^ 20 < length text) ⊎ ((fault : StackFault) × 
 
 -- there are more partitions than a stack has devices, or their text isn't one that loads
 abbrev pub IsStackUnloadable : ℕ → SectorSize → List Partition → Type 0
-IsStackUnloadable sectors size partitions = (64 < length partitions) ⊎ IsUnloadable sectors (stack_text size partitions)
+IsStackUnloadable sectors size partitions = (most_devices < length partitions) ⊎ IsUnloadable sectors (stack_text size partitions)
 
 -- no allocation for the entries of a stack text, or for its check, asks for more elements
 abbrev pub stack_room : ℕ

@@ -11,10 +11,13 @@ use Rattle.image_files.specs.declared.images.OpenImage.{OpenImage}
 use Rattle.image_files.specs.Opened.{Opens, Refuses}
 use Rattle.image_files.specs.Opener.{Calls, Opener, calls}
 use Rattle.image_commands.specs.declared.fault.ImageFault.{ImageFault}
-use Rattle.image_commands.specs.declared.trusted.TrustedRoot.{TrustedRoot}
-use Rattle.image_commands.specs.Finding.{IsTreeUnpinned, mismatch_of}
+use Rattle.image_pin.specs.declared.trusted.TrustedRoot.{TrustedRoot}
+use Rattle.image_commands.specs.Finding.{IsTreeUnpinned}
 use Rattle.image_commands.specs.PinFiles.{IsPinFileEnd}
+use Rattle.image_pin.specs.PinnedReads.{mismatch_of}
 use Rattle.image_pin.specs.declared.pin.Pin.{Pin as ImagePin}
+use Rattle.image_pin.specs.declared.pinned.PinnedFault.{PinnedFault}
+use Rattle.image_pin.specs.declared.pinned.PinnedFault.TheVariants as pinned
 use Rattle.partition_table.specs.declared.sector_size.SectorSize.{SectorSize}
 use Rattle.partition_table.specs.declared.table.NoTable.{NoTable}
 use Rattle.partition_table.specs.declared.table.PartitionTable.{PartitionTable}
@@ -78,6 +81,11 @@ pub record LacksPartitions (device : Device) (size : SectorSize) (root : List �
   pub found : IsSizedTable device read_device size table
   pub refused : image_partitions table.partitions.items root ≡ Err refusal
 
+-- with which refusal a command ends if a part of the device has no superblock of the pin
+abbrev pub unpinned_refusal : PinnedFault → PartitionRefusal
+unpinned_refusal (pinned.Unread fault) = Superblock fault
+unpinned_refusal (pinned.Unpinned mismatch) = Unpinned mismatch
+
 -- why there is no superblock of a pin in a part of a device
 abbrev pub IsPartSuperEnd : Device → Device → Part → Option ImagePin → PartitionRefusal → Type 0
 IsPartSuperEnd old new part pin OutsideDevice = LiesInside old part → ⊥
@@ -85,11 +93,13 @@ IsPartSuperEnd old new part pin (Superblock fault) = IsReadCause (windowed old p
 IsPartSuperEnd old new part pin (Unpinned mismatch) = IsTreeUnpinned (windowed old part) pin mismatch
 IsPartSuperEnd old new part pin refusal = ⊥
 
--- the superblock was read, and a partition has fewer sectors than its data blocks or its tree
-pub record IsUnfitting (device : Device) (size : SectorSize) (both : ImagePartitions) : Type 0 where
+-- the superblock was read, it has the values of the pin, if there is one, and a partition has fewer sectors than its data blocks or
+-- its tree
+pub record IsUnfitting (device : Device) (size : SectorSize) (both : ImagePartitions) (pin : Option ImagePin) : Type 0 where
   pub super : SuperRecord
   pub sector : List ℕ
   pub read : IsReadFrom (windowed device (part_of size both.verity)) sector super
+  pub pinned : mismatch_of pin super ≡ None
   pub unfit : is_unfit size both super ≡ true
 
 -- why the two partitions don't hold an image: that of the data ends past the end of the device, there is no superblock of the pin
@@ -97,7 +107,7 @@ pub record IsUnfitting (device : Device) (size : SectorSize) (both : ImagePartit
 abbrev pub IsPairEnd : Device → Device → SectorSize → ImagePartitions → Option ImagePin → PartitionRefusal → Type 0
 IsPairEnd old new size both pin refusal =
     ((refusal ≡ OutsideDevice) × (is_within old (part_of size both.data) ≡ false))
-    ⊎ (IsPartSuperEnd old new (part_of size both.verity) pin refusal ⊎ ((refusal ≡ Superblock TooSmall) × IsUnfitting old size both))
+    ⊎ (IsPartSuperEnd old new (part_of size both.verity) pin refusal ⊎ ((refusal ≡ Superblock TooSmall) × IsUnfitting old size both pin))
 
 -- both were found, but don't hold an image
 pub record LacksSuperblock (device device' : Device) (size : SectorSize) (trusted : TrustedRoot) (refusal : PartitionRefusal) : Type 0 where
@@ -109,10 +119,10 @@ pub record LacksSuperblock (device device' : Device) (size : SectorSize) (truste
   pub ends : IsPairEnd read_device device' table.size both trusted.pin refusal
 
 -- there is no table
-pub record LacksTable (device : Device) (size : SectorSize) (refusal : PartitionRefusal) : Type 0 where
+pub record LacksTable {D : Type 0} (state : D → Device) (device : D) (size : SectorSize) (refusal : PartitionRefusal) : Type 0 where
   pub fault : NoTable
-  pub read_device : Device
-  pub none : IsNoSizedTable device read_device size fault
+  pub read_device : D
+  pub none : IsNoSizedTable (state device) (state read_device) size fault
   pub is : refusal ≡ Table fault
 
 -- both hold an image, and room for its text, or for the check of it, was refused
@@ -126,19 +136,20 @@ pub record LacksLoad (device : Device) (size : SectorSize) (trusted : TrustedRoo
   pub unloadable : IsUnloadable pair.read_device.size (pair_text pair)
 
 -- one of these, or the text can't be written
-abbrev pub IsRootTextEnd : SectorSize → TrustedRoot → Bool → Device → PartitionsFault → Type 0
-IsRootTextEnd size trusted failed device NoMemory = RefusesText device size trusted
-IsRootTextEnd size trusted failed device Write = failed ≡ true
-IsRootTextEnd size trusted failed device NotLoadable = LacksLoad device size trusted
-IsRootTextEnd size trusted failed device (Open file) = ⊥
-IsRootTextEnd size trusted failed device (Pin fault) = ⊥
-IsRootTextEnd size trusted failed device (Refused refusal) =
-    LacksTable device size refusal ⊎ (LacksPartitions device size trusted.root refusal ⊎ ((device' : Device) × LacksSuperblock device device' size trusted refusal))
+abbrev pub IsRootTextEnd : {D : Type 0} → (D → Device) → SectorSize → TrustedRoot → Bool → D → PartitionsFault → Type 0
+IsRootTextEnd state size trusted failed device NoMemory = RefusesText (state device) size trusted
+IsRootTextEnd state size trusted failed device Write = failed ≡ true
+IsRootTextEnd state size trusted failed device NotLoadable = LacksLoad (state device) size trusted
+IsRootTextEnd state size trusted failed device (Open file) = ⊥
+IsRootTextEnd state size trusted failed device (Pin fault) = ⊥
+IsRootTextEnd {D} state size trusted failed device (Refused refusal) =
+    LacksTable state device size refusal
+    ⊎ (LacksPartitions (state device) size trusted.root refusal ⊎ ((device' : D) × LacksSuperblock (state device) (state device') size trusted refusal))
 
 pub record EndsRoot {S D : Type 0} (w : Calls S D) (path : List ℕ) (size : SectorSize) (trusted : TrustedRoot) (failed : Bool) (fault : PartitionsFault) : Type 0 where
   pub image : OpenImage D
   pub opened : Opens w path false image
-  pub ended : IsRootTextEnd size trusted failed (w.state image.device) fault
+  pub ended : IsRootTextEnd w.state size trusted failed image.device fault
 
 abbrev pub IsRootOfImageEnd : {S D : Type 0} → Calls S D → List ℕ → SectorSize → TrustedRoot → Bool → PartitionsFault → Type 0
 IsRootOfImageEnd w path size trusted failed fault = IsImageUnopened (Refuses w path false) fault ⊎ EndsRoot w path size trusted failed fault

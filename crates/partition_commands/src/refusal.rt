@@ -75,16 +75,6 @@ impl From<NoTable> for PartitionRefusal {
     }
 }
 
-impl From<VerifyFault> for PartitionRefusal {
-    ghost use Rattle.partition_commands.specs.declared.refusal.PartitionRefusal.TheVariants.{Superblock};
-
-    ghost from_gives = { λ fault given. given ≡ Superblock fault };
-
-    fn from(fault: VerifyFault) -> Self {
-        PartitionRefusal::Superblock(fault)
-    }
-}
-
 /// One line, `refused K NAME`; of a table that isn't there the causes too.
 pub fn say_refusal<W: Write>(
     writer: &mut Counted<W>,

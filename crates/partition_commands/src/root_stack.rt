@@ -2,11 +2,11 @@
 ghost use Rattle.std.specs.Prelude.{◌≡◌, ◌++◌, ◌≤◌, ℕ, List, None, IfErr, IfOk, OnOk};
 ghost use Rattle.device_adapters.specs.Parts.{LiesInside};
 ghost use Rattle.device_adapters.specs.Windows.{windowed};
-ghost use Rattle.image_commands.specs.Finding.{mismatch_of};
+ghost use Rattle.image_pin.specs.PinnedReads.{mismatch_of};
 ghost use Rattle.verity_format.specs.Verifying.{IsReadFrom};
 ghost use Rattle.partition_commands.specs.Commands.{EndsNoted, NotesImage};
 ghost use Rattle.partition_commands.specs.Loads.{EndsQuiet, IsRefusedRoom};
-ghost use Rattle.partition_commands.specs.RootCommands.{FailsToFindPinned, FailsToFindRoot, IsFitting, IsPairEnd, IsPartSuperEnd, IsRootTextEnd, NotesPinned, PrintsPinnedOf, PrintsRootOf, SaysRoot};
+ghost use Rattle.partition_commands.specs.RootCommands.{FailsToFindPinned, FailsToFindRoot, IsFitting, IsPairEnd, IsPartSuperEnd, IsRootTextEnd, NotesPinned, PrintsPinnedOf, PrintsRootOf, SaysRoot, unpinned_refusal};
 ghost use Rattle.partition_commands.specs.RootStacks.{is_unfit, root_room, root_stack_text};
 ghost use Rattle.partition_commands.specs.Warnings.{notes_of};
 
@@ -18,9 +18,8 @@ use crate::{ImagePartitions, PartitionRefusal, PartitionsFault, part_of};
 use block_device::BlockDev;
 use command_line::RootOrPin;
 use device_adapters::{Part, Window};
-use image_commands::{TrustedRoot, mismatch_of};
 use image_files::{Images, open_image};
-use image_pin::Pin;
+use image_pin::{Pin, PinnedFault, TrustedRoot, read_pinned};
 use partition_table::SectorSize;
 use program_io::Counted;
 use std::alloc::Global;
@@ -28,9 +27,7 @@ use std::io::Write;
 use std::marker::Brand;
 use tree_shape::Digest;
 use verity_commands::trusted_in;
-use verity_format::{
-    Superblock, VerifyFault, data_sectors, read_superblock, table_line, tree_sectors,
-};
+use verity_format::{Superblock, VerifyFault, data_sectors, table_line, tree_sectors};
 
 /// `partitions --pin FILE IMAGE`: prints the stack of `root_stack_of_image` for the root hash of the pin in a file, which is read
 /// before the image is opened. The superblock must have the values of the pin.
@@ -95,7 +92,7 @@ fn print_root_stack<'a, D: BlockDev + Drop, W: Write, E: Write>(
     errors: &mut Counted<E>,
 ) -> Result<(), PartitionsFault<'a>>
     ensures ok { OnOk result (SaysRoot D.state device W.contents writer.old writer.new size trusted.now (notes_of E.contents errors.old errors.new)) }
-    ensures err { IfErr result (IsRootTextEnd size trusted.now writer.new.failed (D.state device)) }
+    ensures err { IfErr result (IsRootTextEnd D.state size trusted.now writer.new.failed device) }
     ensures noted { IfErr result (EndsNoted (D.state device) size (notes_of E.contents errors.old errors.new)) }
     ensures quiet { IfErr result (EndsQuiet W.contents writer.old writer.new) }
 {
@@ -151,10 +148,19 @@ fn superblock_in<D: BlockDev + Drop>(
         Ok(window) => window,
         Err(_) => return Err(PartitionRefusal::OutsideDevice),
     };
-    let superblock = read_superblock(&mut window)?;
-    match mismatch_of(pin, &superblock) {
-        Some(mismatch) => Err(PartitionRefusal::Unpinned(mismatch)),
-        None => Ok(superblock),
+    match read_pinned(&mut window, pin) {
+        Ok(superblock) => Ok(superblock),
+        Err(fault) => Err(unpinned_refusal(fault)),
+    }
+}
+
+// With which refusal the command ends if a part of the device has no superblock of the pin.
+fn unpinned_refusal(fault: PinnedFault) -> PartitionRefusal
+    ensures { result ≡ unpinned_refusal fault }
+{
+    match fault {
+        PinnedFault::Unread(fault) => PartitionRefusal::Superblock(fault),
+        PinnedFault::Unpinned(mismatch) => PartitionRefusal::Unpinned(mismatch),
     }
 }
 

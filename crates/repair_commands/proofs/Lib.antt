@@ -1,5 +1,6 @@
 mod CopyLemmas
 mod EndingLemmas
+mod FoundTreeLemmas
 mod GoingOnLemmas
 mod MendLemmas
 mod ScanLemmas

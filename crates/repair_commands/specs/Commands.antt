@@ -3,7 +3,7 @@ use Rattle.std.specs.Prelude.{◌≡◌, ◌⊎◌, ℕ, Bool, true, false, List
 use Rattle.block_device.specs.Device.{Device}
 use Rattle.program_io.specs.Counted.{CountedRecord}
 use Rattle.command_line.specs.declared.image_copies.ImageCopy.{ImageCopy}
-use Rattle.image_commands.specs.declared.trusted.TrustedRoot.{TrustedRoot}
+use Rattle.image_pin.specs.declared.trusted.TrustedRoot.{TrustedRoot}
 use Rattle.image_files.specs.Opener.{Calls, Opener, calls}
 use Rattle.verity_commands.specs.declared.tree_fault.TreeFault.{TreeFault}
 use Rattle.verity_commands.specs.Surveyed.{SurveyedDevices, surveyed_devices}

@@ -5,11 +5,12 @@ ghost use Rattle.repair_commands.specs.FoundTrees.{FindsNoTree, FindsTree};
 
 use crate::unused::check_unused;
 use block_device::BlockDev;
-use image_commands::{TrustedRoot, is_aligned, mismatch_of};
+use image_commands::{NoTree, is_aligned};
+use image_pin::{TrustedRoot, read_pinned};
 use std::alloc::Global;
 use tree_shape::Digest;
 use verity_commands::TreeFault;
-use verity_format::{VerityTree, read_superblock};
+use verity_format::VerityTree;
 
 /// The tree that a superblock states, the root hash that it is repaired under, and whether all hash blocks on the path to the
 /// last data block verify, and hold zeros after their last used entries.
@@ -39,11 +40,10 @@ pub(crate) fn find_repaired_tree<'a, H: BlockDev>(
     ensures ok { IfOk result (FindsTree (H.state hash_dev.old) first trusted.now (H.state hash_dev.new)) }
     ensures err { IfErr result (FindsNoTree (H.state hash_dev.old) first trusted.now (H.state hash_dev.new)) }
 {
-    let superblock = read_superblock(hash_dev)?;
-    match mismatch_of(&trusted.pin, &superblock) {
-        Some(mismatch) => return Err(TreeFault::Unpinned(mismatch)),
-        None => {}
-    }
+    let superblock = match read_pinned(hash_dev, &trusted.pin) {
+        Ok(superblock) => superblock,
+        Err(fault) => return Err(TreeFault::from(NoTree::from(fault))),
+    };
     let whole = check_unused(alloc, hash_dev, &superblock, &trusted.root)?;
     if !is_aligned(first, superblock.hash_block()) {
         return Err(TreeFault::Unaligned);

@@ -1,7 +1,7 @@
 //! Reports what is still lost after a repair.
 ghost use Rattle.std.specs.Prelude.{◌≡◌, IfErr, OnOk, Some};
 ghost use Rattle.program_io.specs.Counted.{Writes};
-ghost use Rattle.verity_commands.specs.Surveys.{is_all_good, survey_totals};
+ghost use Rattle.verity_commands.specs.Surveys.{survey_totals};
 ghost use Rattle.verity_format.specs.Blocks.{IsOnlyRead};
 ghost use Rattle.tree_repair.specs.declared.outcome.Outcome.TheVariants.{Partly};
 ghost use Rattle.repair_commands.specs.Endings.{ending_fault};
@@ -14,8 +14,8 @@ use std::alloc::Global;
 use std::io::Write;
 use std::marker::Brand;
 use tree_repair::{Outcome, Plan, RepairFault};
-use tree_survey::{Survey, SurveyFault, Totals, survey_image};
-use verity_commands::{TreeFault, say_totals};
+use tree_survey::{SurveyFault, Totals, survey_image};
+use verity_commands::{TreeFault, is_all_good, say_totals};
 
 /// Prints what `verify --all` prints of the two devices, if the repair came to its end; otherwise returns the fault that ended it.
 /// If the repair left all blocks valid, they aren't read again. The devices are returned; they were only read.
@@ -114,13 +114,6 @@ fn say_lines<'a, D: BlockDev, H: BlockDev, W: Write>(
         return Err(TreeFault::Damaged);
     }
     Ok(())
-}
-
-// Returns whether all data blocks and all hash blocks are valid.
-fn is_all_good(found: Survey) -> bool
-    ensures { result ≡ is_all_good found }
-{
-    found.totals.changed == 0 && found.totals.unknown == 0 && found.whole_tree
 }
 
 // Returns what is known of an image after a repair. `whole` is whether all hash blocks on the path to the last data block

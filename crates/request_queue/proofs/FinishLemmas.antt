@@ -3,17 +3,21 @@ use Rattle.std.proofs.Common.{◌≡◌, ◌≢◌, ◌<◌, ◌≤◌, ℕ, ◌
 use Rattle.stack_meaning.specs.declared.fault.IoFault.{IoFault}
 use Rattle.request_queue.specs.declared.reply.Progress.TheVariants.{More}
 use Rattle.request_queue.specs.declared.reply.Reply.{Reply}
-use Rattle.request_queue.specs.Parts.{EachPart}
+use Rattle.request_queue.specs.Parts.{EachPart, PartRelation}
 use Rattle.request_queue.specs.World.{World, Serves, EndsRequest, later}
 use Rattle.request_queue.specs.Runs.{flight_of, rest, rest_of}
 use Rattle.request_queue.proofs.lemmas.PremiseLemmas.{serves-any}
 use Rattle.request_queue.proofs.lemmas.BudgetLemmas.{InOrder, has-served, goes-on, rest-became}
 
+-- where steps of a request end it from w on, it is ended from `first` on
+abbrev pub EndsFrom : PartRelation → World → ℕ → World → Type 0
+EndsFrom part first t w = (answer : Result Reply IoFault) (w' : World) → EndsRequest part t answer w w' → EndsRequest part t answer first w'
+
 -- a request is served from `first` to w: where the rest ends it, it is ended
 pub record Underway (first : World) (t : ℕ) (w : World) : Type 0 where
   pub there : flight_of w t ≢ None
   pub order : InOrder w
-  pub so_far : (answer : Result Reply IoFault) (w' : World) → EndsRequest EachPart t answer w w' → EndsRequest EachPart t answer first w'
+  pub so_far : EndsFrom EachPart first t w
 
 -- one piece more
 pub record Further (first : World) (t : ℕ) (w w' : World) : Type 0 where

@@ -1,7 +1,8 @@
 -- One piece of a request, a read at once and a sync, as steps of the world.
 use Rattle.std.proofs.Common.{◌≡◌, ◌<◌, ◌≤◌, ◌-◌, ◌/◌, ℕ, List, map, get_or, set, refl, ap, sym, ◌∙◌, subst, arith, Some, Result, Ok, Err}
 use Rattle.std.specs.Prelude.{IfErr, OnOk, position, remove}
-use Rattle.block_device.specs.Device.{synced}
+use Rattle.block_device.specs.Call.{Call}
+use Rattle.block_device.specs.Device.{Device, synced}
 use Rattle.stack_meaning.specs.declared.fault.IoFault.{IoFault}
 use Rattle.stack_engine.specs.Stacks.{StackRecord, AnswerRecord}
 use Rattle.stack_engine.specs.Syncs.{FailsToSync}
@@ -10,8 +11,9 @@ use Rattle.request_queue.specs.declared.range.SectorRange.{SectorRange}
 use Rattle.request_queue.specs.declared.reply.Progress.TheVariants.{More, Done}
 use Rattle.request_queue.specs.declared.reply.Reply.{Reply}
 use Rattle.request_queue.specs.Flights.{FlightRecord, IsSoundFlight, reply_to, has_ticket}
-use Rattle.request_queue.specs.Parts.{EachPart, AsksPiece, part_of_work, done_of}
+use Rattle.request_queue.specs.Parts.{PartRelation, EachPart, AsksPiece, part_of_work, done_of}
 use Rattle.request_queue.specs.AtOnce.{IsRangeRead}
+use Rattle.request_queue.specs.PieceCalls.{CalledPart, GivesInTurn}
 use Rattle.request_queue.specs.Ranges.{bytes_range, piece_len, range_at}
 use Rattle.request_queue.specs.World.{World, world, BytesRead, Serves, Syncs, IsSoundWorld}
 use Rattle.request_queue.specs.Serving.{NextPiece, FailedPiece}
@@ -19,8 +21,8 @@ use Rattle.request_queue.proofs.lemmas.BytesLemmas.{bytes_range-ok}
 use Rattle.request_queue.proofs.lemmas.PartLemmas.{any-keeps, each-any}
 use Rattle.request_queue.proofs.FlightLemmas.{place-inside, at-place, remove-set, sound-next, sound-set, sound-remove}
 
-module _ (v v' : StackRecord) (given : ℕ) (fs fs' : List FlightRecord) (t i : ℕ) (f f' : FlightRecord) (place : Some i ≡ position (has_ticket t) fs) (e : f ≡ get_or fs i f) where
-  pub step-fails : (fault : IoFault) → FailedPiece v f fault v' → fs' ≡ remove (set fs i f') i → Serves EachPart (world v given fs) t (Done (Err fault)) (world v' given fs')
+module _ (v v' : StackRecord) (given : ℕ) (fs fs' : List FlightRecord) (t i : ℕ) (f f' : FlightRecord) {part : PartRelation} (place : Some i ≡ position (has_ticket t) fs) (e : f ≡ get_or fs i f) where
+  pub step-fails : (fault : IoFault) → FailedPiece part v f fault v' → fs' ≡ remove (set fs i f') i → Serves part (world v given fs) t (Done (Err fault)) (world v' given fs')
   step-fails fault p r = record {
     i = i;
     f = f;
@@ -29,7 +31,7 @@ module _ (v v' : StackRecord) (given : ℕ) (fs fs' : List FlightRecord) (t i : 
     answers = record { stack = v'; asks = p.answered; leaves = ap (world v' given) (r ∙ remove-set fs i f') };
   }
 
-  pub step-more : NextPiece v f v' f' → 0 < f'.rest.count → Serves EachPart (world v given fs) t More (world v' given (set fs i f'))
+  pub step-more : NextPiece part v f v' f' → 0 < f'.rest.count → Serves part (world v given fs) t More (world v' given (set fs i f'))
   step-more p some =
       let left : f'.rest.count ≡ f.rest.count - piece_len v.config f.rest = ap (λ x. x.rest.count) p.is in
       record {
@@ -40,7 +42,7 @@ module _ (v v' : StackRecord) (given : ℕ) (fs fs' : List FlightRecord) (t i : 
         answers = record { got = p.got; stack = v'; asks = p.answered; rest = omega (arith, some, left); leaves = ap (λ x. world v' given (set fs i x)) p.is };
       }
 
-  pub step-done : (reply : Reply) → NextPiece v f v' f' → f'.rest.count ≤ 0 → reply ≡ reply_to f'.work → fs' ≡ remove (set fs i f') i → Serves EachPart (world v given fs) t (Done (Ok reply)) (world v' given fs')
+  pub step-done : (reply : Reply) → NextPiece part v f v' f' → f'.rest.count ≤ 0 → reply ≡ reply_to f'.work → fs' ≡ remove (set fs i f') i → Serves part (world v given fs) t (Done (Ok reply)) (world v' given fs')
   step-done reply p none is r =
       let left : f'.rest.count ≡ f.rest.count - piece_len v.config f.rest = ap (λ x. x.rest.count) p.is in
       record {
@@ -66,12 +68,12 @@ same-config v v' f answer p =
     (any-keeps v f.rest.device.0 f.rest.first part answer v' (each-any v f.rest.device.0 f.rest.first part answer v' p)).config
 
 pub sound-fails : (v v' : StackRecord) (given : ℕ) (fs fs' : List FlightRecord) (i : ℕ) (f f' : FlightRecord) (fault : IoFault)
-    → FailedPiece v f fault v' → fs' ≡ remove (set fs i f') i → IsSoundWorld v.config given fs → IsSoundWorld v'.config given fs'
+    → FailedPiece EachPart v f fault v' → fs' ≡ remove (set fs i f') i → IsSoundWorld v.config given fs → IsSoundWorld v'.config given fs'
 sound-fails v v' given fs fs' i f f' fault p r s =
     subst (λ l. IsSoundWorld v'.config given l) (sym (r ∙ remove-set fs i f')) (sound-remove v.config v'.config given fs i (same-config v v' f (Err fault) p.answered) s)
 
 pub sound-more : (v v' : StackRecord) (given : ℕ) (fs : List FlightRecord) (t i : ℕ) (f f' : FlightRecord) → Some i ≡ position (has_ticket t) fs → f ≡ get_or fs i f
-    → NextPiece v f v' f' → 0 < f'.rest.count → IsSoundWorld v.config given fs → IsSoundWorld v'.config given (set fs i f')
+    → NextPiece EachPart v f v' f' → 0 < f'.rest.count → IsSoundWorld v.config given fs → IsSoundWorld v'.config given (set fs i f')
 sound-more v v' given fs t i f f' place e p some s =
     let n = piece_len v.config f.rest in
     let left : f'.rest.count ≡ f.rest.count - n = ap (λ x. x.rest.count) p.is in
@@ -80,7 +82,7 @@ sound-more v v' given fs t i f f' place e p some s =
     sound-set v.config v'.config given fs i f f' (same-config v v' f (Ok p.got) p.answered) (ap (λ x. x.ticket) p.is ∙ ap (λ x. x.ticket) e) one s
 
 pub sound-done : (v v' : StackRecord) (given : ℕ) (fs fs' : List FlightRecord) (i : ℕ) (f f' : FlightRecord)
-    → NextPiece v f v' f' → fs' ≡ remove (set fs i f') i → IsSoundWorld v.config given fs → IsSoundWorld v'.config given fs'
+    → NextPiece EachPart v f v' f' → fs' ≡ remove (set fs i f') i → IsSoundWorld v.config given fs → IsSoundWorld v'.config given fs'
 sound-done v v' given fs fs' i f f' p r s =
     subst (λ l. IsSoundWorld v'.config given l) (sym (r ∙ remove-set fs i f')) (sound-remove v.config v'.config given fs i (same-config v v' f (Ok p.got) p.answered) s)
 
@@ -100,6 +102,23 @@ bytes-done v v' given fs d first size range (Err fault) found read = record {
   admits = sym found ∙ ap Ok (sym (bytes_range-ok v.config d first size range (sym found)));
   stack = v';
   asks = record { answered = read.each; kept = read.kept };
+  leaves = refl;
+}
+
+pub bytes-called : {D : Type 0} {state : D → Device} {does : D → Call → D → Type 0} (v v' : StackRecord) (given : ℕ) (fs : List FlightRecord) (d first size : ℕ) (range : SectorRange) (answer : Result (List ℕ) IoFault) → Ok range ≡ bytes_range v.config d first size
+    → GivesInTurn state does (range_at d first (size / 512)) v answer v' → BytesRead (CalledPart state does) (world v given fs) d first size answer (world v' given fs)
+bytes-called v v' given fs d first size range (Ok bytes) found gives = record {
+  range = range_at d first (size / 512);
+  admits = sym found ∙ ap Ok (sym (bytes_range-ok v.config d first size range (sym found)));
+  stack = v';
+  asks = gives;
+  leaves = refl;
+}
+bytes-called v v' given fs d first size range (Err fault) found gives = record {
+  range = range_at d first (size / 512);
+  admits = sym found ∙ ap Ok (sym (bytes_range-ok v.config d first size range (sym found)));
+  stack = v';
+  asks = gives;
   leaves = refl;
 }
 

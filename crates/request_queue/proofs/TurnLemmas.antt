@@ -1,12 +1,15 @@
 -- One piece of a read at once after those before it.
 use Rattle.std.proofs.Common.{◌≡◌, ◌≤◌, ℕ, ◌+◌, ◌-◌, ◌*◌, ◌/◌, ◌%◌, List, ◌++◌, length, take, drop, ap, ◌∙◌, subst, arith, Result, Ok, Err}
 use Rattle.std.proofs.lemmas.List.{length-drop, length-take-le}
+use Rattle.block_device.specs.Call.{Call}
+use Rattle.block_device.specs.Device.{Device}
 use Rattle.stack_meaning.specs.declared.fault.IoFault.{IoFault}
 use Rattle.stack_lines.specs.Budgets.{ReadsAtMost}
 use Rattle.stack_engine.specs.Bytes.{EachBytes}
-use Rattle.stack_engine.specs.Pieces.{piece_budget}
+use Rattle.stack_engine.specs.Pieces.{PieceGives, piece_budget}
 use Rattle.stack_engine.specs.Stacks.{StackRecord}
 use Rattle.request_queue.specs.AtOnce.{IsNextPiece, PieceRead, ReadsInTurn, a_read, last_read}
+use Rattle.request_queue.specs.PieceCalls.{GivesInTurn, last_given, piece_given}
 use Rattle.request_queue.specs.Ranges.{range_at}
 
 -- so many bytes were read of a slice, the next piece has n, and all of it is to be read
@@ -44,3 +47,23 @@ module _ (base v v' : StackRecord) (d first all : ℕ) (out : List ℕ) (done n 
     pub turn-ends : (fault : IoFault) → EachBytes v d (first + done / 512) (length room_of_piece / 512) (Err fault) v'
         → ReadsAtMost (piece_budget v d (first + done / 512) (length room_of_piece / 512)) v.leaves v'.leaves → ReadsInTurn (range_at d first (all / 512)) base (Err fault) v'
     turn-ends fault each spent = last_read p (a-piece (Err fault) each spent)
+
+  -- the calls of the piece
+  module _ {D : Type 0} {state : D → Device} {does : D → Call → D → Type 0} (next : IsNextPiece v.config d (first + done / 512) (length out - done) n) (p : GivesInTurn state does (range_at d first (all / 512)) base (Ok (take done out)) v) where
+    here : IsNextPiece v.config d (first + length (take done out) / 512) (512 * (all / 512) - length (take done out)) n
+    here =
+        let at : first + done / 512 ≡ first + length (take done out) / 512 = omega (arith, front-length) in
+        let left : length out - done ≡ 512 * (all / 512) - length (take done out) = omega (arith, front-length, fits, whole) in
+        subst (λ m. IsNextPiece v.config d (first + length (take done out) / 512) m n) left (subst (λ k. IsNextPiece v.config d k (length out - done) n) at next)
+
+    gives : (answer : Result (List ℕ) IoFault) → PieceGives state does v (d, first + done / 512) (length room_of_piece / 512) answer v' → PieceGives state does v (d, first + length (take done out) / 512) (n / 512) answer v'
+    gives answer given =
+        let at : first + done / 512 ≡ first + length (take done out) / 512 = omega (arith, front-length) in
+        let count : length room_of_piece / 512 ≡ n / 512 = ap (λ (k : ℕ). k / 512) room-length in
+        subst (λ k. PieceGives state does v (d, k) (n / 512) answer v') at (subst (λ k. PieceGives state does v (d, first + done / 512) k answer v') count given)
+
+    pub given-more : (part bytes : List ℕ) → take done out ++ part ≡ bytes → PieceGives state does v (d, first + done / 512) (length room_of_piece / 512) (Ok part) v' → GivesInTurn state does (range_at d first (all / 512)) base (Ok bytes) v'
+    given-more part bytes is given = subst (λ l. GivesInTurn state does (range_at d first (all / 512)) base (Ok l) v') is (piece_given n p here (gives (Ok part) given))
+
+    pub given-ends : (fault : IoFault) → PieceGives state does v (d, first + done / 512) (length room_of_piece / 512) (Err fault) v' → GivesInTurn state does (range_at d first (all / 512)) base (Err fault) v'
+    given-ends fault given = last_given n p here (gives (Err fault) given)

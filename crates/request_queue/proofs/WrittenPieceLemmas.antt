@@ -2,6 +2,8 @@
 use Rattle.std.proofs.Common.{◌≡◌, ◌≤◌, ℕ, ◌+◌, ◌-◌, ◌*◌, ◌/◌, ◌%◌, List, ◌++◌, length, take, drop, refl, ap, sym, ◌∙◌, subst, arith, Result, Ok, Err}
 use Rattle.std.proofs.lemmas.List.{length-drop, length-take-le, take-append-drop}
 use Rattle.std.proofs.Math.Seq.{take-length, take-add}
+use Rattle.block_device.specs.Call.{Call}
+use Rattle.block_device.specs.Device.{Device}
 use Rattle.stack_rules.specs.Names.{mapped, size}
 use Rattle.stack_rules.specs.Records.{Configuration}
 use Rattle.stack_meaning.specs.declared.fault.IoFault.{IoFault}
@@ -11,11 +13,12 @@ use Rattle.stack_meaning.proofs.lemmas.FoundLemmas.{SomeOf-more}
 use Rattle.stack_lines.specs.Writing.{SomeEncrypt}
 use Rattle.stack_engine.specs.KeptBlocks.{AreChecked}
 use Rattle.stack_engine.specs.Stacks.{StackRecord}
-use Rattle.stack_engine.specs.WritePieces.{EachWrite, PieceNeeded, PieceWrote, WritesInPieces}
+use Rattle.stack_engine.specs.WritePieces.{EachWrite, PieceHands, PieceNeeded, PieceWrote, WritesInPieces}
 use Rattle.stack_engine.proofs.lemmas.PieceLemmas.{same-stack}
 use Rattle.stack_engine.proofs.lemmas.WritePieceLemmas.{write-then, write-ends}
 use Rattle.request_queue.specs.AtOnce.{BytesWritten, CanBeWritten, IsNextPiece, IsNextWrite, WritesBeside, write_range}
 use Rattle.request_queue.specs.Flights.{FlightRecord}
+use Rattle.request_queue.specs.PieceCalls.{HandsInTurn, last_handed, piece_handed}
 use Rattle.request_queue.specs.Ranges.{bytes_range, range_at}
 use Rattle.request_queue.specs.declared.range.SectorRange.{SectorRange}
 use Rattle.request_queue.specs.WholeRuns.{WritesWhole}
@@ -106,6 +109,24 @@ module _ (base v v' : StackRecord) (d first : ℕ) (bytes : List ℕ) (done end 
       steps-end fault q =
           subst (λ l. WritesBeside (range_at d first (length bytes / 512)) base l (Err fault) v') all-is
           (beside-ends (range_at d first (length bytes / 512)) base v v' (take done bytes) (next_part bytes done end) can.allowed part-inside q.checked (next-write (Err fault) q) p (drop (end - done) (drop done bytes)) fault (from-start (Err fault) q.each))
+
+  -- the calls of the piece
+  module _ {D : Type 0} {state : D → Device} {does : D → Call → D → Type 0} (whole : length bytes % 512 ≡ 0) (next : IsNextPiece v.config d (first + done / 512) (length bytes - done) (end - done)) (p : HandsInTurn state does (range_at d first (length bytes / 512)) base (take done bytes) (Ok tt) v) where
+    here : IsNextPiece v.config d (first + length (take done bytes) / 512) (512 * (length bytes / 512) - length (take done bytes)) (length (next_part bytes done end))
+    here =
+        let left : length bytes - done ≡ 512 * (length bytes / 512) - length (take done bytes) = omega (arith, front-length, whole) in
+        subst (λ n. IsNextPiece v.config d (first + length (take done bytes) / 512) (512 * (length bytes / 512) - length (take done bytes)) n) (sym part-length)
+        (subst (λ m. IsNextPiece v.config d (first + length (take done bytes) / 512) m (end - done)) left (subst (λ k. IsNextPiece v.config d k (length bytes - done) (end - done)) start next))
+
+    hands : (result : Result Unit IoFault) → PieceHands state does v (d, first + done / 512) (next_part bytes done end) result v' → PieceHands state does v (d, first + length (take done bytes) / 512) (next_part bytes done end) result v'
+    hands result handed = subst (λ k. PieceHands state does v (d, k) (next_part bytes done end) result v') start handed
+
+    pub handed-more : PieceHands state does v (d, first + done / 512) (next_part bytes done end) (Ok tt) v' → HandsInTurn state does (range_at d first (length bytes / 512)) base (take end bytes) (Ok tt) v'
+    handed-more handed = subst (λ l. HandsInTurn state does (range_at d first (length bytes / 512)) base l (Ok tt) v') seam (piece_handed p here (hands (Ok tt) handed))
+
+    pub handed-ends : (fault : IoFault) → PieceHands state does v (d, first + done / 512) (next_part bytes done end) (Err fault) v' → HandsInTurn state does (range_at d first (length bytes / 512)) base bytes (Err fault) v'
+    handed-ends fault handed =
+        subst (λ l. HandsInTurn state does (range_at d first (length bytes / 512)) base l (Err fault) v') all-is (last_handed (drop (end - done) (drop done bytes)) p here (hands (Err fault) handed))
 
 -- all of them are the first so many
 pub take-all : (bytes : List ℕ) (done : ℕ) → done ≤ length bytes → length bytes ≤ done → take done bytes ≡ bytes

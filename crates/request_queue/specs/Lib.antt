@@ -17,3 +17,4 @@ pub mod Waiting
 pub mod Touching
 pub mod Puts
 pub mod ListLaws
+pub mod PieceCalls

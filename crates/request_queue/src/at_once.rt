@@ -5,6 +5,7 @@ ghost use Rattle.stack_meaning.specs.Meaning.{said_at};
 ghost use Rattle.stack_meaning.specs.Reading.{MeetVerity, buffer_answer};
 ghost use Rattle.stack_lines.specs.Writing.{SomeEncrypt};
 ghost use Rattle.request_queue.specs.AtOnce.{CanBeWritten, IsNextPiece, IsRangeRead, WritesBeside};
+ghost use Rattle.request_queue.specs.PieceCalls.{GivesInTurn, HandsInTurn};
 ghost use Rattle.request_queue.specs.Ranges.{HaveSectors, range_at};
 ghost use Rattle.request_queue.specs.WholeRuns.{WritesWhole};
 
@@ -34,6 +35,7 @@ pub(crate) fn read_pieces<D: BlockDev>(
 ) -> Result<(), IoFault>
     requires { HaveSectors stack.old.config device.0 first (length out.old) }
     ensures read { IsRangeRead stack.old (range_at device.0 first (length out.old / 512)) (buffer_answer result out.new) stack.new }
+    ensures given { GivesInTurn D.state D.does (range_at device.0 first (length out.old / 512)) stack.old (buffer_answer result out.new) stack.new }
     ensures memory { result ≡ Err IoFault.NoMemory → MeetVerity (said_at stack.old.config (mapped device.0)) first (length out.old / 512) }
 {
     // That the blocks that are kept were checked is learned from a call.
@@ -58,6 +60,7 @@ pub(crate) fn write_pieces<D: BlockDev>(
     requires { CanBeWritten stack.old.config device.0 first bytes.now }
     ensures whole { WritesWhole stack.old (range_at device.0 first (length bytes.now / 512)) bytes.now result stack.new }
     ensures steps { WritesBeside (range_at device.0 first (length bytes.now / 512)) stack.old bytes.now result stack.new }
+    ensures handed { HandsInTurn D.state D.does (range_at device.0 first (length bytes.now / 512)) stack.old bytes.now result stack.new }
     ensures memory { result ≡ Err IoFault.NoMemory → SomeEncrypt (said_at stack.old.config (mapped device.0)) first (length bytes.now / 512) }
 {
     let mut done = 0;

@@ -2,6 +2,8 @@
 ghost use Rattle.std.specs.Prelude.{◌≡◌, OnOk, IfErr, find, option_map, position};
 ghost use Rattle.request_queue.specs.Flights.{FlightRecord, has_ticket, reply_to, work_record};
 ghost use Rattle.request_queue.specs.Flights.{IsSoundFlight};
+ghost use Rattle.request_queue.specs.Parts.{EachPart};
+ghost use Rattle.request_queue.specs.PieceCalls.{CalledPart};
 ghost use Rattle.request_queue.specs.Serving.{NextPiece, FailedPiece};
 
 use crate::range::{SectorRange, piece_len};
@@ -70,8 +72,10 @@ impl Flight {
     /// Serves its next piece.
     pub(crate) fn serve<D: BlockDev>(&mut self, stack: &mut Stack<D>) -> Result<(), IoFault>
         requires { IsSoundFlight stack.old.config self.old }
-        ensures ok { OnOk result (NextPiece stack.old self.old stack.new self.new) }
-        ensures err { IfErr result (λ fault. FailedPiece stack.old self.old fault stack.new) }
+        ensures ok { OnOk result (NextPiece EachPart stack.old self.old stack.new self.new) }
+        ensures err { IfErr result (λ fault. FailedPiece EachPart stack.old self.old fault stack.new) }
+        ensures called { OnOk result (NextPiece (CalledPart D.state D.does) stack.old self.old stack.new self.new) }
+        ensures failed { IfErr result (λ fault. FailedPiece (CalledPart D.state D.does) stack.old self.old fault stack.new) }
     {
         let rest = self.rest;
         let count = piece_len(stack.config(), rest);

@@ -3,11 +3,13 @@ ghost use Rattle.std.specs.Prelude.{◌≡◌, ◌≢◌, ◌/◌, [], length, o
 ghost use Rattle.stack_meaning.specs.Meaning.{said_at};
 ghost use Rattle.stack_meaning.specs.Reading.{MeetVerity};
 ghost use Rattle.stack_lines.specs.Writing.{SomeEncrypt};
+ghost use Rattle.stack_engine.specs.Syncs.{MakesSyncs};
 ghost use Rattle.stack_rules.specs.Names.{mapped};
 ghost use Rattle.request_queue.specs.AtOnce.{ReadsInPieces, WritesBytes};
 ghost use Rattle.request_queue.specs.Laws.{QueueLaw};
 ghost use Rattle.request_queue.specs.ListLaws.{ListsLaw};
 ghost use Rattle.request_queue.specs.Parts.{EachPart};
+ghost use Rattle.request_queue.specs.PieceCalls.{CalledPart, HandsBytes};
 ghost use Rattle.request_queue.specs.Replies.{bytes_outcome, outcome_of};
 ghost use Rattle.request_queue.specs.Requests.{request_record};
 ghost use Rattle.request_queue.specs.Runs.{flight_of};
@@ -148,9 +150,10 @@ impl<D: BlockDev> Queue<D> {
         Ok(Ticket(ticket))
     }
 
-    /// Serves one piece of the request with that ticket.
+    /// Serves one piece of the request with that ticket. `called` states which calls of the leaves' devices it makes.
     pub fn step(&mut self, ticket: Ticket) -> Result<Progress, NoSuchTicket>
-        ensures { Step EachPart self.old (step ticket.0 result) self.new }
+        ensures step { Step EachPart self.old (step ticket.0 result) self.new }
+        ensures called { Step (CalledPart D.state D.does) self.old (step ticket.0 result) self.new }
     {
         let Some(place) = place_of(self.flights.as_slice(), ticket.0) else {
             return Err(NoSuchTicket);
@@ -171,7 +174,8 @@ impl<D: BlockDev> Queue<D> {
     // Serves a request to its end.
     fn finish(&mut self, ticket: Ticket) -> Result<Reply, IoFault>
         requires there { flight_of self.old ticket.0 ≢ None }
-        ensures { EndsRequest EachPart ticket.0 result self.old self.new }
+        ensures ends { EndsRequest EachPart ticket.0 result self.old self.new }
+        ensures called { EndsRequest (CalledPart D.state D.does) ticket.0 result self.old self.new }
     {
         // What holds of every queue is learned from a call.
         let _sound = self.in_flight();
@@ -184,10 +188,12 @@ impl<D: BlockDev> Queue<D> {
         }
     }
 
-    /// Begins a request, and serves it to its end.
+    /// Begins a request, and serves it to its end. Its calls of the leaves' devices are those of its pieces, in order, and
+    /// none after the first piece that fails (`called`).
     pub fn run(&mut self, request: Request) -> Result<Reply, RunFault>
         ensures step { Step EachPart self.old (run (request_record request) (outcome_of result)) self.new }
         ensures whole { RunAnswers self.old (request_record request) (outcome_of result) self.new }
+        ensures called { Step (CalledPart D.state D.does) self.old (run (request_record request) (outcome_of result)) self.new }
         ensures back { (fault : SubmitFault) (back : Request) → result ≡ Err (RunFault.Submit fault back) → back ≡ request }
     {
         // As in `finish`; and what holds of every stack.
@@ -205,7 +211,8 @@ impl<D: BlockDev> Queue<D> {
     /// Reads sectors of a device, from `first` on, into the slice, at once and whatever requests are in flight. The
     /// slice has room for any number of whole sectors inside the device. No chain is returned: `law` of `new`
     /// states that there are chains which show the bytes. After a fault the slice's content is unspecified. It allocates
-    /// only if a `verity` line is on the way. `pieces` states where its pieces end and what each costs.
+    /// only if a `verity` line is on the way. `pieces` states where its pieces end and what each costs,
+    /// `called` which calls of the leaves' devices each makes.
     pub fn read_bytes(
         &mut self,
         device: DevId,
@@ -215,6 +222,7 @@ impl<D: BlockDev> Queue<D> {
         ensures step { Step EachPart self.old (read_bytes device.0 first (length out.old) (bytes_outcome result out.new)) self.new }
         ensures memory { result ≡ Err (BytesFault.Failed IoFault.NoMemory) → MeetVerity (said_at self.old.stack.config (mapped device.0)) first (length out.old / 512) }
         ensures pieces { ReadsInPieces self.old device.0 first (length out.old) (bytes_outcome result out.new) self.new }
+        ensures called { Step (CalledPart D.state D.does) self.old (read_bytes device.0 first (length out.old) (bytes_outcome result out.new)) self.new }
     {
         bytes_range(self.stack.config(), device, first, out.len())?;
         read_pieces(&mut self.stack, device, first, out)?;
@@ -224,9 +232,10 @@ impl<D: BlockDev> Queue<D> {
     /// Writes the bytes of any number of whole sectors inside a device that may be written, from `first` on, at once and
     /// whatever requests are in flight: piece by piece, each a step, up to the first that fails. All pieces before that
     /// one are written, and nothing after it. It allocates only if a `crypt` line is on the way. `written` states where its
-    /// pieces end and what each costs.
+    /// pieces end and what each costs, `handed` which calls of the leaves' devices each makes.
     pub fn write_bytes(&mut self, device: DevId, first: u64, bytes: &[u8]) -> Result<(), BytesFault>
         ensures written { WritesBytes self.old device.0 first bytes.now result self.new }
+        ensures handed { HandsBytes D.state D.does self.old (device.0, first) bytes.now result self.new }
         ensures memory { result ≡ Err (BytesFault.Failed IoFault.NoMemory) → SomeEncrypt (said_at self.old.stack.config (mapped device.0)) first (length bytes.now / 512) }
     {
         write_range(self.stack.config(), device, first, bytes)?;
@@ -270,9 +279,10 @@ impl<D: BlockDev> Queue<D> {
 
 impl<D: SyncDev> Queue<D> {
     /// Syncs the dirty leaves in order, also while requests are in flight. The fault names the first leaf whose sync
-    /// failed, counted from 1.
+    /// failed, counted from 1. `called` states its calls of the leaves' devices.
     pub fn sync(&mut self) -> Result<(), IoFault>
-        ensures { Step EachPart self.old (sync result) self.new }
+        ensures step { Step EachPart self.old (sync result) self.new }
+        ensures called { MakesSyncs D.state D.does self.old.stack.leaves result self.new.stack.leaves }
     {
         self.stack.sync()
     }

@@ -4,6 +4,8 @@ ghost use Rattle.allocation.specs.Refusal.{IsOutOfMemory};
 ghost use Rattle.stack_meaning.specs.Memory.{largest_allocation};
 ghost use Rattle.stack_rules.specs.Names.{mapped, size};
 ghost use Rattle.request_queue.specs.Flights.{IsWorkOn, first_work, joint_answer, reply_to, work_record};
+ghost use Rattle.request_queue.specs.Parts.{EachPart};
+ghost use Rattle.request_queue.specs.PieceCalls.{CalledPart};
 ghost use Rattle.request_queue.specs.Requests.{request_record};
 ghost use Rattle.request_queue.specs.Serving.{PartDone, PartFailed};
 ghost use Rattle.request_queue.specs.World.{largest_submission};
@@ -78,8 +80,10 @@ impl Work {
         requires most { piece.count ≤ 128 }
         requires inside { piece.first + piece.count ≤ size stack.old.config (mapped piece.device.0) }
         requires work { (rest : ℕ) × (piece.count ≤ rest) × IsWorkOn stack.old.config piece.device.0 (done + rest) (work_record self.old) }
-        ensures ok { OnOk result (PartDone stack.old piece done (work_record self.old) stack.new (work_record self.new)) }
-        ensures err { IfErr result (λ fault. PartFailed stack.old piece done (work_record self.old) fault stack.new) }
+        ensures ok { OnOk result (PartDone EachPart stack.old piece done (work_record self.old) stack.new (work_record self.new)) }
+        ensures err { IfErr result (λ fault. PartFailed EachPart stack.old piece done (work_record self.old) fault stack.new) }
+        ensures called { OnOk result (PartDone (CalledPart D.state D.does) stack.old piece done (work_record self.old) stack.new (work_record self.new)) }
+        ensures failed { IfErr result (λ fault. PartFailed (CalledPart D.state D.does) stack.old piece done (work_record self.old) fault stack.new) }
     {
         match self {
             Work::Read(got) => {

@@ -28,7 +28,8 @@ impl<'a> Ahead<'a> {
 
     /// Returns `count` sectors that weren't recovered.
     pub fn unread(count: u64) -> Ahead<'a>
-        ensures { marks_ahead result ≡ replicate count false }
+        ensures marks { marks_ahead result ≡ replicate count false }
+        ensures single { result.rest.now ≡ [] }
     {
         Ahead {
             first: Run { count, had: false },
@@ -36,12 +37,13 @@ impl<'a> Ahead<'a> {
         }
     }
 
-    /// Returns the run of the next sectors. At least one sector must remain.
+    /// Returns the run of the next sectors. At least one sector must remain. If no run is after the current one, it is that one.
     pub fn next_run(&mut self) -> Run
         requires { 1 ≤ length (marks_ahead self.old) }
         ensures same { marks_ahead self.new ≡ marks_ahead self.old }
         ensures first { result ≡ self.new.first }
         ensures some { 1 ≤ result.count }
+        ensures single { self.old.rest.now ≡ [] → self.new.rest.now ≡ [] }
     {
         'runs: while self.first.count == 0 {
             self.first = self.rest[0];
@@ -53,7 +55,8 @@ impl<'a> Ahead<'a> {
     /// Removes the first `count` sectors of the current run.
     pub fn pass(&mut self, count: u64)
         requires { count ≤ self.old.first.count }
-        ensures { marks_ahead self.old ≡ replicate count self.old.first.had ++ marks_ahead self.new }
+        ensures marks { marks_ahead self.old ≡ replicate count self.old.first.had ++ marks_ahead self.new }
+        ensures rest { self.new.rest.now ≡ self.old.rest.now }
     {
         self.first.count -= count;
     }

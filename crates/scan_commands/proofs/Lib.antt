@@ -1,6 +1,7 @@
 pub mod OpeningLemmas
 mod PassLemmas
 pub mod ReportLemmas
+mod ChartLemmas
 mod MapFileLemmas
 mod TurnLemmas
 pub mod NameLemmas

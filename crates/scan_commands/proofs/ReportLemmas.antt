@@ -5,12 +5,13 @@ use Rattle.stack_recovery.specs.declared.recovery.Counts.{Counts}
 use Rattle.stack_recovery.specs.Listings.{Listed, listed}
 use Rattle.stack_recovery.specs.LostRuns.{LostRun}
 use Rattle.stack_recovery.specs.Texts.{lost_text}
+use Rattle.charts.specs.declared.form.ReportForm.{ReportForm}
 use Rattle.scan_commands.specs.declared.recovering_fault.RecoveringFault.{RecoveringFault}
 use Rattle.scan_commands.specs.Reports.{AreKept, Early, IsUnreported, Reports, Whole, kept_text}
 
-pub reports-more : (P Q : Whole) (json : Bool) (old new : Option (List ℕ)) → ((before : Listed) (counts : Counts) (told : Listed) → P before counts told → Q before counts told)
-    → Reports P json old new → Reports Q json old new
-reports-more P Q json old new more r = record {
+pub reports-more : (P Q : Whole) (form : ReportForm) (old new : Option (List ℕ)) → ((before : Listed) (counts : Counts) (told : Listed) → P before counts told → Q before counts told)
+    → Reports P form old new → Reports Q form old new
+reports-more P Q form old new more r = record {
   counts = r.counts;
   before = r.before;
   told = r.told;
@@ -19,11 +20,11 @@ reports-more P Q json old new more r = record {
   reported = r.reported;
 }
 
-pub unreported-more : (S T : Early) (P Q : Whole) (json : Bool) (old new : Option (List ℕ)) (failed : Bool) (fault : RecoveringFault)
+pub unreported-more : (S T : Early) (P Q : Whole) (form : ReportForm) (old new : Option (List ℕ)) (failed : Bool) (fault : RecoveringFault)
     → ((before told : Listed) → S before fault told → T before fault told) → ((before : Listed) (counts : Counts) (told : Listed) → P before counts told → Q before counts told)
-    → IsUnreported S P json old new failed fault → IsUnreported T Q json old new failed fault
-unreported-more S T P Q json old new failed fault stops more (inl s) = inl (record { before = s.before; told = s.told; begun = s.begun; stopped = stops s.before s.told s.stopped; kept = s.kept })
-unreported-more S T P Q json old new failed fault stops more (inr l) = inr (record {
+    → IsUnreported S P form old new failed fault → IsUnreported T Q form old new failed fault
+unreported-more S T P Q form old new failed fault stops more (inl s) = inl (record { before = s.before; told = s.told; begun = s.begun; stopped = stops s.before s.told s.stopped; kept = s.kept })
+unreported-more S T P Q form old new failed fault stops more (inr l) = inr (record {
   counts = l.counts;
   before = l.before;
   told = l.told;

@@ -14,10 +14,11 @@ use Rattle.scan_commands.specs.declared.rescue_fault.PassFault.TheVariants.{NoMa
 use Rattle.scan_commands.specs.MapFiles.{MapPathRecord, recovery_ending}
 use Rattle.image_files.specs.declared.texts.ReplaceFault.{ReplaceFault}
 use Rattle.rescue_map.specs.declared.totals.Totals.{Totals}
-use Rattle.scan_commands.specs.Turns.{IsTurnsEnd, IsMapUnwritten, IsUnfailed, Kept, Progressed, RescuesInTurns, StopsIn, IsTurn, Turns, kept as kept_by, largest_print_allocation, progressed}
+use Rattle.rescue_map.specs.declared.splicing.Span.{Span}
+use Rattle.scan_commands.specs.Turns.{IsSpan, asked_marks, IsTurnsEnd, IsMapUnwritten, IsUnfailed, Kept, Progressed, RescuesInTurns, StopsIn, IsTurn, Turns, kept as kept_by, largest_print_allocation, progressed}
 use Rattle.stack_recovery.specs.declared.fault.RecoveryFault.{RecoveryFault}
 use Rattle.stack_recovery.specs.declared.fault.RecoveryFault.TheVariants as recovery
-use Rattle.stack_recovery.specs.Recoveries.{FindsNoMemory, IsMapRefused, IsRescueEnd, Rescues, RunsShort, Sides, is_had}
+use Rattle.stack_recovery.specs.Recoveries.{FailsOutput, FindsNoMemory, IsMapRefused, IsRescueEnd, Rescues, RunsShort, Sides, is_had}
 use Rattle.stack_recovery.specs.Surveys.{AnswersFinding, Finding, IsSurveyOver, PieceRead, SectorState, again, all_states, had, kept, lost, states_of}
 
 length-map : (states : List SectorState) → length (map is_had states) ≡ length states
@@ -62,10 +63,15 @@ refused-short makes_map before d old new short = refused short.refused
     refused (inl read) = read.answered.any.may
     refused (inr map) = out_of_memory-more 1 largest_allocation (omega arith) map.1
 
-pub stops-rescue : {S : Type 0} (k : Kept S) (now : Progressed S) (before : List Bool) (new : Sides) (fault : RecoveryFault)
-    → IsRescueEnd before k.d now.sides new fault → StopsIn k now now.images new (recovery_ending fault)
-stops-rescue k now before new recovery.NoMemory e = (refl, e.unfailed, refused-short true before k.d now.sides new e)
-stops-rescue k now before new recovery.Output e = (refl, e.1.0, e.1.1)
+pub stops-rescue : {S : Type 0} (k : Kept S) (now : Progressed S) (span : Span) (end : ℕ) (before : List Bool) (new : Sides) (fault : RecoveryFault)
+    → IsSpan k.sectors now.at span end → before ≡ asked_marks span k.sectors now.runs → IsRescueEnd before k.d now.sides new fault → StopsIn k now now.images new (recovery_ending fault)
+stops-rescue k now span end before new recovery.NoMemory next wanted e = (refl, e.unfailed, refused-short true before k.d now.sides new e)
+stops-rescue k now span end before new recovery.Output next wanted e = (
+  refl,
+  e.failed,
+  e.sure,
+  record { span = span; end = end; next = next; fails = inl (subst (λ (l : List Bool). FailsOutput true l k.d now.sides new) wanted e) },
+)
 
 pub stops-unwritten : {S : Type 0} (k : Kept S) (now : Progressed S) (text : List ℕ) (images : S) (new : Sides) (fault : PassFault)
     → IsUnfailed now.sides new → IsMapUnwritten k.replaces k.file.path now.images text images fault → StopsIn k now images new fault

@@ -1,6 +1,6 @@
 -- Copies of a device's readable sectors to an image, and how a copy ends early.
 use Rattle.std.specs.Prelude.{◌≡◌, ◌⊎◌, ℕ, ◌<◌, Bool, true, false, IsTrue, List, Option, option_map}
-use Rattle.block_device.specs.Device.{Device, HasFailed, synced}
+use Rattle.block_device.specs.Device.{Device, IsUnsynced, synced}
 use Rattle.program_io.specs.Counted.{CountedRecord}
 use Rattle.device_adapters.specs.Differing.{differing}
 use Rattle.image_files.specs.declared.images.OpenImage.{OpenImage}
@@ -20,6 +20,7 @@ use Rattle.stack_recovery.specs.declared.recovery.Counts.{Counts}
 use Rattle.stack_recovery.specs.Listings.{Listed}
 use Rattle.stack_recovery.specs.Recoveries.{sides}
 use Rattle.scan_commands.specs.declared.copy.CopyPlan.{CopyPlan}
+use Rattle.charts.specs.declared.form.ReportForm.TheVariants.{Lines}
 use Rattle.scan_commands.specs.declared.recovering_fault.RecoveringFault.{RecoveringFault}
 use Rattle.scan_commands.specs.declared.recovering_fault.RecoveringFault.TheVariants.{OutputTooSmall}
 use Rattle.scan_commands.specs.Counting.{IsPassEnd, IsRecoveryStackless, listed_by}
@@ -66,12 +67,12 @@ pub record CopiesTo {S D : Type 0} (is_differing : Bool) (w : Calls S D) (map : 
   pub passed : PassesTo is_differing w map d (moving m.old (record m.new { out = unsynced })) counts
   pub durable : m.new.out ≡ synced unsynced
 
--- the pass was completed, but OUT's sync failed
+-- the pass was completed, but OUT's sync failed, which changed no sector
 pub record FailsToSync {S D : Type 0} (is_differing : Bool) (w : Calls S D) (map : Option (List ℕ)) (d : ℕ) (m : Moving) (fault : PassFault) : Type 0 where
   pub counts : Counts
   pub unsynced : Device
   pub passed : PassesTo is_differing w map d (moving m.old (record m.new { out = unsynced })) counts
-  pub failed : HasFailed unsynced m.new.out
+  pub failed : IsUnsynced unsynced m.new.out
   pub sure : IsTrue unsynced.never_fails → ⊥
   pub is : fault ≡ Output
 
@@ -106,7 +107,7 @@ pub record StopsCopy {S D : Type 0} (w : Calls S D) (words : CopyWords) (before 
 
 -- no sector is lost, and all was reported
 abbrev pub PrintsCopy : {S D : Type 0} → Calls S D → CopyWords → Option (List ℕ) → Option (List ℕ) → Type 0
-PrintsCopy w words old new = Reports (Copies w words) false old new
+PrintsCopy w words old new = Reports (Copies w words) Lines old new
 
 -- the device has so many sectors, which are more than the image has
 abbrev pub IsOutputTooSmall : Device → ℕ → RecoveringFault → Type 0
@@ -127,7 +128,7 @@ IsOutputUncopied w words out fault = IsRecoveryStackless (FailsToFindOutput w wo
 -- nothing is printed if the copy doesn't begin
 abbrev pub IsCopyEnd : {S D : Type 0} → Calls S D → CopyWords → Option (List ℕ) → Option (List ℕ) → Bool → RecoveringFault → Type 0
 IsCopyEnd w words old new failed fault =
-    ((new ≡ old) × IsOutputUncopied w words.words words.out fault) ⊎ IsUnreported (StopsCopy w words) (Copies w words) false old new failed fault
+    ((new ≡ old) × IsOutputUncopied w words.words words.out fault) ⊎ IsUnreported (StopsCopy w words) (Copies w words) Lines old new failed fault
 
 -- ---- in terms of the arguments of a call
 

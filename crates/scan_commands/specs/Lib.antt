@@ -9,3 +9,4 @@ pub mod Turns
 pub mod Devices
 pub mod DeviceLines
 pub mod LostJson
+pub mod Charts

@@ -1,5 +1,6 @@
--- The report on a device after a complete pass: lines as lost runs are found, and then the counts; or one JSON object of both.
-use Rattle.std.specs.Prelude.{◌≡◌, ◌⊎◌, ℕ, ◌<◌, Bool, true, false, List, [], Option, Some}
+-- The report on a device after a complete pass: lines as lost runs are found, and then the counts; the
+-- lines, a map and the counts; or one JSON object.
+use Rattle.std.specs.Prelude.{◌≡◌, ◌⊎◌, ℕ, ◌<◌, Bool, true, false, List, [], ◌++◌, Option, Some}
 use Rattle.std.specs.Io.KnownBytes.{Appends}
 use Rattle.program_io.specs.Counted.{CountedRecord}
 use Rattle.program_io.specs.JsonLines.{json_line}
@@ -10,8 +11,11 @@ use Rattle.stack_recovery.specs.Listings.{Listed, listed}
 use Rattle.stack_recovery.specs.LostRuns.{LostRun}
 use Rattle.stack_recovery.specs.Texts.{lost_text}
 use Rattle.scan_commands.specs.declared.recovering_fault.RecoveringFault.{RecoveringFault}
-use Rattle.scan_commands.specs.declared.recovering_fault.RecoveringFault.TheVariants.{LostAsSaid, NoMemory, Write}
-use Rattle.scan_commands.specs.Counting.{IsCountsEnd, TellsCounts}
+use Rattle.scan_commands.specs.declared.recovering_fault.RecoveringFault.TheVariants.{Lost, LostAsSaid, NoMemory, Write}
+use Rattle.charts.specs.declared.form.ReportForm.{ReportForm}
+use Rattle.charts.specs.declared.form.ReportForm.TheVariants.{Lines, Chart, Object}
+use Rattle.scan_commands.specs.Charts.{charted_text}
+use Rattle.scan_commands.specs.Counting.{IsCountsEnd, TellsCounts, counts_text}
 
 -- a pass over a device, by what was reported before it and after it: completed with these counts, or ended early
 abbrev pub Whole : Type 1
@@ -20,10 +24,11 @@ Whole = Listed → Counts → Listed → Type 0
 abbrev pub Early : Type 1
 Early = Listed → RecoveringFault → Listed → Type 0
 
--- what was reported before: the lines follow what the writer holds; for an object no run is kept
-abbrev pub BeginsReport : Bool → Option (List ℕ) → Listed → Type 0
-BeginsReport false old before = before.text ≡ old
-BeginsReport true old before = before ≡ listed (Some []) false
+-- what was reported before: the lines follow what the writer holds; for a map or an object no run is kept
+abbrev pub BeginsReport : ReportForm → Option (List ℕ) → Listed → Type 0
+BeginsReport Lines old before = before.text ≡ old
+BeginsReport Chart old before = before ≡ listed (Some []) false
+BeginsReport Object old before = before ≡ listed (Some []) false
 
 -- all runs were kept, and these are their lines
 pub record AreKept (told : Listed) : Type 0 where
@@ -35,9 +40,10 @@ abbrev pub PrintsLost : List LostRun → Counts → Option (List ℕ) → Option
 PrintsLost runs counts old new = Appends old new (json_line (lost_json runs counts))
 
 -- no sector is lost, and all was printed
-abbrev pub IsReported : Bool → Counts → Listed → Option (List ℕ) → Option (List ℕ) → Type 0
-IsReported false counts told old new = (told.failed ≡ false) × TellsCounts counts told.text new
-IsReported true counts told old new = (kept : AreKept told) × (counts.lost ≡ 0) × PrintsLost kept.runs counts old new
+abbrev pub IsReported : ReportForm → Counts → Listed → Option (List ℕ) → Option (List ℕ) → Type 0
+IsReported Lines counts told old new = (told.failed ≡ false) × TellsCounts counts told.text new
+IsReported Chart counts told old new = (kept : AreKept told) × (counts.lost ≡ 0) × Appends old new (charted_text kept.runs counts ++ counts_text counts.read 0)
+IsReported Object counts told old new = (kept : AreKept told) × (counts.lost ≡ 0) × PrintsLost kept.runs counts old new
 
 -- sectors are lost, as the object states; or the object can't be written; or memory ran out for a run or for the object
 abbrev pub IsObjectEnd : Counts → Listed → Option (List ℕ) → Option (List ℕ) → Bool → RecoveringFault → Type 0
@@ -46,43 +52,52 @@ IsObjectEnd counts told old new failed Write = AreKept told × (failed ≡ true)
 IsObjectEnd counts told old new failed NoMemory = ((told.failed ≡ true) ⊎ AreKept told) × (new ≡ old)
 IsObjectEnd counts told old new failed fault = ⊥
 
-abbrev pub IsReportEnd : Bool → Counts → Listed → Option (List ℕ) → Option (List ℕ) → Bool → RecoveringFault → Type 0
-IsReportEnd false counts told old new failed fault = IsCountsEnd counts told new failed fault
-IsReportEnd true counts told old new failed fault = IsObjectEnd counts told old new failed fault
+-- sectors are lost, after the lines and the map; or not all is printed; or memory ran out for a run
+abbrev pub IsChartEnd : Counts → Listed → Option (List ℕ) → Option (List ℕ) → Bool → RecoveringFault → Type 0
+IsChartEnd counts told old new failed (Lost read lost) = (kept : AreKept told) × (read ≡ counts.read) × (lost ≡ counts.lost) × (0 < counts.lost) × Appends old new (charted_text kept.runs counts)
+IsChartEnd counts told old new failed Write = AreKept told × (failed ≡ true)
+IsChartEnd counts told old new failed NoMemory = (told.failed ≡ true) × (new ≡ old)
+IsChartEnd counts told old new failed fault = ⊥
+
+abbrev pub IsReportEnd : ReportForm → Counts → Listed → Option (List ℕ) → Option (List ℕ) → Bool → RecoveringFault → Type 0
+IsReportEnd Lines counts told old new failed fault = IsCountsEnd counts told new failed fault
+IsReportEnd Chart counts told old new failed fault = IsChartEnd counts told old new failed fault
+IsReportEnd Object counts told old new failed fault = IsObjectEnd counts told old new failed fault
 
 -- lines that were printed remain; runs that were kept aren't printed
-abbrev pub KeepsReport : Bool → Listed → Option (List ℕ) → Option (List ℕ) → Bool → Type 0
-KeepsReport false told old new failed = told ≡ listed new failed
-KeepsReport true told old new failed = new ≡ old
+abbrev pub KeepsReport : ReportForm → Listed → Option (List ℕ) → Option (List ℕ) → Bool → Type 0
+KeepsReport Lines told old new failed = told ≡ listed new failed
+KeepsReport Chart told old new failed = new ≡ old
+KeepsReport Object told old new failed = new ≡ old
 
 -- the pass was completed, no sector is lost, and all was printed
-pub record Reports (Done : Whole) (json : Bool) (old new : Option (List ℕ)) : Type 0 where
+pub record Reports (Done : Whole) (form : ReportForm) (old new : Option (List ℕ)) : Type 0 where
   pub counts : Counts
   pub before : Listed
   pub told : Listed
-  pub begun : BeginsReport json old before
+  pub begun : BeginsReport form old before
   pub done : Done before counts told
-  pub reported : IsReported json counts told old new
+  pub reported : IsReported form counts told old new
 
 -- the pass was completed, and sectors are lost or not all is printed
-pub record LosesSectors (Done : Whole) (json : Bool) (old new : Option (List ℕ)) (failed : Bool) (fault : RecoveringFault) : Type 0 where
+pub record LosesSectors (Done : Whole) (form : ReportForm) (old new : Option (List ℕ)) (failed : Bool) (fault : RecoveringFault) : Type 0 where
   pub counts : Counts
   pub before : Listed
   pub told : Listed
-  pub begun : BeginsReport json old before
+  pub begun : BeginsReport form old before
   pub done : Done before counts told
-  pub ends : IsReportEnd json counts told old new failed fault
+  pub ends : IsReportEnd form counts told old new failed fault
 
 -- the pass ended early
-pub record StopsEarly (Stopped : Early) (json : Bool) (old new : Option (List ℕ)) (failed : Bool) (fault : RecoveringFault) : Type 0 where
+pub record StopsEarly (Stopped : Early) (form : ReportForm) (old new : Option (List ℕ)) (failed : Bool) (fault : RecoveringFault) : Type 0 where
   pub before : Listed
   pub told : Listed
-  pub begun : BeginsReport json old before
+  pub begun : BeginsReport form old before
   pub stopped : Stopped before fault told
-  pub kept : KeepsReport json told old new failed
+  pub kept : KeepsReport form told old new failed
 
-abbrev pub IsUnreported : Early → Whole → Bool → Option (List ℕ) → Option (List ℕ) → Bool → RecoveringFault → Type 0
-IsUnreported Stopped Done json old new failed fault = StopsEarly Stopped json old new failed fault ⊎ LosesSectors Done json old new failed fault
+abbrev pub IsUnreported : Early → Whole → ReportForm → Option (List ℕ) → Option (List ℕ) → Bool → RecoveringFault → Type 0
+IsUnreported Stopped Done form old new failed fault = StopsEarly Stopped form old new failed fault ⊎ LosesSectors Done form old new failed fault
 
 -- ---- in terms of the arguments of a call
 
@@ -91,7 +106,13 @@ abbrev pub kept_text : KeptRuns → Listed
 kept_text kept = listed (Some (lost_text kept.runs.items)) kept.refused
 
 abbrev pub TellsObject : {T : Type 0} → (T → Option (List ℕ)) → KeptRuns → Counts → CountedRecord T → CountedRecord T → Type 0
-TellsObject contents kept counts old new = IsReported true counts (kept_text kept) (contents old.inner) (contents new.inner)
+TellsObject contents kept counts old new = IsReported Object counts (kept_text kept) (contents old.inner) (contents new.inner)
 
 abbrev pub EndsObject : {T : Type 0} → (T → Option (List ℕ)) → KeptRuns → Counts → CountedRecord T → CountedRecord T → RecoveringFault → Type 0
 EndsObject contents kept counts old new fault = IsObjectEnd counts (kept_text kept) (contents old.inner) (contents new.inner) new.failed fault
+
+abbrev pub TellsChart : {T : Type 0} → (T → Option (List ℕ)) → KeptRuns → Counts → CountedRecord T → CountedRecord T → Type 0
+TellsChart contents kept counts old new = IsReported Chart counts (kept_text kept) (contents old.inner) (contents new.inner)
+
+abbrev pub EndsChart : {T : Type 0} → (T → Option (List ℕ)) → KeptRuns → Counts → CountedRecord T → CountedRecord T → RecoveringFault → Type 0
+EndsChart contents kept counts old new fault = IsChartEnd counts (kept_text kept) (contents old.inner) (contents new.inner) new.failed fault

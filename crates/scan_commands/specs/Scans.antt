@@ -15,21 +15,22 @@ use Rattle.stack_recovery.specs.declared.recovery.Counts.{Counts}
 use Rattle.stack_recovery.specs.Listings.{Listed}
 use Rattle.stack_recovery.specs.Recoveries.{sides}
 use Rattle.scan_commands.specs.declared.recovering_fault.RecoveringFault.{RecoveringFault}
+use Rattle.charts.specs.declared.form.ReportForm.{ReportForm}
 use Rattle.scan_commands.specs.declared.scan.ScanPlan.{ScanPlan}
 use Rattle.scan_commands.specs.Counting.{IsPassEnd, IsRecoveryStackless}
 use Rattle.scan_commands.specs.Reports.{IsUnreported, Reports}
 
--- a device of a stack file over bindings, the path of its map file, if there is one, and whether the report is an object
+-- a device of a stack file over bindings, the path of its map file, if there is one, and the form of the report
 pub record ScanWords : Type 0 where
   pub words : DeviceWords
   pub map : Option (List ℕ)
-  pub json : Bool
+  pub form : ReportForm
 
-abbrev pub scan_words : DeviceWords → Option (List ℕ) → Bool → ScanWords
-scan_words words map json = record { words = words; map = map; json = json }
+abbrev pub scan_words : DeviceWords → Option (List ℕ) → ReportForm → ScanWords
+scan_words words map form = record { words = words; map = map; form = form }
 
 abbrev pub words_to_scan : StackFile → ScanPlan → ScanWords
-words_to_scan file plan = scan_words (words_for file plan.device) (option_map (λ p. p.now) plan.map) plan.json
+words_to_scan file plan = scan_words (words_for file plan.device) (option_map (λ p. p.now) plan.map) plan.form
 
 -- the device was scanned, with a scan's map if there is one
 pub record Scans {S D : Type 0} (w : Calls S D) (words : ScanWords) (before : Listed) (counts : Counts) (told : Listed) : Type 0 where
@@ -54,12 +55,12 @@ pub record StopsScan {S D : Type 0} (w : Calls S D) (words : ScanWords) (before 
 
 -- no sector is lost, and all was reported
 abbrev pub PrintsScan : {S D : Type 0} → Calls S D → ScanWords → Option (List ℕ) → Option (List ℕ) → Type 0
-PrintsScan w words old new = Reports (Scans w words) words.json old new
+PrintsScan w words old new = Reports (Scans w words) words.form old new
 
 -- there is no such device, and nothing is printed; or the scan ended early, or sectors are lost or not all is printed
 abbrev pub IsScanEnd : {S D : Type 0} → Calls S D → ScanWords → Option (List ℕ) → Option (List ℕ) → Bool → RecoveringFault → Type 0
 IsScanEnd w words old new failed fault =
-    ((new ≡ old) × IsRecoveryStackless (FailsToFindDevice w words.words) fault) ⊎ IsUnreported (StopsScan w words) (Scans w words) words.json old new failed fault
+    ((new ≡ old) × IsRecoveryStackless (FailsToFindDevice w words.words) fault) ⊎ IsUnreported (StopsScan w words) (Scans w words) words.form old new failed fault
 
 -- ---- in terms of the arguments of a call, for an open device
 
@@ -74,7 +75,7 @@ module _ {S D E T : Type 0} (relations : Opener S D) (state : D → Device) (see
   stops_scan plan before fault told = IsPassEnd (StopsPass (calls relations state images images') (map_at (option_map (λ p. p.now) plan.map) map_kind.Scan) old.device.0 (scanned before told)) fault
 
   abbrev pub ReportsScan : ScanPlan → Type 0
-  ReportsScan plan = Reports (scans plan) plan.json (contents writer.inner) (contents writer'.inner)
+  ReportsScan plan = Reports (scans plan) plan.form (contents writer.inner) (contents writer'.inner)
 
   abbrev pub EndsReporting : ScanPlan → RecoveringFault → Type 0
-  EndsReporting plan = IsUnreported (stops_scan plan) (scans plan) plan.json (contents writer.inner) (contents writer'.inner) writer'.failed
+  EndsReporting plan = IsUnreported (stops_scan plan) (scans plan) plan.form (contents writer.inner) (contents writer'.inner) writer'.failed

@@ -1,8 +1,8 @@
 -- A device that is read in turns, with its map file replaced after each turn.
-use Rattle.std.specs.Prelude.{◌≡◌, ℕ, ◌+◌, ◌*◌, ◌/◌, ◌≤◌, ◌==◌, max, Bool, true, IsTrue, List, replicate, Option, Some, None, Result, Ok, Err, if◌then◌else◌}
+use Rattle.std.specs.Prelude.{◌≡◌, ◌⊎◌, ℕ, ◌+◌, ◌*◌, ◌/◌, ◌≤◌, ◌==◌, max, Bool, true, IsTrue, List, replicate, Option, Some, None, Result, Ok, Err, if◌then◌else◌}
 use Rattle.std.specs.List.{list_all}
 use Rattle.allocation.specs.Refusal.{IsOutOfMemory}
-use Rattle.block_device.specs.Device.{Device, HasFailed, synced}
+use Rattle.block_device.specs.Device.{Device, HasFailed, IsUnsynced, synced}
 use Rattle.rescue_map.specs.declared.map.Run.{Run}
 use Rattle.rescue_map.specs.declared.splicing.Span.{Span}
 use Rattle.rescue_map.specs.Maps.{marks, spliced_marks, map_totals}
@@ -12,7 +12,7 @@ use Rattle.stack_recovery.specs.declared.rescued.Rescued.{Rescued}
 use Rattle.stack_rules.specs.Names.{mapped, size}
 use Rattle.stack_meaning.specs.Memory.{largest_allocation}
 use Rattle.stack_recovery.specs.Listings.{Listed}
-use Rattle.stack_recovery.specs.Recoveries.{Parties, Rescues, Sides, seen_sides, sides}
+use Rattle.stack_recovery.specs.Recoveries.{FailsOutput, Parties, Rescues, Sides, seen_sides, sides}
 use Rattle.image_files.specs.declared.texts.ReplaceFault.{ReplaceFault}
 use Rattle.scan_commands.specs.MapFiles.{MapPathRecord, map_path_of}
 use Rattle.scan_commands.specs.declared.map_file.MapFile.{MapFile}
@@ -112,11 +112,26 @@ IsMapUnwritten replaces path old text new other = ⊥
 abbrev pub IsUnfailed : Sides → Sides → Type 0
 IsUnfailed old new = new.out.failures ≡ old.out.failures
 
+-- The output device was not synced after all sectors of a turn were done.
+pub record FailsToSyncTurn {S : Type 0} (k : Kept S) (span : Span) (now : Progressed S) (new : Sides) : Type 0 where
+  pub left : Sides
+  pub rescued : Rescued
+  pub rescues : Rescues (asked_marks span k.sectors now.runs) k.d now.sides rescued left
+  pub unsynced : IsUnsynced left.out new.out
+  pub stack : new.stack ≡ left.stack
+
+-- The output device failed in the next turn: a write of the turn failed, or the sync after it.
+pub record FailsInTurn {S : Type 0} (k : Kept S) (now : Progressed S) (new : Sides) : Type 0 where
+  pub span : Span
+  pub end : ℕ
+  pub next : IsSpan k.sectors now.at span end
+  pub fails : FailsOutput true (asked_marks span k.sectors now.runs) k.d now.sides new ⊎ FailsToSyncTurn k span now new
+
 -- Why a turn ended early. The map file is that of the completed turns. If memory ran out, an allocation of at most so many
 -- elements was refused: for a read, for a map or for its text.
 abbrev pub StopsIn : {S : Type 0} → Kept S → Progressed S → S → Sides → PassFault → Type 0
 StopsIn k now images new NoMemory = (images ≡ now.images) × IsUnfailed now.sides new × IsOutOfMemory largest_allocation
-StopsIn k now images new Output = (images ≡ now.images) × HasFailed now.sides.out new.out × (IsTrue now.sides.out.never_fails → ⊥)
+StopsIn k now images new Output = (images ≡ now.images) × HasFailed now.sides.out new.out × (IsTrue now.sides.out.never_fails → ⊥) × FailsInTurn k now new
 StopsIn k now images new (Unwritten fault) = (text : List ℕ) × k.replaces now.images k.file.path text (Err fault) images × IsUnfailed now.sides new
 StopsIn k now images new other = ⊥
 

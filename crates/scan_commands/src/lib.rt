@@ -2,6 +2,7 @@
 //! JSON.
 #![tactic(auto)]
 
+mod chart;
 mod copy;
 mod device_lines;
 mod devices;

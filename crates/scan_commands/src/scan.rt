@@ -5,11 +5,13 @@ ghost use Rattle.scan_commands.specs.Passes.{CanPass};
 ghost use Rattle.scan_commands.specs.Counting.{EndsPrintedBy, PrintedBy};
 ghost use Rattle.scan_commands.specs.Scans.{EndsReporting, IsScanEnd, PrintsScan, ReportsScan, words_to_scan};
 
+use crate::chart::tell_chart;
 use crate::map_file::map_at;
 use crate::passing::{Passing, run_pass};
 use crate::recovering_fault::RecoveringFault;
 use crate::report::{tell_counts, tell_object};
 use block_device::BlockDev;
+use charts::ReportForm;
 use device_adapters::Progress;
 use image_files::Images;
 use program_io::Counted;
@@ -19,12 +21,12 @@ use stack_recovery::{Discard, KeptRuns};
 use std::alloc::Global;
 use std::io::Write;
 
-/// The device to be scanned, the path of its map file, if there is one, and whether the report is one JSON object.
+/// The device to be scanned, the path of its map file, if there is one, and the form of the report.
 #[derive(Clone, Copy, Debug, PartialEq, Eq)]
 pub struct ScanPlan<'a> {
     pub device: NamedDevice<'a>,
     pub map: Option<&'a str>,
-    pub json: bool,
+    pub form: ReportForm,
 }
 
 /// Reads a device of a stack file over the bindings, and reports which sectors are lost. With a map file, only sectors that the
@@ -32,7 +34,7 @@ pub struct ScanPlan<'a> {
 ///
 /// # Errors
 ///
-/// - `NoMemory` if memory ran out for the JSON object.
+/// - `NoMemory` if memory ran out for the JSON object, or for a run that the map needs.
 /// - `Stack` if there is no such device, or a file can't be opened.
 /// - `Pass` if the scan ended early.
 /// - `Lost` or `LostAsSaid` if sectors are lost; the scan was completed.
@@ -54,7 +56,7 @@ pub fn scan_device<'a, I: Images, W: Write, P: Progress>(
     report_scan(alloc, images, &mut passing, plan, writer, progress)
 }
 
-// Scans an open device. Prints each lost run as it is found, or keeps the runs for one JSON object.
+// Scans an open device. Prints each lost run as it is found, or keeps the runs for a map or one JSON object.
 fn report_scan<'a, I: Images, D: BlockDev, W: Write, P: Progress>(
     alloc: Global,
     images: &mut I,
@@ -68,11 +70,20 @@ fn report_scan<'a, I: Images, D: BlockDev, W: Write, P: Progress>(
     ensures err { IfErr result (EndsReporting I.relations I.Dev.state ⟦<Discard as BlockDev>⟧.state W.contents images.old images.new passing.old passing.new writer.old writer.new plan.entry) }
 {
     let map = map_at(plan.map, MapKind::Scan);
-    if plan.json {
-        let mut kept = KeptRuns::new(alloc);
-        let found = run_pass(alloc, images, passing, map, &mut kept, progress)?;
-        return tell_object(alloc, &kept, found, writer);
+    match plan.form {
+        ReportForm::Lines => {
+            let counts = run_pass(alloc, images, passing, map, writer, progress)?;
+            tell_counts(counts, writer)
+        }
+        ReportForm::Chart => {
+            let mut runs = KeptRuns::new(alloc);
+            let charted = run_pass(alloc, images, passing, map, &mut runs, progress)?;
+            tell_chart(&runs, charted, writer)
+        }
+        ReportForm::Object => {
+            let mut kept = KeptRuns::new(alloc);
+            let found = run_pass(alloc, images, passing, map, &mut kept, progress)?;
+            tell_object(alloc, &kept, found, writer)
+        }
     }
-    let counts = run_pass(alloc, images, passing, map, writer, progress)?;
-    tell_counts(counts, writer)
 }

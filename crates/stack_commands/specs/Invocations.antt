@@ -121,7 +121,7 @@ IsStoreCommandEnd w s old new failed fault = BySource s
 -- ---- a whole device
 
 abbrev pub scanned : ScanRecord → ScanWords
-scanned s = scan_words (device_on s.stack s.name s.cache s.bindings) s.map s.json
+scanned s = scan_words (device_on s.stack s.name s.cache s.bindings) s.map s.form
 
 abbrev pub ScansSectors : {S D : Type 0} → Calls S D → ScanRecord → Option (List ℕ) → Option (List ℕ) → Type 0
 ScansSectors w s old new = PrintsScan w (scanned s) old new

@@ -6,7 +6,7 @@ use Rattle.command_line.specs.ImageCopies.{image_copy_record}
 use Rattle.command_line.specs.words.Repair.{RepairRecord}
 use Rattle.fec_area.specs.declared.writing.ParityFault.TheVariants.{TooSmall as ParityTooSmall}
 use Rattle.fec_commands.specs.declared.fault.FecFault.TheVariants as fec
-use Rattle.image_commands.specs.declared.trusted.TrustedRoot.{TrustedRoot}
+use Rattle.image_pin.specs.declared.trusted.TrustedRoot.{TrustedRoot}
 use Rattle.image_files.specs.Opener.{Calls}
 use Rattle.repair_commands.specs.declared.fault.ParityRepairFault.{ParityRepairFault}
 use Rattle.repair_commands.specs.declared.fault.ParityRepairFault.TheVariants.{BlockSizes, TooSmall, Tree}

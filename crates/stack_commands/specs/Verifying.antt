@@ -1,7 +1,7 @@
 -- What `verify` prints where the image is good, and how it ends early; with `--all` the image is gone over whole.
 use Rattle.std.specs.Prelude.{◌≡◌, ◌⊎◌, ℕ, Bool, true, List, Option}
 use Rattle.command_line.specs.words.Verify.{VerifyRecord}
-use Rattle.image_commands.specs.declared.trusted.TrustedRoot.{TrustedRoot}
+use Rattle.image_pin.specs.declared.trusted.TrustedRoot.{TrustedRoot}
 use Rattle.image_files.specs.Opener.{Calls}
 use Rattle.verity_commands.specs.declared.tree_fault.TreeFault.{TreeFault}
 use Rattle.verity_commands.specs.Invocations.{IsSurveyWordsEnd, SurveysAt}

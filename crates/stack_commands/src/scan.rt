@@ -13,7 +13,7 @@ use stack_files::NamedDevice;
 use std::alloc::Global;
 use std::io::Write;
 
-/// `scan [--cache N] [--map FILE] [--progress] [--json] STACK NAME BINDING...`
+/// `scan [--cache N] [--map FILE] [--progress] [--json | --chart] STACK NAME BINDING...`
 pub fn invoke_scan<'a, I: Images, W: Write, P: Progress>(
     alloc: Global,
     context: Context<'_, I, W>,
@@ -31,13 +31,13 @@ pub fn invoke_scan<'a, I: Images, W: Write, P: Progress>(
         bindings,
         map,
         progress: is_shown,
-        json,
+        form,
     } = words;
     if is_shown {
         progress.begin();
     }
     let file = stack_file(stack, &bindings);
     let device = NamedDevice { name, cache };
-    let plan = ScanPlan { device, map, json };
+    let plan = ScanPlan { device, map, form };
     Ok(scan_device(alloc, images, file, plan, writer, progress)?)
 }

@@ -23,3 +23,4 @@ pub mod UnitChangeLemmas
 pub mod HeldLemmas
 pub mod RunBytesLemmas
 pub mod RefusedLemmas
+pub mod SyncCallLemmas

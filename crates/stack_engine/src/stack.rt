@@ -12,7 +12,7 @@ ghost use Rattle.stack_engine.specs.Bytes.{AnyBytes, SteadyBytes};
 ghost use Rattle.stack_engine.specs.KeptBlocks.{AreChecked, ReadKeeps};
 ghost use Rattle.stack_engine.specs.Stacks.{StackRecord, IsSound};
 ghost use Rattle.stack_meaning.specs.Reading.{buffer_answer};
-ghost use Rattle.stack_engine.specs.Syncs.{FailsToSync, NeverFail};
+ghost use Rattle.stack_engine.specs.Syncs.{FailsToSync, MakesSyncs, NeverFail};
 ghost use Rattle.stack_lines.specs.Budgets.{ReadsAtMost};
 ghost use Rattle.stack_engine.specs.Pieces.{AnyPiece, SteadyPiece, stack_over, AreSteadyBeneath, MeetsVerity, piece_budget, PieceGives, PieceStops, answer_bytes};
 ghost use Rattle.stack_engine.specs.WritePieces.{ArePiece, AnyWrite, SteadyWrite, MeetsCrypt, UncutPiece, PieceWrote, PieceNeeded, PieceHands};
@@ -246,6 +246,7 @@ impl<D: BlockDev> Stack<D> {
 impl<D: SyncDev> Stack<D> {
     /// Has what was written to the leaves put on their media: leaf by leaf in order, those that are dirty. Behind Ok
     /// none is. The fault names the first leaf of which that failed, counted from 1; those behind it aren't asked then.
+    /// Its calls of the leaves' devices are one sync of each dirty leaf, up to the first that fails (`called`).
     pub fn sync(&mut self) -> Result<(), IoFault>
         ensures ok { OnOk result (self.new.leaves ≡ map synced self.old.leaves) }
         ensures config { self.new.config ≡ self.old.config }
@@ -253,6 +254,7 @@ impl<D: SyncDev> Stack<D> {
         ensures kept { self.new.kept ≡ self.old.kept }
         ensures err { IfErr result (FailsToSync self.old.leaves self.new.leaves) }
         ensures sure { NeverFail self.old.leaves → IsOk result }
+        ensures called { MakesSyncs D.state D.does self.old.leaves result self.new.leaves }
     {
         // As in `new`.
         let _loaded = self.config.count();

@@ -1,7 +1,9 @@
 //! Has what was written to the leaves put on their media.
-ghost use Rattle.std.specs.Prelude.{◌≡◌, ◌≤◌, IsOk, IsTrue, OnErr, OnOk, IfErr, length, map};
+ghost use Rattle.std.specs.Prelude.{◌≡◌, ◌≤◌, IsOk, IsTrue, OnErr, OnOk, IfErr, is_ok, length, map};
+ghost use Rattle.block_device.specs.Call.{DeviceDoes, Sync};
 ghost use Rattle.block_device.specs.Device.{IsUnsynced, synced};
-ghost use Rattle.stack_engine.specs.Syncs.{FailsToSync};
+ghost use Rattle.stack_engine.specs.LeafCalls.{MakesCalls};
+ghost use Rattle.stack_engine.specs.Syncs.{AreSyncCalls, CallsIf, FailsToSync};
 
 use block_device::{DeviceFault, SyncDev};
 use stack_meaning::IoFault;
@@ -11,6 +13,7 @@ pub(crate) fn sync_leaves<D: SyncDev>(devices: &mut [D]) -> Result<(), IoFault>
     requires { length devices.old ≤ 64 }
     ensures ok { OnOk result (map D.state devices.new ≡ map synced (map D.state devices.old)) }
     ensures err { IfErr result (FailsToSync (map D.state devices.old) (map D.state devices.new)) }
+    ensures called { MakesCalls (DeviceDoes D.state D.does) (AreSyncCalls (map D.state devices.old) result) devices.old devices.new }
 {
     'leaves: for i in 0..devices.len() {
         match sync_leaf(&mut devices[i]) {
@@ -27,6 +30,7 @@ fn sync_leaf<D: SyncDev>(device: &mut D) -> Result<(), DeviceFault>
     ensures err { OnErr result (IsUnsynced (D.state device.old) (D.state device.new)) }
     ensures dirty { OnErr result (IsTrue (D.state device.old).dirty) }
     ensures sure { IsTrue (D.state device.old).never_fails → IsOk result }
+    ensures called { CallsIf (DeviceDoes D.state D.does) (D.state device.old).dirty device.old (Sync (is_ok result)) device.new }
 {
     if !device.is_dirty() {
         return Ok(());

@@ -4,7 +4,10 @@ mod AlikeLemmas
 mod CopyLemmas
 mod LongestLemmas
 mod LostRunLemmas
+mod GrowthLemmas
+mod HandingLemmas
 mod MeantLemmas
+mod PieceLemmas
 mod SurveyLemmas
 mod UnderwayLemmas
 mod VerityLossLemmas

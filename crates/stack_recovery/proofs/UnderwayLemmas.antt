@@ -1,7 +1,8 @@
 -- A device that is gone over, while sectors are left.
 use Rattle.std.proofs.Common.{◌≡◌, ◌≢◌, ◌⊎◌, ℕ, ◌+◌, ◌-◌, ◌≤◌, ◌^◌, Bool, true, false, IsTrue, List, [], ◌∷◌, ◌++◌, length, replicate, Option, Some, None, is_some, Ok, Err, inl, inr, refl, sym, ap, ◌∙◌, subst, arith}
 use Rattle.std.proofs.lemmas.List.{append-nil, length-append, length-replicate}
-use Rattle.block_device.specs.Device.{Device, IsWritten, sectors_of, spliced}
+use Rattle.block_device.specs.Call.{Call, Write}
+use Rattle.block_device.specs.Device.{Device, HasFailed, IsWritten, sectors_of, spliced}
 use Rattle.stack_rules.specs.Names.{mapped, size}
 use Rattle.stack_meaning.specs.declared.fault.IoFault.{IoFault}
 use Rattle.stack_meaning.specs.declared.fault.IoFault.TheVariants.{NoMemory}
@@ -15,23 +16,29 @@ use Rattle.runs.specs.Runs.{run}
 use Rattle.runs.specs.Tallies.{closed_by, listed, opened_by}
 use Rattle.stack_recovery.specs.LostRuns.{LostRun, is_same_fault, lost_in}
 use Rattle.stack_recovery.specs.declared.recovery.Counts.{Counts}
+use Rattle.stack_recovery.specs.declared.piece_limit.PieceLimit.{PieceLimit}
 use Rattle.stack_recovery.specs.declared.tally.Tally.{Tally}
 use Rattle.stack_recovery.specs.Alike.{AreAlike}
 use Rattle.stack_recovery.specs.Copies.{IsCopied}
+use Rattle.stack_recovery.specs.Handing.{calls_found, copy_calls}
 use Rattle.stack_recovery.specs.Listings.{Listed, Tells}
 use Rattle.stack_recovery.specs.Losses.{StopsInPiece}
-use Rattle.stack_recovery.specs.Recoveries.{EndsEarly, FindsNoMemory, GoesOver, IsBegunOver, AreMarksNoted, IsMapRefused, IsRecoveryEnd, NotesMore, Recovers, RunsShort, Sides, sides}
+use Rattle.stack_recovery.specs.PassPieces.{ArePassPieces, IsNextPiece, IsPieceFound, limit_after, limit_from, pass_over}
+use Rattle.stack_recovery.specs.PieceLimits.{first_limit, limit_after_bytes, limit_after_failure, limit_after_loss}
+use Rattle.stack_recovery.specs.Recoveries.{EndsEarly, FailsOutput, FindsNoMemory, GoesOver, IsBegunOver, AreMarksNoted, IsMapRefused, IsRecoveryEnd, NotesMore, Recovers, RunsShort, Sides, sides}
 use Rattle.stack_recovery.specs.Surveys.{AreMarked, IsPieceSurveyed, IsSurveyOver, PieceRead, SectorState, again, all_states, had, kept, lost, states_of}
 use Rattle.stack_recovery.specs.Texts.{lost_text}
 use Rattle.stack_recovery.proofs.AheadLemmas.{length-noted, marks-none, noted-more}
 use Rattle.stack_recovery.proofs.CopyLemmas.{copied-had, copied-lost, copied-none}
 use Rattle.runs.proofs.lemmas.RunLemmas.{IsTallied, tallied-all, tallied-had, tallied-lost, tallied-none}
 use Rattle.stack_recovery.proofs.LostRunLemmas.{is_same-equality, lost_in-append, lost_in-had, lost_in-lost, lost_in-most}
+use Rattle.stack_recovery.proofs.PieceLemmas.{calls-push, limit-push, pieces-push, pieces-same}
 use Rattle.stack_recovery.proofs.SurveyLemmas.{states-push, survey-push, survey-same}
 use Rattle.stack_recovery.proofs.WritingLemmas.{runs-then, tells_nothing}
 
--- the sectors before that one were had or are lost, and of their runs all but the last were printed
-pub record IsUnderway (before : List Bool) (d : ℕ) (old new : Sides) (at : ℕ) (tally : Tally) (made : Option (List Run)) : Type 0 where
+-- The sectors before that one were had or are lost, and of their runs all but the last were printed. The next piece has that
+-- limit, and those calls are the writes of the pieces.
+pub record IsUnderway (makes_map : Bool) (before : List Bool) (d : ℕ) (old new : Sides) (at : ℕ) (tally : Tally) (made : Option (List Run)) (limit : PieceLimit) (calls : List Call) : Type 0 where
   pub reads : List PieceRead
   pub closed : List LostRun
   pub survey : IsSurveyOver before d 0 old.stack reads new.stack
@@ -41,9 +48,13 @@ pub record IsUnderway (before : List Bool) (d : ℕ) (old new : Sides) (at : ℕ
   pub copied : IsCopied reads old.out new.out
   pub printed : Tells old.printed new.printed (lost_text closed)
   pub noted : AreMarksNoted made (all_states reads)
+  pub pieces : ArePassPieces (pass_over old.stack.config d before makes_map) reads
+  pub limited : limit ≡ limit_from first_limit 0 reads
+  pub written : calls ≡ copy_calls 0 reads
 
-pub underway-none : (before : List Bool) (d : ℕ) (old : Sides) (noted : Option (List Run)) → AreMarksNoted noted [] → IsUnderway before d old old 0 (record { last = None; lost = 0 }) noted
-underway-none before d old noted p = record {
+pub underway-none : (makes_map : Bool) (before : List Bool) (d : ℕ) (old : Sides) (noted : Option (List Run)) (limit : PieceLimit) → AreMarksNoted noted [] → limit ≡ first_limit
+    → IsUnderway makes_map before d old old 0 (record { last = None; lost = 0 }) noted limit []
+underway-none makes_map before d old noted limit p first = record {
   reads = [];
   closed = [];
   survey = refl;
@@ -53,43 +64,63 @@ underway-none before d old noted p = record {
   copied = copied-none old.out;
   printed = tells_nothing old.printed;
   noted = p;
+  pieces = tt;
+  limited = first;
+  written = refl;
 }
 
-module _ (before : List Bool) (d : ℕ) (old now : Sides) (at : ℕ) (tally : Tally) (noted : Option (List Run)) (u : IsUnderway before d old now at tally noted) where
+module _ (makes_map : Bool) (before : List Bool) (d : ℕ) (old now : Sides) (at : ℕ) (tally : Tally) (noted : Option (List Run)) (limit : PieceLimit) (calls : List Call) (u : IsUnderway makes_map before d old now at tally noted limit calls) where
   -- its runs are the first of those of the sectors so far
-  pub begun : (stack : StackRecord) (out : Device) → IsBegunOver before d old (sides stack out now.printed)
+  pub begun : (stack : StackRecord) (out : Device) → IsBegunOver makes_map before d old (sides stack out now.printed)
   begun stack out = record {
     reads = u.reads;
     left = now.stack;
     runs = u.closed;
     more = listed tally.last;
     survey = u.survey;
+    pieces = u.pieces;
     first = tallied-all is_same_fault is_same-equality (all_states u.reads) u.closed tally.last u.tallied;
     printed = u.printed;
   }
 
   -- memory ran out
-  pub runs-short : (makes_map : Bool) (stack : StackRecord) → now.out.failures ≡ old.out.failures → FindsNoMemory d at now.stack stack ⊎ IsMapRefused makes_map
+  pub runs-short : (stack : StackRecord) → now.out.failures ≡ old.out.failures → FindsNoMemory d at now.stack stack ⊎ IsMapRefused makes_map
       → RunsShort makes_map before d old (sides stack now.out now.printed)
   unfolding begun
-  runs-short makes_map stack unfailed refused = record {
+  runs-short stack unfailed refused = record {
     begun = begun stack now.out;
     copied = u.copied;
     unfailed = unfailed;
     refused = subst (λ (k : ℕ). FindsNoMemory d k now.stack stack ⊎ IsMapRefused makes_map) u.here refused;
   }
 
-  memory-read : (makes_map : Bool) (stack : StackRecord) (fault : IoFault) → is_some noted ≡ makes_map → (fault ≡ NoMemory → FindsNoMemory d at now.stack stack)
+  -- a write of the output device failed
+  pub fails-output : (n : ℕ) (bytes : List ℕ) (stack : StackRecord) (out : Device) → EachBytes now.stack d at n (Ok bytes) stack → IsWritten now.out at n false out → HasFailed old.out out → (IsTrue old.out.never_fails → ⊥)
+      → FailsOutput makes_map before d old (sides stack out now.printed)
+  unfolding begun
+  fails-output n bytes stack out read writing failed sure = record {
+    begun = begun stack out;
+    out = now.out;
+    n = n;
+    bytes = bytes;
+    read = subst (λ (k : ℕ). EachBytes now.stack d k n (Ok bytes) stack) u.here read;
+    copied = u.copied;
+    writing = subst (λ (k : ℕ). IsWritten now.out k n false out) u.here writing;
+    failed = failed;
+    sure = sure;
+  }
+
+  memory-read : (stack : StackRecord) (fault : IoFault) → is_some noted ≡ makes_map → (fault ≡ NoMemory → FindsNoMemory d at now.stack stack)
       → (fault ≡ NoMemory) ⊎ IsMapRefused (is_some noted) → FindsNoMemory d at now.stack stack ⊎ IsMapRefused makes_map
-  memory-read makes_map stack fault same read (inl is) = inl (read is)
-  memory-read makes_map stack fault same read (inr map) = inr (sym same ∙ map.0, map.1)
+  memory-read stack fault same read (inl is) = inl (read is)
+  memory-read stack fault same read (inr map) = inr (sym same ∙ map.0, map.1)
 
   -- it ended in a piece that wasn't read
-  pub ends-in-piece : {L : Type 0} (told : L → Listed) (makes_map : Bool) (stack : StackRecord) (fault : IoFault) (a b : L) (error : RecoveryFault) → now.printed ≡ told a → now.out.failures ≡ old.out.failures → is_some noted ≡ makes_map
+  pub ends-in-piece : {L : Type 0} (told : L → Listed) (stack : StackRecord) (fault : IoFault) (a b : L) (error : RecoveryFault) → now.printed ≡ told a → now.out.failures ≡ old.out.failures → is_some noted ≡ makes_map
       → (fault ≡ NoMemory → FindsNoMemory d at now.stack stack) → StopsInPiece fault (is_some noted) a b error → EndsEarly makes_map before d old (sides stack now.out (told b)) error
-  ends-in-piece told makes_map stack fault a b recovery.NoMemory printed unfailed same read p =
-      subst (λ (t : Listed). RunsShort makes_map before d old (sides stack now.out t)) (printed ∙ ap told (sym p.1)) (runs-short makes_map stack unfailed (memory-read makes_map stack fault same read p.0))
-  ends-in-piece told makes_map stack fault a b recovery.Output printed unfailed same read p = absurd p
+  ends-in-piece told stack fault a b recovery.NoMemory printed unfailed same read p =
+      subst (λ (t : Listed). RunsShort makes_map before d old (sides stack now.out t)) (printed ∙ ap told (sym p.1)) (runs-short stack unfailed (memory-read stack fault same read p.0))
+  ends-in-piece told stack fault a b recovery.Output printed unfailed same read p = absurd p
 
   pub few : tally.lost ≤ at
   few = omega (arith, u.here, u.lost, lost_in-most (all_states u.reads))
@@ -104,14 +135,36 @@ module _ (before : List Bool) (d : ℕ) (old now : Sides) (at : ℕ) (tally : Ta
       let here : at ≡ 0 + length (all_states u.reads) = omega (arith, u.here) in
       survey-push before d 0 old.stack u.reads now.stack r u.survey (subst (λ (k : ℕ). IsPieceSurveyed before d k now.stack r) here p)
 
+  next-pieces : (r : PieceRead) → IsPieceFound (pass_over old.stack.config d before makes_map) at limit.most r.count r.found → ArePassPieces (pass_over old.stack.config d before makes_map) (u.reads ++ r ∷ [])
+  next-pieces r h =
+      let here : at ≡ 0 + length (all_states u.reads) = omega (arith, u.here) in
+      pieces-push (pass_over old.stack.config d before makes_map) 0 first_limit u.reads r u.pieces
+      (subst (λ (l : PieceLimit). IsPieceFound (pass_over old.stack.config d before makes_map) (0 + length (all_states u.reads)) l.most r.count r.found) u.limited
+      (subst (λ (k : ℕ). IsPieceFound (pass_over old.stack.config d before makes_map) k limit.most r.count r.found) here h))
+
+  next-limit : (r : PieceRead) → limit_after limit at r ≡ limit_from first_limit 0 (u.reads ++ r ∷ [])
+  next-limit r =
+      let here : at ≡ 0 + length (all_states u.reads) = omega (arith, u.here) in
+      ap (λ (l : PieceLimit). limit_after l at r) u.limited
+      ∙ ap (λ (k : ℕ). limit_after (limit_from first_limit 0 u.reads) k r) here
+      ∙ sym (limit-push first_limit 0 u.reads r)
+
+  next-calls : (r : PieceRead) → calls ++ calls_found at r.found ≡ copy_calls 0 (u.reads ++ r ∷ [])
+  next-calls r =
+      let here : at ≡ 0 + length (all_states u.reads) = omega (arith, u.here) in
+      ap (λ (l : List Call). l ++ calls_found at r.found) u.written
+      ∙ ap (λ (k : ℕ). copy_calls 0 u.reads ++ calls_found k r.found) here
+      ∙ sym (calls-push 0 u.reads r)
+
   -- a piece that was had, written, and told
-  pub underway-had : (n : ℕ) (bytes : List ℕ) (stack : StackRecord) (k : ℕ) (ok : Bool) (out : Device) (printed : Listed) (next : Tally) (more : Option (List Run)) → 1 ≤ n → EachBytes now.stack d at n (Ok bytes) stack → AreMarked before at n false → NotesMore noted more (replicate n true) → k ≡ n
+  pub underway-had : (n : ℕ) (bytes : List ℕ) (stack : StackRecord) (k : ℕ) (ok : Bool) (out : Device) (printed : Listed) (next : Tally) (more : Option (List Run)) (after : PieceLimit) → IsNextPiece (pass_over old.stack.config d before makes_map) at limit.most n → after ≡ limit_after_bytes limit n (at + n)
+      → 1 ≤ n → EachBytes now.stack d at n (Ok bytes) stack → AreMarked before at n false → NotesMore noted more (replicate n true) → k ≡ n
       → IsWritten now.out at k ok out → (IsTrue now.out.steady → out.image ≡ spliced now.out.image at (sectors_of k bytes))
-      → Tells now.printed printed (lost_text (listed tally.last)) → next ≡ record { last = None; lost = tally.lost } → IsUnderway before d old (sides stack out printed) (at + n) next more
-  underway-had n bytes stack k ok out printed next more some p marked noting count w image told is =
+      → Tells now.printed printed (lost_text (listed tally.last)) → next ≡ record { last = None; lost = tally.lost } → IsUnderway makes_map before d old (sides stack out printed) (at + n) next more after (calls ++ Write at bytes true ∷ [])
+  underway-had n bytes stack k ok out printed next more after piece grown some p marked noting count w image told is =
       let r : PieceRead = record { count = n; found = had bytes; after = stack } in
       let states : all_states (u.reads ++ r ∷ []) ≡ all_states u.reads ++ replicate n None = states-push u.reads r in
-      subst (λ (t : Tally). IsUnderway before d old (sides stack out printed) (at + n) t more) (sym is) (record {
+      subst (λ (t : Tally). IsUnderway makes_map before d old (sides stack out printed) (at + n) t more after (calls ++ Write at bytes true ∷ [])) (sym is) (record {
         reads = u.reads ++ r ∷ [];
         closed = u.closed ++ listed tally.last;
         survey = next-survey r (record { answered = p; may = tt; marked = marked });
@@ -121,15 +174,18 @@ module _ (before : List Bool) (d : ℕ) (old now : Sides) (at : ℕ) (tally : Ta
         copied = copied-had u.reads n at k bytes stack ok old.out now.out out u.here count u.copied w image;
         printed = runs-then old.printed now.printed printed u.closed (listed tally.last) u.printed told;
         noted = rw states (noted-more noted more (all_states u.reads) n None u.noted noting);
+        pieces = next-pieces r piece;
+        limited = grown ∙ next-limit r;
+        written = next-calls r;
       })
 
   -- sectors that were had before
   pub underway-kept : (n : ℕ) (printed : Listed) (next : Tally) (more : Option (List Run)) → 1 ≤ n → AreMarked before at n true → NotesMore noted more (replicate n true)
-      → Tells now.printed printed (lost_text (listed tally.last)) → next ≡ record { last = None; lost = tally.lost } → IsUnderway before d old (sides now.stack now.out printed) (at + n) next more
+      → Tells now.printed printed (lost_text (listed tally.last)) → next ≡ record { last = None; lost = tally.lost } → IsUnderway makes_map before d old (sides now.stack now.out printed) (at + n) next more limit calls
   underway-kept n printed next more some marked noting told is =
       let r : PieceRead = record { count = n; found = kept; after = now.stack } in
       let states : all_states (u.reads ++ r ∷ []) ≡ all_states u.reads ++ replicate n None = states-push u.reads r in
-      subst (λ (t : Tally). IsUnderway before d old (sides now.stack now.out printed) (at + n) t more) (sym is) (record {
+      subst (λ (t : Tally). IsUnderway makes_map before d old (sides now.stack now.out printed) (at + n) t more limit calls) (sym is) (record {
         reads = u.reads ++ r ∷ [];
         closed = u.closed ++ listed tally.last;
         survey = next-survey r (record { answered = refl; may = some; marked = marked });
@@ -139,16 +195,20 @@ module _ (before : List Bool) (d : ℕ) (old now : Sides) (at : ℕ) (tally : Ta
         copied = copied-lost u.reads r old.out now.out (λ first m image. refl) u.copied;
         printed = runs-then old.printed now.printed printed u.closed (listed tally.last) u.printed told;
         noted = rw states (noted-more noted more (all_states u.reads) n None u.noted noting);
+        pieces = next-pieces r tt;
+        limited = next-limit r;
+        written = sym (append-nil calls) ∙ next-calls r;
       })
 
   -- a piece that is lost, and told
-  pub underway-lost : (n : ℕ) (fault : IoFault) (stack : StackRecord) (printed : Listed) (next : Tally) (more : Option (List Run)) → 1 ≤ n → EachBytes now.stack d at n (Err fault) stack → AreMarked before at n false → NotesMore noted more (replicate n false) → AreAlike now.stack.config d at n → fault ≢ NoMemory
+  pub underway-lost : (n : ℕ) (fault : IoFault) (stack : StackRecord) (printed : Listed) (next : Tally) (more : Option (List Run)) (after : PieceLimit) → IsNextPiece (pass_over old.stack.config d before makes_map) at limit.most n → after ≡ limit_after_loss
+      → 1 ≤ n → EachBytes now.stack d at n (Err fault) stack → AreMarked before at n false → NotesMore noted more (replicate n false) → AreAlike now.stack.config d at n → fault ≢ NoMemory
       → Tells now.printed printed (lost_text (closed_by is_same_fault tally.last (run at n fault))) → next ≡ record { last = Some (opened_by is_same_fault tally.last (run at n fault)); lost = tally.lost + n }
-      → IsUnderway before d old (sides stack now.out printed) (at + n) next more
-  underway-lost n fault stack printed next more some p marked noting alike kind told is =
+      → IsUnderway makes_map before d old (sides stack now.out printed) (at + n) next more after calls
+  underway-lost n fault stack printed next more after piece grown some p marked noting alike kind told is =
       let r : PieceRead = record { count = n; found = lost fault; after = stack } in
       let states : all_states (u.reads ++ r ∷ []) ≡ all_states u.reads ++ replicate n (Some fault) = states-push u.reads r in
-      subst (λ (t : Tally). IsUnderway before d old (sides stack now.out printed) (at + n) t more) (sym is) (record {
+      subst (λ (t : Tally). IsUnderway makes_map before d old (sides stack now.out printed) (at + n) t more after calls) (sym is) (record {
         reads = u.reads ++ r ∷ [];
         closed = u.closed ++ closed_by is_same_fault tally.last (run at n fault);
         survey = next-survey r (record { answered = p; may = (alike, kind); marked = marked });
@@ -158,11 +218,15 @@ module _ (before : List Bool) (d : ℕ) (old now : Sides) (at : ℕ) (tally : Ta
         copied = copied-lost u.reads r old.out now.out (λ first m image. refl) u.copied;
         printed = runs-then old.printed now.printed printed u.closed (closed_by is_same_fault tally.last (run at n fault)) u.printed told;
         noted = rw states (noted-more noted more (all_states u.reads) n (Some fault) u.noted noting);
+        pieces = next-pieces r piece;
+        limited = grown ∙ next-limit r;
+        written = sym (append-nil calls) ∙ next-calls r;
       })
 
   -- a piece that is read again
-  pub underway-again : (n : ℕ) (fault : IoFault) (stack : StackRecord) → EachBytes now.stack d at n (Err fault) stack → AreMarked before at n false → IsUnderway before d old (sides stack now.out now.printed) at tally noted
-  underway-again n fault stack p marked =
+  pub underway-again : (n : ℕ) (fault : IoFault) (stack : StackRecord) (after : PieceLimit) → IsNextPiece (pass_over old.stack.config d before makes_map) at limit.most n → after ≡ limit_after_failure n (at + n)
+      → EachBytes now.stack d at n (Err fault) stack → AreMarked before at n false → IsUnderway makes_map before d old (sides stack now.out now.printed) at tally noted after calls
+  underway-again n fault stack after piece grown p marked =
       let r : PieceRead = record { count = n; found = again fault; after = stack } in
       let states : all_states (u.reads ++ r ∷ []) ≡ all_states u.reads = states-push u.reads r ∙ append-nil (all_states u.reads) in
       record {
@@ -175,15 +239,19 @@ module _ (before : List Bool) (d : ℕ) (old now : Sides) (at : ℕ) (tally : Ta
         copied = copied-lost u.reads r old.out now.out (λ first m image. refl) u.copied;
         printed = u.printed;
         noted = rw states u.noted;
+        pieces = next-pieces r piece;
+        limited = grown ∙ next-limit r;
+        written = sym (append-nil calls) ∙ next-calls r;
       }
 
   -- all sectors
   pub underway-all : (printed : Listed) (sectors : ℕ) (counts : Counts) → at ≡ size old.stack.config (mapped d) → sectors ≡ at → Tells now.printed printed (lost_text (listed tally.last))
-      → counts ≡ record { read = sectors - tally.lost; lost = tally.lost } → now.out.failures ≡ old.out.failures → GoesOver before d old counts noted (sides now.stack now.out printed)
-  underway-all printed sectors counts end all told is unfailed = record {
+      → counts ≡ record { read = sectors - tally.lost; lost = tally.lost } → now.out.failures ≡ old.out.failures → is_some noted ≡ makes_map → GoesOver before d old counts noted (sides now.stack now.out printed)
+  underway-all printed sectors counts end all told is unfailed same = record {
     reads = u.reads;
     survey = u.survey;
     whole = sym u.here ∙ end;
+    pieces = subst (λ (m : Bool). ArePassPieces (pass_over old.stack.config d before m) u.reads) (sym same) u.pieces;
     copied = u.copied;
     unfailed = unfailed;
     printed = rw (tallied-all is_same_fault is_same-equality (all_states u.reads) u.closed tally.last u.tallied) (runs-then old.printed now.printed printed u.closed (listed tally.last) u.printed told);
@@ -192,24 +260,27 @@ module _ (before : List Bool) (d : ℕ) (old now : Sides) (at : ℕ) (tally : Ta
   }
 
 -- where no sector was had before
-pub recovers-none : (n d : ℕ) (old : Sides) (counts : Counts) (noted : Option (List Run)) (new : Sides) → GoesOver (replicate n false) d old counts noted new → Recovers d old counts new
-recovers-none n d old counts noted new p = record {
+pub recovers-none : (n d : ℕ) (old : Sides) (counts : Counts) (noted : Option (List Run)) (new : Sides) → GoesOver (replicate n false) d old counts noted new → is_some noted ≡ false → Recovers d old counts new
+recovers-none n d old counts noted new p none = record {
   reads = p.reads;
   survey = survey-same (replicate n false) [] d 0 old.stack p.reads new.stack (marks-none n) p.survey;
   whole = p.whole;
+  pieces = pieces-same old.stack.config d (replicate n false) [] false 0 first_limit p.reads (marks-none n)
+      (subst (λ (m : Bool). ArePassPieces (pass_over old.stack.config d (replicate n false) m) p.reads) none p.pieces);
   copied = p.copied;
   unfailed = p.unfailed;
   printed = p.printed;
   counted = p.counted;
 }
 
-begun-none : (n d : ℕ) (old new : Sides) → IsBegunOver (replicate n false) d old new → IsBegunOver [] d old new
-begun-none n d old new p = record {
+begun-none : (n d : ℕ) (makes_map : Bool) (old new : Sides) → IsBegunOver makes_map (replicate n false) d old new → IsBegunOver makes_map [] d old new
+begun-none n d makes_map old new p = record {
   reads = p.reads;
   left = p.left;
   runs = p.runs;
   more = p.more;
   survey = survey-same (replicate n false) [] d 0 old.stack p.reads p.left (marks-none n) p.survey;
+  pieces = pieces-same old.stack.config d (replicate n false) [] makes_map 0 first_limit p.reads (marks-none n) p.pieces;
   first = p.first;
   printed = p.printed;
 }
@@ -217,12 +288,26 @@ begun-none n d old new p = record {
 short-none : (n d : ℕ) (makes_map : Bool) (old new : Sides) → RunsShort makes_map (replicate n false) d old new → RunsShort makes_map [] d old new
 unfolding begun-none
 short-none n d makes_map old new p = record {
-  begun = begun-none n d old new p.begun;
+  begun = begun-none n d makes_map old new p.begun;
   copied = p.copied;
   unfailed = p.unfailed;
   refused = p.refused;
 }
 
+output-none : (n d : ℕ) (makes_map : Bool) (old new : Sides) → FailsOutput makes_map (replicate n false) d old new → FailsOutput makes_map [] d old new
+unfolding begun-none
+output-none n d makes_map old new p = record {
+  begun = begun-none n d makes_map old new p.begun;
+  out = p.out;
+  n = p.n;
+  bytes = p.bytes;
+  read = p.read;
+  copied = p.copied;
+  writing = p.writing;
+  failed = p.failed;
+  sure = p.sure;
+}
+
 pub ends-none : (n d : ℕ) (old new : Sides) (fault : RecoveryFault) → EndsEarly false (replicate n false) d old new fault → IsRecoveryEnd d old new fault
 ends-none n d old new recovery.NoMemory p = short-none n d false old new p
-ends-none n d old new recovery.Output p = (begun-none n d old new p.0, p.1)
+ends-none n d old new recovery.Output p = output-none n d false old new p

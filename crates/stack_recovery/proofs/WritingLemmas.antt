@@ -1,6 +1,6 @@
 -- Lines that are written one after another.
 use Rattle.std.proofs.Common.{◌≡◌, ℕ, List, [], ◌∷◌, ◌++◌, Option, Some, None, Result, Ok, Err, sym, ap, ◌∙◌, subst}
-use Rattle.std.specs.Prelude.{IfErr, IfOk, IsErrAnd}
+use Rattle.std.specs.Prelude.{IfErr, IfOk, OnOk, IsErrAnd}
 use Rattle.std.specs.Io.KnownBytes.{Appends}
 use Rattle.std.proofs.lemmas.List.{append-nil, append_assoc}
 use Rattle.std.proofs.lemmas.List.Concat.{flat_map-append}
@@ -42,10 +42,14 @@ err-from (Ok done) P fault is holds = tt
 err-from (Err e) P fault is holds = subst P (sym is) holds
 
 -- what follows of a result
-pub ok-as : (r : Result Counts RecoveryFault) (P Q : Counts → Type 0) → ((counts : Counts) → P counts → Q counts) → IfOk r P → IfOk r Q
-ok-as (Ok counts) P Q f h = f counts h
-ok-as (Err fault) P Q f h = tt
-
 pub err-as : (r : Result Counts RecoveryFault) (P Q : RecoveryFault → Type 0) → ((fault : RecoveryFault) → P fault → Q fault) → IfErr r P → IfErr r Q
 err-as (Ok counts) P Q f h = tt
 err-as (Err fault) P Q f h = f fault h
+
+pub ok-so : (r : Result Counts RecoveryFault) (P Q : Counts → Type 0) (R : Type 0) → ((counts : Counts) → P counts → R → Q counts) → IfOk r P → OnOk r R → IfOk r Q
+ok-so (Ok counts) P Q R f h k = f counts h k
+ok-so (Err fault) P Q R f h k = tt
+
+pub on-ok-as : (r : Result Counts RecoveryFault) (P Q : Type 0) → (P → Q) → OnOk r P → OnOk r Q
+on-ok-as (Ok counts) P Q f h = f h
+on-ok-as (Err fault) P Q f h = tt

@@ -1,9 +1,12 @@
 pub mod Alike
 pub mod Copies
+pub mod Handing
 pub mod Laws
 pub mod Listings
 pub mod LostRuns
 pub mod PieceLimits
+pub mod PassLaws
+pub mod PassPieces
 pub mod Pieces
 pub mod Recoveries
 pub mod Surveys

@@ -1,7 +1,7 @@
 -- The effects of a recovery.
-use Rattle.std.specs.Prelude.{◌≡◌, ◌⊎◌, ℕ, ◌-◌, Bool, true, false, IsTrue, List, [], ◌++◌, length, map, Option, Some, None, Err}
+use Rattle.std.specs.Prelude.{◌≡◌, ◌⊎◌, ℕ, ◌-◌, Bool, true, false, IsTrue, List, [], ◌++◌, length, map, Option, Some, None, is_some, Ok, Err}
 use Rattle.allocation.specs.Refusal.{IsOutOfMemory}
-use Rattle.block_device.specs.Device.{Device, HasFailed}
+use Rattle.block_device.specs.Device.{Device, HasFailed, IsWritten}
 use Rattle.stack_rules.specs.Names.{mapped, size}
 use Rattle.stack_rules.specs.declared.lower.DevId.{DevId}
 use Rattle.stack_meaning.specs.declared.fault.IoFault.TheVariants as io
@@ -19,6 +19,7 @@ use Rattle.stack_recovery.specs.declared.recovery.Counts.{Counts}
 use Rattle.stack_recovery.specs.declared.rescued.Rescued.{Rescued}
 use Rattle.stack_recovery.specs.Copies.{IsCopied}
 use Rattle.stack_recovery.specs.Listings.{Listed, Tells}
+use Rattle.stack_recovery.specs.PassPieces.{ArePassPieces, pass_over}
 use Rattle.stack_recovery.specs.Surveys.{IsStackSurvey, IsSurveyOver, PieceRead, SectorState, all_states}
 use Rattle.stack_recovery.specs.Texts.{lost_text}
 
@@ -37,18 +38,20 @@ pub record Recovers (d : ℕ) (old : Sides) (counts : Counts) (new : Sides) : Ty
   pub reads : List PieceRead
   pub survey : IsStackSurvey d 0 old.stack reads new.stack
   pub whole : length (all_states reads) ≡ size old.stack.config (mapped d)
+  pub pieces : ArePassPieces (pass_over old.stack.config d [] false) reads
   pub copied : IsCopied reads old.out new.out
   pub unfailed : new.out.failures ≡ old.out.failures
   pub printed : Tells old.printed new.printed (lost_text (runs_of is_same_fault 0 (all_states reads)))
   pub counted : counts ≡ record { read = length (all_states reads) - lost_in (all_states reads); lost = lost_in (all_states reads) }
 
 -- the first pieces of the device were read, and the first of their lost runs printed
-pub record IsBegunOver (marks : List Bool) (d : ℕ) (old new : Sides) : Type 0 where
+pub record IsBegunOver (makes_map : Bool) (marks : List Bool) (d : ℕ) (old new : Sides) : Type 0 where
   pub reads : List PieceRead
   pub left : StackRecord
   pub runs : List LostRun
   pub more : List LostRun
   pub survey : IsSurveyOver marks d 0 old.stack reads left
+  pub pieces : ArePassPieces (pass_over old.stack.config d marks makes_map) reads
   pub first : runs_of is_same_fault 0 (all_states reads) ≡ runs ++ more
   pub printed : Tells old.printed new.printed (lost_text runs)
 
@@ -64,15 +67,28 @@ IsMapRefused makes_map = (makes_map ≡ true) × IsOutOfMemory 1
 
 -- Memory ran out for a read or for the map. The sectors read so far are copied, and the output device didn't fail.
 pub record RunsShort (makes_map : Bool) (marks : List Bool) (d : ℕ) (old new : Sides) : Type 0 where
-  pub begun : IsBegunOver marks d old new
+  pub begun : IsBegunOver makes_map marks d old new
   pub copied : IsCopied begun.reads old.out new.out
   pub unfailed : new.out.failures ≡ old.out.failures
   pub refused : FindsNoMemory d (length (all_states begun.reads)) begun.left new.stack ⊎ IsMapRefused makes_map
 
+-- A write of the output device failed. The sectors read before are copied. Of a steady device no sector differs from that but
+-- those of the piece that was being written, which was read from where the last one ends.
+pub record FailsOutput (makes_map : Bool) (marks : List Bool) (d : ℕ) (old new : Sides) : Type 0 where
+  pub begun : IsBegunOver makes_map marks d old new
+  pub out : Device
+  pub n : ℕ
+  pub bytes : List ℕ
+  pub read : EachBytes begun.left d (length (all_states begun.reads)) n (Ok bytes) new.stack
+  pub copied : IsCopied begun.reads old.out out
+  pub writing : IsWritten out (length (all_states begun.reads)) n false new.out
+  pub failed : HasFailed old.out new.out
+  pub sure : IsTrue old.out.never_fails → ⊥
+
 -- why the recovery ended early; a line that can't be written is no cause
 abbrev pub EndsEarly : Bool → List Bool → ℕ → Sides → Sides → RecoveryFault → Type 0
 EndsEarly makes_map marks d old new NoMemory = RunsShort makes_map marks d old new
-EndsEarly makes_map marks d old new Output = IsBegunOver marks d old new × (HasFailed old.out new.out × (IsTrue old.out.never_fails → ⊥))
+EndsEarly makes_map marks d old new Output = FailsOutput makes_map marks d old new
 
 abbrev pub IsRescueEnd : List Bool → ℕ → Sides → Sides → RecoveryFault → Type 0
 IsRescueEnd marks d old new fault = EndsEarly true marks d old new fault
@@ -122,6 +138,7 @@ pub record GoesOver (before : List Bool) (d : ℕ) (old : Sides) (counts : Count
   pub reads : List PieceRead
   pub survey : IsSurveyOver before d 0 old.stack reads new.stack
   pub whole : length (all_states reads) ≡ size old.stack.config (mapped d)
+  pub pieces : ArePassPieces (pass_over old.stack.config d before (is_some made)) reads
   pub copied : IsCopied reads old.out new.out
   pub unfailed : new.out.failures ≡ old.out.failures
   pub printed : Tells old.printed new.printed (lost_text (runs_of is_same_fault 0 (all_states reads)))

@@ -1,7 +1,7 @@
 //! The lengths of the next pieces of a recovery.
-ghost use Rattle.std.specs.Prelude.{◌≡◌, ◌≤◌, ◌<◌, ◌/◌};
+ghost use Rattle.std.specs.Prelude.{◌≡◌, ◌≤◌, ◌<◌};
 ghost use Rattle.stack_recovery.specs.Pieces.{IsPieceLimit};
-ghost use Rattle.stack_recovery.specs.PieceLimits.{IsFirstPieceLimit};
+ghost use Rattle.stack_recovery.specs.PieceLimits.{first_limit, limit_after_bytes, limit_after_failure, limit_after_loss};
 
 const MOST_PIECE: u32 = 128;
 
@@ -17,7 +17,7 @@ impl PieceLimit {
     /// Returns the limit before any sector is known.
     pub fn new() -> PieceLimit
         ensures piece_limit { IsPieceLimit result.most }
-        ensures first { IsFirstPieceLimit result }
+        ensures value { result ≡ first_limit }
     {
         PieceLimit {
             most: MOST_PIECE,
@@ -25,12 +25,12 @@ impl PieceLimit {
         }
     }
 
-    /// Returns the limit after a piece of `count` sectors was read; `at` is the next sector. As long as no read failed, it stays
-    /// the first one.
+    /// Returns the limit after a piece of `count` sectors was read; `at` is the next sector. The next piece is at most half as
+    /// long up to the end of the last piece that couldn't be read whole, and after it at most twice as long.
     pub fn after_bytes(self, count: u32, at: u64) -> PieceLimit
         requires { IsPieceLimit count }
         ensures piece_limit { IsPieceLimit result.most }
-        ensures first { IsFirstPieceLimit self → IsFirstPieceLimit result }
+        ensures value { result ≡ limit_after_bytes self count at }
     {
         let most = if at < self.doubt {
             (count / 2).max(1)
@@ -43,19 +43,21 @@ impl PieceLimit {
         }
     }
 
-    /// Returns the limit after lost sectors.
+    /// Returns the limit after lost sectors: one sector.
     pub fn after_loss() -> PieceLimit
-        ensures { IsPieceLimit result.most }
+        ensures piece_limit { IsPieceLimit result.most }
+        ensures value { result ≡ limit_after_loss }
     {
         PieceLimit { most: 1, doubt: 0 }
     }
 
-    /// Returns the limit after a piece of `count` sectors, which ends before sector `end`, couldn't be read whole.
+    /// Returns the limit after a piece of `count` sectors, which ends before sector `end`, couldn't be read whole: half of it.
     pub fn after_failure(count: u32, end: u64) -> PieceLimit
         requires some { 2 ≤ count }
         requires few { count ≤ 128 }
         ensures piece_limit { IsPieceLimit result.most }
         ensures less { result.most < count }
+        ensures value { result ≡ limit_after_failure count end }
     {
         PieceLimit {
             most: count / 2,

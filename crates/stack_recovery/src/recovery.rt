@@ -1,9 +1,11 @@
 //! Recovers a mapped device from its first sector to its last.
-ghost use Rattle.std.specs.Prelude.{◌≡◌, ◌≢◌, ◌≤◌, ◌<◌, ◌+◌, ◌^◌, [], length, IsTrue, IfOk, IfErr, OnOk};
+ghost use Rattle.std.specs.Prelude.{◌≡◌, ◌≢◌, ◌≤◌, ◌<◌, ◌+◌, ◌^◌, [], false, length, IsTrue, IfOk, IfErr, OnOk};
+ghost use Rattle.block_device.specs.Call.{DeviceDoes};
 ghost use Rattle.stack_rules.specs.Names.{mapped, size};
 ghost use Rattle.std.specs.Option.{ForSome, is_some};
 ghost use Rattle.rescue_map.specs.Maps.{marks};
 ghost use Rattle.rescue_map.specs.Aheads.{marks_ahead};
+ghost use Rattle.stack_recovery.specs.Handing.{HandsOver, HandsOverPart};
 ghost use Rattle.stack_recovery.specs.Losses.{ListsLost, NotesLost, StopsInPiece, TalliesLost};
 ghost use Rattle.stack_recovery.specs.Recoveries.{EndsEarlyBy, EndsRecovery, GoesOverBy, AreMarksNoted, Recovered, parties};
 ghost use Rattle.runs.specs.Runs.{run};
@@ -33,7 +35,8 @@ pub struct Counts {
 const ROOM: usize = 65536;
 
 /// Reads each sector of a mapped device, and reports each longest run of sectors that are lost by one fault. Each readable
-/// sector is written to the same offset of `out`, which has room for all sectors. Lost sectors are left unchanged there.
+/// sector is written to the same offset of `out`, which has room for all sectors. Lost sectors are left unchanged there. Each
+/// piece that is read is written by one call, in order, and nothing is called after a failed write.
 ///
 /// # Errors
 ///
@@ -50,6 +53,8 @@ pub fn recover<D: BlockDev, O: BlockDev, L: Listing>(
     requires allowed { IsTrue (O.state out.old).may_write }
     ensures ok { IfOk result (Recovered O.state L.told d stack.old out.old listing.old stack.new out.new listing.new) }
     ensures err { IfErr result (EndsRecovery O.state L.told d.0 (parties stack.old out.old listing.old) (parties stack.new out.new listing.new)) }
+    ensures handed { OnOk result (HandsOver (DeviceDoes O.state O.does) [] d.0 (parties stack.old out.old listing.old) (parties stack.new out.new listing.new)) }
+    ensures stopped { IfErr result (HandsOverPart (DeviceDoes O.state O.does) [] d.0 (parties stack.old out.old listing.old) (parties stack.new out.new listing.new)) }
 {
     recover_with(stack, d, out, listing, &mut NoProgress)
 }
@@ -72,6 +77,8 @@ pub fn recover_with<D: BlockDev, O: BlockDev, L: Listing, P: Progress>(
     requires allowed { IsTrue (O.state out.old).may_write }
     ensures ok { IfOk result (Recovered O.state L.told d stack.old out.old listing.old stack.new out.new listing.new) }
     ensures err { IfErr result (EndsRecovery O.state L.told d.0 (parties stack.old out.old listing.old) (parties stack.new out.new listing.new)) }
+    ensures handed { OnOk result (HandsOver (DeviceDoes O.state O.does) [] d.0 (parties stack.old out.old listing.old) (parties stack.new out.new listing.new)) }
+    ensures stopped { IfErr result (HandsOverPart (DeviceDoes O.state O.does) [] d.0 (parties stack.old out.old listing.old) (parties stack.new out.new listing.new)) }
 {
     let ahead = Ahead::unread(stack.config().sectors(d));
     go_over(stack, d, out, ahead, &mut None, listing, progress)
@@ -93,9 +100,12 @@ pub(crate) fn go_over<D: BlockDev, O: BlockDev, L: Listing, P: Progress>(
     requires room { size stack.old.config (mapped d.0) ≤ (O.state out.old).size }
     requires allowed { IsTrue (O.state out.old).may_write }
     requires begun { AreMarksNoted noted.old [] }
+    requires single { is_some noted.old ≡ false → ahead.rest.now ≡ [] }
     ensures ok { IfOk result (GoesOverBy O.state L.told (marks_ahead ahead.entry) d.0 (parties stack.old out.old listing.old) noted.new (parties stack.new out.new listing.new)) }
     ensures err { IfErr result (EndsEarlyBy O.state L.told (is_some noted.old) (marks_ahead ahead.entry) d.0 (parties stack.old out.old listing.old) (parties stack.new out.new listing.new)) }
     ensures noted { OnOk result (is_some noted.new ≡ is_some noted.old) }
+    ensures handed { OnOk result (HandsOver (DeviceDoes O.state O.does) (marks_ahead ahead.entry) d.0 (parties stack.old out.old listing.old) (parties stack.new out.new listing.new)) }
+    ensures stopped { IfErr result (HandsOverPart (DeviceDoes O.state O.does) (marks_ahead ahead.entry) d.0 (parties stack.old out.old listing.old) (parties stack.new out.new listing.new)) }
 {
     // The call provides the bound on a device's sectors.
     let _fits = out.sectors();
@@ -128,11 +138,14 @@ fn go_over_by<D: BlockDev, O: BlockDev, L: Listing, P: Progress>(
     requires room { size stack.old.config (mapped d.0) ≤ (O.state out.old).size }
     requires allowed { IsTrue (O.state out.old).may_write }
     requires begun { AreMarksNoted noted.old [] }
+    requires single { is_some noted.old ≡ false → ahead.rest.now ≡ [] }
     requires buffer { length room.old ≡ 65536 }
     requires few { size stack.old.config (mapped d.0) ≤ 2 ^ 54 }
     ensures ok { IfOk result (GoesOverBy O.state L.told (marks_ahead ahead.entry) d.0 (parties stack.old out.old listing.old) noted.new (parties stack.new out.new listing.new)) }
     ensures err { IfErr result (EndsEarlyBy O.state L.told (is_some noted.old) (marks_ahead ahead.entry) d.0 (parties stack.old out.old listing.old) (parties stack.new out.new listing.new)) }
     ensures noted { OnOk result (is_some noted.new ≡ is_some noted.old) }
+    ensures handed { OnOk result (HandsOver (DeviceDoes O.state O.does) (marks_ahead ahead.entry) d.0 (parties stack.old out.old listing.old) (parties stack.new out.new listing.new)) }
+    ensures stopped { IfErr result (HandsOverPart (DeviceDoes O.state O.does) (marks_ahead ahead.entry) d.0 (parties stack.old out.old listing.old) (parties stack.new out.new listing.new)) }
 {
     let sectors = stack.config().sectors(d);
     let mut tally = Tally::new();

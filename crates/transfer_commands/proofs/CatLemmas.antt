@@ -2,7 +2,6 @@
 use Rattle.std.proofs.Common.{◌≡◌, ◌≢◌, ℕ, ◌+◌, ◌≤◌, true, false, List, [], ◌++◌, Option, Ok, Err, refl, sym, ap, ◌∙◌, subst, arith}
 use Rattle.std.specs.Io.KnownBytes.{Appends}
 use Rattle.std.proofs.KnownBytes.{Appends-nil, Appends-trans}
-use Rattle.std.proofs.lemmas.Bool.{false≢true}
 use Rattle.std.proofs.lemmas.List.Elements.{Contains-append_left, Contains-append_right, All-append, All-nil}
 use Rattle.stack_rules.specs.declared.lower.Lower.{Lower}
 use Rattle.stack_rules.specs.Records.{Configuration}
@@ -26,7 +25,7 @@ use Rattle.stack_meaning.proofs.lemmas.LeafListLemmas.{AreSteady-kept, AreRead-n
 use Rattle.stack_meaning.proofs.lemmas.RunLemmas.{run-append, run-may}
 use Rattle.stack_meaning.proofs.lemmas.SpanLemmas.{span-add}
 use Rattle.stack_recovery.specs.Alike.{AreAlike}
-use Rattle.stack_recovery.specs.PieceLimits.{IsFirstPieceLimit}
+use Rattle.stack_recovery.specs.PieceLimits.{first_limit, limit_after_bytes, limit_after_failure}
 use Rattle.stack_recovery.specs.Pieces.{EndsAligned}
 use Rattle.stack_recovery.specs.declared.piece_limit.PieceLimit.{PieceLimit}
 use Rattle.stack_recovery.proofs.lemmas.LostLemmas.{first-lost}
@@ -65,16 +64,14 @@ span-then f first a m x y p q = span-add f first a m ∙ ap (λ (o : Outcome). j
 
 -- ---- pieces
 
--- the first k sectors were written, no piece reaches past the end, and as long as no read failed the limit is the first one
+-- the first k sectors were written, and the next piece has that limit
 pub record IsCatting (d first k end : ℕ) (old now : CatSide) (piece_limit : PieceLimit) : Type 0 where
-  pub so_far : IsCat d first k old now
-  pub ends : so_far.end ≡ end
-  pub fresh : so_far.failed ≡ false → IsFirstPieceLimit piece_limit
+  pub so_far : IsCat d first k end old now
+  pub limited : so_far.limit ≡ piece_limit
 
-pub cat-none : (d first end : ℕ) (old : CatSide) → IsCat d first 0 old old
+pub cat-none : (d first end : ℕ) (old : CatSide) → IsCat d first 0 end old old
 cat-none d first end old = record {
-  end = end;
-  failed = false;
+  limit = first_limit;
   pieces = none_read;
   bytes = [];
   most = 0;
@@ -87,7 +84,7 @@ cat-none d first end old = record {
   written = Appends-nil old.written;
 }
 
-module _ (d first k : ℕ) (old now : CatSide) (p : IsCat d first k old now) (n : ℕ) (stack : StackRecord) where
+module _ (d first k end : ℕ) (old now : CatSide) (p : IsCat d first k end old now) (n : ℕ) (stack : StackRecord) where
   -- what a sector means over the leaves of now, it means over those of old
   same-meaning : sector now.stack.config (steady_images now.stack.leaves) (mapped d) ≡ sector old.stack.config (steady_images old.stack.leaves) (mapped d)
   same-meaning =
@@ -99,11 +96,10 @@ module _ (d first k : ℕ) (old now : CatSide) (p : IsCat d first k old now) (n 
   steady-now steady = subst (λ (c : Configuration). AreSteady (leaves_of c (mapped d)) now.stack.leaves) (sym p.config) (AreSteady-kept old.stack.leaves now.stack.leaves p.moved.moved.fixed steady)
 
   -- a piece that was had, and written
-  pub cat-had : (bytes : List ℕ) (written : Option (List ℕ)) → (p.failed ≡ false → EndsAligned now.stack.config d (first + k) p.end 128 n) → EachBytes now.stack d (first + k) n (Ok bytes) stack
-      → ReadsAtMost (piece_budget now.stack d (first + k) n) now.stack.leaves stack.leaves → Appends now.written written bytes → IsCat d first (k + n) old (cat_side stack written)
+  pub cat-had : (bytes : List ℕ) (written : Option (List ℕ)) → EndsAligned now.stack.config d (first + k) end p.limit.most n → EachBytes now.stack d (first + k) n (Ok bytes) stack
+      → ReadsAtMost (piece_budget now.stack d (first + k) n) now.stack.leaves stack.leaves → Appends now.written written bytes → IsCat d first (k + n) end old (cat_side stack written)
   cat-had bytes written aligned q spent told = record {
-    end = p.end;
-    failed = p.failed;
+    limit = limit_after_bytes p.limit n (first + k + n);
     pieces = then_read p.pieces aligned q spent;
     bytes = p.bytes ++ bytes;
     most = p.most + _;
@@ -120,11 +116,10 @@ module _ (d first k : ℕ) (old now : CatSide) (p : IsCat d first k old now) (n 
   }
 
   -- a piece of which nothing was written
-  pub cat-again : (fault : IoFault) → EachBytes now.stack d (first + k) n (Err fault) stack → IsCat d first k old (cat_side stack now.written)
-  cat-again fault q = record {
-    end = p.end;
-    failed = true;
-    pieces = then_failed p.pieces q;
+  pub cat-again : (fault : IoFault) → EndsAligned now.stack.config d (first + k) end p.limit.most n → EachBytes now.stack d (first + k) n (Err fault) stack → IsCat d first k end old (cat_side stack now.written)
+  cat-again fault aligned q = record {
+    limit = limit_after_failure n (first + k + n);
+    pieces = then_failed p.pieces aligned q;
     bytes = p.bytes;
     most = p.most + _;
     config = q.any.config ∙ p.config;
@@ -146,11 +141,12 @@ module _ (d first k : ℕ) (old now : CatSide) (p : IsCat d first k old now) (n 
   means-fault (io.Device i) q alike steady = tt
   means-fault io.NoMemory q alike steady = tt
 
+module _ (d first k count : ℕ) (old now : CatSide) (p : IsCat d first k (first + count) old now) (n : ℕ) (stack : StackRecord) where
   -- a piece that ends it
-  pub cat-stop : (count : ℕ) (fault : IoFault) → k + n ≤ count → 1 ≤ n → EachBytes now.stack d (first + k) n (Err fault) stack
+  pub cat-stop : (fault : IoFault) → EndsAligned now.stack.config d (first + k) (first + count) p.limit.most n → k + n ≤ count → 1 ≤ n → EachBytes now.stack d (first + k) n (Err fault) stack
       → (fault ≡ io.NoMemory → MeetVerity (said_at now.stack.config (mapped d)) (first + k) n) → (fault ≢ io.NoMemory → AreAlike now.stack.config d (first + k) n)
       → IsCatStop d first count old (cat_side stack now.written) fault
-  cat-stop count fault before some q memory alike =
+  cat-stop fault aligned before some q memory alike =
       let same : fault ≢ io.NoMemory → AreAlike old.stack.config d (first + k) n = λ kind. subst (λ (c : Configuration). AreAlike c d (first + k) n) p.config (alike kind) in
       record {
         k = k;
@@ -159,30 +155,34 @@ module _ (d first k : ℕ) (old now : CatSide) (p : IsCat d first k old now) (n 
         before = before;
         some = some;
         had = p;
+        piece = aligned;
         read = q;
         memory = λ is. subst (λ (c : Configuration). MeetVerity (said_at c (mapped d)) (first + k) n) p.config (memory is);
         alike = same;
-        means = means-fault fault q same;
+        means = means-fault d first k (first + count) old now p n stack fault q same;
       }
 
 -- ---- in pieces of which length
 
-pub catting-none : (d first end : ℕ) (old : CatSide) (piece_limit : PieceLimit) → IsFirstPieceLimit piece_limit → IsCatting d first 0 end old old piece_limit
+pub catting-none : (d first end : ℕ) (old : CatSide) (piece_limit : PieceLimit) → piece_limit ≡ first_limit → IsCatting d first 0 end old old piece_limit
 unfolding cat-none
-catting-none d first end old piece_limit fresh = record { so_far = cat-none d first end old; ends = refl; fresh = λ unfailed. fresh }
+catting-none d first end old piece_limit fresh = record { so_far = cat-none d first end old; limited = sym fresh }
 
-module _ (d first k end : ℕ) (old now : CatSide) (piece_limit next : PieceLimit) (h : IsCatting d first k end old now piece_limit) (n : ℕ) (stack : StackRecord) where
+module _ (d first k end : ℕ) (old now : CatSide) (piece_limit next : PieceLimit) (h : IsCatting d first k end old now piece_limit) (n : ℕ) (stack : StackRecord) (aligned : EndsAligned now.stack.config d (first + k) end piece_limit.most n) where
+  -- with the limit that the reads left
+  pub aligned-so : EndsAligned now.stack.config d (first + k) end h.so_far.limit.most n
+  aligned-so = subst (λ (l : PieceLimit). EndsAligned now.stack.config d (first + k) end l.most n) (sym h.limited) aligned
+
   -- after a piece that was had
-  pub catting-had : (bytes : List ℕ) (written : Option (List ℕ)) → (IsFirstPieceLimit piece_limit → IsFirstPieceLimit next) → EndsAligned now.stack.config d (first + k) end piece_limit.most n → EachBytes now.stack d (first + k) n (Ok bytes) stack
+  pub catting-had : (bytes : List ℕ) (written : Option (List ℕ)) → next ≡ limit_after_bytes piece_limit n (first + k + n) → EachBytes now.stack d (first + k) n (Ok bytes) stack
       → ReadsAtMost (piece_budget now.stack d (first + k) n) now.stack.leaves stack.leaves → Appends now.written written bytes → IsCatting d first (k + n) end old (cat_side stack written) next
   unfolding cat-had
-  catting-had bytes written kept aligned q spent told =
-      let at_end : EndsAligned now.stack.config d (first + k) h.so_far.end piece_limit.most n = subst (λ (e : ℕ). EndsAligned now.stack.config d (first + k) e piece_limit.most n) (sym h.ends) aligned in
-      let whole : h.so_far.failed ≡ false → EndsAligned now.stack.config d (first + k) h.so_far.end 128 n =
-      λ unfailed. subst (λ (m : ℕ). EndsAligned now.stack.config d (first + k) h.so_far.end m n) (h.fresh unfailed).0 at_end in
-      record { so_far = cat-had d first k old now h.so_far n stack bytes written whole q spent told; ends = h.ends; fresh = λ unfailed. kept (h.fresh unfailed) }
+  catting-had bytes written grown q spent told = record {
+    so_far = cat-had d first k end old now h.so_far n stack bytes written aligned-so q spent told;
+    limited = ap (λ (l : PieceLimit). limit_after_bytes l n (first + k + n)) h.limited ∙ sym grown;
+  }
 
   -- after a piece of which nothing was written
-  pub catting-again : (fault : IoFault) → EachBytes now.stack d (first + k) n (Err fault) stack → IsCatting d first k end old (cat_side stack now.written) next
+  pub catting-again : (fault : IoFault) → next ≡ limit_after_failure n (first + k + n) → EachBytes now.stack d (first + k) n (Err fault) stack → IsCatting d first k end old (cat_side stack now.written) next
   unfolding cat-again
-  catting-again fault q = record { so_far = cat-again d first k old now h.so_far n stack fault q; ends = h.ends; fresh = λ unfailed. absurd (false≢true (sym unfailed)) }
+  catting-again fault grown q = record { so_far = cat-again d first k end old now h.so_far n stack fault aligned-so q; limited = sym grown }

@@ -1,5 +1,5 @@
 -- Bytes of a device, out and in.
-use Rattle.std.proofs.Common.{◌≡◌, ℕ, Bool, List, Option, subst, inl, inr}
+use Rattle.std.proofs.Common.{◌≡◌, ◌+◌, ℕ, Bool, List, Option, subst, inl, inr}
 use Rattle.image_files.specs.Opener.{Calls}
 use Rattle.stack_rules.specs.Names.{mapped, size}
 use Rattle.stack_engine.specs.Stacks.{StackRecord}
@@ -16,12 +16,12 @@ use Rattle.transfer_commands.specs.Streaming.{FailsToCat, PrintsBytes, count_fro
 
 module _ {S D : Type 0} (w : Calls S D) (words : DeviceWords) (at : DevicePlace) (found : FindsDevice w words at) (first n : ℕ) (count : Option ℕ)
     (is : n ≡ count_from count first (size at.stack.config (mapped at.d))) (old new : Option (List ℕ)) (left : StackRecord) where
-  pub bytes-printed : IsCat at.d first n (cat_side at.stack old) (cat_side left new) → PrintsBytes w words first count old new
+  pub bytes-printed : IsCat at.d first n (first + n) (cat_side at.stack old) (cat_side left new) → PrintsBytes w words first count old new
   bytes-printed done = record {
     at = at;
     left = left;
     found = found;
-    written = subst (λ (m : ℕ). IsCat at.d first m (cat_side at.stack old) (cat_side left new)) is done;
+    written = subst (λ (m : ℕ). IsCat at.d first m (first + m) (cat_side at.stack old) (cat_side left new)) is done;
   }
 
   pub cat-ends : (failed : Bool) (fault : CatFault) → IsCatEnd at.d (record { first = first; count = n }) (cat_side at.stack old) (cat_side left new) failed fault

@@ -1,5 +1,5 @@
 -- Sectors of a mapped device that are written to a writer.
-use Rattle.std.specs.Prelude.{◌≡◌, ◌≢◌, ℕ, ◌+◌, ◌<◌, ◌≤◌, Bool, true, false, List, Option, Ok, Err}
+use Rattle.std.specs.Prelude.{◌≡◌, ◌≢◌, ℕ, ◌+◌, ◌<◌, ◌≤◌, Bool, true, List, Option, Ok, Err}
 use Rattle.std.specs.Io.KnownBytes.{Appends}
 use Rattle.program_io.specs.Counted.{CountedRecord}
 use Rattle.stack_rules.specs.Names.{mapped, size}
@@ -15,6 +15,8 @@ use Rattle.stack_lines.specs.Budgets.{ReadsAtMost}
 use Rattle.stack_engine.specs.Pieces.{piece_budget}
 use Rattle.stack_engine.specs.Stacks.{StackRecord}
 use Rattle.stack_recovery.specs.Alike.{AreAlike}
+use Rattle.stack_recovery.specs.declared.piece_limit.PieceLimit.{PieceLimit}
+use Rattle.stack_recovery.specs.PieceLimits.{first_limit, limit_after_bytes, limit_after_failure}
 use Rattle.stack_recovery.specs.Pieces.{EndsAligned}
 use Rattle.transfer_commands.specs.declared.output.SectorRange.{SectorRange}
 use Rattle.transfer_commands.specs.declared.stream_fault.CatFault.{CatFault}
@@ -28,19 +30,20 @@ pub record CatSide : Type 0 where
 abbrev pub cat_side : StackRecord → Option (List ℕ) → CatSide
 cat_side stack written = record { stack = stack; written = written }
 
--- Sectors of device d, from the first on, were read up to the k-th by reads one after the other. As long as none failed, each
--- was of the longest piece before the end that splits no unit and no data block that fits in one, and read no more than these cost,
--- each of them once.
-pub data ReadsAligned (d first end : ℕ) (w : StackRecord) : ℕ → Bool → StackRecord → Type 0 where
-  none_read : ReadsAligned d first end w 0 false w
-  then_read : {k n : ℕ} {failed : Bool} {bytes : List ℕ} {v w' : StackRecord} → ReadsAligned d first end w k failed v → (failed ≡ false → EndsAligned v.config d (first + k) end 128 n)
-      → EachBytes v d (first + k) n (Ok bytes) w' → ReadsAtMost (piece_budget v d (first + k) n) v.leaves w'.leaves → ReadsAligned d first end w (k + n) failed w'
-  then_failed : {k n : ℕ} {failed : Bool} {fault : IoFault} {v w' : StackRecord} → ReadsAligned d first end w k failed v → EachBytes v d (first + k) n (Err fault) w' → ReadsAligned d first end w k true w'
+-- Sectors of device d, from the first on, were read up to the k-th by reads one after the other. Each is of the next piece before
+-- the end, as `piece_at` returns it with the limit that the reads before it leave. One that didn't fail moved no more sectors
+-- than these cost, each of them once.
+pub data ReadsAligned (d first end : ℕ) (w : StackRecord) : ℕ → PieceLimit → StackRecord → Type 0 where
+  none_read : ReadsAligned d first end w 0 first_limit w
+  then_read : {k n : ℕ} {limit : PieceLimit} {bytes : List ℕ} {v w' : StackRecord} → ReadsAligned d first end w k limit v → EndsAligned v.config d (first + k) end limit.most n
+      → EachBytes v d (first + k) n (Ok bytes) w' → ReadsAtMost (piece_budget v d (first + k) n) v.leaves w'.leaves → ReadsAligned d first end w (k + n) (limit_after_bytes limit n (first + k + n)) w'
+  then_failed : {k n : ℕ} {limit : PieceLimit} {fault : IoFault} {v w' : StackRecord} → ReadsAligned d first end w k limit v → EndsAligned v.config d (first + k) end limit.most n
+      → EachBytes v d (first + k) n (Err fault) w' → ReadsAligned d first end w k (limit_after_failure n (first + k + n)) w'
 
 -- The bytes of k sectors of device d from the first on were written, and nothing else. Over any backing devices there are
 -- verified chains for the bytes; over steady ones the bytes are what the stack means. Only backing devices below the device
--- were accessed, by reads.
-pub record IsCat (d first k : ℕ) (old new : CatSide) : Type 0 where
+-- were accessed, by reads of pieces that end as those of a transfer up to `end` do.
+pub record IsCat (d first k end : ℕ) (old new : CatSide) : Type 0 where
   pub bytes : List ℕ
   pub most : ℕ
   pub config : new.stack.config ≡ old.stack.config
@@ -50,9 +53,8 @@ pub record IsCat (d first k : ℕ) (old new : CatSide) : Type 0 where
   pub may : MayBeBytes old.stack.config (mapped d) first k bytes
   pub exact : AreSteady (leaves_of old.stack.config (mapped d)) old.stack.leaves → span (sector old.stack.config (steady_images old.stack.leaves) (mapped d)) first k ≡ Ok bytes
   pub written : Appends old.written new.written bytes
-  pub end : ℕ
-  pub failed : Bool
-  pub pieces : ReadsAligned d first end old.stack k failed new.stack
+  pub limit : PieceLimit
+  pub pieces : ReadsAligned d first end old.stack k limit new.stack
 
 -- the sector means this fault, if it is a fault that a sector may mean
 abbrev pub MeansFault : Outcome → IoFault → Type 0
@@ -67,7 +69,8 @@ pub record IsCatStop (d first count : ℕ) (old new : CatSide) (fault : IoFault)
   pub n : ℕ
   pub before : k + n ≤ count
   pub some : 1 ≤ n
-  pub had : IsCat d first k old (cat_side left new.written)
+  pub had : IsCat d first k (first + count) old (cat_side left new.written)
+  pub piece : EndsAligned left.config d (first + k) (first + count) had.limit.most n
   pub read : EachBytes left d (first + k) n (Err fault) new.stack
   pub memory : fault ≡ io.NoMemory → MeetVerity (said_at old.stack.config (mapped d)) (first + k) n
   pub alike : fault ≢ io.NoMemory → AreAlike old.stack.config d (first + k) n
@@ -83,7 +86,7 @@ IsCatEnd d range old new failed Write = failed ≡ true
 
 abbrev pub CatsBy : {T : Type 0} → (T → Option (List ℕ)) → ℕ → SectorRange → StackRecord → CountedRecord T → StackRecord → CountedRecord T → Type 0
 CatsBy contents d range stack writer stack' writer' =
-    IsCat d range.first range.count (cat_side stack (contents writer.inner)) (cat_side stack' (contents writer'.inner))
+    IsCat d range.first range.count (range.first + range.count) (cat_side stack (contents writer.inner)) (cat_side stack' (contents writer'.inner))
 
 abbrev pub EndsCatBy : {T : Type 0} → (T → Option (List ℕ)) → ℕ → SectorRange → StackRecord → CountedRecord T → StackRecord → CountedRecord T → CatFault → Type 0
 EndsCatBy contents d range stack writer stack' writer' fault =

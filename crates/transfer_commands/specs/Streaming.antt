@@ -1,5 +1,5 @@
 -- The streams of `cat` and `store`, and how they end early.
-use Rattle.std.specs.Prelude.{◌≡◌, ◌⊎◌, ℕ, ◌-◌, Bool, true, List, Option, Some, None}
+use Rattle.std.specs.Prelude.{◌≡◌, ◌⊎◌, ℕ, ◌+◌, ◌-◌, Bool, true, List, Option, Some, None}
 use Rattle.std.specs.Io.KnownBytes.{Appends}
 use Rattle.program_io.specs.Counted.{CountedRecord}
 use Rattle.program_io.specs.Streams.{Streams, streams}
@@ -54,7 +54,7 @@ pub record PrintsBytes {S D : Type 0} (w : Calls S D) (words : DeviceWords) (fir
   pub at : DevicePlace
   pub left : StackRecord
   pub found : FindsDevice w words at
-  pub written : IsCat at.d first (wanted_sectors at first count).count (cat_side at.stack old) (cat_side left new)
+  pub written : IsCat at.d first (wanted_sectors at first count).count (first + (wanted_sectors at first count).count) (cat_side at.stack old) (cat_side left new)
 
 -- not all of the sectors were written
 abbrev pub IsCatFault : ℕ → SectorRange → CatSide → CatSide → Bool → StreamFault → Type 0

@@ -116,7 +116,7 @@ module _ (w w' : Walk) (d e d' e' : Device) (have : HaveTrees w d e) (h : IsAlig
   }
 
 -- what is seen of devices that were read before
-seen-was : (t : Trees) (d e d' e' d'' e'' : Device) (old new : Option (List ℕ)) (compared : List State) → IsOnlyRead d d' → IsOnlyRead e e' → AreStatesSeen t (difference_world d' e' d'' e'' old new) compared → AreStatesSeen t (difference_world d e d'' e'' old new) compared
+pub seen-was : (t : Trees) (d e d' e' d'' e'' : Device) (old new : Option (List ℕ)) (compared : List State) → IsOnlyRead d d' → IsOnlyRead e e' → AreStatesSeen t (difference_world d' e' d'' e'' old new) compared → AreStatesSeen t (difference_world d e d'' e'' old new) compared
 seen-was t d e d' e' d'' e'' old new compared p q s = record {
   seen = s.seen;
   stored = λ steady steady' j low.

@@ -4,6 +4,7 @@ pub mod EndLemmas
 pub mod ErrLemmas
 pub mod RootLemmas
 pub mod LawLemmas
+pub mod ReportLemmas
 pub mod RestLemmas
 pub mod SuperblockLemmas
 pub mod UnderwayLemmas

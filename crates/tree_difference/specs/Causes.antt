@@ -31,6 +31,11 @@ pub record IsBadBlock (shape : ShapeRecord) (salt root : List ℕ) (device : Dev
   pub bad : digest path.salt (block_of path level) ≢ digest_on path index (level + 1)
   pub stored : IsTrue device.steady → AreStored path device.image index level
 
+-- a hash block that fails verification is the first of its level
+abbrev pub IsFirstBlock : DifferenceFault → Type 0
+IsFirstBlock (Hash tree level number) = number ≡ 0
+IsFirstBlock fault = Unit {0}
+
 -- why a walk ends early
 abbrev pub IsWalkCause : Walk → Device → Device → Device → Device → DifferenceFault → Type 0
 IsWalkCause w first second first' second' (Hash First level number) = IsBadBlock w.first.shape w.first.salt w.first.root first level number

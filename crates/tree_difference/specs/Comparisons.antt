@@ -1,5 +1,5 @@
 -- What a comparison of two trees finds, reports and reads.
-use Rattle.std.specs.Prelude.{◌≡◌, ◌≢◌, ◌⊎◌, ℕ, ◌+◌, ◌-◌, ◌*◌, ◌/◌, ◌%◌, ◌^◌, ◌<◌, IsTrue, List, [], ◌∷◌, ◌++◌, length, replicate, Option, Some, None, All}
+use Rattle.std.specs.Prelude.{◌≡◌, ◌≢◌, ◌⊎◌, ℕ, ◌+◌, ◌-◌, ◌*◌, ◌/◌, ◌%◌, ◌^◌, ◌<◌, ◌≤◌, IsTrue, List, [], ◌∷◌, ◌++◌, length, replicate, Option, Some, None, All}
 use Rattle.std.specs.List.{slice_index_or}
 use Rattle.std.specs.Io.KnownBytes.{Appends}
 use Rattle.block_device.specs.Device.{Device}
@@ -11,6 +11,8 @@ use Rattle.runs.specs.Runs.{runs_of}
 use Rattle.runs.specs.Kinds.{is_same, State, count_of}
 use Rattle.runs.specs.Texts.{listing_text}
 use Rattle.tree_difference.specs.declared.difference.Totals.{Totals}
+use Rattle.tree_difference.specs.declared.fault.DifferenceFault.{DifferenceFault}
+use Rattle.tree_difference.specs.declared.fault.DifferenceFault.TheVariants.{Hash, Write}
 use Rattle.tree_difference.specs.Trees.{Trees, HashImages, AreWays, IsSeenAs, IsStoredAs, common_blocks}
 
 -- two devices before and after, and what was reported, if that is known
@@ -76,6 +78,27 @@ pub record ReadsDiffering (t : Trees) (w : DifferenceWorld) (first_more second_m
   pub entered : AreEntered t entries
   pub first_read : IsFullRead w.first (first_more + length entries * (t.first.hash_block / 512)) w.first'
   pub second_read : IsFullRead w.second (second_more + length entries * (t.second.hash_block / 512)) w.second'
+
+-- ---- what is reported before an early end
+
+-- the first data block under the hash block that failed verification
+abbrev pub IsBelow : Trees → ℕ → DifferenceFault → Type 0
+IsBelow t n (Hash tree level number) = n ≡ number * per_block t.first ^ (level + 1)
+IsBelow t n fault = Unit {0}
+
+-- The longest runs of the data blocks that were compared before were reported: the first lines of a whole comparison, of which the
+-- last may have a smaller count.
+pub record ReportsBefore (t : Trees) (w : DifferenceWorld) (most : Option ℕ) (fault : DifferenceFault) : Type 0 where
+  pub compared : List State
+  pub few : length compared ≤ common_blocks t
+  pub seen : AreStatesSeen t w compared
+  pub end : IsBelow t (length compared) fault
+  pub printed_are : Appends w.printed w.printed' (listing_text most (runs_of is_same 0 compared))
+
+-- unless a line can't be reported
+abbrev pub IsReported : Trees → DifferenceWorld → Option ℕ → DifferenceFault → Type 0
+IsReported t w most Write = Unit {0}
+IsReported t w most fault = ReportsBefore t w most fault
 
 -- ---- what is found
 

@@ -21,7 +21,7 @@ use Rattle.tree_difference.specs.declared.fault.Which.TheVariants.{First, Second
 use Rattle.tree_difference.specs.declared.trees.TreePair.{TreePair}
 use Rattle.tree_difference.specs.declared.walk.Walk.{Walk}
 use Rattle.tree_difference.specs.Causes.{IsBadBlock, IsWalkCause}
-use Rattle.tree_difference.specs.Comparisons.{Compares, ReadsDiffering, DifferenceWorld, difference_world}
+use Rattle.tree_difference.specs.Comparisons.{Compares, ReadsDiffering, DifferenceWorld, IsReported, difference_world}
 use Rattle.tree_difference.specs.Rests.{last_runs}
 use Rattle.tree_difference.specs.RootBlocks.{IsRootRead, root_sectors}
 use Rattle.tree_difference.specs.Superblocks.{unlike}
@@ -140,6 +140,10 @@ ComparesBlocks first_state second_state told w d e d' e' l l' most totals = Comp
 -- the pairs of hash blocks that differ were read, each once, and nothing else
 abbrev pub ReadsPairs : {D E L : Type 0} → (D → Device) → (E → Device) → (L → Option (List ℕ)) → Walk → D → E → D → E → L → L → Type 0
 ReadsPairs first_state second_state told w d e d' e' l l' = ReadsDiffering (trees_in w) (seen_world first_state second_state told d e d' e' l l') 0 0
+
+-- the runs of the data blocks compared before were reported, unless a line can't be
+abbrev pub ReportsRuns : {D E L : Type 0} → (D → Device) → (E → Device) → (L → Option (List ℕ)) → Walk → D → E → D → E → L → L → Option ℕ → DifferenceFault → Type 0
+ReportsRuns first_state second_state told w d e d' e' l l' most = IsReported (trees_in w) (seen_world first_state second_state told d e d' e' l l') most
 
 -- why the comparison of the data blocks ended early
 abbrev pub EndsDifference : {D E : Type 0} → (D → Device) → (E → Device) → Walk → D → E → D → E → Bool → DifferenceFault → Type 0

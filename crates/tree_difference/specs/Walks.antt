@@ -2,11 +2,14 @@
 use Rattle.std.specs.Prelude.{◌≡◌, ◌≢◌, ℕ, ◌+◌, ◌-◌, ◌*◌, ◌/◌, ◌<◌, ◌≤◌, Bool, false, IsTrue}
 use Rattle.std.specs.Str.{bytes_eq}
 use Rattle.block_device.specs.Device.{Device}
-use Rattle.tree_shape.specs.Shape.{levels}
+use Rattle.tree_shape.specs.Shape.{ancestor, levels}
 use Rattle.verity_format.specs.Blocks.{IsFullRead}
 use Rattle.verity_format.specs.Image.{tree_sectors}
 use Rattle.tree_path.specs.Path.{PathRecord, IsPathOf, LeadsTo, AreStored, digest_on}
 use Rattle.tree_path.specs.Steps.{IsDown, steps}
+use Rattle.tree_difference.specs.declared.fault.DifferenceFault.{DifferenceFault}
+use Rattle.tree_difference.specs.declared.fault.DifferenceFault.TheVariants.{Hash}
+use Rattle.tree_difference.specs.declared.fault.Which.TheVariants.{First, Second}
 use Rattle.tree_difference.specs.declared.walk.Stop.{Stop}
 use Rattle.tree_difference.specs.declared.walk.Walk.{Walk}
 
@@ -75,6 +78,12 @@ pub record HasStopped (s : WalkSides) (i top level : ℕ) (same : Bool) : Type 0
   pub last : same ≡ false → level ≡ 0
   pub first_read : IsFullRead s.first ((top - level) * (s.old.first.shape.hash_block / 512)) s.first'
   pub second_read : IsFullRead s.second ((top - level) * (s.old.second.shape.hash_block / 512)) s.second'
+
+-- a hash block that fails verification is below level `top` on the path to data block i
+abbrev pub IsOnWay : Walk → ℕ → ℕ → DifferenceFault → Type 0
+IsOnWay w i top (Hash First level number) = (level < top) × (number ≡ ancestor w.first.shape (level + 1) i)
+IsOnWay w i top (Hash Second level number) = (level < top) × (number ≡ ancestor w.second.shape (level + 1) i)
+IsOnWay w i top fault = Unit {0}
 
 -- ---- relations for calls: the two devices before and after, as a proof sees them
 

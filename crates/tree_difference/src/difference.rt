@@ -4,8 +4,9 @@ ghost use Rattle.allocation.specs.Refusal.{IsOutOfMemory};
 ghost use Rattle.tree_path.specs.Path.{largest_block};
 ghost use Rattle.runs.specs.Listings.{Tells};
 ghost use Rattle.runs.specs.Tallies.{EndsAt};
-ghost use Rattle.tree_difference.specs.Causes.{EndsWalk};
-ghost use Rattle.tree_difference.specs.Differences.{Aligns, AreShapes, CanCompare, CanCompareTrees, EndsDifference, HaveTrees, IsDifference, IsDifferenceCause, IsWalkOf, ReadsPairs, ComparesBlocks, last_lines, rest_run, seen_world, totals_in, trees_of};
+ghost use Rattle.tree_difference.specs.Causes.{EndsWalk, IsFirstBlock};
+ghost use Rattle.tree_difference.specs.Comparisons.{IsReported};
+ghost use Rattle.tree_difference.specs.Differences.{Aligns, AreShapes, CanCompare, CanCompareTrees, EndsDifference, HaveTrees, IsDifference, IsDifferenceCause, IsWalkOf, ReadsPairs, ReportsRuns, ComparesBlocks, last_lines, rest_run, seen_world, totals_in, trees_of};
 
 use crate::fault::{DifferenceFault, Which};
 use crate::reading::read_down;
@@ -32,7 +33,8 @@ pub struct Totals {
 /// that differ, in rising order: at most `most` lines, then `more`.
 ///
 /// Both root hash blocks are read and checked, even if the root hashes are equal. Below them a subtree is read only if its
-/// digests differ. Each hash block that is read is checked against the hash stored in its parent.
+/// digests differ. Each hash block that is read is checked against the hash stored in its parent. If the comparison ends early, the
+/// runs of the data blocks compared before are reported.
 ///
 /// # Errors
 ///
@@ -51,6 +53,7 @@ pub fn compare_trees<D: BlockDev, E: BlockDev, L: Listing>(
     requires { CanCompareTrees pair.now (D.state first.old) (E.state second.old) }
     ensures ok { IfOk result (IsDifference (seen_world D.state E.state L.told first.old second.old first.new second.new listing.old listing.new) pair.now most) }
     ensures err { IfErr result (IsDifferenceCause (seen_world D.state E.state L.told first.old second.old first.new second.new listing.old listing.new) pair.now (L.failed listing.new)) }
+    ensures before { IfErr result (IsReported (trees_of pair.now) (seen_world D.state E.state L.told first.old second.old first.new second.new listing.old listing.new) most) }
 {
     check_root_block(alloc, first, Which::First, &pair.first, pair.roots.first)?;
     check_root_block(
@@ -93,6 +96,7 @@ fn align<D: BlockDev, E: BlockDev>(
     requires { HaveTrees walk.old (D.state first.old) (E.state second.old) }
     ensures ok { OnOk result (Aligns D.state E.state walk.old walk.new first.old second.old first.new second.new) }
     ensures err { IfErr result (EndsWalk D.state E.state walk.old first.old second.old first.new second.new) }
+    ensures first { IfErr result IsFirstBlock }
 {
     let levels = walk.levels;
     let top = walk.first.levels();
@@ -113,6 +117,7 @@ fn compare<D: BlockDev, E: BlockDev, L: Listing>(
     ensures ok { IfOk result (ComparesBlocks D.state E.state L.told walk.old first.old second.old first.new second.new listing.old listing.new most) }
     ensures reads { OnOk result (ReadsPairs D.state E.state L.told walk.old first.old second.old first.new second.new listing.old listing.new) }
     ensures err { IfErr result (EndsDifference D.state E.state walk.old first.old second.old first.new second.new (L.failed listing.new)) }
+    ensures before { IfErr result (ReportsRuns D.state E.state L.told walk.old first.old second.old first.new second.new listing.old listing.new most) }
 {
     let mut tally = Tally::new(most);
     let mut changed = 0;
@@ -122,7 +127,13 @@ fn compare<D: BlockDev, E: BlockDev, L: Listing>(
     let blocks = walk.blocks;
     'spans: while at < blocks {
         let top = top_at(&shape, levels, at);
-        let stop = walk.descend(first, second, at, top)?;
+        let stop = match walk.descend(first, second, at, top) {
+            Ok(stop) => stop,
+            Err(fault) => {
+                tally.close(listing)?;
+                return Err(fault);
+            }
+        };
         let count = span(&shape, stop.level, blocks - at);
         if stop.same {
             tally.close(listing)?;

@@ -3,6 +3,7 @@ ghost use Rattle.std.specs.Prelude.{◌≤◌, OnOk, IfErr};
 ghost use Rattle.verity_format.specs.Blocks.{IsOnlyRead};
 ghost use Rattle.verity_format.specs.Image.{tree_sectors};
 ghost use Rattle.verity_format.specs.Superblock.{shape_of};
+ghost use Rattle.tree_difference.specs.Causes.{IsFirstBlock};
 ghost use Rattle.tree_difference.specs.RootBlocks.{ChecksRoot, FailsToCheckRoot};
 
 use crate::fault::{DifferenceFault, Which};
@@ -32,6 +33,7 @@ pub(crate) fn check_root_block<H: BlockDev>(
     ensures read { IsOnlyRead (H.state device.old) (H.state device.new) }
     ensures ok { OnOk result (ChecksRoot H.state device.old device.new superblock.now root) }
     ensures err { IfErr result (FailsToCheckRoot H.state device.old device.new which superblock.now root) }
+    ensures first { IfErr result IsFirstBlock }
 {
     let mut path = TreePath::new(alloc, superblock.shape(), superblock.salt(), root)?;
     let top = path.levels();

@@ -1,14 +1,14 @@
 //! The superblocks of two hash images.
-ghost use Rattle.std.specs.Prelude.{◌≡◌, OnOk, IfOk, IfErr};
+ghost use Rattle.std.specs.Prelude.{◌≡◌, IfOk, IfErr};
 ghost use Rattle.std.specs.Str.{bytes_eq};
 ghost use Rattle.verity_format.specs.Blocks.{IsOnlyRead};
-ghost use Rattle.tree_difference.specs.Superblocks.{IsOneImageCause, IsPinned, IsTreeRead, IsUnpinned, unlike};
+ghost use Rattle.tree_difference.specs.Superblocks.{IsOneImageCause, IsTreeRead, unlike, unpinned_fault};
 
 use crate::fault::{DifferenceFault, Unlike, Which};
 use block_device::BlockDev;
-use image_pin::{Pin, check_superblock};
+use image_pin::{Pin, PinnedFault, read_pinned};
 use tree_shape::Salt;
-use verity_format::{Superblock, VerifyFault, read_superblock, tree_sectors};
+use verity_format::{Superblock, VerifyFault, tree_sectors};
 
 /// Returns the superblock of a hash image.
 ///
@@ -25,32 +25,23 @@ pub(crate) fn superblock_of<H: BlockDev>(
     ensures ok { IfOk result (IsTreeRead (H.state device.old) (H.state device.new) pin.now) }
     ensures err { IfErr result (IsOneImageCause (H.state device.old) (H.state device.new) pin.now which) }
 {
-    let superblock = match read_superblock(device) {
+    let superblock = match read_pinned(device, pin) {
         Ok(superblock) => superblock,
-        Err(fault) => return Err(DifferenceFault::Image(which, fault)),
+        Err(fault) => return Err(unpinned_fault(which, fault)),
     };
-    check_pin(which, pin, &superblock)?;
     if device.sectors() < tree_sectors(&superblock.shape()) {
         return Err(DifferenceFault::Image(which, VerifyFault::TooSmall));
     }
     Ok(superblock)
 }
 
-// Checks that the superblock has the values of the pin, if there is one.
-fn check_pin(
-    which: Which,
-    pin: &Option<Pin>,
-    superblock: &Superblock,
-) -> Result<(), DifferenceFault>
-    ensures ok { OnOk result (IsPinned pin.now superblock.now) }
-    ensures err { IfErr result (IsUnpinned which pin.now superblock.now) }
+// With which fault a comparison ends if that image has no superblock of its pin.
+fn unpinned_fault(which: Which, fault: PinnedFault) -> DifferenceFault
+    ensures { result ≡ unpinned_fault which fault }
 {
-    match pin {
-        Some(pin) => match check_superblock(pin, superblock) {
-            Ok(()) => Ok(()),
-            Err(mismatch) => Err(DifferenceFault::Unpinned(which, mismatch)),
-        },
-        None => Ok(()),
+    match fault {
+        PinnedFault::Unread(fault) => DifferenceFault::Image(which, fault),
+        PinnedFault::Unpinned(mismatch) => DifferenceFault::Unpinned(which, mismatch),
     }
 }
 

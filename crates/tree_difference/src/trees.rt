@@ -5,7 +5,7 @@ ghost use Rattle.tree_difference.specs.Superblocks.{ReadsNoTrees, ReadsTrees};
 use crate::fault::{DifferenceFault, Which};
 use crate::superblocks::{check_alike, superblock_of};
 use block_device::BlockDev;
-use image_pin::Pin;
+use image_pin::TrustedRoot;
 use tree_shape::Digest;
 use verity_format::Superblock;
 
@@ -16,12 +16,11 @@ pub struct Roots {
     pub second: Digest,
 }
 
-/// What is trusted of two trees: their root hashes, and the pin of each that has one.
+/// What is trusted of two trees: the root hash of each, and its pin if it has one.
 #[derive(Clone, Copy)]
 pub struct TrustedTrees {
-    pub roots: Roots,
-    pub first_pin: Option<Pin>,
-    pub second_pin: Option<Pin>,
+    pub first: TrustedRoot,
+    pub second: TrustedRoot,
 }
 
 /// Two trees: the superblocks of their hash images, and their root hashes.
@@ -47,14 +46,17 @@ pub fn read_trees<D: BlockDev, E: BlockDev>(
     ensures ok { IfOk result (ReadsTrees D.state E.state first.old second.old first.new second.new trusted.now) }
     ensures err { IfErr result (ReadsNoTrees D.state E.state first.old second.old first.new second.new trusted.now) }
 {
-    let one = superblock_of(first, Which::First, &trusted.first_pin)?;
-    let two = superblock_of(second, Which::Second, &trusted.second_pin)?;
+    let one = superblock_of(first, Which::First, &trusted.first.pin)?;
+    let two = superblock_of(second, Which::Second, &trusted.second.pin)?;
     match check_alike(&one, &two) {
         Some(field) => Err(DifferenceFault::Unlike(field)),
         None => Ok(TreePair {
             first: one,
             second: two,
-            roots: trusted.roots,
+            roots: Roots {
+                first: trusted.first.root,
+                second: trusted.second.root,
+            },
         }),
     }
 }

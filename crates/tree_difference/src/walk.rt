@@ -1,7 +1,7 @@
 //! The paths down two trees to one data block.
-ghost use Rattle.std.specs.Prelude.{◌≡◌, ◌≤◌, OnOk, IfOk, IfErr};
+ghost use Rattle.std.specs.Prelude.{◌≡◌, ◌≤◌, ◌+◌, OnOk, IfOk, IfErr};
 ghost use Rattle.tree_difference.specs.Causes.{EndsWalk};
-ghost use Rattle.tree_difference.specs.Walks.{CanEnter, CanWalk, Enters, StopsWalk};
+ghost use Rattle.tree_difference.specs.Walks.{CanEnter, CanWalk, Enters, IsOnWay, StopsWalk};
 
 use crate::fault::{DifferenceFault, Which};
 use crate::reading::read_down;
@@ -39,6 +39,7 @@ impl Walk {
         requires { CanWalk self.old (D.state first.old) (E.state second.old) index top }
         ensures ok { IfOk result (StopsWalk D.state E.state self.old self.new first.old second.old first.new second.new index top) }
         ensures err { IfErr result (EndsWalk D.state E.state self.old first.old second.old first.new second.new) }
+        ensures way { IfErr result (IsOnWay self.old index top) }
     {
         let mut level = top;
         'levels: while !is_same(
@@ -65,6 +66,7 @@ impl Walk {
         requires { CanEnter self.old (D.state first.old) (E.state second.old) index level }
         ensures ok { OnOk result (Enters D.state E.state self.old self.new first.old second.old first.new second.new index level) }
         ensures err { IfErr result (EndsWalk D.state E.state self.old first.old second.old first.new second.new) }
+        ensures way { IfErr result (IsOnWay self.old index (level + 1)) }
     {
         read_down(
             &mut self.first,

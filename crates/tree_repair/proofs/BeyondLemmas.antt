@@ -1,47 +1,88 @@
 -- What is lost behind the last pass is beyond parity.
-use Rattle.std.proofs.Common.{◌≡◌, ◌≤◌, ◌<◌, ℕ, Bool, true, false, List, [], ◌∷◌, ◌++◌, refl, sym, subst, inl, inr}
+use Rattle.std.proofs.Common.{◌≡◌, ◌≤◌, ◌<◌, ℕ, Bool, true, false, List, [], ◌∷◌, ◌++◌, refl, sym, subst, arith, inl, inr}
 use Rattle.std.specs.Prelude.{◌⊎◌}
 use Rattle.std.specs.List.{flat_map}
-use Rattle.block_device.specs.Device.{Device}
+use Rattle.block_device.specs.Device.{Device, HasFailed}
 use Rattle.fec_area.specs.declared.layout.Layout.{Layout}
 use Rattle.fec_area.specs.declared.restoring.RestoreFault.TheVariants.{TooManyLost, TooSmall, Device as DeviceFailed, NoMemory}
-use Rattle.fec_area.specs.Rounds.{AllNeverFail}
+use Rattle.fec_area.specs.Writing.{HasAnyFailed}
 use Rattle.tree_shape.specs.Shape.{ShapeRecord, IsShape, ancestor, levels}
 use Rattle.tree_path.specs.Path.{PathRecord}
-use Rattle.verity_format.proofs.lemmas.DeviceLemmas.{only_read-none, only_read-then}
-use Rattle.verity_format.specs.Blocks.{IsOnlyRead}
+use Rattle.tree_survey.specs.Failing.{HasFailedTimes}
 use Rattle.tree_repair.specs.declared.bad.BadBlock.{BadBlock}
 use Rattle.tree_repair.specs.declared.mending.Mended.{Mended}
 use Rattle.tree_repair.specs.declared.mending.Mended.TheVariants as mended
-use Rattle.tree_repair.specs.Beyond.{IsHad, IsHadIn, IsOutcome, IsRoundBeyond, IsSettled, IsSoughtIn, WhatStaysLostIsBeyondParity}
+use Rattle.tree_repair.specs.Beyond.{HaveCountedNone, IsHad, IsHadIn, IsOutcome, IsRoundBeyond, IsSettled, IsSoughtIn, WhatStaysLostIsBeyondParity}
 use Rattle.tree_repair.specs.Coverage.{IsLookedAt, IsPassedBy, IsVisitAt, IsVisitedIn}
 use Rattle.tree_repair.specs.Parity.{IsCoveredAt, IsPlace}
 use Rattle.tree_repair.specs.Passes.{IsPass, bad_of}
 use Rattle.tree_repair.specs.Repairs.{job_of}
 use Rattle.tree_repair.specs.Runs.{Job, Visit, VisitsAll, visit}
 use Rattle.tree_repair.specs.ParitySearches.{AreSought, IsBlockUnmade, IsSought, IsSoughtAt, IsTriedBehind, IsUncovered, IsVain, Trial, trial}
-use Rattle.tree_repair.specs.Worlds.{IsWorldRead, RepairWorld}
+use Rattle.tree_repair.specs.Worlds.{HasCountedNone, IsParityRead, IsWorldRead, RepairWorld}
+use Rattle.tree_repair.proofs.ExcuseLemmas.{counted-left, counted-right, passed-for, runs-own}
 use Rattle.tree_repair.proofs.KeepLemmas.{runs-before}
-use Rattle.tree_repair.proofs.RunLemmas.{AreSame, read-same, runs-one, runs-read, runs-same, runs-then, world-none, world-then}
+use Rattle.tree_repair.proofs.RunLemmas.{parity-none, parity-then, runs-one, runs-read, runs-then, world-none, world-then}
 
--- ---- devices that can't fail
+-- ---- devices that counted no failure
 
-sure-same : (a b : RepairWorld) (p q : Device) → AreSame a b → IsOnlyRead p q → AllNeverFail a.data_dev a.hash_dev p → AllNeverFail b.data_dev b.hash_dev q
-sure-same a b p q same read sure = (same.data_same.never_fails sure.0, same.hash_same.never_fails sure.1, read.same.never_fails sure.2)
+-- the counters of the three devices didn't decrease between two states
+record AreCounting (w w' : RepairWorld) (p p' : Device) : Type 0 where
+  data_more : HasFailedTimes w.data_dev 0 w'.data_dev
+  hash_more : HasFailedTimes w.hash_dev 0 w'.hash_dev
+  parity_more : HasFailedTimes p 0 p'
+
+parity-counting : (p q : Device) → IsParityRead p q → HasFailedTimes p 0 q
+parity-counting p q read = inl (omega (arith, read.more))
+
+counting-runs : (j : Job) (vs : List Visit) (a b : RepairWorld) (p q : Device) → VisitsAll j vs a b → IsParityRead p q → AreCounting a b p q
+counting-runs j vs a b p q runs read = record { data_more = runs-own j 0 vs a b runs; hash_more = runs-own j 1 vs a b runs; parity_more = parity-counting p q read }
+
+counting-read : (a b : RepairWorld) (p q : Device) → IsWorldRead a b → IsParityRead p q → AreCounting a b p q
+counting-read a b p q world read = record { data_more = inl (omega (arith, world.data_more)); hash_more = inl (omega (arith, world.hash_more)); parity_more = parity-counting p q read }
+
+-- none was counted between the first two of three states, nor between the last two
+none-left : (a b c : RepairWorld) (p q r : Device) → AreCounting b c q r → HaveCountedNone a c p r → HaveCountedNone a b p q
+none-left a b c p q r more none = record {
+  data_none = counted-left a.data_dev b.data_dev c.data_dev more.data_more none.data_none;
+  hash_none = counted-left a.hash_dev b.hash_dev c.hash_dev more.hash_more none.hash_none;
+  parity_none = counted-left p q r more.parity_more none.parity_none;
+}
+
+none-right : (a b c : RepairWorld) (p q r : Device) → AreCounting a b p q → HaveCountedNone a c p r → HaveCountedNone b c q r
+none-right a b c p q r more none = record {
+  data_none = counted-right a.data_dev b.data_dev c.data_dev more.data_more none.data_none;
+  hash_none = counted-right a.hash_dev b.hash_dev c.hash_dev more.hash_more none.hash_none;
+  parity_none = counted-right p q r more.parity_more none.parity_none;
+}
+
+-- so none failed
+unfailed : (old new : Device) → HasFailedTimes old 0 new → HasCountedNone old new → HasFailed old new → ⊥
+unfailed old new more none (inl less) = omega (arith, less, none.none)
+unfailed old new (inl few) none (inr most) = omega (arith, few, most, none.below)
+unfailed old new (inr end) none (inr most) = omega (arith, end, none.below)
+
+none-failed : (w w' : RepairWorld) (p p' : Device) → AreCounting w w' p p' → HaveCountedNone w w' p p' → HasAnyFailed w.data_dev w.hash_dev p w'.data_dev w'.hash_dev p' → ⊥
+none-failed w w' p p' more none failed = any failed
+  where
+    any : HasAnyFailed w.data_dev w.hash_dev p w'.data_dev w'.hash_dev p' → ⊥
+    any (inl (inl one)) = unfailed w.data_dev w'.data_dev more.data_more none.data_none one
+    any (inl (inr two)) = unfailed w.hash_dev w'.hash_dev more.hash_more none.hash_none two
+    any (inr three) = unfailed p p' more.parity_more none.parity_none three
 
 -- ---- a block that is sought
 
 -- why it isn't made again
-unmade-beyond : (j : Job) (p : PathRecord) (h i : ℕ) (t : Trial) (k : ℕ) → AllNeverFail t.w.data_dev t.w.hash_dev t.parity_dev → IsBlockUnmade t k → IsRoundBeyond j p h i t k
-unmade-beyond j p h i t k sure (TooManyLost count, (of, (is, many, unasked))) = inl (rw (sym is) many)
-unmade-beyond j p h i t k sure (TooSmall needed, (of, (is, small, unasked))) = inr (inl (rw (sym is) small))
-unmade-beyond j p h i t k sure (DeviceFailed, (of, failed)) = absurd (of sure)
-unmade-beyond j p h i t k sure (NoMemory, (of, unasked)) = absurd of
+unmade-beyond : (j : Job) (p : PathRecord) (h i : ℕ) (t : Trial) (k : ℕ) → AreCounting t.w t.w' t.parity_dev t.parity_dev' → HaveCountedNone t.w t.w' t.parity_dev t.parity_dev' → IsBlockUnmade t k → IsRoundBeyond j p h i t k
+unmade-beyond j p h i t k more sure (TooManyLost count, (of, (is, many, unasked))) = inl (rw (sym is) many)
+unmade-beyond j p h i t k more sure (TooSmall needed, (of, (is, small, unasked))) = inr (inl (rw (sym is) small))
+unmade-beyond j p h i t k more sure (DeviceFailed, (of, failed)) = absurd (none-failed t.w t.w' t.parity_dev t.parity_dev' more sure failed)
+unmade-beyond j p h i t k more sure (NoMemory, (of, unasked)) = absurd of
 
-vain-beyond : (j : Job) (p : PathRecord) (h i : ℕ) (t : Trial) → AllNeverFail t.w.data_dev t.w.hash_dev t.parity_dev → IsVain j p h i t → IsUncovered j.tree.shape t.layout h i ⊎ ((k : ℕ) × (IsCoveredAt j.tree.shape t.layout h i k × IsRoundBeyond j p h i t k))
-vain-beyond j p h i t sure (inl off) = inl off
-vain-beyond j p h i t sure (inr (k, (at, inl unmade))) = inr (k, (at, unmade-beyond j p h i t k sure unmade))
-vain-beyond j p h i t sure (inr (k, (at, inr other))) = inr (k, (at, inr (inr other)))
+vain-beyond : (j : Job) (p : PathRecord) (h i : ℕ) (t : Trial) → AreCounting t.w t.w' t.parity_dev t.parity_dev' → HaveCountedNone t.w t.w' t.parity_dev t.parity_dev' → IsVain j p h i t → IsUncovered j.tree.shape t.layout h i ⊎ ((k : ℕ) × (IsCoveredAt j.tree.shape t.layout h i k × IsRoundBeyond j p h i t k))
+vain-beyond j p h i t more sure (inl off) = inl off
+vain-beyond j p h i t more sure (inr (k, (at, inl unmade))) = inr (k, (at, unmade-beyond j p h i t k more sure unmade))
+vain-beyond j p h i t more sure (inr (k, (at, inr other))) = inr (k, (at, inr (inr other)))
 
 -- how it ends, behind a reading
 pub record IsEnded (j : Job) (h i : ℕ) (t : Trial) : Type 0 where
@@ -49,7 +90,7 @@ pub record IsEnded (j : Job) (h i : ℕ) (t : Trial) : Type 0 where
   pub read : IsWorldRead t.w a
   pub outcome : IsOutcome j h i (trial t.layout t.lost a t.w' t.parity_dev t.parity_dev')
 
-tried-ended : (j : Job) (h i : ℕ) (t : Trial) (back : Bool) → AllNeverFail t.w.data_dev t.w.hash_dev t.parity_dev → IsTriedBehind j h i t back → IsEnded j h i t
+tried-ended : (j : Job) (h i : ℕ) (t : Trial) (back : Bool) → HaveCountedNone t.w t.w' t.parity_dev t.parity_dev' → IsTriedBehind j h i t back → IsEnded j h i t
 tried-ended j h i t true sure behind = record { a = behind.between; read = behind.read; outcome = inl behind.tried.0 }
 tried-ended j h i t false sure behind =
     elim behind.tried.1 [
@@ -59,15 +100,16 @@ tried-ended j h i t false sure behind =
         outcome = inr (inr (inr (record {
           p = along.p;
           way = along.way;
-          vain = vain-beyond j along.p h i (record t { w = behind.between }) (sure-same t.w behind.between t.parity_dev t.parity_dev (read-same t.w behind.between behind.read) (only_read-none t.parity_dev) sure) along.vain;
+          vain = vain-beyond j along.p h i (record t { w = behind.between }) (counting-read behind.between t.w' t.parity_dev t.parity_dev' behind.tried.0.image behind.tried.0.parity)
+              (none-right t.w behind.between t.w' t.parity_dev t.parity_dev t.parity_dev' (counting-read t.w behind.between t.parity_dev t.parity_dev behind.read (parity-none t.parity_dev)) sure) along.vain;
         })));
       }
       | inr good ↦ record { a = behind.between; read = behind.read; outcome = inr (inl good) }
     ]
 
-sought-ended : (j : Job) (h i : ℕ) (t : Trial) (back : Bool) → AllNeverFail t.w.data_dev t.w.hash_dev t.parity_dev → IsPlace j.tree.shape h i → IsSoughtAt j h i t false back → IsEnded j h i t
+sought-ended : (j : Job) (h i : ℕ) (t : Trial) (back : Bool) → HaveCountedNone t.w t.w' t.parity_dev t.parity_dev' → IsPlace j.tree.shape h i → IsSoughtAt j h i t false back → IsEnded j h i t
 sought-ended j h i t back sure place (inl (not, (left, inl off))) = absurd (off place)
-sought-ended j h i t back sure place (inl (not, (left, inr (inl failed)))) = absurd (failed.1 sure.1)
+sought-ended j h i t back sure place (inl (not, (left, inr (inl failed)))) = absurd (unfailed t.w.hash_dev t.w'.hash_dev (inl (omega (arith, left.image.hash_more))) sure.hash_none failed.0)
 sought-ended j h i t back sure place (inl (not, (left, inr (inr cut)))) = record { a = t.w; read = world-none t.w; outcome = inr (inr (inl cut)) }
 sought-ended j h i t back sure place (inr behind) = tried-ended j h i t back sure behind
 
@@ -81,7 +123,7 @@ tried-visits j h i t true behind =
     (v ∷ [], runs-read j (v ∷ []) t.w behind.between t.w' behind.read (runs-read j (v ∷ []) behind.between brought.between t.w' brought.read (runs-before j (v ∷ []) brought.between brought.behind t.w' (runs-one j v brought.between brought.behind brought.visited) brought.read_back)))
 tried-visits j h i t false behind = ([], world-then t.w behind.between t.w' behind.read behind.tried.0.image)
 
-tried-parity : (j : Job) (h i : ℕ) (t : Trial) (back : Bool) → IsTriedBehind j h i t back → IsOnlyRead t.parity_dev t.parity_dev'
+tried-parity : (j : Job) (h i : ℕ) (t : Trial) (back : Bool) → IsTriedBehind j h i t back → IsParityRead t.parity_dev t.parity_dev'
 tried-parity j h i t true behind = behind.tried.1
 tried-parity j h i t false behind = behind.tried.0.parity
 
@@ -90,7 +132,7 @@ sought-visits j h i t true back (not, left) = ([], left.image)
 sought-visits j h i t false back (inl (not, (left, reach))) = ([], left.image)
 sought-visits j h i t false back (inr behind) = tried-visits j h i t back behind
 
-sought-parity : (j : Job) (h i : ℕ) (t : Trial) (found back : Bool) → IsSoughtAt j h i t found back → IsOnlyRead t.parity_dev t.parity_dev'
+sought-parity : (j : Job) (h i : ℕ) (t : Trial) (found back : Bool) → IsSoughtAt j h i t found back → IsParityRead t.parity_dev t.parity_dev'
 sought-parity j h i t true back (not, left) = left.parity
 sought-parity j h i t false back (inl (not, (left, reach))) = left.parity
 sought-parity j h i t false back (inr behind) = tried-parity j h i t back behind
@@ -101,6 +143,11 @@ all-visits j l lost (b ∷ more) w w' p p' hash_came (a, (q, (back, (rest, (is, 
     let first = sought-visits j b.place.height b.place.index (trial l lost w a p q) b.found back here in
     let later = all-visits j l lost more a w' q p' rest are in
     (first.0 ++ later.0, runs-then j first.0 later.0 w a w' first.1 later.1)
+
+all-parity : (j : Job) (l : Layout) (lost : List ℕ) (bs : List BadBlock) (w w' : RepairWorld) (p p' : Device) (hash_came : Bool) → AreSought j l lost bs w w' p p' hash_came → IsParityRead p p'
+all-parity j l lost [] w w' p p' hash_came (same, none) = subst (IsParityRead p) (sym none.0) (parity-none p)
+all-parity j l lost (b ∷ more) w w' p p' hash_came (a, (q, (back, (rest, (is, (here, are)))))) =
+    parity-then (sought-parity j b.place.height b.place.index (trial l lost w a p q) b.found back here) (all-parity j l lost more a w' q p' rest are)
 
 -- ---- the lost ones
 
@@ -142,7 +189,7 @@ visited-or j h i (v ∷ more) w w' (a, (b, (read, (here, rest)))) (inr there) =
     ]
 
 -- one of those that were sought
-here-sought : (j : Job) (l : Layout) (lost : List ℕ) (h i : ℕ) (b : BadBlock) (w a w' : RepairWorld) (p q : Device) (back : Bool) (later : List Visit) → IsShape j.tree.shape → h ≤ levels j.tree.shape → AllNeverFail w.data_dev w.hash_dev p
+here-sought : (j : Job) (l : Layout) (lost : List ℕ) (h i : ℕ) (b : BadBlock) (w a w' : RepairWorld) (p q : Device) (back : Bool) (later : List Visit) → IsShape j.tree.shape → h ≤ levels j.tree.shape → HaveCountedNone w a p q
     → IsNotedAt j.tree.shape h i b → IsSought j b (trial l lost w a p q) back → VisitsAll j later a w' → IsSoughtIn j l lost h i w w' p
 here-sought j l lost h i b w a w' p q back later valid high sure at here behind =
     let at_height : IsSoughtAt j h b.place.index (trial l lost w a p q) b.found back = subst (λ (n : ℕ). IsSoughtAt j n b.place.index (trial l lost w a p q) b.found back) at.height_is here in
@@ -156,12 +203,12 @@ here-sought j l lost h i b w a w' p q back later valid high sure at here behind 
       q = p;
       q' = q;
       part = record { earlier = []; later = later; before = ended.read; behind = behind };
-      parity_read = only_read-none p;
+      parity_read = parity-none p;
       outcome = ended.outcome;
     }
 
 -- behind others
-later-sought : (j : Job) (l : Layout) (lost : List ℕ) (h i : ℕ) (vs : List Visit) (w a w' : RepairWorld) (p q : Device) → VisitsAll j vs w a → IsOnlyRead p q → IsSoughtIn j l lost h i a w' q → IsSoughtIn j l lost h i w w' p
+later-sought : (j : Job) (l : Layout) (lost : List ℕ) (h i : ℕ) (vs : List Visit) (w a w' : RepairWorld) (p q : Device) → VisitsAll j vs w a → IsParityRead p q → IsSoughtIn j l lost h i a w' q → IsSoughtIn j l lost h i w w' p
 later-sought j l lost h i vs w a w' p q before read x = record {
   beside = x.beside;
   same = x.same;
@@ -170,53 +217,51 @@ later-sought j l lost h i vs w a w' p q before read x = record {
   q = x.q;
   q' = x.q';
   part = record { earlier = vs ++ x.part.earlier; later = x.part.later; before = runs-then j vs x.part.earlier w a x.a before x.part.before; behind = x.part.behind };
-  parity_read = only_read-then read x.parity_read;
+  parity_read = parity-then read x.parity_read;
   outcome = x.outcome;
 }
 
-lost-sought : (j : Job) (l : Layout) (lost : List ℕ) (h i : ℕ) (bs : List BadBlock) (w w' : RepairWorld) (p p' : Device) (hash_came : Bool) → IsShape j.tree.shape → h ≤ levels j.tree.shape → AllNeverFail w.data_dev w.hash_dev p
+lost-sought : (j : Job) (l : Layout) (lost : List ℕ) (h i : ℕ) (bs : List BadBlock) (w w' : RepairWorld) (p p' : Device) (hash_came : Bool) → IsShape j.tree.shape → h ≤ levels j.tree.shape → HaveCountedNone w w' p p'
     → AreSought j l lost bs w w' p p' hash_came → IsLostIn j.tree.shape h i bs → IsSoughtIn j l lost h i w w' p
 lost-sought j l lost h i [] w w' p p' hash_came valid high sure are at = absurd at
 lost-sought j l lost h i (b ∷ more) w w' p p' hash_came valid high sure (a, (q, (back, (rest, (is, (here, are)))))) (inl at) =
     let later = all-visits j l lost more a w' q p' rest are in
-    here-sought j l lost h i b w a w' p q back later.0 valid high sure at here later.1
+    let counting = counting-runs j later.0 a w' q p' later.1 (all-parity j l lost more a w' q p' rest are) in
+    here-sought j l lost h i b w a w' p q back later.0 valid high (none-left w a w' p q p' counting sure) at here later.1
 lost-sought j l lost h i (b ∷ more) w w' p p' hash_came valid high sure (a, (q, (back, (rest, (is, (here, are)))))) (inr there) =
     let first = sought-visits j b.place.height b.place.index (trial l lost w a p q) b.found back here in
     let read = sought-parity j b.place.height b.place.index (trial l lost w a p q) b.found back here in
-    later-sought j l lost h i first.0 w a w' p q first.1 read (lost-sought j l lost h i more a w' q p' rest valid high (sure-same w a p q (runs-same j first.0 w a first.1) read sure) are there)
+    later-sought j l lost h i first.0 w a w' p q first.1 read (lost-sought j l lost h i more a w' q p' rest valid high (none-right w a w' p q p' (counting-runs j first.0 w a p q first.1 read) sure) are there)
 
 -- ---- a pass
 
-settled-by : (j : Job) (l : Layout) (lost : List ℕ) (h i : ℕ) (vs us : List Visit) (w x w' : RepairWorld) (p : Device) → AllNeverFail w.data_dev w.hash_dev p → VisitsAll j us x w' → IsPassedBy j h i vs w x → IsSettled j l lost vs h i w w' p
+settled-by : (j : Job) (l : Layout) (lost : List ℕ) (h i : ℕ) (vs us : List Visit) (w x w' : RepairWorld) (p : Device) → HasCountedNone w.hash_dev w'.hash_dev → VisitsAll j us x w' → IsPassedBy j h i vs w x → IsSettled j l lost vs h i w w' p
 settled-by j l lost h i vs us w x w' p sure behind by =
-    elim by.cut [
-      | inl failed ↦ absurd (failed.1 ((runs-same j by.earlier w by.a by.before).hash_same.never_fails sure.1))
-      | inr cut ↦ inr (inl (record {
-        beside = by.beside;
-        same = by.same;
-        a = by.a;
-        b = by.b;
-        part = record { earlier = by.earlier; later = by.later ++ us; before = by.before; behind = runs-then j by.later us by.b x w' by.behind behind };
-        cut = cut;
-      }))
-    ]
+    inr (inl (record {
+      beside = by.beside;
+      same = by.same;
+      a = by.a;
+      b = by.b;
+      part = record { earlier = by.earlier; later = by.later ++ us; before = by.before; behind = runs-then j by.later us by.b x w' by.behind behind };
+      cut = passed-for j h i vs w x by (counted-left w.hash_dev x.hash_dev w'.hash_dev (runs-own j 1 us x w' behind) sure);
+    }))
 
-settled-at : (j : Job) (l : Layout) (h i : ℕ) (w w' : RepairWorld) (p p' : Device) (again : Bool) (pass : IsPass j l w w' p p' again) → IsShape j.tree.shape → AllNeverFail w.data_dev w.hash_dev p → h ≤ levels j.tree.shape
+settled-at : (j : Job) (l : Layout) (h i : ℕ) (w w' : RepairWorld) (p p' : Device) (again : Bool) (pass : IsPass j l w w' p p' again) → IsShape j.tree.shape → HaveCountedNone w w' p p' → h ≤ levels j.tree.shape
     → IsLookedAt j h i pass.visits w pass.behind → IsSettled j l pass.sought.lost pass.visits h i w w' p
 settled-at j l h i w w' p p' again pass valid sure high (inl at) =
     elim (visited-or j h i pass.visits w pass.behind pass.runs at) [
       | inl had ↦ inl had
-      | inr lost ↦ inr (inr (later-sought j l pass.sought.lost h i pass.visits w pass.behind w' p p pass.runs (only_read-none p)
+      | inr lost ↦ inr (inr (later-sought j l pass.sought.lost h i pass.visits w pass.behind w' p p pass.runs (parity-none p)
           (lost-sought j l pass.sought.lost h i (flat_map (bad_of j) pass.visits) pass.behind w' p p' pass.hash_came valid high
-          (sure-same w pass.behind p p (runs-same j pass.visits w pass.behind pass.runs) (only_read-none p) sure) pass.sought.sought lost)))
+          (none-right w pass.behind w' p p p' (counting-runs j pass.visits w pass.behind p p pass.runs (parity-none p)) sure) pass.sought.sought lost)))
     ]
 settled-at j l h i w w' p p' again pass valid sure high (inr by) =
     let sought = all-visits j l pass.sought.lost (flat_map (bad_of j) pass.visits) pass.behind w' p p' pass.hash_came pass.sought.sought in
-    settled-by j l pass.sought.lost h i pass.visits sought.0 w pass.behind w' p sure sought.1 by
+    settled-by j l pass.sought.lost h i pass.visits sought.0 w pass.behind w' p sure.hash_none sought.1 by
 
 pub stays-lost : WhatStaysLostIsBeyondParity
 stays-lost plan l w w' p p' seeks sure h i high inside =
     let j : Job = job_of plan true in
     let passes = seeks.ends.passes in
     settled-at j l h i passes.last w' passes.last_parity p' seeks.ends.again passes.pass seeks.lies.valid
-    (sure-same w passes.last p passes.last_parity (runs-same j passes.earlier w passes.last passes.before) passes.parity_read sure) high (passes.pass.looked h i high inside)
+    (none-right w passes.last w' p passes.last_parity p' (counting-runs j passes.earlier w passes.last p passes.last_parity passes.before passes.parity_read) sure) high (passes.pass.looked h i high inside)

@@ -236,7 +236,7 @@ damaged-back form plan write l f w w' p p' r tree room i low few =
     let lost : List ℕ = pass.sought.lost in
     let first : HoldsParity s l f w p = holds-first plan l f w w' p p' r in
     let last : HoldsParity s l f passes.last passes.last_parity =
-    holds-later j r.seeks.lies.valid l f passes.earlier w passes.last p passes.last_parity passes.before passes.parity_read first in
+    holds-later j r.seeks.lies.valid l f passes.earlier w passes.last p passes.last_parity passes.before passes.parity_read.read first in
     let inside : (n : ℕ) → IsAmong lost n → n < covered_blocks l = lost-inside s l bs lost pass.sought.are in
     let clash : (n : ℕ) → IsAmong lost n → IsAsFormed l f w n → Collide j.tree.salt = λ n among is.
     elim (runs-kept form j r.seeks.lies.valid f r.former l r.sizes passes.earlier w passes.last passes.before first.sure first.ready n (inside n among) is) [

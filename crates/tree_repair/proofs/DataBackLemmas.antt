@@ -134,4 +134,4 @@ pub data-back : FormedChainsAreGood → DataUnderWholeTreeComeBack
 data-back form plan write l f w w' p p' r tree room i low few =
     let passes = r.seeks.ends.passes in
     data-formed form (job_of plan true) r.seeks.lies.valid f r.former l r.sizes w p (holds-first plan l f w w' p p' r) tree passes.earlier passes.last w' p' passes.before write
-    passes.last_parity r.seeks.ends.again passes.pass passes.parity_read (omega (arith, room, passes.parity_read.same.size)) i low few
+    passes.last_parity r.seeks.ends.again passes.pass passes.parity_read.read (omega (arith, room, passes.parity_read.read.same.size)) i low few

@@ -12,12 +12,12 @@ use Rattle.verity_format.specs.Blocks.{IsOnlyRead}
 use Rattle.tree_repair.specs.declared.mending.Mended.{Mended}
 use Rattle.tree_repair.specs.declared.mending.Mended.TheVariants as mended
 use Rattle.tree_repair.specs.Coverage.{IsPassedBy}
-use Rattle.tree_repair.specs.UnreadBlocks.{AreUnreadCounted, HasCountedNone, IsLeftAlone, IsTreatedRightly, StandsIntact, Throughout, first_counts, if_data, if_hash, unread_data, unread_hash, unread_look, unread_visit}
+use Rattle.tree_repair.specs.UnreadBlocks.{AreUnreadCounted, IsLeftAlone, IsTreatedRightly, StandsIntact, Throughout, first_counts, if_data, if_hash, unread_data, unread_hash, unread_look, unread_visit}
 use Rattle.tree_repair.specs.Mending.{IsAllowedPut, IsMended, BlockCheck}
 use Rattle.tree_repair.specs.Runs.{IsVisited, Job, OtherStays, VisitsAll, Visit, look_at, other, own}
 use Rattle.tree_repair.specs.Sources.{IsBad, IsOther, Wanted, bytes_on_device}
 use Rattle.tree_repair.specs.ParitySearches.{IsCutOff}
-use Rattle.tree_repair.specs.Worlds.{IsWorldRead, RepairWorld}
+use Rattle.tree_repair.specs.Worlds.{HasCountedNone, IsWorldRead, RepairWorld}
 use Rattle.tree_repair.proofs.LawLemmas.{formed-chain, way-digest}
 use Rattle.tree_repair.proofs.RunLemmas.{world-none}
 
@@ -177,6 +177,15 @@ none-within a b c e n before at behind none = elim (times-then a b e 0 n n (omeg
   | inr most ↦ absurd (omega (arith, most, none.below))
 ]
 
+-- if none was counted from a device to a later one, none was to one between them, and none from it
+pub counted-left : (a b c : Device) → HasFailedTimes b 0 c → HasCountedNone a c → HasCountedNone a b
+counted-left a b c (inl few) none = record { none = omega (arith, few, none.none); below = omega (arith, few, none.below) }
+counted-left a b c (inr most) none = absurd (omega (arith, most, none.below))
+
+pub counted-right : (a b c : Device) → HasFailedTimes a 0 b → HasCountedNone a c → HasCountedNone b c
+counted-right a b c (inl few) none = record { none = omega (arith, few, none.none); below = none.below }
+counted-right a b c (inr most) none = record { none = omega (arith, most, none.below); below = none.below }
+
 -- whatever a run counts
 some-less : (a b : Device) (n : ℕ) → HasFailedTimes a n b → HasFailedTimes a 0 b
 some-less a b n (inl few) = inl (omega (arith, few))
@@ -186,7 +195,7 @@ own-of : (h : ℕ) (a b : RepairWorld) → HasFailedTimes a.data_dev 0 b.data_de
 own-of zero a b one two = one
 own-of (suc l) a b one two = two
 
-runs-own : (j : Job) (h : ℕ) (visits : List Visit) (w w' : RepairWorld) → VisitsAll j visits w w' → HasFailedTimes (own h w) 0 (own h w')
+pub runs-own : (j : Job) (h : ℕ) (visits : List Visit) (w w' : RepairWorld) → VisitsAll j visits w w' → HasFailedTimes (own h w) 0 (own h w')
 runs-own j h visits w w' runs =
     own-of h w w' (some-less w.data_dev w'.data_dev (unread_data j visits w w' runs) (data-more j visits w w' runs)) (some-less w.hash_dev w'.hash_dev (unread_hash j visits w w' runs) (hash-more j visits w w' runs))
 

@@ -17,7 +17,8 @@ use Rattle.tree_repair.specs.declared.mending.Mended.{Mended}
 use Rattle.tree_repair.specs.declared.mending.Mended.TheVariants as mended
 use Rattle.tree_repair.specs.Laws.{MendedBlocksAreFormatted, MendedBlocksAreGood, NoHashBlockIsLost, chain_block_below, block_of_height}
 use Rattle.tree_repair.specs.Mending.{IsBlockFound, IsMended, BlockCheck}
-use Rattle.tree_repair.specs.Remaking.{ground, made, made_on}
+use Rattle.tree_repair.specs.Remaking.{ground, lost_hash, made, made_on}
+use Rattle.tree_repair.proofs.MakeLemmas.{unlike-data}
 use Rattle.tree_repair.specs.Runs.{IsMadeOf, look_at}
 use Rattle.tree_repair.proofs.FormedLemmas.{below-path, level-made}
 
@@ -118,12 +119,13 @@ none-lost form j v w w' l lost contents holds =
     let i = v.index in
     let c : ChainRecord = formed t.shape t.salt contents i in
     let way : IsWay t i (suc l) p = subst (λ (n : ℕ). IsWay t i n p) lost.height_is lost.visited.way in
-    let none : IsMadeOf j p (suc l) i w.data_dev w.hash_dev v.bytes mended.Lost =
-    subst (λ (m : Mended). IsMadeOf j p (suc l) i w.data_dev w.hash_dev v.bytes m) lost.lost
-    (subst (λ (n : ℕ). IsMadeOf j p n i w.data_dev w.hash_dev v.bytes v.mended) lost.height_is lost.visited.made_of) in
+    let none : IsMadeOf j p (suc l) i w w' v.bytes mended.Lost =
+    subst (λ (m : Mended). IsMadeOf j p (suc l) i w w' v.bytes m) lost.lost
+    (subst (λ (n : ℕ). IsMadeOf j p n i w w' v.bytes v.mended) lost.height_is lost.visited.made_of) in
     elim (way-digest t p i (suc l) c way (formed-chain form t contents holds.are i lost.visited.inside)) [
       | inr clash ↦ clash
       | inl same ↦
-          let other = none 0 (omega arith) holds.data_steady holds.hash_steady holds.data_sure holds.hash_sure in
+          let x = lost_hash t.shape t.salt l i (digest_on p i (l + 1)) in
+          let other = unlike-data x w.data_dev w.hash_dev w'.data_dev w'.hash_dev holds.data_none holds.hash_none none holds.data_steady holds.hash_steady in
           absurd (other (ap (digest t.salt) (made-formed t contents w.data_dev w.hash_dev l i holds.are.shape lost.visited.inside way.few holds.stand) ∙ same ∙ ap (digest_on p i) (sym (add-one l))))
     ]

@@ -1,5 +1,5 @@
 -- Hash blocks made again, digest by digest.
-use Rattle.std.proofs.Common.{◌≡◌, ◌≤◌, ◌<◌, ◌+◌, ◌-◌, ◌*◌, ◌^◌, ◌++◌, ◌∷◌, [], ℕ, zero, suc, min, List, length, map, take, drop, replicate, IsTrue, length-append, refl, sym, ap, ◌∙◌, arith}
+use Rattle.std.proofs.Common.{◌≡◌, ◌≤◌, ◌<◌, ◌+◌, ◌-◌, ◌*◌, ◌^◌, ◌++◌, ◌∷◌, [], ℕ, zero, suc, min, List, length, map, take, drop, replicate, IsTrue, length-append, refl, sym, ap, ◌∙◌, arith, ◌⊎◌, subst, inl, inr}
 use Rattle.std.specs.Int.{div_ceil}
 use Rattle.std.specs.List.{concat, range_with_len}
 use Rattle.std.proofs.Math.Nat.{div-le_self}
@@ -8,9 +8,11 @@ use Rattle.std.proofs.lemmas.List.{append-nil, drop-replicate}
 use Rattle.std.proofs.lemmas.List.Elements.{All-map}
 use Rattle.std.proofs.lemmas.List.Folds.{concat-append}
 use Rattle.std.proofs.lemmas.List.FromFn.{length-map-range_with_len, map-range_with_len_more}
-use Rattle.block_device.specs.Device.{Device}
+use Rattle.std.proofs.lemmas.Bool.{cases_lt}
+use Rattle.block_device.specs.Device.{Device, HasFailed}
+use Rattle.fec_area.specs.Rounds.{HasOneFailed}
 use Rattle.tree_shape.specs.Digests.{digest}
-use Rattle.tree_shape.specs.Shape.{ShapeRecord, IsShape, level_blocks, per_block}
+use Rattle.tree_shape.specs.Shape.{ShapeRecord, IsShape, ancestor, level_blocks, per_block}
 use Rattle.tree_shape.proofs.lemmas.ShapeFactLemmas.{two}
 use Rattle.tree_shape.proofs.lemmas.ShapeLemmas.{div_ceil-suc, pow_pos}
 use Rattle.hash_tree.specs.Tree.{filled}
@@ -19,8 +21,9 @@ use Rattle.hash_tree.proofs.lemmas.TreeLemmas.{length-digest}
 use Rattle.verity_format.specs.Blocks.{AreOnlyRead}
 use Rattle.verity_format.proofs.lemmas.DeviceLemmas.{only_read-none, only_read-then, steady-then}
 use Rattle.tree_path.specs.Unused.{digests_in}
-use Rattle.tree_repair.specs.Remaking.{StoredTree, HaveBlocks, IsOver, IsUnlike, ground, made, standing_block}
-use Rattle.tree_repair.specs.Worlds.{AreBothRead, RepairWorld}
+use Rattle.tree_repair.specs.Remaking.{AreUnlikeFrom, HaveBlocks, HaveFailedTimes, IsNowhereBeneath, IsNowhereFrom, IsOver, IsUnlike, LostHash, StoredTree, ground, made, made_on, standing_block}
+use Rattle.tree_repair.specs.StoredTrees.{HasOneFailedIn}
+use Rattle.tree_repair.specs.Worlds.{AreBothRead, HasCountedNone, RepairWorld}
 
 -- ---- how many blocks there are
 
@@ -108,9 +111,94 @@ module _ (s : ShapeRecord) (salt : List ℕ) (d h d1 h1 : Device) (read : AreOnl
       ∙ ap (λ (g : StoredTree). made g steps n) (ground-before from steady steadily)
 
   pub unlike-before : (from steps n : ℕ) (digest_is : List ℕ) → IsUnlike salt d1 h1 digest_is (made (ground s salt d1 h1 from) steps n) → IsUnlike salt d h digest_is (made (ground s salt d h from) steps n)
-  unlike-before from steps n digest_is unlike steady steadily never none same =
-      unlike (steady-then read.data_read.same steady) (steady-then read.hash_read.same steadily) (read.data_read.same.never_fails never) (read.hash_read.same.never_fails none)
+  unlike-before from steps n digest_is unlike steady steadily same =
+      unlike (steady-then read.data_read.same steady) (steady-then read.hash_read.same steadily)
       (ap (λ (g : StoredTree). digest salt (made g steps n)) (ground-before from steady steadily) ∙ same)
+
+-- ---- heights that weren't read
+
+failed-since : (a b c : Device) → a.failures ≤ b.failures → b.failures ≤ c.failures → HasFailed b c → HasFailed a c
+failed-since a b c more then (inl less) = inl (omega (arith, more, less))
+failed-since a b c more then (inr most) = elim (cases_lt a.failures (2 ^ 64 - 1)) [
+  | inl low ↦ inl (omega (arith, low, most, then))
+  | inr high ↦ inr (omega (arith, high, most, more))
+]
+
+pub one-failed-since : (a b c : RepairWorld) → AreBothRead a b → AreBothRead b c → HasOneFailedIn b c → HasOneFailedIn a c
+one-failed-since a b c p q (inl one) = inl (failed-since a.data_dev b.data_dev c.data_dev p.data_more q.data_more one)
+one-failed-since a b c p q (inr two) = inr (failed-since a.hash_dev b.hash_dev c.hash_dev p.hash_more q.hash_more two)
+
+times-more : (d h d1 h1 d2 h2 : Device) (n : ℕ) → d1.failures ≤ d2.failures → h1.failures ≤ h2.failures → HaveFailedTimes d h n d1 h1 → HaveFailedTimes d h n d2 h2
+times-more d h d1 h1 d2 h2 n more then (inl few) = inl (omega (arith, few, more, then))
+times-more d h d1 h1 d2 h2 n more then (inr (inl end)) = inr (inl (omega (arith, end, more)))
+times-more d h d1 h1 d2 h2 n more then (inr (inr end)) = inr (inr (omega (arith, end, then)))
+
+times-one : (d h d1 h1 d2 h2 : Device) (n : ℕ) → d1.failures ≤ d2.failures → h1.failures ≤ h2.failures → HaveFailedTimes d h n d1 h1 → HasOneFailed d1 h1 d2 h2 → HaveFailedTimes d h (suc n) d2 h2
+times-one d h d1 h1 d2 h2 n more then (inl few) (inl (inl less)) = inl (omega (arith, few, less, then))
+times-one d h d1 h1 d2 h2 n more then (inl few) (inl (inr most)) = inr (inl (omega (arith, most, more)))
+times-one d h d1 h1 d2 h2 n more then (inl few) (inr (inl less)) = inl (omega (arith, few, less, more))
+times-one d h d1 h1 d2 h2 n more then (inl few) (inr (inr most)) = inr (inr (omega (arith, most, then)))
+times-one d h d1 h1 d2 h2 n more then (inr (inl end)) failed = inr (inl (omega (arith, end, more)))
+times-one d h d1 h1 d2 h2 n more then (inr (inr end)) failed = inr (inr (omega (arith, end, then)))
+
+times-before : (d h d1 h1 d2 h2 : Device) (n : ℕ) → d.failures ≤ d1.failures → h.failures ≤ h1.failures → HaveFailedTimes d1 h1 n d2 h2 → HaveFailedTimes d h n d2 h2
+times-before d h d1 h1 d2 h2 n more then (inl few) = inl (omega (arith, few, more, then))
+times-before d h d1 h1 d2 h2 n more then (inr end) = inr end
+
+-- from no height
+pub nowhere-none : (x : LostHash) (d h : Device) → IsNowhereFrom x (x.level + 1) d h d h
+nowhere-none x d h = record {
+  unread = 0;
+  each = (let none : 0 ≡ x.level + 1 - (x.level + 1) = omega arith in subst (λ (n : ℕ). AreUnlikeFrom x d h (x.level + 1) n 0) none refl);
+  counted = inl (omega arith);
+}
+
+-- from one height more
+pub nowhere-next : (x : LostHash) (d h d1 h1 d2 h2 : Device) (k from : ℕ) → suc k ≡ from → k ≤ x.level → d1.failures ≤ d2.failures → h1.failures ≤ h2.failures → IsNowhereFrom x from d h d1 h1
+    → HasOneFailed d1 h1 d2 h2 ⊎ IsUnlike x.salt d h x.digest_is (made_on (ground x.shape x.salt d h k) x.level x.index) → IsNowhereFrom x k d h d2 h2
+nowhere-next x d h d1 h1 d2 h2 k from next few more then before here =
+    let steps : suc (x.level + 1 - suc k) ≡ x.level + 1 - k = omega (arith, few) in
+    let was : AreUnlikeFrom x d h (suc k) (x.level + 1 - suc k) before.unread = subst (λ (n : ℕ). AreUnlikeFrom x d h n (x.level + 1 - n) before.unread) (sym next) before.each in
+    elim here [
+      | inl failed ↦ record {
+        unread = suc before.unread;
+        each = subst (λ (n : ℕ). AreUnlikeFrom x d h k n (suc before.unread)) steps (inr (before.unread, (refl, was)));
+        counted = times-one d h d1 h1 d2 h2 before.unread more then before.counted failed;
+      }
+      | inr unlike ↦ record {
+        unread = before.unread;
+        each = subst (λ (n : ℕ). AreUnlikeFrom x d h k n before.unread) steps (inl (unlike, was));
+        counted = times-more d h d1 h1 d2 h2 before.unread more then before.counted;
+      }
+    ]
+
+unlikes-before : (x : LostHash) (d h d1 h1 : Device) → AreOnlyRead d h d1 h1 → (first n unread : ℕ) → AreUnlikeFrom x d1 h1 first n unread → AreUnlikeFrom x d h first n unread
+unlikes-before x d h d1 h1 read first zero unread each = each
+unlikes-before x d h d1 h1 read first (suc n) unread (inl (unlike, more)) =
+    inl (unlike-before x.shape x.salt d h d1 h1 read first (x.level + 1 - first) (ancestor x.shape (x.level + 1) x.index) x.digest_is unlike, unlikes-before x d h d1 h1 read (suc first) n unread more)
+unlikes-before x d h d1 h1 read first (suc n) unread (inr (rest, (is, more))) = inr (rest, (is, unlikes-before x d h d1 h1 read (suc first) n rest more))
+
+pub nowhere-before : (x : LostHash) (d h d1 h1 d2 h2 : Device) → AreOnlyRead d h d1 h1 → d.failures ≤ d1.failures → h.failures ≤ h1.failures → IsNowhereBeneath x d1 h1 d2 h2 → IsNowhereBeneath x d h d2 h2
+nowhere-before x d h d1 h1 d2 h2 read more then none = record {
+  unread = none.unread;
+  each = unlikes-before x d h d1 h1 read 0 (x.level + 1 - 0) none.unread none.each;
+  counted = times-before d h d1 h1 d2 h2 none.unread more then none.counted;
+}
+
+-- if no failure was counted, it was made from the data
+none-unread : (d h d1 h1 : Device) (n : ℕ) → HasCountedNone d d1 → HasCountedNone h h1 → HaveFailedTimes d h n d1 h1 → n ≡ 0
+none-unread d h d1 h1 n one two (inl few) = omega (arith, few, one.none, two.none)
+none-unread d h d1 h1 n one two (inr (inl end)) = absurd (omega (arith, end, one.below))
+none-unread d h d1 h1 n one two (inr (inr end)) = absurd (omega (arith, end, two.below))
+
+first-unlike : (x : LostHash) (d h : Device) (n unread : ℕ) → unread ≡ 0 → AreUnlikeFrom x d h 0 (suc n) unread → IsUnlike x.salt d h x.digest_is (made_on (ground x.shape x.salt d h 0) x.level x.index)
+first-unlike x d h n unread none (inl (unlike, more)) = unlike
+first-unlike x d h n unread none (inr (rest, (is, more))) = absurd (omega (arith, none, is))
+
+pub unlike-data : (x : LostHash) (d h d1 h1 : Device) → HasCountedNone d d1 → HasCountedNone h h1 → IsNowhereBeneath x d h d1 h1 → IsUnlike x.salt d h x.digest_is (made_on (ground x.shape x.salt d h 0) x.level x.index)
+unlike-data x d h d1 h1 one two none =
+    let all : x.level + 1 - 0 ≡ suc x.level = omega arith in
+    first-unlike x d h x.level none.unread (none-unread d h d1 h1 none.unread one two none.counted) (subst (λ (n : ℕ). AreUnlikeFrom x d h 0 n none.unread) all none.each)
 
 -- ---- the last digest was put
 

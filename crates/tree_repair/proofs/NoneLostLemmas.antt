@@ -116,7 +116,7 @@ module _ (form : FormedChainsAreGood) (j : Job) (valid : IsShape j.tree.shape) (
 
       sought-formed : IsSoughtWithin j l pass.sought.lost f st p h i → IsAsFormed l f w' k ⊎ Collide j.tree.salt
       sought-formed x =
-          let holds_a : HoldsParity j.tree.shape l f x.a x.q = holds-later j valid l f x.part.earlier pass.behind x.a p x.q x.part.before x.parity_read holds-behind in
+          let holds_a : HoldsParity j.tree.shape l f x.a x.q = holds-later j valid l f x.part.earlier pass.behind x.a p x.q x.part.before x.parity_read.read holds-behind in
           elim x.outcome [
             | inl back ↦
                 let run = back-run j h x.beside x.a x.b back in
@@ -127,7 +127,7 @@ module _ (form : FormedChainsAreGood) (j : Job) (valid : IsShape j.tree.shape) (
                   to-end x.part.later x.b x.part.behind (sure-same x.a x.b (read-same x.a x.b by_now.0) holds_a.sure)
                   (ready-same j.tree.shape x.a x.b (read-same x.a x.b by_now.0) (read-images j.tree.shape x.a x.b by_now.0 holds_a.ready) holds_a.ready)
                   (by-now-formed h i k at x.beside x.a x.b x.same by_now.0 by_now.1 holds_a.ready)
-              | inr past ↦ inr (none-past x.part.earlier x.beside x.a x.b x.q x.q' x.same x.parity_read x.part.before past)
+              | inr past ↦ inr (none-past x.part.earlier x.beside x.a x.b x.q x.q' x.same x.parity_read.read x.part.before past)
             ]
           ]
 
@@ -154,5 +154,5 @@ none-stays form plan write l f w w' p p' r h i k at enough =
     let j : Job = job_of plan true in
     let passes = r.seeks.ends.passes in
     pass-formed form j r.seeks.lies.valid write f r.former l r.sizes passes.last w' passes.last_parity p' r.seeks.ends.again passes.pass
-    (holds-later j r.seeks.lies.valid l f passes.earlier w passes.last p passes.last_parity passes.before passes.parity_read (holds-first plan l f w w' p p' r))
-    (omega (arith, enough.room, passes.parity_read.same.size)) h i k at enough.few (λ n beside damaged. inl (enough.known n beside damaged))
+    (holds-later j r.seeks.lies.valid l f passes.earlier w passes.last p passes.last_parity passes.before passes.parity_read.read (holds-first plan l f w w' p p' r))
+    (omega (arith, enough.room, passes.parity_read.read.same.size)) h i k at enough.few (λ n beside damaged. inl (enough.known n beside damaged))

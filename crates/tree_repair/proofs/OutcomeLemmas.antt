@@ -18,9 +18,10 @@ use Rattle.tree_repair.specs.Repairs.{LiesOn, job_of}
 use Rattle.tree_repair.specs.Runs.{IsDone, Job, VisitsAll, Visit}
 use Rattle.tree_repair.specs.Standing.{IsLeftGoodIn, IsSteadyImage, IsWorldSteady, StandsGood}
 use Rattle.tree_repair.specs.ParitySearches.{IsCutOff}
-use Rattle.tree_repair.specs.Worlds.{RepairWorld}
+use Rattle.tree_repair.specs.Worlds.{HasCountedNone, RepairWorld}
 use Rattle.tree_repair.proofs.ApartLemmas.{above-from}
-use Rattle.tree_repair.proofs.RunLemmas.{runs-same, runs-then, world-none}
+use Rattle.tree_repair.proofs.ExcuseLemmas.{counted-left, counted-right, passed-for, runs-own}
+use Rattle.tree_repair.proofs.RunLemmas.{runs-then, world-none}
 use Rattle.tree_repair.proofs.StandLemmas.{IsReady, image-ready, lost-or, runs-keep, runs-ready, runs-stand, stands-beside}
 use Rattle.tree_repair.proofs.WayLemmas.{each-or, hash-block, way-stands, ways-agree}
 
@@ -75,7 +76,7 @@ cut-clash j valid h i k a steady beside cut stands =
 -- ---- one height more
 
 module _ (j : Job) (h : ℕ) (w x y : RepairWorld) (p : StandsFrom j (suc h) w x) (us : List Visit) (runs : VisitsAll j us x y) (done : All IsDone us)
-    (looked : (g i : ℕ) → IsFromTo h 0 j.tree.shape.blocks g i → IsLookedAt j g i us x y) (write : IsTrue j.write) (sure : IsSureImage j.tree.shape w) where
+    (looked : (g i : ℕ) → IsFromTo h 0 j.tree.shape.blocks g i → IsLookedAt j g i us x y) (write : IsTrue j.write) (sure : IsSureImage j.tree.shape w y) where
   image : IsSteadyImage j.tree.shape w
   image = sure.image
 
@@ -85,8 +86,15 @@ module _ (j : Job) (h : ℕ) (w x y : RepairWorld) (p : StandsFrom j (suc h) w x
   place : (g i : ℕ) → g ≤ levels j.tree.shape → i < j.tree.shape.blocks → IsPlace j.tree.shape g i
   place g i few inside = record { valid = image.valid; inside = inside; high = few }
 
+  -- nor did it count one before these visits, or in them
+  sure-before : IsSureImage j.tree.shape w x
+  sure-before = record { image = sure.image; sure = counted-left w.hash_dev x.hash_dev y.hash_dev (runs-own j 1 us x y runs) sure.sure }
+
+  none-here : HasCountedNone x.hash_dev y.hash_dev
+  none-here = counted-right w.hash_dev x.hash_dev y.hash_dev (runs-own j 1 p.visits w x p.runs) sure.sure
+
   higher : (g i : ℕ) → h < g → g ≤ levels j.tree.shape → i < j.tree.shape.blocks → StandsGood j g i x ⊎ IsExcused j i p.visits
-  higher g i up few inside = p.stand write sure g i (up, (few, inside))
+  higher g i up few inside = p.stand write sure-before g i (up, (few, inside))
 
   -- those above stay as they were
   higher-kept : (g i : ℕ) → h < g → g ≤ levels j.tree.shape → i < j.tree.shape.blocks → StandsGood j g i y ⊎ IsExcused j i (p.visits ++ us)
@@ -96,19 +104,17 @@ module _ (j : Job) (h : ℕ) (w x y : RepairWorld) (p : StandsFrom j (suc h) w x
   ]
 
   passed-by : (i : ℕ) → i < j.tree.shape.blocks → IsPassedBy j h i us x y → IsExcused j i (p.visits ++ us)
-  passed-by i inside q = elim q.cut [
-    | inl failed ↦ absurd (failed.1 ((runs-same j q.earlier x q.a q.before).hash_same.never_fails ((runs-same j p.visits w x p.runs).hash_same.never_fails sure.sure)))
-    | inr cut ↦
-        let few : suc cut.l ≤ levels j.tree.shape = omega (arith, cut.way.few) in
-        let earlier_done : All IsDone q.earlier = done-left q.earlier q.later (subst (All IsDone) q.are done) in
-        let now : IsReady j.tree.shape q.a = runs-ready j image.valid write q.earlier x q.a q.before earlier_done ready in
-        elim (higher (suc cut.l) i (omega (arith, cut.above)) few inside) [
-          | inr excused ↦ excused-left j p.visits us i excused
-          | inl stands ↦
-              inr (cut-clash j image.valid h i q.beside q.a now.hash_ready.steady q.same cut
-              (runs-keep j image.valid write q.earlier x q.a q.before earlier_done ready (suc cut.l) i (place (suc cut.l) i few inside) stands))
-        ]
-  ]
+  passed-by i inside q =
+      let cut : IsCutOff j.tree q.beside h q.a.hash_dev = passed-for j h i us x y q none-here in
+      let few : suc cut.l ≤ levels j.tree.shape = omega (arith, cut.way.few) in
+      let earlier_done : All IsDone q.earlier = done-left q.earlier q.later (subst (All IsDone) q.are done) in
+      let now : IsReady j.tree.shape q.a = runs-ready j image.valid write q.earlier x q.a q.before earlier_done ready in
+      elim (higher (suc cut.l) i (omega (arith, cut.above)) few inside) [
+        | inr excused ↦ excused-left j p.visits us i excused
+        | inl stands ↦
+            inr (cut-clash j image.valid h i q.beside q.a now.hash_ready.steady q.same cut
+            (runs-keep j image.valid write q.earlier x q.a q.before earlier_done ready (suc cut.l) i (place (suc cut.l) i few inside) stands))
+      ]
 
   height-here : (i : ℕ) → i < j.tree.shape.blocks → StandsGood j h i y ⊎ IsExcused j i (p.visits ++ us)
   height-here i inside = elim (looked h i (refl, (omega arith, inside))) [
@@ -148,7 +154,7 @@ stands-next {j} {w} {x} {y} high low next p q =
 -- ---- the whole image
 
 module _ (plan : Plan) (w y : RepairWorld) (lies : LiesOn plan.tree.shape w) where
-  sure-image : IsWorldSteady w → IsTrue w.hash_dev.never_fails → IsSureImage plan.tree.shape w
+  sure-image : IsWorldSteady w → HasCountedNone w.hash_dev y.hash_dev → IsSureImage plan.tree.shape w y
   sure-image steady sure = record { image = record { valid = lies.valid; steady = steady; data_fits = lies.data_fits; tree_fits = lies.tree_fits }; sure = sure }
 
   pub whole-of : StandsFrom (job_of plan false) 0 w y → LeavesWhole plan w y

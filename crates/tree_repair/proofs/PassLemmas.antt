@@ -9,8 +9,6 @@ use Rattle.std.proofs.lemmas.Grind.{flat_map-append}
 use Rattle.std.proofs.lemmas.List.{append_assoc, append-nil}
 use Rattle.std.proofs.lemmas.List.Elements.{All-append, All-cons, All-nil}
 use Rattle.block_device.specs.Device.{Device}
-use Rattle.verity_format.specs.Blocks.{IsOnlyRead}
-use Rattle.verity_format.proofs.lemmas.DeviceLemmas.{only_read-none}
 use Rattle.fec_area.specs.declared.layout.Layout.{Layout}
 use Rattle.tree_repair.specs.declared.bad.BadBlock.{BadBlock}
 use Rattle.tree_repair.specs.declared.bad.BadBlocks.{BadBlocks}
@@ -20,10 +18,10 @@ use Rattle.tree_repair.specs.Noting.{IsGoodBefore, found_of, passed_some}
 use Rattle.tree_repair.specs.Passes.{ArePasses, HasNoted, IsGoodThen, IsPass, bad_of}
 use Rattle.tree_repair.specs.Runs.{HasRun, IsVisited, Job, Visit, visit_line}
 use Rattle.tree_repair.specs.ParitySearches.{HasSought}
-use Rattle.tree_repair.specs.Worlds.{IsWorldRead, RepairWorld}
+use Rattle.tree_repair.specs.Worlds.{IsParityRead, IsWorldRead, RepairWorld}
 use Rattle.tree_repair.proofs.BlockCheckLemmas.{in-left, in-right, looked-behind, looked-left, looked-right}
 use Rattle.tree_repair.proofs.OnceLemmas.{AreParts, all-due, due-at, due-none, due-one, once-one, once-then}
-use Rattle.tree_repair.proofs.RunLemmas.{has-behind, has-none, has-one, has-read, has-then, world-none}
+use Rattle.tree_repair.proofs.RunLemmas.{has-behind, has-none, has-one, has-read, has-then, parity-none, world-none}
 
 pub noted-none : {j : Job} {Due : ℕ → ℕ → Type 0} {w : RepairWorld} {old : Option (List ℕ)} {a : BadBlocks} → ((h i : ℕ) → Due h i → ⊥) → HasNoted j Due w w old old a a None
 noted-none {j} {Due} {w} {old} {a} none = record {
@@ -162,10 +160,10 @@ pass-of {j} {l} {w} {x} {y} {old} {new} {a} {b} {p} {p'} {hash_came} blocks agai
 }
 
 pub passes-first : {j : Job} {l : Layout} {w w' : RepairWorld} {p p' : Device} {again : Bool} → IsPass j l w w' p p' again → ArePasses j l 0 w w' p p' again
-passes-first {j} {l} {w} {w'} {p} {p'} {again} pass = record { earlier = []; last = w; last_parity = p; before = world-none w; parity_read = only_read-none p; due = (world-none w, only_read-none p); pass = pass }
+passes-first {j} {l} {w} {w'} {p} {p'} {again} pass = record { earlier = []; last = w; last_parity = p; before = world-none w; parity_read = parity-none p; due = (world-none w, parity-none p); pass = pass }
 
 -- one that was due behind those so far, which are as the run has them
-pub passes-next : {j : Job} {l : Layout} {n : ℕ} {w x w' : RepairWorld} {p q p' : Device} {old new : Option (List ℕ)} {fault : Option RepairFault} {so_far again : Bool} → HasRun j w x old new fault → IsOnlyRead p q → ArePasses j l n w x p q so_far → IsTrue so_far → IsPass j l x w' q p' again
+pub passes-next : {j : Job} {l : Layout} {n : ℕ} {w x w' : RepairWorld} {p q p' : Device} {old new : Option (List ℕ)} {fault : Option RepairFault} {so_far again : Bool} → HasRun j w x old new fault → IsParityRead p q → ArePasses j l n w x p q so_far → IsTrue so_far → IsPass j l x w' q p' again
     → ArePasses j l (suc n) w w' p p' again
 passes-next {j} {l} {n} {w} {x} {w'} {p} {q} {p'} {old} {new} {fault} {so_far} {again} run read before due pass = record {
   earlier = run.visits;

@@ -22,7 +22,7 @@ use Rattle.tree_repair.specs.declared.mending.Mended.{Mended}
 use Rattle.tree_repair.specs.declared.mending.Mended.TheVariants as mended
 use Rattle.tree_repair.specs.Mending.{IsBlockFound, IsMended, IsAllowedPut, BlockCheck}
 use Rattle.tree_repair.specs.Runs.{CanRun, HasRun, IsDone, IsEndCause, IsRefusal, IsVisited, Job, OtherStays, VisitsAll, Visit, visit_line, look_at, other, own}
-use Rattle.tree_repair.specs.Worlds.{IsWorldRead, RepairWorld, repair_world}
+use Rattle.tree_repair.specs.Worlds.{IsParityRead, IsWorldRead, RepairWorld, repair_world}
 use Rattle.tree_repair.proofs.SourceLemmas.{each-none, each-then}
 
 pub world-none : (w : RepairWorld) → IsWorldRead w w
@@ -37,6 +37,12 @@ world-then a b c p q = record {
   data_copies_read = each-then a.data_copies b.data_copies c.data_copies p.data_copies_read q.data_copies_read;
   hash_copies_read = each-then a.hash_copies b.hash_copies c.hash_copies p.hash_copies_read q.hash_copies_read;
 }
+
+pub parity-none : (p : Device) → IsParityRead p p
+parity-none p = record { read = only_read-none p; more = omega arith }
+
+pub parity-then : {a b c : Device} → IsParityRead a b → IsParityRead b c → IsParityRead a c
+parity-then p q = record { read = only_read-then p.read q.read; more = omega (arith, p.more, q.more) }
 
 -- ---- one behind the other
 

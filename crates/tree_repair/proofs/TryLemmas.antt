@@ -16,9 +16,8 @@ use Rattle.tree_repair.specs.declared.bad.BadBlock.{BadBlock}
 use Rattle.tree_repair.specs.Parity.{IsCoveredAt, IsPlacedAndRead}
 use Rattle.tree_repair.specs.Runs.{Job}
 use Rattle.tree_repair.specs.ParitySearches.{AreCovered, AreSought, IsCoveredOr, IsMadeOrVain, IsSought, IsSoughtAt, IsTried, Trial, is_hash_back, listed_number, trial}
-use Rattle.tree_repair.specs.Worlds.{IsWorldRead, RepairWorld}
+use Rattle.tree_repair.specs.Worlds.{IsParityRead, IsWorldRead, RepairWorld}
 use Rattle.tree_repair.proofs.RunLemmas.{world-then}
-use Rattle.verity_format.specs.Blocks.{IsOnlyRead}
 
 -- what was made has the digest, or another
 pub made-or : (j : Job) (p : PathRecord) (h i : ℕ) (t : Trial) (k : ℕ) (bytes : List ℕ) (same : Bool) → IsCoveredAt j.tree.shape t.layout h i k
@@ -28,7 +27,7 @@ made-or j p h i t k bytes true at made is = tt
 made-or j p h i t k bytes false at made is = λ place. inr (k, (at, inr (record { bytes = bytes; other = is_same-cases (digest j.tree.salt bytes) (digest_on p i h) false is; made = made })))
 
 -- what was put came back, or stands there
-pub tried-placed : {E : Type 0} (j : Job) (h i : ℕ) (l : Layout) (lost : List ℕ) (w a w' : RepairWorld) (p p' : Device) (bytes : List ℕ) (r : Result Bool E) → IsWorldRead w a → IsOnlyRead p p' → IfOk r (IsPlacedAndRead j h i bytes a w')
+pub tried-placed : {E : Type 0} (j : Job) (h i : ℕ) (l : Layout) (lost : List ℕ) (w a w' : RepairWorld) (p p' : Device) (bytes : List ℕ) (r : Result Bool E) → IsWorldRead w a → IsParityRead p p' → IfOk r (IsPlacedAndRead j h i bytes a w')
     → IfOk r (IsTried j h i (trial l lost w w' p p'))
 tried-placed j h i l lost w a w' p p' bytes (Ok true) read parity placed = (record { between = a; read = read; bytes = bytes; behind = placed.0; visited = placed.1.0; read_back = placed.1.1 }, parity)
 tried-placed j h i l lost w a w' p p' bytes (Ok false) read parity placed =

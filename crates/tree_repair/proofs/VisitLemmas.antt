@@ -10,12 +10,12 @@ use Rattle.tree_path.specs.Path.{PathRecord, digest_on}
 use Rattle.tree_survey.specs.Surveys.{IsWay}
 use Rattle.tree_repair.specs.declared.mending.Mended.{Mended}
 use Rattle.tree_repair.specs.declared.mending.Mended.TheVariants as mended
-use Rattle.tree_repair.specs.Mending.{IsBareOf, IsFoundNowhere, IsMended, IsNotRemade, IsAllowedPut, IsUnmended}
-use Rattle.tree_repair.specs.Remaking.{IsMadeBeneath, IsNowhereBeneath}
+use Rattle.tree_repair.specs.Mending.{BlockCheck, IsBareOf, IsFoundNowhere, IsMended, IsNotRemade, IsAllowedPut, IsUnmended}
+use Rattle.tree_repair.specs.Remaking.{IsMadeBeneath, IsNowhereBeneath, lost_hash}
 use Rattle.tree_repair.specs.Runs.{IsVisited, Job, visit}
-use Rattle.tree_repair.specs.Sources.{AreEachRead}
+use Rattle.tree_repair.specs.Sources.{AreEachRead, AreNotIn}
 use Rattle.tree_repair.specs.Worlds.{AreBothRead, RepairWorld, repair_world}
-use Rattle.tree_repair.proofs.MakeLemmas.{over-before, unlike-before}
+use Rattle.tree_repair.proofs.MakeLemmas.{nowhere-before, over-before}
 use Rattle.tree_repair.specs.Visits.{FailsToStoreBlock, IsHashLooked, IsHashSeen, IsHashUnmended, IsLooked, IsBlockMade, IsTreePut, KeepsData, data_look, hash_look}
 
 plain-bare : (parity : Bool) (m : Mended) → IsNotRemade m → IsBareOf parity m
@@ -69,6 +69,12 @@ module _ (j : Job) (p : PathRecord) (l i : ℕ) (a m b : RepairWorld) where
   pub hash-same : IsFoundNowhere (hash_look j p l i a.hash_dev m.hash_dev a.hash_copies m.hash_copies) → AreBothRead m b → IsSameDevice a.hash_dev b.hash_dev
   hash-same found beneath = same-then found.read.same (same-then found.beneath_read.same beneath.devices.hash_read.same)
 
+  -- the block is in no copy, as the copies are afterwards
+  abbrev IsInNone : IsFoundNowhere (hash_look j p l i a.hash_dev m.hash_dev a.hash_copies m.hash_copies) → List Device → Type 0
+  IsInNone found copies =
+      let seen : BlockCheck = hash_look j p l i a.hash_dev m.hash_dev a.hash_copies m.hash_copies in
+      AreNotIn a.hash_copies copies seen.copy_first seen.w (length a.hash_copies)
+
   module _ (kept : KeepsData a m) (found : IsFoundNowhere (hash_look j p l i a.hash_dev m.hash_dev a.hash_copies m.hash_copies)) (beneath : AreBothRead m b) where
     before : AreOnlyRead a.data_dev a.hash_dev m.data_dev m.hash_dev
     before = record { data_read = subst (IsOnlyRead a.data_dev) (sym kept.device_is) (only_read-none a.data_dev); hash_read = only_read-then found.read found.beneath_read }
@@ -77,7 +83,7 @@ module _ (j : Job) (p : PathRecord) (l i : ℕ) (a m b : RepairWorld) where
     data-more = omega (arith, ap (λ (d : Device). d.failures) kept.device_is, beneath.data_more)
 
     -- it can't be made
-    pub lost-seen : IsNowhereBeneath j.tree.shape j.tree.salt m.data_dev m.hash_dev l i (digest_on p i (l + 1)) → IsHashSeen j p l i a b [] true mended.Lost
+    pub lost-seen : IsNowhereBeneath (lost_hash j.tree.shape j.tree.salt l i (digest_on p i (l + 1))) m.data_dev m.hash_dev b.data_dev b.hash_dev → IsHashSeen j p l i a b [] true mended.Lost
     lost-seen none = record {
       looked = record {
         seen = found.seen;
@@ -85,11 +91,12 @@ module _ (j : Job) (p : PathRecord) (l i : ℕ) (a m b : RepairWorld) where
         more = found.more;
         bad = found.bad;
         copies_read = subst (AreEachRead a.hash_copies) (sym beneath.hash_copies_are) found.copies_read;
-        none = found.none;
+        none = subst (IsInNone found) (sym beneath.hash_copies_are) found.none;
         beneath_read = only_read-then found.beneath_read beneath.devices.hash_read;
         beneath_more = omega (arith, found.beneath_more, beneath.hash_more);
       };
-      made_of = λ from low. unlike-before j.tree.shape j.tree.salt a.data_dev a.hash_dev m.data_dev m.hash_dev before from (l + 1 - from) (ancestor j.tree.shape (l + 1) i) (digest_on p i (l + 1)) (none from low);
+      made_of = nowhere-before (lost_hash j.tree.shape j.tree.salt l i (digest_on p i (l + 1))) a.data_dev a.hash_dev m.data_dev m.hash_dev b.data_dev b.hash_dev before
+          (omega (arith, ap (λ (d : Device). d.failures) kept.device_is)) (omega (arith, found.more, found.beneath_more)) none;
       data_stays = (only_read-then before.data_read beneath.devices.data_read, data-more);
       copies_are = beneath.data_copies_are ∙ kept.copies_are;
     }
@@ -105,7 +112,7 @@ module _ (j : Job) (p : PathRecord) (l i : ℕ) (a m b : RepairWorld) where
         more = found.more;
         bad = found.bad;
         copies_read = subst (AreEachRead a.hash_copies) (sym (put.hash_copies_are ∙ beneath.hash_copies_are)) found.copies_read;
-        none = found.none;
+        none = subst (IsInNone found) (sym (put.hash_copies_are ∙ beneath.hash_copies_are)) found.none;
         between = b.hash_dev;
         beneath_read = only_read-then found.beneath_read beneath.devices.hash_read;
         beneath_more = omega (arith, found.beneath_more, beneath.hash_more);

@@ -3,27 +3,25 @@ use Rattle.std.proofs.Common.{◌≡◌, ◌<◌, ℕ, Bool, true, false, List, 
 use Rattle.block_device.specs.Device.{Device}
 use Rattle.fec_area.specs.declared.layout.Layout.{Layout}
 use Rattle.tree_shape.specs.Shape.{ancestor}
-use Rattle.verity_format.proofs.lemmas.DeviceLemmas.{only_read-none, only_read-then}
-use Rattle.verity_format.specs.Blocks.{IsOnlyRead}
 use Rattle.tree_repair.specs.declared.bad.BadBlock.{BadBlock}
 use Rattle.tree_repair.specs.declared.mending.Mended.TheVariants as mended
 use Rattle.tree_repair.specs.Runs.{Job, Visit, VisitsAll, visit}
 use Rattle.tree_repair.specs.ParitySearches.{AreSought, IsSought, IsSoughtAt, IsTriedBehind, Trial, trial}
-use Rattle.tree_repair.specs.Worlds.{IsWorldRead, RepairWorld}
+use Rattle.tree_repair.specs.Worlds.{IsParityRead, IsWorldRead, RepairWorld}
 use Rattle.tree_repair.proofs.RecordedLemmas.{IsRecordedAt, IsRecordedIn}
 use Rattle.tree_repair.proofs.KeepLemmas.{runs-before}
-use Rattle.tree_repair.proofs.RunLemmas.{runs-one, runs-read, runs-then, world-none, world-then}
+use Rattle.tree_repair.proofs.RunLemmas.{parity-none, parity-then, runs-one, runs-read, runs-then, world-none, world-then}
 
 -- ---- what is visited, and what is read of the parity
 
-tried-run : (j : Job) (h i : ℕ) (t : Trial) (back : Bool) → IsTriedBehind j h i t back → ((us : List Visit) × VisitsAll j us t.w t.w') × IsOnlyRead t.parity_dev t.parity_dev'
+tried-run : (j : Job) (h i : ℕ) (t : Trial) (back : Bool) → IsTriedBehind j h i t back → ((us : List Visit) × VisitsAll j us t.w t.w') × IsParityRead t.parity_dev t.parity_dev'
 tried-run j h i t true behind =
     let brought = behind.tried.0 in
     let v : Visit = visit h i mended.Parity brought.bytes true in
     ((v ∷ [], runs-read j (v ∷ []) t.w behind.between t.w' behind.read (runs-read j (v ∷ []) behind.between brought.between t.w' brought.read (runs-before j (v ∷ []) brought.between brought.behind t.w' (runs-one j v brought.between brought.behind brought.visited) brought.read_back))), behind.tried.1)
 tried-run j h i t false behind = (([], world-then t.w behind.between t.w' behind.read behind.tried.0.image), behind.tried.0.parity)
 
-sought-run : (j : Job) (h i : ℕ) (t : Trial) (found back : Bool) → IsSoughtAt j h i t found back → ((us : List Visit) × VisitsAll j us t.w t.w') × IsOnlyRead t.parity_dev t.parity_dev'
+sought-run : (j : Job) (h i : ℕ) (t : Trial) (found back : Bool) → IsSoughtAt j h i t found back → ((us : List Visit) × VisitsAll j us t.w t.w') × IsParityRead t.parity_dev t.parity_dev'
 sought-run j h i t true back (not, left) = (([], left.image), left.parity)
 sought-run j h i t false back (inl (not, (left, reach))) = (([], left.image), left.parity)
 sought-run j h i t false back (inr behind) = tried-run j h i t back behind
@@ -51,7 +49,7 @@ pub record IsTriedIn (j : Job) (l : Layout) (lost : List ℕ) (h i : ℕ) (w w' 
   pub before : VisitsAll j earlier w a
   pub later : List Visit
   pub behind : VisitsAll j later b w'
-  pub parity_read : IsOnlyRead p q
+  pub parity_read : IsParityRead p q
   pub back : Bool
   pub sought : IsSoughtAt j h beside (trial l lost a b q q') false back
 
@@ -70,13 +68,13 @@ here-tried j l lost h i b w a w' p q back later at here behind = record {
   before = world-none w;
   later = later;
   behind = behind;
-  parity_read = only_read-none p;
+  parity_read = parity-none p;
   back = back;
   sought = subst (λ (found : Bool). IsSoughtAt j h b.place.index (trial l lost w a p q) found back) at.found_is
       (subst (λ (n : ℕ). IsSoughtAt j n b.place.index (trial l lost w a p q) b.found back) at.height_is here);
 }
 
-later-tried : (j : Job) (l : Layout) (lost : List ℕ) (h i : ℕ) (vs : List Visit) (w a w' : RepairWorld) (p q : Device) → VisitsAll j vs w a → IsOnlyRead p q
+later-tried : (j : Job) (l : Layout) (lost : List ℕ) (h i : ℕ) (vs : List Visit) (w a w' : RepairWorld) (p q : Device) → VisitsAll j vs w a → IsParityRead p q
     → IsTriedIn j l lost h i a w' q → IsTriedIn j l lost h i w w' p
 later-tried j l lost h i vs w a w' p q before read x = record {
   beside = x.beside;
@@ -90,7 +88,7 @@ later-tried j l lost h i vs w a w' p q before read x = record {
   before = runs-then j vs x.earlier w a x.a before x.before;
   later = x.later;
   behind = x.behind;
-  parity_read = only_read-then read x.parity_read;
+  parity_read = parity-then read x.parity_read;
   back = x.back;
   sought = x.sought;
 }

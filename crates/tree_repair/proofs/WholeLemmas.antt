@@ -19,7 +19,6 @@ use Rattle.tree_repair.specs.declared.outcome.Outcome.{Outcome}
 use Rattle.tree_repair.specs.declared.outcome.Outcome.TheVariants.{Partly, Whole}
 use Rattle.tree_repair.specs.declared.repair.Plan.{Plan}
 use Rattle.tree_repair.specs.Coverage.{IsFromUp, IsVisitedIn}
-use Rattle.tree_repair.specs.UnreadBlocks.{HasCountedNone}
 use Rattle.tree_repair.specs.Failures.{AreUncounted}
 use Rattle.tree_repair.specs.Mending.{IsAllowedPut, IsMended, BlockCheck}
 use Rattle.tree_repair.specs.Noting.{found_of, pass_outcome}
@@ -28,7 +27,7 @@ use Rattle.tree_repair.specs.Passes.{HasNoted, IsGoodThen}
 use Rattle.tree_repair.specs.Repairs.{LiesOn, job_of}
 use Rattle.tree_repair.specs.Runs.{IsDone, IsVisited, Job, VisitsAll, Visit, look_at, other, own, sector_at, size_at}
 use Rattle.tree_repair.specs.Standing.{IsLeftGoodIn, IsNotLost, IsSteadyImage, StandsGood}
-use Rattle.tree_repair.specs.Worlds.{IsWorldRead, RepairWorld}
+use Rattle.tree_repair.specs.Worlds.{HasCountedNone, IsWorldRead, RepairWorld}
 use Rattle.tree_repair.proofs.OutcomeLemmas.{whole-of}
 use Rattle.tree_repair.proofs.PutLemmas.{lost-image}
 use Rattle.tree_repair.proofs.RunLemmas.{AreSame, are-then, other-image, read-same, visited-same}

@@ -145,7 +145,7 @@ module _ (form : FormedChainsAreGood) (j : Job) (valid : IsShape j.tree.shape) (
         runs-to = runs-then j x.earlier [] pass.behind x.a a x.before read
 
         holds-then : HoldsParity j.tree.shape l f a x.q
-        holds-then = holds-later j valid l f (x.earlier ++ []) pass.behind a p x.q runs-to x.parity_read holds-behind
+        holds-then = holds-later j valid l f (x.earlier ++ []) pass.behind a p x.q runs-to x.parity_read.read holds-behind
 
         within : IsTrialSettled j f st tr h x.beside → IsSoughtWithin j l lost f st p h i
         within outcome = record {
@@ -238,4 +238,4 @@ within-parity form plan l f w w' p p' r h i high inside =
     let j : Job = job_of plan true in
     let passes = r.seeks.ends.passes in
     settled-within form j r.seeks.lies.valid f r.former l r.sizes passes.last w' passes.last_parity p' r.seeks.ends.again passes.pass
-    (holds-later j r.seeks.lies.valid l f passes.earlier w passes.last p passes.last_parity passes.before passes.parity_read (holds-first plan l f w w' p p' r)) h i high inside
+    (holds-later j r.seeks.lies.valid l f passes.earlier w passes.last p passes.last_parity passes.before passes.parity_read.read (holds-first plan l f w w' p p' r)) h i high inside

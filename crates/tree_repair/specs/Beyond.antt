@@ -4,11 +4,9 @@ use Rattle.block_device.specs.Device.{Device}
 use Rattle.fec_area.specs.declared.layout.Layout.{Layout}
 use Rattle.fec_area.specs.Layouts.{parity_sectors}
 use Rattle.fec_area.specs.Restoring.{lost_count}
-use Rattle.fec_area.specs.Rounds.{AllNeverFail}
 use Rattle.tree_shape.specs.Shape.{ShapeRecord, ancestor, levels}
 use Rattle.tree_path.specs.Path.{PathRecord, digest_on}
 use Rattle.tree_survey.specs.Surveys.{IsWay}
-use Rattle.verity_format.specs.Blocks.{IsOnlyRead}
 use Rattle.tree_repair.specs.declared.mending.Mended.{Mended}
 use Rattle.tree_repair.specs.declared.mending.Mended.TheVariants as mended
 use Rattle.tree_repair.specs.declared.repair.Plan.{Plan}
@@ -17,7 +15,7 @@ use Rattle.tree_repair.specs.Parity.{IsCoveredAt}
 use Rattle.tree_repair.specs.Repairs.{SeeksByParity, job_of}
 use Rattle.tree_repair.specs.Runs.{Job, Visit, VisitsAll}
 use Rattle.tree_repair.specs.ParitySearches.{IsBroughtBack, IsCutOff, IsGoodBehind, IsMadeOther, IsUncovered, Trial, trial}
-use Rattle.tree_repair.specs.Worlds.{RepairWorld}
+use Rattle.tree_repair.specs.Worlds.{HasCountedNone, IsParityRead, RepairWorld}
 
 -- ---- blocks that aren't sought by parity
 
@@ -80,19 +78,25 @@ pub record IsSoughtIn (j : Job) (l : Layout) (lost : List ℕ) (h i : ℕ) (w w'
   pub q : Device
   pub q' : Device
   pub part : IsPart j w a b w'
-  pub parity_read : IsOnlyRead p q
+  pub parity_read : IsParityRead p q
   pub outcome : IsOutcome j h beside (trial l lost a b q q')
 
 -- ---- the law
+
+-- the data device, the hash device and the parity device counted no failure between two states
+pub record HaveCountedNone (w w' : RepairWorld) (p p' : Device) : Type 0 where
+  pub data_none : HasCountedNone w.data_dev w'.data_dev
+  pub hash_none : HasCountedNone w.hash_dev w'.hash_dev
+  pub parity_none : HasCountedNone p p'
 
 -- the result for a block in a pass with these visits
 abbrev pub IsSettled : Job → Layout → List ℕ → List Visit → ℕ → ℕ → RepairWorld → RepairWorld → Device → Type 0
 IsSettled j l lost visits h i w w' p = IsHadIn j.tree.shape h i visits ⊎ (IsUnderBad j h i w w' ⊎ IsSoughtIn j l lost h i w w' p)
 
--- On devices that never fail, for each block of the tree one of these holds: it was valid or found when the last pass came to
--- it; parity restored it; a hash block above it is corrupt; parity can't restore it.
+-- If none of the three devices counted a failure, for each block of the tree one of these holds: it was valid or found when the
+-- last pass came to it; parity restored it; a hash block above it is corrupt; parity can't restore it.
 abbrev pub WhatStaysLostIsBeyondParity : Type 0
 WhatStaysLostIsBeyondParity =
-    (plan : Plan) → (l : Layout) → (w w' : RepairWorld) → (p p' : Device) → (seeks : SeeksByParity plan l w w' p p') → AllNeverFail w.data_dev w.hash_dev p
+    (plan : Plan) → (l : Layout) → (w w' : RepairWorld) → (p p' : Device) → (seeks : SeeksByParity plan l w w' p p') → HaveCountedNone w w' p p'
     → (h i : ℕ) → h ≤ levels plan.tree.shape → i < plan.tree.shape.blocks
     → let passes = seeks.ends.passes in IsSettled (job_of plan true) l passes.pass.sought.lost passes.pass.visits h i passes.last w' passes.last_parity

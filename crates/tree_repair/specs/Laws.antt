@@ -10,7 +10,7 @@ use Rattle.verity_format.specs.Blocks.{blocks_at}
 use Rattle.tree_repair.specs.declared.mending.Mended.TheVariants as mended
 use Rattle.tree_repair.specs.Mending.{IsBlockFound}
 use Rattle.tree_repair.specs.Runs.{IsVisited, Job, VisitsAll, Visit, sector_at, size_at}
-use Rattle.tree_repair.specs.Worlds.{RepairWorld}
+use Rattle.tree_repair.specs.Worlds.{HasCountedNone, RepairWorld}
 
 -- ---- repaired blocks
 
@@ -41,14 +41,15 @@ MendedBlocksAreFormatted = (j : Job) → (v : Visit) → (w w' : RepairWorld) �
 
 -- ---- hash blocks that are lost
 
--- These data blocks are stored on the data device, and the tree over them has the root. Both devices are steady and never fail.
-pub record HoldsData (j : Job) (w : RepairWorld) (contents : List (List ℕ)) : Type 0 where
+-- These data blocks are stored on the data device, and the tree over them has the root. Both devices are steady, and counted no
+-- failure between two states.
+pub record HoldsData (j : Job) (w w' : RepairWorld) (contents : List (List ℕ)) : Type 0 where
   pub are : AreContents j.tree contents
   pub stand : contents ≡ blocks_at w.data_dev.image j.tree.shape.data_block 0 j.tree.shape.blocks
   pub data_steady : IsTrue w.data_dev.steady
   pub hash_steady : IsTrue w.hash_dev.steady
-  pub data_sure : IsTrue w.data_dev.never_fails
-  pub hash_sure : IsTrue w.hash_dev.never_fails
+  pub data_none : HasCountedNone w.data_dev w'.data_dev
+  pub hash_none : HasCountedNone w.hash_dev w'.hash_dev
 
 -- a hash block of level l was visited, and is lost
 pub record IsLostHash (j : Job) (v : Visit) (w w' : RepairWorld) (l : ℕ) : Type 0 where
@@ -58,7 +59,7 @@ pub record IsLostHash (j : Job) (v : Visit) (w w' : RepairWorld) (l : ℕ) : Typ
 
 -- if the data is intact, no hash block is lost, or two different inputs have one digest
 abbrev pub NoHashBlockIsLost : Type 0
-NoHashBlockIsLost = (j : Job) → (v : Visit) → (w w' : RepairWorld) → (l : ℕ) → IsLostHash j v w w' l → (contents : List (List ℕ)) → HoldsData j w contents → Collide j.tree.salt
+NoHashBlockIsLost = (j : Job) → (v : Visit) → (w w' : RepairWorld) → (l : ℕ) → IsLostHash j v w w' l → (contents : List (List ℕ)) → HoldsData j w w' contents → Collide j.tree.salt
 
 -- ---- sectors outside the repaired blocks
 

@@ -1,7 +1,7 @@
 -- The result of a check of a block: it is valid; or it is corrupt and was found elsewhere; or it is lost. Reads of its device
 -- never decrease its failure counter, so each counted failure stays.
 use Rattle.std.specs.Prelude.{◌≡◌, ◌≤◌, ℕ, ◌*◌, ◌/◌, Bool, true, false, IsTrue, List, [], ◌∷◌, length}
-use Rattle.block_device.specs.Call.{Call, Read, Sync, Write}
+use Rattle.block_device.specs.Call.{Call, Write}
 use Rattle.block_device.specs.Device.{Device, IsWritten, sectors_of, spliced}
 use Rattle.tree_shape.specs.Digests.{digest}
 use Rattle.verity_format.specs.Blocks.{IsOnlyRead}
@@ -69,7 +69,7 @@ pub record IsFoundBeneath (l : BlockCheck) (bytes : List ℕ) (done : Bool) : Ty
   pub more : l.old.failures ≤ seen.failures
   pub bad : IsBad l.old l.first l.w seen
   pub copies_read : AreEachRead l.copies l.copies'
-  pub none : AreNotIn l.copies l.copy_first l.w (length l.copies)
+  pub none : AreNotIn l.copies l.copies' l.copy_first l.w (length l.copies)
   pub between : Device
   pub beneath_read : IsOnlyRead seen between
   pub beneath_more : seen.failures ≤ between.failures
@@ -98,7 +98,7 @@ pub record IsFoundNowhere (l : BlockCheck) : Type 0 where
   pub more : l.old.failures ≤ seen.failures
   pub bad : IsBad l.old l.first l.w seen
   pub copies_read : AreEachRead l.copies l.copies'
-  pub none : AreNotIn l.copies l.copy_first l.w (length l.copies)
+  pub none : AreNotIn l.copies l.copies' l.copy_first l.w (length l.copies)
   pub beneath_read : IsOnlyRead seen l.new
   pub beneath_more : seen.failures ≤ l.new.failures
 

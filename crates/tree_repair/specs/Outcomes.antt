@@ -8,12 +8,11 @@ use Rattle.tree_repair.specs.declared.outcome.Outcome.{Outcome}
 use Rattle.tree_repair.specs.declared.outcome.Outcome.TheVariants.{Partly, Whole}
 use Rattle.tree_repair.specs.declared.repair.Plan.{Plan}
 use Rattle.tree_repair.specs.Coverage.{IsFromUp, IsVisitAt}
-use Rattle.tree_repair.specs.UnreadBlocks.{HasCountedNone}
 use Rattle.tree_repair.specs.Noting.{found_of}
 use Rattle.tree_repair.specs.Repairs.{LiesOn, job_of}
 use Rattle.tree_repair.specs.Runs.{IsDone, Job, VisitsAll, Visit}
 use Rattle.tree_repair.specs.Standing.{IsSteadyImage, IsWorldSteady, StandsGood}
-use Rattle.tree_repair.specs.Worlds.{RepairWorld}
+use Rattle.tree_repair.specs.Worlds.{HasCountedNone, RepairWorld}
 
 -- ---- why a block is corrupt after a pass
 
@@ -32,10 +31,10 @@ IsExcused j i visits = IsLostOnWay j.tree.shape i visits ⊎ Collide j.tree.salt
 
 -- ---- a pass
 
--- the data and the tree are on steady devices, and the hash device never fails
-pub record IsSureImage (s : ShapeRecord) (w : RepairWorld) : Type 0 where
+-- the data and the tree are on steady devices, and the hash device counted no failure between two states
+pub record IsSureImage (s : ShapeRecord) (w w' : RepairWorld) : Type 0 where
   pub image : IsSteadyImage s w
-  pub sure : IsTrue w.hash_dev.never_fails
+  pub sure : HasCountedNone w.hash_dev w'.hash_dev
 
 -- The blocks from a height up were visited, and no write failed. On such devices, if writable, each block is valid, or a block
 -- on its path was lost, or two different inputs have one digest.
@@ -43,16 +42,16 @@ pub record StandsFrom (j : Job) (low : ℕ) (w w' : RepairWorld) : Type 0 where
   pub visits : List Visit
   pub runs : VisitsAll j visits w w'
   pub done : All IsDone visits
-  pub stand : IsTrue j.write → IsSureImage j.tree.shape w → (h i : ℕ) → IsFromUp j.tree.shape low h i → StandsGood j h i w' ⊎ IsExcused j i visits
+  pub stand : IsTrue j.write → IsSureImage j.tree.shape w w' → (h i : ℕ) → IsFromUp j.tree.shape low h i → StandsGood j h i w' ⊎ IsExcused j i visits
 
--- An image was repaired in one pass, and no write failed. On steady writable devices whose hash device never fails, each data
--- block and all hash blocks above it are valid afterwards, or one of these blocks was lost.
+-- An image was repaired in one pass, and no write failed. On steady writable devices, if the hash device counted no failure,
+-- each data block and all hash blocks above it are valid afterwards, or one of these blocks was lost.
 pub record LeavesWhole (plan : Plan) (w w' : RepairWorld) : Type 0 where
   pub lies : LiesOn plan.tree.shape w
   pub visits : List Visit
   pub runs : VisitsAll (job_of plan false) visits w w'
   pub done : All IsDone visits
-  pub good : IsTrue plan.write → IsWorldSteady w → IsTrue w.hash_dev.never_fails → (i : ℕ) → i < plan.tree.shape.blocks
+  pub good : IsTrue plan.write → IsWorldSteady w → HasCountedNone w.hash_dev w'.hash_dev → (i : ℕ) → i < plan.tree.shape.blocks
       → IsContentStoredAs (job_of plan false).tree w'.data_dev.image w'.hash_dev.image i None ⊎ IsExcused (job_of plan false) i visits
 
 -- ---- what is known of the image

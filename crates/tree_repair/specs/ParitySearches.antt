@@ -14,8 +14,7 @@ use Rattle.tree_repair.specs.declared.bad.BadBlock.{BadBlock}
 use Rattle.tree_repair.specs.declared.mending.Mended.TheVariants as mended
 use Rattle.tree_repair.specs.Parity.{IsCoveredAt, IsGoodNow, IsOfBlocks, IsPlace}
 use Rattle.tree_repair.specs.Runs.{IsVisited, Job, size_at, visit}
-use Rattle.tree_repair.specs.Worlds.{IsWorldRead, RepairWorld}
-use Rattle.verity_format.specs.Blocks.{IsOnlyRead}
+use Rattle.tree_repair.specs.Worlds.{IsParityRead, IsWorldRead, RepairWorld}
 
 -- ---- the path to a block
 
@@ -131,11 +130,11 @@ pub record IsGoodBehind (j : Job) (h i : ℕ) (w : RepairWorld) : Type 0 where
 -- nothing was written: the image and the parity were only read
 pub record IsLeft (t : Trial) : Type 0 where
   pub image : IsWorldRead t.w t.w'
-  pub parity : IsOnlyRead t.parity_dev t.parity_dev'
+  pub parity : IsParityRead t.parity_dev t.parity_dev'
 
 -- a block to which verified hash blocks lead was sought by parity, and restored or not
 abbrev pub IsTried : Job → ℕ → ℕ → Trial → Bool → Type 0
-IsTried j h i t true = IsBroughtBack j h i t.w t.w' × IsOnlyRead t.parity_dev t.parity_dev'
+IsTried j h i t true = IsBroughtBack j h i t.w t.w' × IsParityRead t.parity_dev t.parity_dev'
 IsTried j h i t false = IsLeft t × (IsVainAlong j h i t ⊎ IsGoodBehind j h i t.w)
 
 pub record IsTriedBehind (j : Job) (h i : ℕ) (t : Trial) (back : Bool) : Type 0 where

@@ -6,7 +6,6 @@ use Rattle.block_device.specs.Device.{Device}
 use Rattle.program_io.specs.Counted.{CountedRecord}
 use Rattle.tree_shape.specs.Shape.{ShapeRecord, levels}
 use Rattle.fec_area.specs.declared.layout.Layout.{Layout}
-use Rattle.verity_format.specs.Blocks.{IsOnlyRead}
 use Rattle.tree_repair.specs.declared.bad.BadBlock.{BadBlock}
 use Rattle.tree_repair.specs.declared.bad.BadBlocks.{BadBlocks}
 use Rattle.tree_repair.specs.declared.fault.RepairFault.{RepairFault}
@@ -15,7 +14,7 @@ use Rattle.tree_repair.specs.Coverage.{AreVisitedOnce, AreVisitsDue, IsLookedAt,
 use Rattle.tree_repair.specs.Noting.{bad_blocks, found_of}
 use Rattle.tree_repair.specs.Runs.{HasRun, IsDone, Job, VisitsAll, Visit}
 use Rattle.tree_repair.specs.ParitySearches.{HasSought}
-use Rattle.tree_repair.specs.Worlds.{IsWorldRead, RepairWorld}
+use Rattle.tree_repair.specs.Worlds.{IsParityRead, IsWorldRead, RepairWorld}
 
 -- the note about a visited block
 abbrev pub bad_of : Job → Visit → List BadBlock
@@ -73,7 +72,7 @@ pub record IsPass (j : Job) (l : Layout) (w w' : RepairWorld) (p p' : Device) (a
 
 -- so many passes, after each of which a further one is due
 abbrev pub AreDuePasses : Job → Layout → ℕ → RepairWorld → RepairWorld → Device → Device → Type 0
-AreDuePasses j l zero w w' p p' = IsWorldRead w w' × IsOnlyRead p p'
+AreDuePasses j l zero w w' p p' = IsWorldRead w w' × IsParityRead p p'
 AreDuePasses j l (suc n) w w' p p' = (a : RepairWorld) × ((q : Device) × (AreDuePasses j l n w a p q × IsPass j l a w' q p' true))
 
 -- n + 1 passes were made. The visits are those of all passes but the last.
@@ -82,7 +81,7 @@ pub record ArePasses (j : Job) (l : Layout) (n : ℕ) (w w' : RepairWorld) (p p'
   pub last : RepairWorld
   pub last_parity : Device
   pub before : VisitsAll j earlier w last
-  pub parity_read : IsOnlyRead p last_parity
+  pub parity_read : IsParityRead p last_parity
   pub due : AreDuePasses j l n w last p last_parity
   pub pass : IsPass j l last w' last_parity p' again
 

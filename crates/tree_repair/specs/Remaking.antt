@@ -1,5 +1,5 @@
 -- Hash blocks reconstructed from the blocks below them.
-use Rattle.std.specs.Prelude.{◌≡◌, ◌≢◌, ℕ, zero, suc, ◌+◌, ◌-◌, ◌*◌, ◌≤◌, min, map, Bool, IsTrue, List}
+use Rattle.std.specs.Prelude.{◌≡◌, ◌≢◌, ℕ, zero, suc, ◌+◌, ◌-◌, ◌*◌, ◌≤◌, min, map, IsTrue, List, ◌⊎◌, ◌^◌}
 use Rattle.std.specs.List.{concat, range_with_len}
 use Rattle.block_device.specs.Device.{Device}
 use Rattle.tree_shape.specs.Digests.{digest}
@@ -63,14 +63,9 @@ IsHashBlockOf device s l n bytes = IsBlockOf device s.hash_block (position s l n
 abbrev pub IsOver : Device → Device → List ℕ → List ℕ → Type 0
 IsOver data_dev hash_dev bytes_are bytes = IsTrue data_dev.steady → IsTrue hash_dev.steady → bytes ≡ bytes_are
 
--- `ok` is true on devices that never fail
-abbrev pub IsSure : Device → Device → Bool → Type 0
-IsSure data_dev hash_dev ok = IsTrue data_dev.never_fails → IsTrue hash_dev.never_fails → IsTrue ok
-
--- on steady devices that never fail these bytes have another digest
+-- on steady devices these bytes have another digest
 abbrev pub IsUnlike : List ℕ → Device → Device → List ℕ → List ℕ → Type 0
-IsUnlike salt data_dev hash_dev digest_is bytes =
-    IsTrue data_dev.steady → IsTrue hash_dev.steady → IsTrue data_dev.never_fails → IsTrue hash_dev.never_fails → digest salt bytes ≢ digest_is
+IsUnlike salt data_dev hash_dev digest_is bytes = IsTrue data_dev.steady → IsTrue hash_dev.steady → digest salt bytes ≢ digest_is
 
 -- The hash block of level l on the path to data block i was reconstructed from the blocks of one height below it, on steady
 -- devices from the stored ones. These are its bytes.
@@ -79,6 +74,38 @@ pub record IsMadeBeneath (s : ShapeRecord) (salt : List ℕ) (data_dev hash_dev 
   pub beneath : from ≤ l
   pub stand : IsOver data_dev hash_dev (made_on (ground s salt data_dev hash_dev from) l i) bytes
 
--- from whichever height below it is made, the block has another digest
-abbrev pub IsNowhereBeneath : ShapeRecord → List ℕ → Device → Device → ℕ → ℕ → List ℕ → Type 0
-IsNowhereBeneath s salt data_dev hash_dev l i digest_is = (from : ℕ) → from ≤ l → IsUnlike salt data_dev hash_dev digest_is (made_on (ground s salt data_dev hash_dev from) l i)
+-- ---- a hash block that can't be reconstructed
+
+-- the hash block of a level on the path to a data block, and its digest
+pub record LostHash : Type 0 where
+  pub shape : ShapeRecord
+  pub salt : List ℕ
+  pub level : ℕ
+  pub index : ℕ
+  pub digest_is : List ℕ
+
+abbrev pub lost_hash : ShapeRecord → List ℕ → ℕ → ℕ → List ℕ → LostHash
+lost_hash s salt l i digest_is = record { shape = s; salt = salt; level = l; index = i; digest_is = digest_is }
+
+-- made from each of n heights from the first on, it has another digest, except for so many heights that weren't read
+abbrev pub AreUnlikeFrom : LostHash → Device → Device → ℕ → ℕ → ℕ → Type 0
+AreUnlikeFrom x data_dev hash_dev first zero unread = unread ≡ 0
+AreUnlikeFrom x data_dev hash_dev first (suc n) unread =
+    (IsUnlike x.salt data_dev hash_dev x.digest_is (made_on (ground x.shape x.salt data_dev hash_dev first) x.level x.index) × AreUnlikeFrom x data_dev hash_dev (suc first) n unread)
+    ⊎ ((rest : ℕ) × ((unread ≡ suc rest) × AreUnlikeFrom x data_dev hash_dev (suc first) n rest))
+
+-- two devices counted at least n failures, or a counter reached its maximum
+abbrev pub HaveFailedTimes : Device → Device → ℕ → Device → Device → Type 0
+HaveFailedTimes data_dev hash_dev n data_dev' hash_dev' =
+    (data_dev.failures + hash_dev.failures + n ≤ data_dev'.failures + hash_dev'.failures) ⊎ ((2 ^ 64 - 1 ≤ data_dev'.failures) ⊎ (2 ^ 64 - 1 ≤ hash_dev'.failures))
+
+-- From each height from the first on it was made with another digest, or a call failed. Each height that wasn't read is
+-- counted.
+pub record IsNowhereFrom (x : LostHash) (first : ℕ) (data_dev hash_dev data_dev' hash_dev' : Device) : Type 0 where
+  pub unread : ℕ
+  pub each : AreUnlikeFrom x data_dev hash_dev first (x.level + 1 - first) unread
+  pub counted : HaveFailedTimes data_dev hash_dev unread data_dev' hash_dev'
+
+-- from each height below it
+abbrev pub IsNowhereBeneath : LostHash → Device → Device → Device → Device → Type 0
+IsNowhereBeneath x data_dev hash_dev data_dev' hash_dev' = IsNowhereFrom x 0 data_dev hash_dev data_dev' hash_dev'

@@ -18,7 +18,7 @@ use Rattle.tree_repair.specs.declared.fault.RepairFault.TheVariants.{Image, Writ
 use Rattle.tree_repair.specs.declared.mending.Mended.{Mended}
 use Rattle.tree_repair.specs.declared.mending.Mended.TheVariants as mended
 use Rattle.tree_repair.specs.Mending.{BlockCheck, IsBareOf, IsBlockFound, IsMended}
-use Rattle.tree_repair.specs.Remaking.{IsMadeBeneath, IsNowhereBeneath}
+use Rattle.tree_repair.specs.Remaking.{IsMadeBeneath, IsNowhereBeneath, lost_hash}
 use Rattle.tree_repair.specs.Sources.{wanted}
 use Rattle.tree_repair.specs.Worlds.{IsWorldRead, RepairWorld}
 
@@ -101,13 +101,14 @@ OtherStays (suc l) mended.Lost old new = IsOnlyRead old new × (old.failures ≤
 
 -- A reconstructed hash block is made from the blocks below it, and a lost one can't be. A data block isn't reconstructed. A
 -- block is restored by parity only if there is parity.
-abbrev pub IsMadeOf : Job → PathRecord → ℕ → ℕ → Device → Device → List ℕ → Mended → Type 0
-IsMadeOf j p zero i data_dev hash_dev bytes m = IsBareOf j.parity m
-IsMadeOf j p (suc l) i data_dev hash_dev bytes mended.Good = Unit {0}
-IsMadeOf j p (suc l) i data_dev hash_dev bytes (mended.Copy k) = Unit {0}
-IsMadeOf j p (suc l) i data_dev hash_dev bytes mended.Remade = IsMadeBeneath j.tree.shape j.tree.salt data_dev hash_dev l i bytes
-IsMadeOf j p (suc l) i data_dev hash_dev bytes mended.Parity = IsTrue j.parity
-IsMadeOf j p (suc l) i data_dev hash_dev bytes mended.Lost = IsNowhereBeneath j.tree.shape j.tree.salt data_dev hash_dev l i (digest_on p i (l + 1))
+abbrev pub IsMadeOf : Job → PathRecord → ℕ → ℕ → RepairWorld → RepairWorld → List ℕ → Mended → Type 0
+IsMadeOf j p zero i w w' bytes m = IsBareOf j.parity m
+IsMadeOf j p (suc l) i w w' bytes mended.Good = Unit {0}
+IsMadeOf j p (suc l) i w w' bytes (mended.Copy k) = Unit {0}
+IsMadeOf j p (suc l) i w w' bytes mended.Remade = IsMadeBeneath j.tree.shape j.tree.salt w.data_dev w.hash_dev l i bytes
+IsMadeOf j p (suc l) i w w' bytes mended.Parity = IsTrue j.parity
+IsMadeOf j p (suc l) i w w' bytes mended.Lost =
+    IsNowhereBeneath (lost_hash j.tree.shape j.tree.salt l i (digest_on p i (l + 1))) w.data_dev w.hash_dev w'.data_dev w'.hash_dev
 
 -- Verified hash blocks lead from the root to the block's digest. By this digest the block was found valid, was repaired, or is
 -- lost.
@@ -116,7 +117,7 @@ pub record IsVisited (j : Job) (v : Visit) (w w' : RepairWorld) : Type 0 where
   pub p : PathRecord
   pub way : IsWay j.tree v.index v.height p
   pub mended_as : IsMended (look_at j p v.height v.index w w') v.bytes v.done v.mended
-  pub made_of : IsMadeOf j p v.height v.index w.data_dev w.hash_dev v.bytes v.mended
+  pub made_of : IsMadeOf j p v.height v.index w w' v.bytes v.mended
   pub other_stays : OtherStays v.height v.mended (other v.height w) (other v.height w')
   pub copies_are : other_copies v.height w' ≡ other_copies v.height w
 

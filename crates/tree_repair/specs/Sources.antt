@@ -38,14 +38,15 @@ pub record IsOther (device : Device) (first : ℕ) (w : Wanted) : Type 0 where
 abbrev pub IsBad : Device → ℕ → Wanted → Device → Type 0
 IsBad old first w new = HasFailedRead old new ⊎ IsOther old first w
 
--- a steady device that never fails doesn't have the bytes there
-abbrev pub IsWithout : Device → ℕ → Wanted → Type 0
-IsWithout device first w = IsTrue device.steady → IsTrue device.never_fails → first + w.sectors ≤ device.size → digest w.salt (bytes_on_device device first w.sectors) ≢ w.digest_is
+-- the expected bytes weren't read from a device, or it ends before them
+abbrev pub IsWithout : Device → ℕ → Wanted → Device → Type 0
+IsWithout old first w new = (old.size < first + w.sectors) ⊎ IsBad old first w new
 
--- each of some devices was only read
+-- each of some devices was only read, and its failure counter didn't decrease
 pub record AreEachRead (old new : List Device) : Type 0 where
   pub count : length new ≡ length old
   pub each : (j : ℕ) → j < length old → (d : Device) → IsOnlyRead (slice_index_or old j d) (slice_index_or new j d)
+  pub more : (j : ℕ) → j < length old → (d : Device) → (slice_index_or old j d).failures ≤ (slice_index_or new j d).failures
 
 -- copy n, counted from 1, has the bytes
 pub record AreIn (copies : List Device) (first : ℕ) (w : Wanted) (n : ℕ) (bytes : List ℕ) : Type 0 where
@@ -53,13 +54,13 @@ pub record AreIn (copies : List Device) (first : ℕ) (w : Wanted) (n : ℕ) (by
   pub inside : n ≤ length copies
   pub there : (d : Device) → IsThere (slice_index_or copies (n - 1) d) first w bytes
 
--- none of the first k copies has the bytes
-abbrev pub AreNotIn : List Device → ℕ → Wanted → ℕ → Type 0
-AreNotIn copies first w k = (j : ℕ) → j < k → (d : Device) → IsWithout (slice_index_or copies j d) first w
+-- the bytes weren't found in the first k copies; these are the copies before and after
+abbrev pub AreNotIn : List Device → List Device → ℕ → Wanted → ℕ → Type 0
+AreNotIn copies copies' first w k = (j : ℕ) → j < k → (d : Device) → IsWithout (slice_index_or copies j d) first w (slice_index_or copies' j d)
 
--- no copy has the bytes
-abbrev pub AreInNone : List Device → ℕ → Wanted → Type 0
-AreInNone copies first w = AreNotIn copies first w (length copies)
+-- they were found in no copy
+abbrev pub AreInNone : List Device → List Device → ℕ → Wanted → Type 0
+AreInNone copies copies' first w = AreNotIn copies copies' first w (length copies)
 
 -- ---- in terms of the arguments of functions; `state` gives the devices
 
@@ -71,6 +72,10 @@ FindsBad state old new first w = IsBad (state old) first w (state new)
 abbrev pub HasCopy : {C : Type 0} → (C → Device) → List C → ℕ → Wanted → List ℕ → ℕ → Type 0
 HasCopy state copies first w bytes n = AreIn (map state copies) first w n bytes
 
--- none of the copies has the bytes
-abbrev pub HasNoCopy : {C : Type 0} → (C → Device) → List C → ℕ → Wanted → Type 0
-HasNoCopy state copies first w = AreNotIn (map state copies) first w (length copies)
+-- the device ends before the bytes, or they weren't read
+abbrev pub FindsNone : {B : Type 0} → (B → Device) → B → B → ℕ → Wanted → Type 0
+FindsNone state old new first w = IsWithout (state old) first w (state new)
+
+-- the bytes were found in none of the copies
+abbrev pub HasNoCopy : {C : Type 0} → (C → Device) → List C → List C → ℕ → Wanted → Type 0
+HasNoCopy state copies copies' first w = AreNotIn (map state copies) (map state copies') first w (length copies)

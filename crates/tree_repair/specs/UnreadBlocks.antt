@@ -1,7 +1,6 @@
 -- Blocks that were treated as corrupt because a call of their device failed, and the failures that the devices count for them.
-use Rattle.std.specs.Prelude.{◌≡◌, ◌≢◌, ◌⊎◌, ℕ, zero, suc, ◌+◌, ◌-◌, ◌^◌, ◌<◌, ◌≤◌, Bool, IsTrue, List, [], ◌∷◌}
+use Rattle.std.specs.Prelude.{◌≡◌, ◌≢◌, ◌⊎◌, ℕ, zero, suc, ◌+◌, Bool, IsTrue, List, [], ◌∷◌}
 use mathlib.Core.Logic.{inl, inr}
-use Rattle.block_device.specs.Device.{Device}
 use Rattle.tree_shape.specs.Digests.{digest}
 use Rattle.hash_tree.specs.Chain.{formed}
 use Rattle.tree_path.specs.Laws.{Collide}
@@ -18,7 +17,7 @@ use Rattle.tree_repair.specs.Mending.{IsMended, BlockCheck}
 use Rattle.tree_repair.specs.Runs.{IsVisited, Job, VisitsAll, Visit, look_at, own}
 use Rattle.tree_repair.specs.Standing.{standing_bytes}
 use Rattle.tree_repair.specs.ParitySearches.{IsCutOff}
-use Rattle.tree_repair.specs.Worlds.{RepairWorld}
+use Rattle.tree_repair.specs.Worlds.{HasCountedNone, RepairWorld}
 
 -- ---- how many
 
@@ -106,11 +105,6 @@ IntactBlocksAreLeftAlone = (j : Job) → (contents : List (List ℕ)) → AreCon
     → Throughout j (λ v a b here. StandsIntact j contents v a → IsLeftAlone v a b ⊎ ((unread_visit j v a b here ≡ 1) ⊎ Collide j.tree.salt)) visits w w' runs
 
 -- ---- if no call failed
-
--- no failure was counted, and the counter is below its maximum
-pub record HasCountedNone (old new : Device) : Type 0 where
-  pub none : new.failures ≤ old.failures
-  pub below : new.failures < 2 ^ 64 - 1
 
 -- If a block's device counted no failure in the whole run, the block is touched only if it was corrupt when its turn came.
 abbrev pub GoodBlocksAreLeftAlone : Type 0

@@ -67,7 +67,7 @@ hash_look j p l i old new copies copies' = record {
 -- the visit of a hash block of level l
 pub record IsHashSeen (j : Job) (p : PathRecord) (l i : ℕ) (w w' : RepairWorld) (bytes : List ℕ) (done : Bool) (m : Mended) : Type 0 where
   pub looked : IsMended (hash_look j p l i w.hash_dev w'.hash_dev w.hash_copies w'.hash_copies) bytes done m
-  pub made_of : IsMadeOf j p (suc l) i w.data_dev w.hash_dev bytes m
+  pub made_of : IsMadeOf j p (suc l) i w w' bytes m
   pub data_stays : OtherStays (suc l) m w.data_dev w'.data_dev
   pub copies_are : w'.data_copies ≡ w.data_copies
 

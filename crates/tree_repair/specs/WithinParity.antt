@@ -12,7 +12,7 @@ use Rattle.tree_path.specs.Laws.{Collide}
 use Rattle.tree_path.specs.Path.{PathRecord}
 use Rattle.tree_survey.specs.Hashes.{is_zero_after_used}
 use Rattle.tree_survey.specs.Surveys.{Tree, IsWay}
-use Rattle.verity_format.specs.Blocks.{IsOnlyRead, blocks_at}
+use Rattle.verity_format.specs.Blocks.{blocks_at}
 use Rattle.verity_format.specs.Formatting.{IsFormatted}
 use Rattle.verity_format.specs.Image.{area_over, data_sectors, root_over, tree_sectors}
 use Rattle.verity_format.specs.Superblock.{SuperRecord, IsSuperblock, shape_of}
@@ -23,7 +23,7 @@ use Rattle.tree_repair.specs.Repairs.{SeeksByParity, job_of}
 use Rattle.tree_repair.specs.Runs.{Job, Visit, VisitsAll}
 use Rattle.tree_repair.specs.Standing.{IsSteadyImage, IsWorldSteady}
 use Rattle.tree_repair.specs.ParitySearches.{IsBroughtBack, IsGoodBehind, IsOffPlace, Trial, trial}
-use Rattle.tree_repair.specs.Worlds.{IsWorldRead, RepairWorld}
+use Rattle.tree_repair.specs.Worlds.{IsParityRead, IsWorldRead, RepairWorld}
 
 -- ---- the image as it was formatted
 
@@ -133,7 +133,7 @@ pub record IsSoughtWithin (j : Job) (l : Layout) (lost : List ℕ) (f : FormerIm
   pub q : Device
   pub q' : Device
   pub part : IsPart j s.visited a b s.after
-  pub parity_read : IsOnlyRead p q
+  pub parity_read : IsParityRead p q
   pub outcome : IsTrialSettled j f s (trial l lost a b q q') h beside
 
 -- ---- the laws

@@ -1,8 +1,13 @@
 -- The devices of a repair.
-use Rattle.std.specs.Prelude.{◌≡◌, ◌≤◌, List}
+use Rattle.std.specs.Prelude.{◌≡◌, ◌-◌, ◌^◌, ◌<◌, ◌≤◌, List}
 use Rattle.block_device.specs.Device.{Device}
 use Rattle.verity_format.specs.Blocks.{AreOnlyRead, IsOnlyRead}
 use Rattle.tree_repair.specs.Sources.{AreEachRead}
+
+-- no failure was counted, and the counter is below its maximum
+pub record HasCountedNone (old new : Device) : Type 0 where
+  pub none : new.failures ≤ old.failures
+  pub below : new.failures < 2 ^ 64 - 1
 
 -- the data device, the hash device, and the copies of each
 pub record RepairWorld : Type 0 where
@@ -23,12 +28,10 @@ pub record IsWorldRead (w w' : RepairWorld) : Type 0 where
   pub data_copies_read : AreEachRead w.data_copies w'.data_copies
   pub hash_copies_read : AreEachRead w.hash_copies w'.hash_copies
 
--- only the hash device was accessed, by reads
-pub record IsHashReadAlone (w w' : RepairWorld) : Type 0 where
-  pub data_is : w'.data_dev ≡ w.data_dev
-  pub read : IsOnlyRead w.hash_dev w'.hash_dev
-  pub data_copies_are : w'.data_copies ≡ w.data_copies
-  pub hash_copies_are : w'.hash_copies ≡ w.hash_copies
+-- the parity device was only read, and its failure counter didn't decrease
+pub record IsParityRead (old new : Device) : Type 0 where
+  pub read : IsOnlyRead old new
+  pub more : old.failures ≤ new.failures
 
 -- the data device and the hash device were only read, failures are counted, and no copy was accessed
 pub record AreBothRead (w w' : RepairWorld) : Type 0 where

@@ -20,8 +20,8 @@ pub fn mended_blocks_are_formatted()
     formed_chains_are_good()
 }
 
-/// If the data is intact and the devices are steady and never fail, no hash block is lost, or two different inputs have one
-/// digest.
+/// If the data is intact, the devices are steady and no call failed in the visit, no hash block is lost, or two different inputs
+/// have one digest.
 pub fn no_hash_block_is_lost()
     ensures { NoHashBlockIsLost }
 {
@@ -85,7 +85,7 @@ pub fn left_good_ways_stand()
     ensures { LeftGoodWaysStand }
 {}
 
-/// With parity, on devices that never fail, for each block of the tree one of these holds: it was valid or found when the last
+/// With parity, if no device counted a failure, for each block of the tree one of these holds: it was valid or found when the last
 /// pass came to it; parity restored it; a hash block above it is corrupt; parity doesn't cover it or can't restore it.
 pub fn what_stays_lost_is_beyond_parity()
     ensures { WhatStaysLostIsBeyondParity }

@@ -4,14 +4,13 @@ ghost use Rattle.allocation.specs.Asked.{WasRefused};
 ghost use Rattle.fec_area.specs.Layouts.{IsLaidOn, IsLayout, covered_blocks};
 ghost use Rattle.tree_shape.specs.Digests.{digest};
 ghost use Rattle.tree_shape.specs.Shape.{levels};
-ghost use Rattle.verity_format.specs.Blocks.{IsOnlyRead};
 ghost use Rattle.tree_repair.specs.Jobs.{job};
 ghost use Rattle.tree_repair.specs.ParityBounds.{TellsCame, along_bill, round_bill};
 ghost use Rattle.tree_repair.specs.Passes.{AreBack};
 ghost use Rattle.tree_repair.specs.Parity.{IsBack, IsPlace};
 ghost use Rattle.tree_repair.specs.Runs.{CanRun, IsRefusal, IsWriterCause, Ran};
 ghost use Rattle.tree_repair.specs.ParitySearches.{AreCovered, IsCoveredOr, IsOfTree, is_hash_back, listed_number};
-ghost use Rattle.tree_repair.specs.Worlds.{IsWorldRead};
+ghost use Rattle.tree_repair.specs.Worlds.{IsParityRead, IsWorldRead};
 ghost use Rattle.tree_repair.specs.Searching.{AreGoodFor, AsksWithin, IsInTree, IsReached, LacksBlock, MakesMissing, MakesWithin, SeeksBlock, SeeksEach, SeeksWithin, TellsMissing, TellsPlace, TriesMissing, TriesWithin, missing_size};
 
 use crate::bad::BadBlock;
@@ -50,7 +49,7 @@ pub(crate) fn restore_bad<D: BlockDev, H: BlockDev, C: BlockDev, P: BlockDev, W:
     requires asked { IsTrue repair.now.parity }
     requires can { CanRun (job repair.now) image.old }
     requires laid { IsLaidOn layout.now image.old.data_dev image.old.hash_dev }
-    ensures parity { IsOnlyRead (P.state parity.old) (P.state parity.new) }
+    ensures parity { IsParityRead (P.state parity.old) (P.state parity.new) }
     ensures run { Ran W.contents (job repair.now) image.old image.new writer.old writer.new result }
     ensures told { IfErr result (IsWriterCause writer.new) }
     ensures sought { SeeksEach P.state repair.now layout.now blocks.now image.old image.new parity.old parity.new result }
@@ -167,7 +166,7 @@ fn restore_block_at<D: BlockDev, H: BlockDev, C: BlockDev, P: BlockDev, W: Write
     requires can { CanRun (job repair.now) image.old }
     requires laid { IsLaidOn losses.now.layout image.old.data_dev image.old.hash_dev }
     ensures tree { IsOfTree (job repair.now).tree last_path.new.path }
-    ensures parity { IsOnlyRead (P.state parity.old) (P.state parity.new) }
+    ensures parity { IsParityRead (P.state parity.old) (P.state parity.new) }
     ensures run { Ran W.contents (job repair.now) image.old image.new writer.old writer.new result }
     ensures told { IfErr result (IsWriterCause writer.new) }
     ensures sought { SeeksBlock P.state repair.now losses.now bad.now image.old image.new parity.old parity.new result }
@@ -206,7 +205,7 @@ fn restore_missing<D: BlockDev, H: BlockDev, C: BlockDev, P: BlockDev, W: Write>
     requires laid { IsLaidOn losses.now.layout image.old.data_dev image.old.hash_dev }
     requires place { IsInTree missing.now }
     requires way { IsReached missing.now }
-    ensures parity { IsOnlyRead (P.state parity.old) (P.state parity.new) }
+    ensures parity { IsParityRead (P.state parity.old) (P.state parity.new) }
     ensures run { Ran W.contents (job missing.now.repair.now) image.old image.new writer.old writer.new result }
     ensures told { IfErr result (IsWriterCause writer.new) }
     ensures tried { TriesMissing P.state missing.now losses.now image.old image.new parity.old parity.new result }
@@ -238,7 +237,7 @@ fn make_again<D: BlockDev, H: BlockDev, C: BlockDev, P: BlockDev>(
     requires way { IsReached missing.now }
     requires size { length bytes.old ≡ missing_size missing.now }
     ensures read { IsWorldRead image.old image.new }
-    ensures parity { IsOnlyRead (P.state parity.old) (P.state parity.new) }
+    ensures parity { IsParityRead (P.state parity.old) (P.state parity.new) }
     ensures good { IfOk result (λ made. IsTrue made → AreGoodFor missing.now bytes.new) }
     ensures vain { MakesMissing P.state missing.now losses.now image.old image.new parity.old parity.new result }
     ensures within { MakesWithin P.state missing.now losses.now image.old image.new parity.old parity.new result }
@@ -271,7 +270,7 @@ fn restore<D: BlockDev, H: BlockDev, C: BlockDev, P: BlockDev>(
     requires index { index < covered_blocks losses.now.layout }
     requires size { length bytes.old ≡ losses.now.layout.block }
     ensures read { IsWorldRead image.old image.new }
-    ensures parity { IsOnlyRead (P.state parity.old) (P.state parity.new) }
+    ensures parity { IsParityRead (P.state parity.old) (P.state parity.new) }
     ensures bytes { IfOk result (IsBack losses.now image.old (P.state parity.old) index bytes.new) }
     ensures none { IfOk result (LacksBlock P.state losses.now index image.old image.new parity.old parity.new) }
     ensures within { AsksWithin P.state (round_bill losses.now.layout) image.old image.new parity.old parity.new }

@@ -8,6 +8,7 @@ ghost use Rattle.tree_repair.specs.ParityBounds.{IsParityWithin};
 ghost use Rattle.tree_repair.specs.Repairs.{IsAllowed, IsParityRepair, IsParityUnrepaired, IsSoughtByParity};
 ghost use Rattle.tree_repair.specs.Runs.{CanRun, IsWriterCause, Ran};
 ghost use Rattle.tree_repair.specs.Searching.{EndsPasses, MakesPass, RunsPass, RunsPasses};
+ghost use Rattle.tree_repair.specs.Worlds.{IsParityRead};
 
 use crate::bad::BadBlocks;
 use crate::fault::RepairFault;
@@ -73,7 +74,7 @@ fn run_passes<D: BlockDev, H: BlockDev, C: BlockDev, P: BlockDev, W: Write>(
     requires asked { IsTrue repair.now.parity }
     requires can { CanRun (job repair.now) image.old }
     requires laid { IsLaidOn layout.now image.old.data_dev image.old.hash_dev }
-    ensures parity { IsOnlyRead (P.state parity.old) (P.state parity.new) }
+    ensures parity { IsParityRead (P.state parity.old) (P.state parity.new) }
     ensures run { Ran W.contents (job repair.now) image.old image.new writer.old writer.new result }
     ensures told { IfErr result (IsWriterCause writer.new) }
     ensures asks { EndsPasses P.state repair.now layout.now image.old image.new parity.old parity.new result }
@@ -101,7 +102,7 @@ fn run_pass<D: BlockDev, H: BlockDev, C: BlockDev, P: BlockDev, W: Write>(
     requires asked { IsTrue repair.now.parity }
     requires can { CanRun (job repair.now) image.old }
     requires laid { IsLaidOn layout.now image.old.data_dev image.old.hash_dev }
-    ensures parity { IsOnlyRead (P.state parity.old) (P.state parity.new) }
+    ensures parity { IsParityRead (P.state parity.old) (P.state parity.new) }
     ensures run { Ran W.contents (job repair.now) image.old image.new writer.old writer.new result }
     ensures told { IfErr result (IsWriterCause writer.new) }
     ensures pass { MakesPass P.state repair.now layout.now image.old image.new parity.old parity.new result }

@@ -1,14 +1,15 @@
 //! Reconstructs hash blocks from the blocks below them.
 ghost use Rattle.std.specs.Prelude.{◌≡◌, ◌≤◌, ◌<◌, ◌+◌, ◌-◌, ◌*◌, ◌/◌, ◌++◌, ◌^◌, false, min, drop, take, IsTrue, length};
+ghost use Rattle.block_device.specs.Device.{HasFailed};
 ghost use Rattle.tree_shape.specs.Digests.{digest};
 ghost use Rattle.tree_shape.specs.Shape.{IsShape, level_blocks, levels, per_block, position};
 ghost use Rattle.verity_format.specs.Blocks.{IsOnlyRead};
 ghost use Rattle.verity_format.specs.Image.{data_sectors, tree_sectors};
 ghost use Rattle.tree_path.specs.Steps.{HasReadAtMost};
 ghost use Rattle.tree_repair.specs.AccessBudgets.{LeavesBeneath, LeavesBlock, LeavesMade, made_over};
-ghost use Rattle.tree_repair.specs.StoredTrees.{IsMadeIn, IsNowhereIn, IsOverIn, IsUnlikeIn, made_in, stands_in};
+ghost use Rattle.tree_repair.specs.StoredTrees.{HasOneFailedIn, IsMadeIn, IsNowhereIn, IsOverIn, IsUnmadeIn, made_in, stands_in};
 ghost use Rattle.tree_path.specs.Unused.{digests_in};
-ghost use Rattle.tree_repair.specs.Remaking.{HaveBlocks, IsBlockOf, IsHashBlockOf, IsSure};
+ghost use Rattle.tree_repair.specs.Remaking.{HaveBlocks, IsBlockOf, IsHashBlockOf};
 ghost use Rattle.tree_repair.specs.Runs.{size_at};
 ghost use Rattle.tree_repair.specs.Worlds.{AreBothRead};
 
@@ -39,7 +40,7 @@ pub(crate) fn remake<D: BlockDev, H: BlockDev, C: BlockDev>(
     ensures read { AreBothRead image.old image.new }
     ensures good { IsTrue result → digest sought.now.repair.now.salt block.new ≡ sought.now.digest }
     ensures made { IsTrue result → IsMadeIn sought.now.repair.now image.old level index block.new }
-    ensures none { result ≡ false → IsNowhereIn sought.now.repair.now image.old level index sought.now.digest }
+    ensures none { result ≡ false → IsNowhereIn sought.now.repair.now image.old image.new level index sought.now.digest }
     ensures asked { LeavesBeneath sought.now.repair.now.shape level index image.old image.new }
 {
     let repair = sought.repair;
@@ -85,7 +86,7 @@ fn is_made<D: BlockDev, H: BlockDev, C: BlockDev>(
     ensures read { AreBothRead image.old image.new }
     ensures good { IsTrue result → digest repair.now.salt block.new ≡ expected.now }
     ensures stand { IsTrue result → IsOverIn image.old (made_in repair.now image.old making) block.new }
-    ensures none { result ≡ false → IsUnlikeIn repair.now image.old expected.now (made_in repair.now image.old making) }
+    ensures none { result ≡ false → IsUnmadeIn repair.now image.old image.new expected.now (made_in repair.now image.old making) }
     ensures asked { LeavesMade repair.now.shape making image.old image.new }
 {
     if !make(repair, making, image, block, memory) {
@@ -109,7 +110,7 @@ fn make<D: BlockDev, H: BlockDev, C: BlockDev>(
     requires room { 4096 * making.steps ≤ length memory.old }
     ensures read { AreBothRead image.old image.new }
     ensures made { IsTrue result → IsOverIn image.old (made_in repair.now image.old making) block.new }
-    ensures sure { IsSure image.old.data_dev image.old.hash_dev result }
+    ensures fails { result ≡ false → HasOneFailedIn image.old image.new }
     ensures asked { LeavesMade repair.now.shape making image.old image.new }
 {
     let Making {
@@ -183,7 +184,7 @@ fn read_at<D: BlockDev, H: BlockDev, C: BlockDev>(
     requires size { length block.old ≡ size_at shape.now height }
     ensures read { AreBothRead image.old image.new }
     ensures stands { IsTrue result → IsOverIn image.old (stands_in shape.now image.old height number) block.new }
-    ensures sure { IsSure image.old.data_dev image.old.hash_dev result }
+    ensures fails { result ≡ false → HasOneFailedIn image.old image.new }
     ensures asked { LeavesBlock (made_over shape.now height) shape.now height number image.old image.new }
 {
     if height == 0 {
@@ -200,7 +201,7 @@ fn read_data<D: BlockDev>(shape: &Shape, number: u64, data_dev: &mut D, block: &
     requires size { length block.old ≡ shape.now.data_block }
     ensures read { IsOnlyRead (D.state data_dev.old) (D.state data_dev.new) }
     ensures stands { IsTrue result → IsBlockOf (D.state data_dev.old) shape.now.data_block number block.new }
-    ensures sure { IsTrue (D.state data_dev.old).never_fails → IsTrue result }
+    ensures fails { result ≡ false → HasFailed (D.state data_dev.old) (D.state data_dev.new) }
     ensures asked { HasReadAtMost (D.state data_dev.old) (shape.now.data_block / 512) (D.state data_dev.new) }
     ensures counted { (D.state data_dev.old).failures ≤ (D.state data_dev.new).failures }
 {
@@ -224,7 +225,7 @@ fn read_hash<H: BlockDev>(
     requires size { length block.old ≡ shape.now.hash_block }
     ensures read { IsOnlyRead (H.state hash_dev.old) (H.state hash_dev.new) }
     ensures stands { IsTrue result → IsHashBlockOf (H.state hash_dev.old) shape.now level number block.new }
-    ensures sure { IsTrue (H.state hash_dev.old).never_fails → IsTrue result }
+    ensures fails { result ≡ false → HasFailed (H.state hash_dev.old) (H.state hash_dev.new) }
     ensures asked { HasReadAtMost (H.state hash_dev.old) (shape.now.hash_block / 512) (H.state hash_dev.new) }
     ensures counted { (H.state hash_dev.old).failures ≤ (H.state hash_dev.new).failures }
 {

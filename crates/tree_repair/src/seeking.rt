@@ -4,7 +4,7 @@ ghost use Rattle.block_device.specs.Device.{IsInside};
 ghost use Rattle.verity_format.specs.Blocks.{IsOnlyRead};
 ghost use Rattle.tree_path.specs.Steps.{HasReadAtMost};
 ghost use Rattle.tree_repair.specs.Bounds.{AreReadAtMost};
-ghost use Rattle.tree_repair.specs.Sources.{AreEachRead, AreInNone, FindsBad, HasCopy, HasNoCopy, IsThere, IsWithout, due};
+ghost use Rattle.tree_repair.specs.Sources.{AreEachRead, AreInNone, FindsBad, FindsNone, HasCopy, HasNoCopy, IsThere, due};
 
 use block_device::BlockDev;
 use tree_shape::{Digest, Salt};
@@ -22,7 +22,6 @@ pub(crate) fn is_there<B: BlockDev>(
     ensures read { IsOnlyRead (B.state device.old) (B.state device.new) }
     ensures good { IsTrue result → IsThere (B.state device.old) first (due salt.now digest.now block.old) block.new }
     ensures bad { result ≡ false → FindsBad B.state device.old device.new first (due salt.now digest.now block.old) }
-    ensures sure { result ≡ false → IsWithout (B.state device.old) first (due salt.now digest.now block.old) }
     ensures asked { HasReadAtMost (B.state device.old) (length block.old / 512) (B.state device.new) }
     ensures counted { (B.state device.old).failures ≤ (B.state device.new).failures }
 {
@@ -45,8 +44,9 @@ fn has<B: BlockDev>(
     requires small { first + length block.old / 512 < 2 ^ 64 }
     ensures read { IsOnlyRead (B.state device.old) (B.state device.new) }
     ensures good { IsTrue result → IsThere (B.state device.old) first (due salt.now digest.now block.old) block.new }
-    ensures sure { result ≡ false → IsWithout (B.state device.old) first (due salt.now digest.now block.old) }
+    ensures none { result ≡ false → FindsNone B.state device.old device.new first (due salt.now digest.now block.old) }
     ensures asked { HasReadAtMost (B.state device.old) (length block.old / 512) (B.state device.new) }
+    ensures counted { (B.state device.old).failures ≤ (B.state device.new).failures }
 {
     let sectors = (block.len() / 512) as u64;
     if device.sectors() < first + sectors {
@@ -69,7 +69,7 @@ pub(crate) fn seek<C: BlockDev>(
     requires small { first + length block.old / 512 < 2 ^ 64 }
     ensures read { AreEachRead (map C.state copies.old.items) (map C.state copies.new.items) }
     ensures found { IfSome result (HasCopy C.state copies.old.items first (due salt.now digest.now block.old) block.new) }
-    ensures none { IfNone result (AreInNone (map C.state copies.old.items) first (due salt.now digest.now block.old)) }
+    ensures none { IfNone result (AreInNone (map C.state copies.old.items) (map C.state copies.new.items) first (due salt.now digest.now block.old)) }
     ensures asked { AreReadAtMost (map C.state copies.old.items) (length block.old / 512) (map C.state copies.new.items) }
 {
     seek_copies(copies.as_mut_slice(), first, salt, digest, block)
@@ -88,7 +88,7 @@ fn seek_copies<C: BlockDev>(
     requires small { first + length block.old / 512 < 2 ^ 64 }
     ensures read { AreEachRead (map C.state copies.old) (map C.state copies.new) }
     ensures found { IfSome result (HasCopy C.state copies.old first (due salt.now digest.now block.old) block.new) }
-    ensures none { IfNone result (HasNoCopy C.state copies.old first (due salt.now digest.now block.old)) }
+    ensures none { IfNone result (HasNoCopy C.state copies.old copies.new first (due salt.now digest.now block.old)) }
     ensures asked { AreReadAtMost (map C.state copies.old) (length block.old / 512) (map C.state copies.new) }
 {
     'copies: for k in 0..copies.len() {

@@ -26,29 +26,29 @@ check_cause d d' failed (survey.Image verify.NoMemory) h = h
 check_cause d d' failed survey.Write h = h
 
 -- a cause that doesn't depend on whether a line could be written
-unfailed : (w : DifferenceWorld) (pair : TreePair) (failed : Bool) (fault : DifferenceFault)
+unfailed : (w : DifferenceWorld) (pair : TreePair) (most : Option ℕ) (failed : Bool) (fault : DifferenceFault)
     → ((d d' : Device) → IsCheckCause d d' failed fault → IsCheckCause d d' false fault)
     → ((v : DifferenceWorld) → IsDifferenceCause v pair failed fault → IsDifferenceCause v pair false fault)
-    → IsCheckedCause w pair failed fault → IsCheckedCause w pair false fault
-unfailed w pair failed fault check compare (inl h) = inl (check w.second w.second' h)
-unfailed w pair failed fault check compare (inr e) =
-    inr (record { whole = e.whole; middle = e.middle; between = e.between; checks = e.checks; cause = compare (record w { second = e.middle; printed = e.between }) e.cause })
+    → IsCheckedCause w pair most failed fault → IsCheckedCause w pair most false fault
+unfailed w pair most failed fault check compare (inl h) = inl (check w.second w.second' h)
+unfailed w pair most failed fault check compare (inr e) =
+    inr (record { whole = e.whole; middle = e.middle; between = e.between; checks = e.checks; cause = compare (record w { second = e.middle; printed = e.between }) e.cause; before = e.before })
 
-pub kept_check : (d e d' e' : Device) (old new : Option (List ℕ)) (pair : TreePair) (failed : Bool) (fault : DifferenceFault) → IsCheckedCause (difference_world d e d' e' old new) pair failed fault → IsKeptCheckCause d e d' e' pair (unkept_difference fault)
-kept_check d e d' e' old new pair failed (difference.Image First (verify.Super f)) h = (old, (new, unfailed (difference_world d e d' e' old new) pair failed (difference.Image First (verify.Super f)) (λ a a' c. c) (λ v c. c) h))
-kept_check d e d' e' old new pair failed (difference.Image First verify.TooSmall) h = (old, (new, unfailed (difference_world d e d' e' old new) pair failed (difference.Image First verify.TooSmall) (λ a a' c. c) (λ v c. c) h))
-kept_check d e d' e' old new pair failed (difference.Image First verify.Device) h = (old, (new, unfailed (difference_world d e d' e' old new) pair failed (difference.Image First verify.Device) (λ a a' c. c) (λ v c. c) h))
-kept_check d e d' e' old new pair failed (difference.Image First verify.NoMemory) h = (old, (new, unfailed (difference_world d e d' e' old new) pair failed (difference.Image First verify.NoMemory) (λ a a' c. c) (λ v c. c) h))
-kept_check d e d' e' old new pair failed (difference.Image Second (verify.Super f)) h = (old, (new, unfailed (difference_world d e d' e' old new) pair failed (difference.Image Second (verify.Super f)) (λ a a' c. c) (λ v c. c) h))
-kept_check d e d' e' old new pair failed (difference.Image Second verify.TooSmall) h = (old, (new, unfailed (difference_world d e d' e' old new) pair failed (difference.Image Second verify.TooSmall) (λ a a' c. c) (λ v c. c) h))
-kept_check d e d' e' old new pair failed (difference.Image Second verify.Device) h = (old, (new, unfailed (difference_world d e d' e' old new) pair failed (difference.Image Second verify.Device) (λ a a' c. c) (λ v c. c) h))
-kept_check d e d' e' old new pair failed (difference.Image Second verify.NoMemory) h = (old, (new, unfailed (difference_world d e d' e' old new) pair failed (difference.Image Second verify.NoMemory) (λ a a' c. c) (λ v c. c) h))
-kept_check d e d' e' old new pair failed (difference.Unpinned which mismatch) h = (old, (new, unfailed (difference_world d e d' e' old new) pair failed (difference.Unpinned which mismatch) (λ a a' c. c) (λ v c. c) h))
-kept_check d e d' e' old new pair failed (difference.Unlike field) h = (old, (new, unfailed (difference_world d e d' e' old new) pair failed (difference.Unlike field) (λ a a' c. c) (λ v c. c) h))
-kept_check d e d' e' old new pair failed (difference.Hash First level n) h = (old, (new, unfailed (difference_world d e d' e' old new) pair failed (difference.Hash First level n) (λ a a' c. c) (λ v c. c) h))
-kept_check d e d' e' old new pair failed (difference.Hash Second level n) h = (old, (new, unfailed (difference_world d e d' e' old new) pair failed (difference.Hash Second level n) (λ a a' c. c) (λ v c. c) h))
-kept_check d e d' e' old new pair failed difference.NoMemory h = tt
-kept_check d e d' e' old new pair failed difference.Write h = tt
+pub kept_check : (d e d' e' : Device) (old new : Option (List ℕ)) (pair : TreePair) (most : Option ℕ) (failed : Bool) (fault : DifferenceFault) → IsCheckedCause (difference_world d e d' e' old new) pair most failed fault → IsKeptCheckCause d e d' e' pair most (unkept_difference fault)
+kept_check d e d' e' old new pair most failed (difference.Image First (verify.Super f)) h = (old, (new, unfailed (difference_world d e d' e' old new) pair most failed (difference.Image First (verify.Super f)) (λ a a' c. c) (λ v c. c) h))
+kept_check d e d' e' old new pair most failed (difference.Image First verify.TooSmall) h = (old, (new, unfailed (difference_world d e d' e' old new) pair most failed (difference.Image First verify.TooSmall) (λ a a' c. c) (λ v c. c) h))
+kept_check d e d' e' old new pair most failed (difference.Image First verify.Device) h = (old, (new, unfailed (difference_world d e d' e' old new) pair most failed (difference.Image First verify.Device) (λ a a' c. c) (λ v c. c) h))
+kept_check d e d' e' old new pair most failed (difference.Image First verify.NoMemory) h = (old, (new, unfailed (difference_world d e d' e' old new) pair most failed (difference.Image First verify.NoMemory) (λ a a' c. c) (λ v c. c) h))
+kept_check d e d' e' old new pair most failed (difference.Image Second (verify.Super f)) h = (old, (new, unfailed (difference_world d e d' e' old new) pair most failed (difference.Image Second (verify.Super f)) (λ a a' c. c) (λ v c. c) h))
+kept_check d e d' e' old new pair most failed (difference.Image Second verify.TooSmall) h = (old, (new, unfailed (difference_world d e d' e' old new) pair most failed (difference.Image Second verify.TooSmall) (λ a a' c. c) (λ v c. c) h))
+kept_check d e d' e' old new pair most failed (difference.Image Second verify.Device) h = (old, (new, unfailed (difference_world d e d' e' old new) pair most failed (difference.Image Second verify.Device) (λ a a' c. c) (λ v c. c) h))
+kept_check d e d' e' old new pair most failed (difference.Image Second verify.NoMemory) h = (old, (new, unfailed (difference_world d e d' e' old new) pair most failed (difference.Image Second verify.NoMemory) (λ a a' c. c) (λ v c. c) h))
+kept_check d e d' e' old new pair most failed (difference.Unpinned which mismatch) h = (old, (new, unfailed (difference_world d e d' e' old new) pair most failed (difference.Unpinned which mismatch) (λ a a' c. c) (λ v c. c) h))
+kept_check d e d' e' old new pair most failed (difference.Unlike field) h = (old, (new, unfailed (difference_world d e d' e' old new) pair most failed (difference.Unlike field) (λ a a' c. c) (λ v c. c) h))
+kept_check d e d' e' old new pair most failed (difference.Hash First level n) h = (old, (new, unfailed (difference_world d e d' e' old new) pair most failed (difference.Hash First level n) (λ a a' c. c) (λ v c. c) h))
+kept_check d e d' e' old new pair most failed (difference.Hash Second level n) h = (old, (new, unfailed (difference_world d e d' e' old new) pair most failed (difference.Hash Second level n) (λ a a' c. c) (λ v c. c) h))
+kept_check d e d' e' old new pair most failed difference.NoMemory h = tt
+kept_check d e d' e' old new pair most failed difference.Write h = tt
 
 -- how a comparison ends of which all was printed
 pub found-end : (json : Bool) (w : DifferenceWorld) (pair : TreePair) (most : Option ℕ) (failed : Bool) (found : CheckedTotals) → SaysChecked json w pair most found → (fault : TreeFault) → IsFoundEnd found fault → IsCheckedEnd json w pair most failed fault
@@ -63,7 +63,7 @@ found-end json w pair most failed found says tree.Damaged h = (found, (says, h))
 found-end json w pair most failed found says tree.Write h = absurd h
 
 -- and of which it wasn't
-pub said-end : (json : Bool) (w : DifferenceWorld) (pair : TreePair) (most : Option ℕ) (failed : Bool) (fault : TreeFault) → IsSayingEnd json w pair failed fault → IsCheckedEnd json w pair most failed fault
+pub said-end : (json : Bool) (w : DifferenceWorld) (pair : TreePair) (most : Option ℕ) (failed : Bool) (fault : TreeFault) → IsSayingEnd json w pair most failed fault → IsCheckedEnd json w pair most failed fault
 said-end json w pair most failed (tree.Open file) h = h
 said-end json w pair most failed (tree.Trees fault) h = h
 said-end json w pair most failed tree.Differs h = absurd h

@@ -1,6 +1,10 @@
 -- Commands that end early.
 use Rattle.std.proofs.Common.{◌≡◌, ℕ, Bool, List, Option, Result, Ok, Err, refl, sym, subst}
 use Rattle.std.specs.Prelude.{IfErr, IsErrAnd}
+use Rattle.command_line.specs.CommandWords.{RefusesWords}
+use Rattle.command_line.specs.FormatOptions.{OptionTexts}
+use Rattle.command_line.specs.ImageValues.{options_read}
+use Rattle.command_line.specs.Misuses.{misuse_record}
 use Rattle.command_line.specs.declared.fault.WordsFault.{WordsFault}
 use Rattle.command_line.specs.declared.fault.WordsFault.TheVariants.{NoMemory, Usage}
 use Rattle.image_commands.specs.declared.fault.ImageFault.{ImageFault}
@@ -20,10 +24,10 @@ pub err-from : {T E : Type 0} (r : Result T E) (P : E → Type 0) (fault : E) �
 err-from (Ok done) P fault is holds = tt
 err-from (Err e) P fault is holds = subst P (sym is) holds
 
--- words of which one says no value
-pub unsaid : (fault : WordsFault) → IsUnsaid (words_ending fault)
-unsaid (Usage misuse) = tt
-unsaid NoMemory = tt
+-- an option that states no value
+pub unsaid : (texts : OptionTexts) (fault : WordsFault) → RefusesWords (options_read texts) fault → IsUnsaid texts (words_ending fault)
+unsaid texts (Usage misuse) refused = (misuse_record misuse, refused)
+unsaid texts NoMemory refused = refused
 
 -- what holds of a result's fault, where that is known
 pub at-fault : {T E : Type 0} (r : Result T E) (P : E → Type 0) (fault : E) → r ≡ Err fault → IfErr r P → P fault

@@ -17,6 +17,6 @@ err-from (Err e) P fault is holds = subst P (sym is) holds
 pub found-can : {S D : Type 0} (w : Calls S D) (paths : BothPaths) (trusted : TrustedTrees) (found : Found D) → OpensTrees w paths trusted found → CanCompareTwo w.state found.two found.pair
 found-can w paths trusted found o = record {
   alike = o.read.alike;
-  first_fits = omega (arith, o.read.first_read.fits, o.read.first_read.full.read.same.size);
-  second_fits = omega (arith, o.read.second_read.fits, o.read.second_read.full.read.same.size);
+  first_fits = omega (arith, o.read.first_read.fits, o.read.first_read.reads.one.read.same.size);
+  second_fits = omega (arith, o.read.second_read.fits, o.read.second_read.reads.one.read.same.size);
 }

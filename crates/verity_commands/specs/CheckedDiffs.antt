@@ -15,8 +15,8 @@ use Rattle.tree_difference.specs.declared.fault.DifferenceFault.TheVariants as d
 use Rattle.tree_difference.specs.declared.fault.Which.TheVariants.{Second}
 use Rattle.tree_difference.specs.declared.trees.TreePair.{TreePair}
 use Rattle.tree_difference.specs.declared.trees.TrustedTrees.{TrustedTrees}
-use Rattle.tree_difference.specs.Comparisons.{DifferenceWorld, difference_world}
-use Rattle.tree_difference.specs.Differences.{IsDifference, IsDifferenceCause}
+use Rattle.tree_difference.specs.Comparisons.{DifferenceWorld, IsReported, difference_world}
+use Rattle.tree_difference.specs.Differences.{IsDifference, IsDifferenceCause, trees_of}
 use Rattle.tree_survey.specs.declared.fault.SurveyFault.{SurveyFault}
 use Rattle.tree_survey.specs.declared.fault.SurveyFault.TheVariants as survey_fault
 use Rattle.tree_survey.specs.Causes.{IsPathRefused}
@@ -55,17 +55,18 @@ IsCheckCause device device' failed difference_fault.NoMemory = IsPathRefused dev
 IsCheckCause device device' failed difference_fault.Write = failed ≡ true
 IsCheckCause device device' failed fault = ⊥
 
--- the comparison ended early, after the check
-pub record EndsComparison (w : DifferenceWorld) (pair : TreePair) (failed : Bool) (fault : DifferenceFault) : Type 0 where
+-- the comparison ended early, after the check; the lines of what was compared before were reported
+pub record EndsComparison (w : DifferenceWorld) (pair : TreePair) (most : Option ℕ) (failed : Bool) (fault : DifferenceFault) : Type 0 where
   pub whole : Bool
   pub middle : Device
   pub between : Option (List ℕ)
   pub checks : ChecksTree (super_tree pair.second pair.roots.second) w.second middle w.printed between whole
   pub cause : IsDifferenceCause (record w { second = middle; printed = between }) pair failed fault
+  pub before : IsReported (trees_of pair) (record w { second = middle; printed = between }) most fault
 
 -- why the second tree isn't checked, or the trees aren't compared
-abbrev pub IsCheckedCause : DifferenceWorld → TreePair → Bool → DifferenceFault → Type 0
-IsCheckedCause w pair failed fault = IsCheckCause w.second w.second' failed fault ⊎ EndsComparison w pair failed fault
+abbrev pub IsCheckedCause : DifferenceWorld → TreePair → Option ℕ → Bool → DifferenceFault → Type 0
+IsCheckedCause w pair most failed fault = IsCheckCause w.second w.second' failed fault ⊎ EndsComparison w pair most failed fault
 
 -- with which fault `diff` ends if the check does
 abbrev pub second_fault : VerifyFault → DifferenceFault
@@ -77,9 +78,9 @@ check_fault (survey_fault.Image fault) = second_fault fault
 check_fault survey_fault.Write = difference_fault.Write
 
 -- the same causes if lines are kept in memory
-abbrev pub IsKeptCheckCause : Device → Device → Device → Device → TreePair → DifferenceFault → Type 0
-IsKeptCheckCause first second first' second' pair difference_fault.NoMemory = Unit {0}
-IsKeptCheckCause first second first' second' pair fault = (old : Option (List ℕ)) × ((new : Option (List ℕ)) × IsCheckedCause (difference_world first second first' second' old new) pair false fault)
+abbrev pub IsKeptCheckCause : Device → Device → Device → Device → TreePair → Option ℕ → DifferenceFault → Type 0
+IsKeptCheckCause first second first' second' pair most difference_fault.NoMemory = Unit {0}
+IsKeptCheckCause first second first' second' pair most fault = (old : Option (List ℕ)) × ((new : Option (List ℕ)) × IsCheckedCause (difference_world first second first' second' old new) pair most false fault)
 
 -- ---- what is printed
 
@@ -114,21 +115,21 @@ abbrev pub SaysSuch : Bool → DifferenceWorld → TreePair → Option ℕ → (
 SaysSuch json w pair most P = (found : CheckedTotals) × (SaysChecked json w pair most found × P found)
 
 -- the lines before a fault, or nothing of an object
-abbrev pub IsUnchecked : Bool → DifferenceWorld → TreePair → Bool → DifferenceFault → Type 0
-IsUnchecked true w pair failed fault = IsKeptCheckCause w.first w.second w.first' w.second' pair fault × (w.printed' ≡ w.printed)
-IsUnchecked false w pair failed fault = IsCheckedCause w pair failed fault
+abbrev pub IsUnchecked : Bool → DifferenceWorld → TreePair → Option ℕ → Bool → DifferenceFault → Type 0
+IsUnchecked true w pair most failed fault = IsKeptCheckCause w.first w.second w.first' w.second' pair most fault × (w.printed' ≡ w.printed)
+IsUnchecked false w pair most failed fault = IsCheckedCause w pair most failed fault
 
 -- why that isn't known, or a line can't be written
-abbrev pub IsSayingEnd : Bool → DifferenceWorld → TreePair → Bool → TreeFault → Type 0
-IsSayingEnd json w pair failed (Trees fault) = IsUnchecked json w pair failed fault
-IsSayingEnd json w pair failed Write = failed ≡ true
-IsSayingEnd json w pair failed fault = ⊥
+abbrev pub IsSayingEnd : Bool → DifferenceWorld → TreePair → Option ℕ → Bool → TreeFault → Type 0
+IsSayingEnd json w pair most failed (Trees fault) = IsUnchecked json w pair most failed fault
+IsSayingEnd json w pair most failed Write = failed ≡ true
+IsSayingEnd json w pair most failed fault = ⊥
 
 -- a hash block isn't valid, or data blocks differ, or that isn't known or printed
 abbrev pub IsCheckedEnd : Bool → DifferenceWorld → TreePair → Option ℕ → Bool → TreeFault → Type 0
 IsCheckedEnd json w pair most failed Damaged = SaysSuch json w pair most (λ found. IsFoundEnd found Damaged)
 IsCheckedEnd json w pair most failed Differs = SaysSuch json w pair most (λ found. IsFoundEnd found Differs)
-IsCheckedEnd json w pair most failed fault = IsSayingEnd json w pair failed fault
+IsCheckedEnd json w pair most failed fault = IsSayingEnd json w pair most failed fault
 
 -- ---- of images that were opened
 
@@ -149,17 +150,17 @@ FailsToCheckDevice state h h' failed fault = IsCheckCause (state h) (state h') f
 abbrev pub kept_world : {D : Type 0} → (D → Device) → TwoHashes D → TwoHashes D → KeptLines → KeptLines → DifferenceWorld
 kept_world state two two' kept kept' = two_devices state two two' (Some (lines_text kept.lines.items)) (Some (lines_text kept'.lines.items))
 
-abbrev pub FailsToKeepCheck : {D : Type 0} → (D → Device) → TwoHashes D → TwoHashes D → TreePair → DifferenceFault → Type 0
-FailsToKeepCheck state two two' pair = IsKeptCheckCause (state two.first.device) (state two.second.device) (state two'.first.device) (state two'.second.device) pair
+abbrev pub FailsToKeepCheck : {D : Type 0} → (D → Device) → TwoHashes D → TwoHashes D → TreePair → Option ℕ → DifferenceFault → Type 0
+FailsToKeepCheck state two two' pair most = IsKeptCheckCause (state two.first.device) (state two.second.device) (state two'.first.device) (state two'.second.device) pair most
 
 -- what was found of two images that are open was printed, or why it wasn't
 abbrev pub SaysFound : {D W : Type 0} → Bool → (D → Device) → TwoHashes D → TwoHashes D → (W → Option (List ℕ)) → CountedRecord W → CountedRecord W → TreePair → Option ℕ → CheckedTotals → Type 0
 SaysFound json state two two' contents writer writer' pair most found =
     SaysChecked json (two_devices state two two' (contents writer.inner) (contents writer'.inner)) pair most found
 
-abbrev pub FailsToSay : {D W : Type 0} → Bool → (D → Device) → TwoHashes D → TwoHashes D → (W → Option (List ℕ)) → CountedRecord W → CountedRecord W → TreePair → TreeFault → Type 0
-FailsToSay json state two two' contents writer writer' pair fault =
-    IsSayingEnd json (two_devices state two two' (contents writer.inner) (contents writer'.inner)) pair writer'.failed fault
+abbrev pub FailsToSay : {D W : Type 0} → Bool → (D → Device) → TwoHashes D → TwoHashes D → (W → Option (List ℕ)) → CountedRecord W → CountedRecord W → TreePair → Option ℕ → TreeFault → Type 0
+FailsToSay json state two two' contents writer writer' pair most fault =
+    IsSayingEnd json (two_devices state two two' (contents writer.inner) (contents writer'.inner)) pair most writer'.failed fault
 
 -- the second's tree is whole and no data block differs, and that was printed
 abbrev pub FindsWhole : {D W : Type 0} → (D → Device) → TwoHashes D → TwoHashes D → (W → Option (List ℕ)) → CountedRecord W → CountedRecord W → TreePair → DiffForm → Type 0

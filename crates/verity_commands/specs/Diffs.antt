@@ -13,8 +13,8 @@ use Rattle.tree_difference.specs.declared.fault.DifferenceFault.TheVariants as d
 use Rattle.tree_difference.specs.declared.difference.Totals.{Totals}
 use Rattle.tree_difference.specs.declared.trees.TreePair.{TreePair}
 use Rattle.tree_difference.specs.declared.trees.TrustedTrees.{TrustedTrees}
-use Rattle.tree_difference.specs.Comparisons.{DifferenceWorld, difference_world}
-use Rattle.tree_difference.specs.Differences.{CanCompareTrees, IsDifference, IsDifferenceCause}
+use Rattle.tree_difference.specs.Comparisons.{DifferenceWorld, IsReported, difference_world}
+use Rattle.tree_difference.specs.Differences.{CanCompareTrees, IsDifference, IsDifferenceCause, trees_of}
 use Rattle.verity_commands.specs.declared.tree_fault.TreeFault.{TreeFault}
 use Rattle.verity_commands.specs.declared.tree_fault.TreeFault.TheVariants.{Trees, Differs, Write}
 use Rattle.verity_commands.specs.declared.diff.DiffForm.{DiffForm}
@@ -67,15 +67,15 @@ abbrev pub IsTreesCause : Device → Device → Device → Device → TreePair �
 IsTreesCause first second first' second' pair difference_fault.NoMemory = Unit {0}
 IsTreesCause first second first' second' pair fault = IsDifferenceCause (difference_world first second first' second' None None) pair false fault
 
--- the same; nothing was printed before where it would be an object
-abbrev pub IsUncompared : Bool → DifferenceWorld → TreePair → Bool → DifferenceFault → Type 0
-IsUncompared true w pair failed fault = IsTreesCause w.first w.second w.first' w.second' pair fault × (w.printed' ≡ w.printed)
-IsUncompared false w pair failed fault = IsDifferenceCause w pair failed fault
+-- the same; nothing was printed before if it would be an object, else the lines of what was compared before
+abbrev pub IsUncompared : Bool → DifferenceWorld → TreePair → Option ℕ → Bool → DifferenceFault → Type 0
+IsUncompared true w pair most failed fault = IsTreesCause w.first w.second w.first' w.second' pair fault × (w.printed' ≡ w.printed)
+IsUncompared false w pair most failed fault = IsDifferenceCause w pair failed fault × IsReported (trees_of pair) w most fault
 
 -- they differ, or why they aren't compared, or a line can't be written
 abbrev pub IsDiffEnd : Bool → DifferenceWorld → TreePair → Option ℕ → Bool → TreeFault → Type 0
 IsDiffEnd json w pair most failed Differs = SaysDifference json w pair most false
-IsDiffEnd json w pair most failed (Trees fault) = IsUncompared json w pair failed fault
+IsDiffEnd json w pair most failed (Trees fault) = IsUncompared json w pair most failed fault
 IsDiffEnd json w pair most failed Write = failed ≡ true
 IsDiffEnd json w pair most failed fault = ⊥
 

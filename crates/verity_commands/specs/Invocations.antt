@@ -6,7 +6,7 @@ use Rattle.command_line.specs.declared.words.verify.VerifyWords.{VerifyWords}
 use Rattle.command_line.specs.words.Diff.{DiffRecord, diff_record}
 use Rattle.command_line.specs.words.Verify.{VerifyRecord, verify_record}
 use Rattle.program_io.specs.Counted.{CountedRecord}
-use Rattle.image_commands.specs.declared.trusted.TrustedRoot.{TrustedRoot}
+use Rattle.image_pin.specs.declared.trusted.TrustedRoot.{TrustedRoot}
 use Rattle.image_commands.specs.Places.{TwoPlaces}
 use Rattle.image_files.specs.Opener.{Calls, Opener, calls}
 use Rattle.tree_difference.specs.declared.trees.TrustedTrees.{TrustedTrees}
@@ -46,10 +46,10 @@ abbrev pub survey_at : VerifyRecord → TwoPlaces
 survey_at v = record { paths = record { data_path = v.data_path; hash_path = v.hash_path }; first = v.hash_offset / 512 }
 
 abbrev pub SurveysAt : {S D : Type 0} → Calls S D → VerifyRecord → TrustedRoot → Option (List ℕ) → Option (List ℕ) → Type 0
-SurveysAt w v trusted old new = PrintsGood v.json w (survey_at v) trusted old new
+SurveysAt w v trusted old new = PrintsGood v.form w (survey_at v) trusted old new
 
 abbrev pub IsSurveyWordsEnd : {S D : Type 0} → Calls S D → VerifyRecord → TrustedRoot → Option (List ℕ) → Option (List ℕ) → Bool → TreeFault → Type 0
-IsSurveyWordsEnd w v trusted old new failed fault = IsSurveyFilesEnd v.json w (survey_at v) trusted old new failed fault
+IsSurveyWordsEnd w v trusted old new failed fault = IsSurveyFilesEnd v.form w (survey_at v) trusted old new failed fault
 
 -- ---- as a call sees them, by the program's own words
 

@@ -14,4 +14,5 @@ pub mod CheckedDiffs
 pub mod TreeFaultTexts
 pub mod Invocations
 pub mod Surveys
+pub mod SurveyCharts
 pub mod Surveyed

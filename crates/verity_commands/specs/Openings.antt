@@ -32,6 +32,12 @@ pub record RefusesSecond {S D : Type 0} (w : Calls S D) (paths : BothPaths) (fil
 abbrev pub FailsToOpenBoth : {S D : Type 0} → Calls S D → BothPaths → UnopenedFile → Type 0
 FailsToOpenBoth w paths file = Refuses w paths.first_path false file ⊎ RefusesSecond w paths file
 
+-- both were closed, the first one first
+pub record ClosesBoth {S D : Type 0} (w : Calls S D) (paths : BothPaths) (two : TwoHashes D) : Type 0 where
+  pub between : S
+  pub first_closed : w.relations.takes w.old paths.first_path two.first.device between
+  pub second_closed : w.relations.takes between paths.second_path two.second.device w.new
+
 -- ---- as a call sees them: an opener's relations, what a proof sees of its devices, and the opener before and after
 
 abbrev pub OpensHashes : {S D : Type 0} → Opener S D → (D → Device) → S → S → HashPaths → TwoHashes D → Type 0
@@ -39,3 +45,6 @@ OpensHashes relations state images images' paths = OpensBoth (calls relations st
 
 abbrev pub FailsToOpenHashes : {S D : Type 0} → Opener S D → (D → Device) → S → S → HashPaths → UnopenedFile → Type 0
 FailsToOpenHashes relations state images images' paths = FailsToOpenBoth (calls relations state images images') (both_paths paths)
+
+abbrev pub ClosesHashes : {S D : Type 0} → Opener S D → (D → Device) → S → S → HashPaths → TwoHashes D → Type 0
+ClosesHashes relations state images images' paths = ClosesBoth (calls relations state images images') (both_paths paths)

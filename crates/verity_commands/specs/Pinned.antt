@@ -65,7 +65,7 @@ IsPinFormatCause w d options f failed fault =
 -- a word of the options says no value, or memory ran out while they were read, and nothing was opened; or it ended so
 abbrev pub IsPinFormatEnd : {S D T G : Type 0} → OptionTexts → Calls S D → Drawing T G → PinFormatRecord → Option (List ℕ) → Option (List ℕ) → Bool → VerityFault → Type 0
 IsPinFormatEnd texts w d f old new failed fault =
-    ((IsUnsaid fault × (w.new ≡ w.old))
+    ((IsUnsaid texts fault × (w.new ≡ w.old))
     ⊎ ((options : ImageOptions) × AreSaid texts options × IsImageEnd (IsPinFormatCause w d options f failed) fault))
     × IsVerityQuiet fault old new
 

@@ -18,7 +18,7 @@ use Rattle.command_line.specs.words.Verify.{VerifyRecord, verify_record}
 use Rattle.image_commands.specs.declared.fault.ImageFault.{ImageFault}
 use Rattle.image_commands.specs.declared.fault.ImageFault.TheVariants.{Format}
 use Rattle.image_commands.specs.declared.table.LineWords.{LineWords}
-use Rattle.image_commands.specs.declared.trusted.TrustedRoot.{TrustedRoot}
+use Rattle.image_pin.specs.declared.trusted.TrustedRoot.{TrustedRoot}
 use Rattle.image_commands.specs.declared.watching.WatchedPlaces.{WatchedPlaces}
 use Rattle.image_commands.specs.Drawing.{Drawing}
 use Rattle.image_commands.specs.declared.format.MadeImage.{MadeImage}
@@ -115,7 +115,7 @@ FormatsAt texts w drawing f old new =
 -- a word of `format`'s options says no value, or memory ran out while they were read, and nothing was opened; or it ended so
 abbrev pub IsSaidFormatEnd : {S D T G : Type 0} → OptionTexts → Calls S D → Drawing T G → FormatRecord → Option (List ℕ) → Option (List ℕ) → Bool → VerityFault → Type 0
 IsSaidFormatEnd texts w drawing f old new failed fault =
-    ((IsUnsaid fault × (w.new ≡ w.old))
+    ((IsUnsaid texts fault × (w.new ≡ w.old))
     ⊎ ((options : ImageOptions) × AreSaid texts options × IsImageEnd (IsFormattingEnd f.grow w drawing options (image_places f.data_path f.hash_path f.hash_offset) failed) fault))
     × IsVerityQuiet fault old new
 

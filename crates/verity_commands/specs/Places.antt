@@ -5,7 +5,7 @@ use Rattle.command_line.specs.declared.values.RootOrPin.{RootOrPin}
 use Rattle.command_line.specs.declared.values.RootWord.{RootWord}
 use Rattle.command_line.specs.Values.{RootOrPinRecord, RootRecord, digest, pin_file, root_file, root_or_pin_record, root_record, root_word}
 use Rattle.image_commands.specs.declared.fault.ImageFault.{ImageFault}
-use Rattle.image_commands.specs.declared.trusted.TrustedRoot.{TrustedRoot}
+use Rattle.image_pin.specs.declared.trusted.TrustedRoot.{TrustedRoot}
 use Rattle.image_commands.specs.PinFiles.{IsPinFileEnd, ReadsPin}
 use Rattle.image_commands.specs.Places.{TwoPlaces}
 use Rattle.image_commands.specs.RootFiles.{IsRootFileEnd, ReadsRoot}

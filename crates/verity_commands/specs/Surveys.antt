@@ -7,7 +7,7 @@ use Rattle.image_commands.specs.declared.finding.NoTree.{NoTree}
 use Rattle.image_commands.specs.declared.finding.NoTree.TheVariants as no_tree
 use Rattle.image_commands.specs.declared.paths.TwoImages.{TwoImages}
 use Rattle.image_commands.specs.declared.places.Bounds.{Bounds}
-use Rattle.image_commands.specs.declared.trusted.TrustedRoot.{TrustedRoot}
+use Rattle.image_pin.specs.declared.trusted.TrustedRoot.{TrustedRoot}
 use Rattle.image_commands.specs.Finding.{IsNoTree, ReadsSuper}
 use Rattle.image_commands.specs.Openings.{FailsToOpenTwo, OpensTwo, TwoPaths}
 use Rattle.image_commands.specs.Places.{TwoPlaces, before, behind, data_end}
@@ -33,12 +33,20 @@ use Rattle.tree_survey.specs.Passes.{IsSurvey, Pass, pass}
 use Rattle.verity_commands.specs.declared.tree_fault.TreeFault.{TreeFault}
 use Rattle.verity_commands.specs.declared.tree_fault.TreeFault.TheVariants.{Damaged, Open, Survey, Unaligned, Unpinned, Write}
 use Rattle.verity_commands.specs.declared.survey.SurveyOrder.{SurveyOrder}
+use Rattle.charts.specs.Charts.{chart_text}
+use Rattle.charts.specs.declared.form.ReportForm.{ReportForm}
+use Rattle.charts.specs.declared.form.ReportForm.TheVariants.{Chart, Lines, Object}
 use Rattle.verity_commands.specs.Objects.{survey_json}
+use Rattle.verity_commands.specs.SurveyCharts.{damage_mark}
 use Rattle.verity_commands.specs.Surveyed.{SurveyedDevices}
 
 -- `good N changed N unknown N`
 unfoldable pub survey_totals : Totals → List ℕ
 survey_totals t = codes "good " ++ (decimal t.good ++ (codes " changed " ++ (decimal t.changed ++ (codes " unknown " ++ (decimal t.unknown ++ codes "\n")))))
+
+-- the lines, a map of all data blocks, and the totals
+abbrev pub charted_survey : VerityTree → List Line → Totals → List ℕ
+charted_survey tree lines totals = lines_text lines ++ (chart_text (damage_mark lines) tree.shape.blocks ++ survey_totals totals)
 
 -- no data block is changed or unknown, and all hash blocks are good
 abbrev pub is_all_good : Found → Bool
@@ -60,10 +68,19 @@ pub record SaysObject (tree : VerityTree) (w : Pass) (root : List ℕ) (good : B
   pub printed_are : Appends w.printed w.printed' (json_line (survey_json lines found.totals))
   pub is : is_all_good found ≡ good
 
--- as an object, or as lines
-abbrev pub SaysFound : Bool → VerityTree → Pass → List ℕ → Bool → Type 0
-SaysFound true tree w root good = SaysObject tree w root good
-SaysFound false tree w root good = SaysSurvey tree w root good
+-- the same, where the lines, a map and the totals were printed at the end
+pub record SaysChart (tree : VerityTree) (w : Pass) (root : List ℕ) (good : Bool) : Type 0 where
+  pub found : Found
+  pub lines : List Line
+  pub survey : IsSurvey tree (record w { printed = Some []; printed' = Some (lines_text lines) }) root found
+  pub printed_are : Appends w.printed w.printed' (charted_survey tree lines found.totals)
+  pub is : is_all_good found ≡ good
+
+-- as an object, with a map, or as lines
+abbrev pub SaysFound : ReportForm → VerityTree → Pass → List ℕ → Bool → Type 0
+SaysFound Object tree w root good = SaysObject tree w root good
+SaysFound Chart tree w root good = SaysChart tree w root good
+SaysFound Lines tree w root good = SaysSurvey tree w root good
 
 -- a line that isn't kept in memory is want of it
 abbrev pub unkept_survey : SurveyFault → SurveyFault
@@ -75,29 +92,30 @@ abbrev pub IsKeptCause : ShapeRecord → Device → Device → Device → Device
 IsKeptCause shape data_dev hash_dev data_dev' hash_dev' (Image verify.NoMemory) = Unit {0}
 IsKeptCause shape data_dev hash_dev data_dev' hash_dev' fault = IsSurveyCause shape data_dev hash_dev data_dev' hash_dev' false fault
 
--- the same; nothing was printed before where it would be an object
-abbrev pub IsUnseen : Bool → ShapeRecord → Pass → Bool → SurveyFault → Type 0
-IsUnseen true shape w failed fault = IsKeptCause shape w.data_dev w.hash_dev w.data_dev' w.hash_dev' fault × (w.printed' ≡ w.printed)
-IsUnseen false shape w failed fault = IsSurveyCause shape w.data_dev w.hash_dev w.data_dev' w.hash_dev' failed fault
+-- the same; nothing was printed before if lines are kept
+abbrev pub IsUnseen : ReportForm → ShapeRecord → Pass → Bool → SurveyFault → Type 0
+IsUnseen Object shape w failed fault = IsKeptCause shape w.data_dev w.hash_dev w.data_dev' w.hash_dev' fault × (w.printed' ≡ w.printed)
+IsUnseen Chart shape w failed fault = IsKeptCause shape w.data_dev w.hash_dev w.data_dev' w.hash_dev' fault × (w.printed' ≡ w.printed)
+IsUnseen Lines shape w failed fault = IsSurveyCause shape w.data_dev w.hash_dev w.data_dev' w.hash_dev' failed fault
 
 -- a part of it isn't good, or why the image isn't gone over, or a line can't be written
-abbrev pub IsSurveyEnd : Bool → VerityTree → Pass → List ℕ → Bool → TreeFault → Type 0
-IsSurveyEnd json tree w root failed Damaged = SaysFound json tree w root false
-IsSurveyEnd json tree w root failed (Survey fault) = IsUnseen json tree.shape w failed fault
-IsSurveyEnd json tree w root failed Write = failed ≡ true
-IsSurveyEnd json tree w root failed fault = ⊥
+abbrev pub IsSurveyEnd : ReportForm → VerityTree → Pass → List ℕ → Bool → TreeFault → Type 0
+IsSurveyEnd form tree w root failed Damaged = SaysFound form tree w root false
+IsSurveyEnd form tree w root failed (Survey fault) = IsUnseen form tree.shape w failed fault
+IsSurveyEnd form tree w root failed Write = failed ≡ true
+IsSurveyEnd form tree w root failed fault = ⊥
 
 -- ---- a place for the hash image in its file
 
 -- the superblock at that sector was read once, and the image scanned by its tree
-pub record SurveysPlaced (json : Bool) (data_dev hash_dev : Device) (end first : ℕ) (trusted : TrustedRoot) (old new : Option (List ℕ)) : Type 0 where
+pub record SurveysPlaced (form : ReportForm) (data_dev hash_dev : Device) (end first : ℕ) (trusted : TrustedRoot) (old new : Option (List ℕ)) : Type 0 where
   pub super : SuperRecord
   pub read_dev : Device
   pub data_dev' : Device
   pub hash_dev' : Device
   pub super_read : ReadsSuper (behind hash_dev first) first trusted.pin super
   pub one : IsFullRead (behind hash_dev first) 1 read_dev
-  pub says : SaysFound json (superblock_tree super) (pass (before data_dev end) read_dev data_dev' hash_dev' old new) trusted.root true
+  pub says : SaysFound form (superblock_tree super) (pass (before data_dev end) read_dev data_dev' hash_dev' old new) trusted.root true
 
 -- with which fault a command ends without a tree
 abbrev pub no_tree_fault : NoTree → TreeFault
@@ -112,33 +130,33 @@ pub record IsSurveyWithout (hash_dev : Device) (first : ℕ) (pin : Option Pin) 
   pub none : IsNoTree (behind hash_dev first) first pin hash_dev' cause
   pub is : fault ≡ no_tree_fault cause
 
-pub record EndsPlacedSurvey (json : Bool) (data_dev hash_dev : Device) (end first : ℕ) (trusted : TrustedRoot) (old new : Option (List ℕ)) (failed : Bool) (fault : TreeFault) : Type 0 where
+pub record EndsPlacedSurvey (form : ReportForm) (data_dev hash_dev : Device) (end first : ℕ) (trusted : TrustedRoot) (old new : Option (List ℕ)) (failed : Bool) (fault : TreeFault) : Type 0 where
   pub super : SuperRecord
   pub read_dev : Device
   pub data_dev' : Device
   pub hash_dev' : Device
   pub super_read : ReadsSuper (behind hash_dev first) first trusted.pin super
   pub one : IsFullRead (behind hash_dev first) 1 read_dev
-  pub ends : IsSurveyEnd json (superblock_tree super) (pass (before data_dev end) read_dev data_dev' hash_dev' old new) trusted.root failed fault
+  pub ends : IsSurveyEnd form (superblock_tree super) (pass (before data_dev end) read_dev data_dev' hash_dev' old new) trusted.root failed fault
 
-abbrev pub IsPlacedSurveyEnd : Bool → Device → Device → ℕ → ℕ → TrustedRoot → Option (List ℕ) → Option (List ℕ) → Bool → TreeFault → Type 0
-IsPlacedSurveyEnd json data_dev hash_dev end first trusted old new failed fault =
-    IsSurveyWithout hash_dev first trusted.pin fault ⊎ EndsPlacedSurvey json data_dev hash_dev end first trusted old new failed fault
+abbrev pub IsPlacedSurveyEnd : ReportForm → Device → Device → ℕ → ℕ → TrustedRoot → Option (List ℕ) → Option (List ℕ) → Bool → TreeFault → Type 0
+IsPlacedSurveyEnd form data_dev hash_dev end first trusted old new failed fault =
+    IsSurveyWithout hash_dev first trusted.pin fault ⊎ EndsPlacedSurvey form data_dev hash_dev end first trusted old new failed fault
 
 -- ---- of images that were opened
 
 abbrev pub survey_places : SurveyOrder → TwoPlaces
 survey_places p = record { paths = record { data_path = p.data.now; hash_path = p.hash.now }; first = p.hash_first }
 
-pub record PrintsGood {S D : Type 0} (json : Bool) (w : Calls S D) (places : TwoPlaces) (trusted : TrustedRoot) (old new : Option (List ℕ)) : Type 0 where
+pub record PrintsGood {S D : Type 0} (form : ReportForm) (w : Calls S D) (places : TwoPlaces) (trusted : TrustedRoot) (old new : Option (List ℕ)) : Type 0 where
   pub two : TwoImages D
   pub opened : OpensTwo w places.paths false two
-  pub surveys : SurveysPlaced json (w.state two.data.device) (w.state two.hash.device) (data_end two places.first) places.first trusted old new
+  pub surveys : SurveysPlaced form (w.state two.data.device) (w.state two.hash.device) (data_end two places.first) places.first trusted old new
 
-pub record EndsTreeSurvey {S D : Type 0} (json : Bool) (w : Calls S D) (places : TwoPlaces) (trusted : TrustedRoot) (old new : Option (List ℕ)) (failed : Bool) (fault : TreeFault) : Type 0 where
+pub record EndsTreeSurvey {S D : Type 0} (form : ReportForm) (w : Calls S D) (places : TwoPlaces) (trusted : TrustedRoot) (old new : Option (List ℕ)) (failed : Bool) (fault : TreeFault) : Type 0 where
   pub two : TwoImages D
   pub opened : OpensTwo w places.paths false two
-  pub ends : IsPlacedSurveyEnd json (w.state two.data.device) (w.state two.hash.device) (data_end two places.first) places.first trusted old new failed fault
+  pub ends : IsPlacedSurveyEnd form (w.state two.data.device) (w.state two.hash.device) (data_end two places.first) places.first trusted old new failed fault
 
 -- one of the two isn't opened
 abbrev pub IsImageUnopened : {S D : Type 0} → Calls S D → TwoPaths → TreeFault → Type 0
@@ -146,8 +164,8 @@ IsImageUnopened w paths (Open file) = FailsToOpenTwo w paths false file
 IsImageUnopened w paths fault = ⊥
 
 -- that, or it ends so
-abbrev pub IsSurveyFilesEnd : {S D : Type 0} → Bool → Calls S D → TwoPlaces → TrustedRoot → Option (List ℕ) → Option (List ℕ) → Bool → TreeFault → Type 0
-IsSurveyFilesEnd json w places trusted old new failed fault = IsImageUnopened w places.paths fault ⊎ EndsTreeSurvey json w places trusted old new failed fault
+abbrev pub IsSurveyFilesEnd : {S D : Type 0} → ReportForm → Calls S D → TwoPlaces → TrustedRoot → Option (List ℕ) → Option (List ℕ) → Bool → TreeFault → Type 0
+IsSurveyFilesEnd form w places trusted old new failed fault = IsImageUnopened w places.paths fault ⊎ EndsTreeSurvey form w places trusted old new failed fault
 
 -- ---- as a call sees them, as in `Diffs`
 
@@ -163,27 +181,27 @@ abbrev pub FailsToListSurvey : VerityTree → SurveyedDevices → SurveyedDevice
 FailsToListSurvey tree image image' = IsKeptCause tree.shape image.data_dev image.hash_dev image'.data_dev image'.hash_dev
 
 -- all of the image is good, and that was printed
-abbrev pub FindsGood : {W : Type 0} → Bool → VerityTree → SurveyedDevices → SurveyedDevices → (W → Option (List ℕ)) → CountedRecord W → CountedRecord W → List ℕ → Type 0
-FindsGood json tree image image' contents writer writer' root = SaysFound json tree (gone_over image image' (contents writer.inner) (contents writer'.inner)) root true
+abbrev pub FindsGood : {W : Type 0} → ReportForm → VerityTree → SurveyedDevices → SurveyedDevices → (W → Option (List ℕ)) → CountedRecord W → CountedRecord W → List ℕ → Type 0
+FindsGood form tree image image' contents writer writer' root = SaysFound form tree (gone_over image image' (contents writer.inner) (contents writer'.inner)) root true
 
 -- it isn't, or that isn't known or printed
-abbrev pub FailsSurvey : {W : Type 0} → Bool → VerityTree → SurveyedDevices → SurveyedDevices → (W → Option (List ℕ)) → CountedRecord W → CountedRecord W → List ℕ → TreeFault → Type 0
-FailsSurvey json tree image image' contents writer writer' root = IsSurveyEnd json tree (gone_over image image' (contents writer.inner) (contents writer'.inner)) root writer'.failed
+abbrev pub FailsSurvey : {W : Type 0} → ReportForm → VerityTree → SurveyedDevices → SurveyedDevices → (W → Option (List ℕ)) → CountedRecord W → CountedRecord W → List ℕ → TreeFault → Type 0
+FailsSurvey form tree image image' contents writer writer' root = IsSurveyEnd form tree (gone_over image image' (contents writer.inner) (contents writer'.inner)) root writer'.failed
 
 -- what lies before the data's end, and what lies behind a sector
-abbrev pub SurveysBehind : {D H W : Type 0} → (D → Device) → (H → Device) → D × H → (W → Option (List ℕ)) → CountedRecord W → CountedRecord W → Bounds → TrustedRoot → Bool → Type 0
-SurveysBehind data_state hash_state devices contents writer writer' bounds trusted json =
-    SurveysPlaced json (data_state devices.0) (hash_state devices.1) bounds.end bounds.first trusted (contents writer.inner) (contents writer'.inner)
+abbrev pub SurveysBehind : {D H W : Type 0} → (D → Device) → (H → Device) → D × H → (W → Option (List ℕ)) → CountedRecord W → CountedRecord W → Bounds → TrustedRoot → ReportForm → Type 0
+SurveysBehind data_state hash_state devices contents writer writer' bounds trusted form =
+    SurveysPlaced form (data_state devices.0) (hash_state devices.1) bounds.end bounds.first trusted (contents writer.inner) (contents writer'.inner)
 
-abbrev pub FailsToSurveyBehind : {D H W : Type 0} → (D → Device) → (H → Device) → D × H → (W → Option (List ℕ)) → CountedRecord W → CountedRecord W → Bounds → TrustedRoot → Bool → TreeFault → Type 0
-FailsToSurveyBehind data_state hash_state devices contents writer writer' bounds trusted json =
-    IsPlacedSurveyEnd json (data_state devices.0) (hash_state devices.1) bounds.end bounds.first trusted (contents writer.inner) (contents writer'.inner) writer'.failed
+abbrev pub FailsToSurveyBehind : {D H W : Type 0} → (D → Device) → (H → Device) → D × H → (W → Option (List ℕ)) → CountedRecord W → CountedRecord W → Bounds → TrustedRoot → ReportForm → TreeFault → Type 0
+FailsToSurveyBehind data_state hash_state devices contents writer writer' bounds trusted form =
+    IsPlacedSurveyEnd form (data_state devices.0) (hash_state devices.1) bounds.end bounds.first trusted (contents writer.inner) (contents writer'.inner) writer'.failed
 
 -- two images
 abbrev pub SurveysImages : {S D W : Type 0} → Opener S D → (D → Device) → S → S → (W → Option (List ℕ)) → CountedRecord W → CountedRecord W → SurveyOrder → TrustedRoot → Type 0
 SurveysImages relations state images images' contents writer writer' order trusted =
-    PrintsGood order.json (calls relations state images images') (survey_places order) trusted (contents writer.inner) (contents writer'.inner)
+    PrintsGood order.form (calls relations state images images') (survey_places order) trusted (contents writer.inner) (contents writer'.inner)
 
 abbrev pub FailsToSurvey : {S D W : Type 0} → Opener S D → (D → Device) → S → S → (W → Option (List ℕ)) → CountedRecord W → CountedRecord W → SurveyOrder → TrustedRoot → TreeFault → Type 0
 FailsToSurvey relations state images images' contents writer writer' order trusted =
-    IsSurveyFilesEnd order.json (calls relations state images images') (survey_places order) trusted (contents writer.inner) (contents writer'.inner) writer'.failed
+    IsSurveyFilesEnd order.form (calls relations state images images') (survey_places order) trusted (contents writer.inner) (contents writer'.inner) writer'.failed

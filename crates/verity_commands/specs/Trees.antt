@@ -25,7 +25,7 @@ use Rattle.image_commands.specs.TreePlaces.{given_options, unnamed}
 use Rattle.image_files.specs.Opener.{Calls, Opener, calls}
 use Rattle.verity_format.specs.declared.formatting.FormatOptions.{FormatOptions}
 use Rattle.verity_commands.specs.declared.verity_fault.VerityFault.{VerityFault}
-use Rattle.verity_commands.specs.Endings.{IsImageEnd, IsVerityQuiet, IsUnsaid}
+use Rattle.verity_commands.specs.Endings.{IsImageEnd, IsTreeUnsaid, IsUnsaid, IsVerityQuiet}
 use Rattle.verity_commands.specs.Growing.{FormatsGrowing, IsGrowingEnd, PreparesFirst}
 use Rattle.verity_commands.specs.Places.{IsRootEnd, TellsRoot, image_places}
 use Rattle.verity_format.specs.declared.formatting.FormatFault.TheVariants.{HashTooSmall}
@@ -62,7 +62,7 @@ FormatsSaidTree texts w drawing f old new =
 
 abbrev pub IsSaidFormatTreeEnd : {S D T G : Type 0} → OptionTexts → Calls S D → Drawing T G → TreeFormatRecord → Option (List ℕ) → Option (List ℕ) → Bool → VerityFault → Type 0
 IsSaidFormatTreeEnd texts w drawing f old new failed fault =
-    ((IsUnsaid fault × (w.new ≡ w.old))
+    ((IsUnsaid texts fault × (w.new ≡ w.old))
     ⊎ ((options : ImageOptions) × AreSaid texts options × IsImageEnd (IsMakingEnd f.grow w drawing options (image_places f.data_path f.hash_path f.hash_offset) failed) fault))
     × IsVerityQuiet fault old new
 
@@ -85,7 +85,7 @@ pub record EndsVerifiedTree {S D : Type 0} (texts : OptionTexts) (w : Calls S D)
 
 abbrev pub IsVerifyTreeEnd : {S D : Type 0} → OptionTexts → Calls S D → TreeVerifyRecord → Option (List ℕ) → Option (List ℕ) → Bool → VerityFault → Type 0
 IsVerifyTreeEnd texts w v old new failed fault =
-    ((IsUnsaid fault × (w.new ≡ w.old)) ⊎ IsImageEnd (λ f. IsRootEnd w v.root f ⊎ EndsVerifiedTree texts w v failed f) fault) × IsVerityQuiet fault old new
+    ((IsTreeUnsaid texts fault × (w.new ≡ w.old)) ⊎ IsImageEnd (λ f. IsRootEnd w v.root f ⊎ EndsVerifiedTree texts w v failed f) fault) × IsVerityQuiet fault old new
 
 -- `table`: the root was told, and then the line printed that the words give
 pub record PrintsTreeEntry {S D : Type 0} (texts : OptionTexts) (w : Calls S D) (t : TreeTableRecord) (old new : Option (List ℕ)) : Type 0 where
@@ -107,7 +107,7 @@ pub record EndsTreeEntry {S D : Type 0} (texts : OptionTexts) (w : Calls S D) (t
 
 abbrev pub IsTableTreeEnd : {S D : Type 0} → OptionTexts → Calls S D → TreeTableRecord → Option (List ℕ) → Option (List ℕ) → Bool → VerityFault → Type 0
 IsTableTreeEnd texts w t old new failed fault =
-    ((IsUnsaid fault × (w.new ≡ w.old)) ⊎ IsImageEnd (λ f. IsRootEnd w t.root f ⊎ EndsTreeEntry texts w t failed f) fault) × IsVerityQuiet fault old new
+    ((IsTreeUnsaid texts fault × (w.new ≡ w.old)) ⊎ IsImageEnd (λ f. IsRootEnd w t.root f ⊎ EndsTreeEntry texts w t failed f) fault) × IsVerityQuiet fault old new
 
 -- ---- as a call sees them, as in `Placed`
 

@@ -1,25 +1,19 @@
 -- What the arguments of `diff` trust: the root hash of each tree, or its pin.
-use Rattle.std.specs.Prelude.{◌≡◌, ◌⊎◌, ℕ}
+use Rattle.std.specs.Prelude.{◌⊎◌}
 use Rattle.block_device.specs.Device.{Device}
 use Rattle.command_line.specs.declared.words.diff.DiffWords.{DiffWords}
 use Rattle.command_line.specs.words.Diff.{DiffRecord, diff_record}
 use Rattle.image_commands.specs.declared.fault.ImageFault.{ImageFault}
-use Rattle.image_commands.specs.declared.trusted.TrustedRoot.{TrustedRoot}
+use Rattle.image_pin.specs.declared.trusted.TrustedRoot.{TrustedRoot}
 use Rattle.image_files.specs.Opener.{Calls, Opener, calls}
 use Rattle.tree_difference.specs.declared.trees.TrustedTrees.{TrustedTrees}
 use Rattle.verity_commands.specs.Places.{IsTrustedEnd, TellsTrusted}
 
-abbrev pub both_trusted : TrustedRoot → TrustedRoot → TrustedTrees
-both_trusted first second = record { roots = record { first = first.root; second = second.root }; first_pin = first.pin; second_pin = second.pin }
-
 -- each root hash is an argument, or its pin was read from a file, that of the first tree first
 pub record TellsBoth {S D : Type 0} (w : Calls S D) (d : DiffRecord) (trusted : TrustedTrees) : Type 0 where
   pub between : S
-  pub first : TrustedRoot
-  pub second : TrustedRoot
-  pub first_told : TellsTrusted (record w { new = between }) d.old_root first
-  pub second_told : TellsTrusted (record w { old = between }) d.new_root second
-  pub is : trusted ≡ both_trusted first second
+  pub first_told : TellsTrusted (record w { new = between }) d.old_root trusted.first
+  pub second_told : TellsTrusted (record w { old = between }) d.new_root trusted.second
 
 -- the second pin isn't read
 pub record IsSecondUntold {S D : Type 0} (w : Calls S D) (d : DiffRecord) (fault : ImageFault) : Type 0 where

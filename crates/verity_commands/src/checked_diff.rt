@@ -12,7 +12,7 @@ ghost use Rattle.verity_commands.specs.Diffs.{CanCompareTwo};
 use crate::checked_object::say_object;
 use crate::diff::{DiffForm, is_unchanged, say_totals};
 use crate::open_trees::{OpenTrees, open_trees};
-use crate::paths::{HashPaths, TwoHashes};
+use crate::paths::{HashPaths, TwoHashes, close_both};
 use crate::tree_fault::TreeFault;
 use block_device::BlockDev;
 use image_files::Images;
@@ -52,7 +52,9 @@ pub fn check_images<'a, I: Images, W: Write>(
     ensures err { IfErr result (FailsToCheckImages I.relations I.Dev.state images.old images.new W.contents writer.old writer.new paths.entry trusted.now form) }
 {
     let OpenTrees { mut two, pair } = open_trees(images, paths, trusted)?;
-    check(alloc, &mut two, &pair, form, writer)
+    let ended = check(alloc, &mut two, &pair, form, writer);
+    close_both(images, &paths, two);
+    ended
 }
 
 fn check<'a, D: BlockDev, W: Write>(
@@ -80,7 +82,7 @@ fn say_checked<'a, D: BlockDev, W: Write>(
 ) -> Result<CheckedTotals, TreeFault<'a>>
     requires { CanCompareTwo D.state two.old pair.now }
     ensures ok { IfOk result (SaysFound form.json D.state two.old two.new W.contents writer.old writer.new pair.now form.most) }
-    ensures err { IfErr result (FailsToSay form.json D.state two.old two.new W.contents writer.old writer.new pair.now) }
+    ensures err { IfErr result (FailsToSay form.json D.state two.old two.new W.contents writer.old writer.new pair.now form.most) }
 {
     let DiffForm { most, json } = form;
     if json {
@@ -98,7 +100,7 @@ fn say_lines<'a, D: BlockDev, W: Write>(
 ) -> Result<CheckedTotals, TreeFault<'a>>
     requires { CanCompareTwo D.state two.old pair.now }
     ensures ok { IfOk result (SaysFound false D.state two.old two.new W.contents writer.old writer.new pair.now most) }
-    ensures err { IfErr result (FailsToSay false D.state two.old two.new W.contents writer.old writer.new pair.now) }
+    ensures err { IfErr result (FailsToSay false D.state two.old two.new W.contents writer.old writer.new pair.now most) }
 {
     let first = &mut two.first.device;
     let second = &mut two.second.device;
@@ -118,7 +120,7 @@ pub(crate) fn compare_checked<D: BlockDev, E: BlockDev, L: Listing>(
 ) -> Result<CheckedTotals, DifferenceFault>
     requires { CanCompareTrees pair.now (D.state first.old) (E.state second.old) }
     ensures ok { IfOk result (IsCheckedDifference (seen_world D.state E.state L.told first.old second.old first.new second.new listing.old listing.new) pair.now most) }
-    ensures err { IfErr result (IsCheckedCause (seen_world D.state E.state L.told first.old second.old first.new second.new listing.old listing.new) pair.now (L.failed listing.new)) }
+    ensures err { IfErr result (IsCheckedCause (seen_world D.state E.state L.told first.old second.old first.new second.new listing.old listing.new) pair.now most (L.failed listing.new)) }
 {
     let whole_tree = check_second(alloc, second, &pair.second, &pair.roots.second, listing)?;
     let totals = compare_trees(alloc, first, second, pair, most, listing)?;

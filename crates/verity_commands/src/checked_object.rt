@@ -30,7 +30,7 @@ pub(crate) fn say_object<'a, D: BlockDev, W: Write>(
 ) -> Result<CheckedTotals, TreeFault<'a>>
     requires { CanCompareTwo D.state two.old pair.now }
     ensures ok { IfOk result (SaysFound true D.state two.old two.new W.contents writer.old writer.new pair.now most) }
-    ensures err { IfErr result (FailsToSay true D.state two.old two.new W.contents writer.old writer.new pair.now) }
+    ensures err { IfErr result (FailsToSay true D.state two.old two.new W.contents writer.old writer.new pair.now most) }
 {
     let mut kept = KeptLines::new(alloc);
     let found = keep_checked(alloc, two, pair, most, &mut kept)?;
@@ -50,7 +50,7 @@ fn keep_checked<D: BlockDev>(
 ) -> Result<CheckedTotals, DifferenceFault>
     requires { CanCompareTwo D.state two.old pair.now }
     ensures ok { IfOk result (IsCheckedDifference (kept_world D.state two.old two.new kept.old kept.new) pair.now most) }
-    ensures err { IfErr result (FailsToKeepCheck D.state two.old two.new pair.now) }
+    ensures err { IfErr result (FailsToKeepCheck D.state two.old two.new pair.now most) }
 {
     let first = &mut two.first.device;
     let second = &mut two.second.device;

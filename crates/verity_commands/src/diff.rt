@@ -5,7 +5,7 @@ ghost use Rattle.verity_commands.specs.Diffs.{CanCompareTwo, DiffsImages, FailsD
 
 use crate::diff_object::diff_object;
 use crate::open_trees::{OpenTrees, open_trees};
-use crate::paths::{HashPaths, TwoHashes};
+use crate::paths::{HashPaths, TwoHashes, close_both};
 use crate::tree_fault::TreeFault;
 use block_device::BlockDev;
 use image_files::Images;
@@ -40,7 +40,9 @@ pub fn diff_images<'a, I: Images, W: Write>(
     ensures err { IfErr result (FailsToDiff I.relations I.Dev.state images.old images.new W.contents writer.old writer.new paths.entry trusted.now form) }
 {
     let OpenTrees { mut two, pair } = open_trees(images, paths, trusted)?;
-    diff(alloc, &mut two, &pair, form, writer)
+    let ended = diff(alloc, &mut two, &pair, form, writer);
+    close_both(images, &paths, two);
+    ended
 }
 
 // Compares the trees of the two hash images.

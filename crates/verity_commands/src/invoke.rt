@@ -9,8 +9,8 @@ use crate::survey::{SurveyOrder, survey_images};
 use crate::tree_fault::TreeFault;
 use command_line::{DiffWords, VerifyWords};
 use device_adapters::Watchers;
-use image_commands::TrustedRoot;
 use image_files::Images;
+use image_pin::TrustedRoot;
 use program_io::Counted;
 use std::alloc::Global;
 use std::io::Write;
@@ -34,7 +34,7 @@ pub fn invoke_survey<'a, I: Images, S: Watchers, W: Write>(
         data: words.data_path,
         hash: words.hash_path,
         hash_first: words.hash_offset / SECTOR,
-        json: words.json,
+        form: words.form,
         progress: words.progress,
     };
     survey_images(alloc, images, watchers, order, trusted, writer)

@@ -2,7 +2,7 @@
 ghost use Rattle.std.specs.Prelude.{IfOk, IfErr};
 ghost use Rattle.verity_commands.specs.OpenTrees.{FindsNoTrees, FindsTrees};
 
-use crate::paths::{HashPaths, TwoHashes, open_both};
+use crate::paths::{HashPaths, TwoHashes, close_both, open_both};
 use crate::tree_fault::TreeFault;
 use image_files::Images;
 use tree_difference::{TreePair, TrustedTrees, read_trees};
@@ -14,7 +14,8 @@ pub struct OpenTrees<D> {
     pub pair: TreePair,
 }
 
-/// Opens two hash images for reading, the first one first, and then reads their superblocks, each once.
+/// Opens two hash images for reading, the first one first, and then reads their superblocks, each once. If their trees can't be
+/// compared, both are closed.
 ///
 /// # Errors
 ///
@@ -29,6 +30,11 @@ pub fn open_trees<'a, I: Images>(
     ensures err { IfErr result (FindsNoTrees I.relations I.Dev.state images.old images.new paths.entry trusted.now) }
 {
     let mut two = open_both(images, paths)?;
-    let pair = read_trees(&mut two.first.device, &mut two.second.device, trusted)?;
-    Ok(OpenTrees { two, pair })
+    match read_trees(&mut two.first.device, &mut two.second.device, trusted) {
+        Ok(pair) => Ok(OpenTrees { two, pair }),
+        Err(fault) => {
+            close_both(images, &paths, two);
+            Err(TreeFault::Trees(fault))
+        }
+    }
 }

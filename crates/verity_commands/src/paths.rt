@@ -1,6 +1,6 @@
-//! The two hash images of a command, opened one behind the other.
+//! The two hash images of a command, opened and closed one after the other.
 ghost use Rattle.std.specs.Prelude.{◌≡◌, IfOk, IfErr};
-ghost use Rattle.verity_commands.specs.Openings.{FailsToOpenHashes, OpensHashes};
+ghost use Rattle.verity_commands.specs.Openings.{ClosesHashes, FailsToOpenHashes, OpensHashes};
 
 use image_files::{Images, OpenImage, UnopenedFile, open_image};
 
@@ -29,4 +29,15 @@ pub fn open_both<'a, I: Images>(
     let first = open_image(images, paths.first, false)?;
     let second = open_image(images, paths.second, false)?;
     Ok(TwoHashes { first, second })
+}
+
+/// Closes both hash images, the first one first.
+pub(crate) fn close_both<I: Images>(images: &mut I, paths: &HashPaths<'_>, two: TwoHashes<I::Dev>)
+    ensures { ClosesHashes I.relations I.Dev.state images.old images.new paths.now two }
+{
+    let TwoHashes { first, second } = two;
+    let OpenImage { device, id: _ } = first;
+    images.close(paths.first, device);
+    let OpenImage { device, id: _ } = second;
+    images.close(paths.second, device);
 }

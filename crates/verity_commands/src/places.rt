@@ -3,8 +3,9 @@ ghost use Rattle.std.specs.Prelude.{◌≡◌, ◌/◌, IfErr, IfOk};
 ghost use Rattle.verity_commands.specs.Places.{FindsNoRoot, FindsNoTrusted, FindsRoot, FindsTrusted};
 
 use command_line::{RootOrPin, RootWord};
-use image_commands::{ImageFault, TrustedRoot, read_pin, read_root};
+use image_commands::{ImageFault, read_pin, read_root};
 use image_files::Images;
+use image_pin::TrustedRoot;
 use tree_shape::Digest;
 
 const SECTOR: u64 = 512;

@@ -1,16 +1,20 @@
 //! The command `verify --all`: which data blocks of an image are good, and which hash blocks aren't.
-ghost use Rattle.std.specs.Prelude.{◌≡◌, false, OnOk, IfErr};
+ghost use Rattle.std.specs.Prelude.{◌≡◌, OnOk, IfErr};
 ghost use Rattle.program_io.specs.Counted.{Writes};
+ghost use Rattle.charts.specs.declared.form.ReportForm.TheVariants.{Lines};
 ghost use Rattle.verity_commands.specs.Surveys.{FailsSurvey, FailsToSurveyBehind, FailsToSurvey, FindsGood, SurveysBehind, SurveysImages, is_all_good, survey_totals};
 
+use crate::survey_chart::survey_chart;
 use crate::survey_object::survey_object;
 use crate::tree_fault::TreeFault;
 use block_device::BlockDev;
+use charts::ReportForm;
 use device_adapters::{Watchers, bytes_before};
 use image_commands::{
-    Bounds, ImagePair, ImagePaths, TrustedRoot, data_end, find_tree, open_two, place_parts, watch,
+    Bounds, ImagePair, ImagePaths, data_end, find_tree, open_two, place_parts, watch,
 };
 use image_files::Images;
+use image_pin::TrustedRoot;
 use program_io::{Counted, WriteFault};
 use std::alloc::Global;
 use std::io::Write;
@@ -20,14 +24,14 @@ use tree_survey::{Survey, Totals, survey_image};
 use verity_format::VerityTree;
 
 /// What is gone over: the paths of a data image and of its hash image, and the sector of 512 bytes of the hash image's
-/// file where the hash image begins. What was found is one JSON object or lines, and it may be shown how much of the data
+/// file where the hash image begins. What was found is reported in that form, and it may be shown how much of the data
 /// was read.
 #[derive(Clone, Copy, Debug, PartialEq, Eq)]
 pub struct SurveyOrder<'a> {
     pub data: &'a str,
     pub hash: &'a str,
     pub hash_first: u64,
-    pub json: bool,
+    pub form: ReportForm,
     pub progress: bool,
 }
 
@@ -46,9 +50,10 @@ impl<D: BlockDev, H: BlockDev> Model for SurveyedImage<D, H> {
     ghost view = { λ i. surveyed_devices (D.state i.data) (H.state i.hash) };
 }
 
-/// `verify --all [--json] [--progress] [--hash-offset BYTES] DATA HASH ROOT`: a line for each longest run of data blocks
-/// that aren't good, one for each hash block that isn't, and the totals; or one JSON object of all of them. Where one isn't
-/// good, that is the fault `Damaged`. Where both are one file, the data are what lies before the hash image.
+/// `verify --all [--json | --chart] [--progress] [--hash-offset BYTES] DATA HASH ROOT`: a line for each longest run of data
+/// blocks that aren't good, one for each hash block that isn't, and the totals; all of them at the end, with a map of the
+/// data blocks before the totals; or one JSON object of all of them. If one isn't good, the fault is `Damaged`. If both are
+/// one file, the data are what lies before the hash image.
 pub fn survey_images<'a, I: Images, S: Watchers, W: Write>(
     alloc: Global,
     images: &mut I,
@@ -64,7 +69,7 @@ pub fn survey_images<'a, I: Images, S: Watchers, W: Write>(
         data,
         hash,
         hash_first: first,
-        json,
+        form,
         progress,
     } = order;
     let two = open_two(images, ImagePaths { data, hash }, false)?;
@@ -72,7 +77,7 @@ pub fn survey_images<'a, I: Images, S: Watchers, W: Write>(
     let all = bytes_before(&two.data.device, end);
     let devices = watch(two, watchers, progress, all);
     let bounds = Bounds { end, first };
-    survey_behind(alloc, devices, bounds, trusted, json, writer)
+    survey_behind(alloc, devices, bounds, trusted, form, writer)
 }
 
 // What lies before the data's end, and what lies behind that sector.
@@ -81,11 +86,11 @@ fn survey_behind<'a, D: BlockDev + Drop, H: BlockDev + Drop, W: Write>(
     devices: (D, H),
     bounds: Bounds,
     trusted: &TrustedRoot,
-    json: bool,
+    form: ReportForm,
     writer: &mut Counted<W>,
 ) -> Result<(), TreeFault<'a>>
-    ensures ok { OnOk result (SurveysBehind D.state H.state devices W.contents writer.old writer.new bounds trusted.now json) }
-    ensures err { IfErr result (FailsToSurveyBehind D.state H.state devices W.contents writer.old writer.new bounds trusted.now json) }
+    ensures ok { OnOk result (SurveysBehind D.state H.state devices W.contents writer.old writer.new bounds trusted.now form) }
+    ensures err { IfErr result (FailsToSurveyBehind D.state H.state devices W.contents writer.old writer.new bounds trusted.now form) }
 {
     let (data_dev, hash_dev) = devices;
     let mut two = place_parts(data_dev, hash_dev, bounds);
@@ -97,7 +102,7 @@ fn survey_behind<'a, D: BlockDev + Drop, H: BlockDev + Drop, W: Write>(
         &mut placed,
         &superblock.tree(),
         &trusted.root,
-        json,
+        form,
         writer,
     )
 }
@@ -108,16 +113,17 @@ fn say_survey<'a, D: BlockDev, H: BlockDev, W: Write>(
     image: &mut SurveyedImage<D, H>,
     tree: &VerityTree,
     root: &Digest,
-    json: bool,
+    form: ReportForm,
     writer: &mut Counted<W>,
 ) -> Result<(), TreeFault<'a>>
-    ensures ok { OnOk result (FindsGood json tree.now image.old image.new W.contents writer.old writer.new root.now) }
-    ensures err { IfErr result (FailsSurvey json tree.now image.old image.new W.contents writer.old writer.new root.now) }
+    ensures ok { OnOk result (FindsGood form tree.now image.old image.new W.contents writer.old writer.new root.now) }
+    ensures err { IfErr result (FailsSurvey form tree.now image.old image.new W.contents writer.old writer.new root.now) }
 {
-    if json {
-        return survey_object(alloc, image, tree, root, writer);
+    match form {
+        ReportForm::Lines => survey_lines(alloc, image, tree, root, writer),
+        ReportForm::Chart => survey_chart(alloc, image, tree, root, writer),
+        ReportForm::Object => survey_object(alloc, image, tree, root, writer),
     }
-    survey_lines(alloc, image, tree, root, writer)
 }
 
 // A line each, and the totals.
@@ -128,8 +134,8 @@ fn survey_lines<'a, D: BlockDev, H: BlockDev, W: Write>(
     root: &Digest,
     writer: &mut Counted<W>,
 ) -> Result<(), TreeFault<'a>>
-    ensures ok { OnOk result (FindsGood false tree.now image.old image.new W.contents writer.old writer.new root.now) }
-    ensures err { IfErr result (FailsSurvey false tree.now image.old image.new W.contents writer.old writer.new root.now) }
+    ensures ok { OnOk result (FindsGood Lines tree.now image.old image.new W.contents writer.old writer.new root.now) }
+    ensures err { IfErr result (FailsSurvey Lines tree.now image.old image.new W.contents writer.old writer.new root.now) }
 {
     let found = survey_image(alloc, &mut image.data, &mut image.hash, tree, root, writer)?;
     say_totals(writer, found.totals)?;
@@ -140,7 +146,7 @@ fn survey_lines<'a, D: BlockDev, H: BlockDev, W: Write>(
 }
 
 /// Whether all data blocks and all hash blocks are good.
-pub(crate) fn is_all_good(found: Survey) -> bool
+pub fn is_all_good(found: Survey) -> bool
     ensures { result ≡ is_all_good found }
 {
     found.totals.changed == 0 && found.totals.unknown == 0 && found.whole_tree

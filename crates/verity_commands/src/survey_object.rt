@@ -1,11 +1,12 @@
 //! The command `verify --all --json`: what of an image is good, as one JSON object.
-ghost use Rattle.std.specs.Prelude.{◌≡◌, Some, true, string_bytes, IfOk, IfErr, OnOk};
+ghost use Rattle.std.specs.Prelude.{◌≡◌, Some, string_bytes, IfOk, IfErr, OnOk};
 ghost use Rattle.program_io.specs.JsonLines.{json_line};
 ghost use Rattle.serde_json.specs.View.{view};
 ghost use Rattle.verity_format.specs.Blocks.{IsOnlyRead};
 ghost use Rattle.verity_format.specs.declared.verifying.VerifyFault.TheVariants as verify_fault;
 ghost use Rattle.tree_survey.specs.declared.fault.SurveyFault.TheVariants as survey_fault;
 ghost use Rattle.tree_survey.specs.Passes.{IsSurvey};
+ghost use Rattle.charts.specs.declared.form.ReportForm.TheVariants.{Object};
 ghost use Rattle.verity_commands.specs.Objects.{survey_json};
 ghost use Rattle.verity_commands.specs.Surveys.{FailsSurvey, FailsToListSurvey, FindsGood, listed_survey, unkept_survey};
 
@@ -29,8 +30,8 @@ pub(crate) fn survey_object<'a, D: BlockDev, H: BlockDev, W: Write>(
     root: &Digest,
     writer: &mut Counted<W>,
 ) -> Result<(), TreeFault<'a>>
-    ensures ok { OnOk result (FindsGood true tree.now image.old image.new W.contents writer.old writer.new root.now) }
-    ensures err { IfErr result (FailsSurvey true tree.now image.old image.new W.contents writer.old writer.new root.now) }
+    ensures ok { OnOk result (FindsGood Object tree.now image.old image.new W.contents writer.old writer.new root.now) }
+    ensures err { IfErr result (FailsSurvey Object tree.now image.old image.new W.contents writer.old writer.new root.now) }
 {
     let mut kept = KeptLines::new(alloc);
     let found = keep_survey(alloc, image, tree, root, &mut kept)?;
@@ -44,7 +45,7 @@ pub(crate) fn survey_object<'a, D: BlockDev, H: BlockDev, W: Write>(
 
 // Where a line isn't kept, memory ran out.
 #[tactic(auto, using(crate::proofs::KeptLemmas::kept_cause))]
-fn keep_survey<D: BlockDev, H: BlockDev>(
+pub(crate) fn keep_survey<D: BlockDev, H: BlockDev>(
     alloc: Global,
     image: &mut SurveyedImage<D, H>,
     tree: &VerityTree,

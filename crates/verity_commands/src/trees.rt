@@ -2,7 +2,7 @@
 ghost use Rattle.std.specs.Prelude.{OnOk, IfErr, IfOk};
 ghost use Rattle.command_line.specs.FormatOptions.{option_texts};
 ghost use Rattle.image_commands.specs.Drawing.{drawing};
-ghost use Rattle.verity_commands.specs.Endings.{IsUnsaid};
+ghost use Rattle.verity_commands.specs.Endings.{IsTreeUnsaid};
 ghost use Rattle.verity_commands.specs.Trees.{FailsToFormatTree, FailsToPrintTree, FailsToVerifySaidTree, FormatsTreeByWords, PrintsTreeByWords, SaysTree, VerifiesTreeByWords};
 
 use crate::growing::format_tree_growing;
@@ -11,10 +11,11 @@ use crate::verity_fault::VerityFault;
 use command_line::{OptionWords, TreeFormatWords, TreeTableWords, TreeVerifyWords, options_of};
 use device_adapters::Watchers;
 use image_commands::{
-    ExpectedTree, Generators, ImagePlaces, LineWords, TrustedRoot, WatchedPlaces, format_tree,
-    given_options, prepare_image, print_tree_line, unnamed, verify_tree,
+    ExpectedTree, Generators, ImagePlaces, LineWords, WatchedPlaces, format_tree, given_options,
+    prepare_image, print_tree_line, unnamed, verify_tree,
 };
 use image_files::Images;
+use image_pin::TrustedRoot;
 use program_io::Counted;
 use std::alloc::Global;
 use std::io::Write;
@@ -103,7 +104,7 @@ fn tree_options<'a>(
     options: &OptionWords<'_>,
 ) -> Result<FormatOptions, VerityFault<'a>>
     ensures ok { IfOk result (SaysTree (option_texts options.now)) }
-    ensures err { IfErr result IsUnsaid }
+    ensures err { IfErr result (IsTreeUnsaid (option_texts options.now)) }
 {
     let options = options_of(alloc, options)?;
     match given_options(options) {

@@ -6,7 +6,7 @@ use crate::places::trusted_in;
 use command_line::DiffWords;
 use image_commands::ImageFault;
 use image_files::Images;
-use tree_difference::{Roots, TrustedTrees};
+use tree_difference::TrustedTrees;
 
 /// The root hashes and the pins that the arguments of `diff` name. The file of each pin is read, that of the first tree first.
 ///
@@ -22,12 +22,5 @@ pub fn both_trusted_in<'a, I: Images>(
 {
     let first = trusted_in(images, &words.old_root)?;
     let second = trusted_in(images, &words.new_root)?;
-    Ok(TrustedTrees {
-        roots: Roots {
-            first: first.root,
-            second: second.root,
-        },
-        first_pin: first.pin,
-        second_pin: second.pin,
-    })
+    Ok(TrustedTrees { first, second })
 }

@@ -5,6 +5,7 @@ pub mod GrowthLemmas
 pub mod ComparingLemmas
 pub mod WritingLemmas
 pub mod HandingLemmas
+pub mod ComparedLemmas
 pub mod RefusalLemmas
 pub mod FormattingLemmas
 pub mod VerifyingLemmas

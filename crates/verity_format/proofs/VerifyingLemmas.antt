@@ -1,5 +1,6 @@
 -- What was read of the devices that are compared, and the verdict.
-use Rattle.std.proofs.Common.{◌≡◌, ◌∙◌, ◌||◌, ℕ, List, Some, None, IsTrue, ap, false, inl, inr, nat_lt, refl, subst, sym, true}
+use Rattle.std.proofs.Common.{◌≡◌, ◌∙◌, ◌||◌, ℕ, List, Some, None, Result, Ok, Err, IsTrue, ap, false, inl, inr, nat_lt, refl, subst, sym, true}
+use Rattle.block_device.specs.Call.{Call}
 use Rattle.block_device.specs.Device.{Device}
 use Rattle.tree_shape.specs.Shape.{ShapeRecord, area_blocks}
 use Rattle.verity_format.specs.declared.access.TreeFault.{TreeFault}
@@ -10,10 +11,12 @@ use Rattle.verity_format.specs.declared.verifying.VerifyFault.{VerifyFault}
 use Rattle.verity_format.specs.declared.verifying.VerifyFault.TheVariants as verify
 use Rattle.verity_format.specs.Superblock.{SuperRecord, read_of, shape_of}
 use Rattle.verity_format.specs.Blocks.{IsFullRead}
+use Rattle.verity_format.specs.ComparedCalls.{ComparesPart}
 use Rattle.verity_format.specs.Comparing.{IsTreeCompared}
 use Rattle.verity_format.specs.Growth.{IsPairCause}
 use Rattle.verity_format.specs.Image.{area_over, area_sectors, data_sectors, tree_sectors}
 use Rattle.verity_format.specs.Verifying.{IsFound, IsReadFrom, IsTreeFound, IsTreeStored, IsTreeVerifyCause, IsVerdict, IsVerifyCause, hash_sectors_read, is_too_small, verify_fault_of}
+use Rattle.verity_format.specs.VerifyCalls.{JudgesImage, JudgesOver, StopsJudging}
 use Rattle.verity_format.proofs.lemmas.AreaLemmas.{area-stands}
 use Rattle.verity_format.proofs.ComparingLemmas.{stands-none, differs-least}
 use Rattle.verity_format.proofs.lemmas.DeviceLemmas.{failed-then, full_read-then, steady-then}
@@ -40,6 +43,18 @@ pub pair-cause : (s : ShapeRecord) (data_dev hash_dev data_dev' hash_dev' : Devi
     → IsTreeVerifyCause s data_dev hash_dev data_dev' hash_dev' (verify_fault_of f)
 pair-cause s data_dev hash_dev data_dev' hash_dev' tree.Device h = h
 pair-cause s data_dev hash_dev data_dev' hash_dev' tree.NoMemory h = h
+
+-- a part of a comparison that failed
+pub stops-part : {D H : Type 0} (asks : D → Call → D → Type 0) (does : H → Call → H → Type 0) (s : ShapeRecord) (salt : List ℕ) (d : D) (h : H) (d' : D) (h' : H) (f : TreeFault) → ComparesPart asks does s salt d h d' h'
+    → StopsJudging asks does s salt d h d' h' (verify_fault_of f)
+stops-part asks does s salt d h d' h' tree.Device part = part
+stops-part asks does s salt d h d' h' tree.NoMemory part = part
+
+-- all calls of verifying, of which the first read the superblock
+pub judged-after : {D H : Type 0} (asks : D → Call → D → Type 0) (does : H → Call → H → Type 0) (d : D) (h : H) (d' : D) (h' : H) (root : List ℕ) (result : Result Verdict VerifyFault)
+    → JudgesImage asks does d h d' h' root result → JudgesOver asks does d h d' h' root result
+judged-after asks does d h d' h' root (Ok verdict) image = image
+judged-after asks does d h d' h' root (Err fault) image = inl image
 
 -- what was found of the tree after a superblock that was read
 pub found-after : (s : SuperRecord) (sector : List ℕ) (a b mid a' b' : Device) (root : List ℕ) (verdict : Verdict) → IsReadFrom b sector s → IsFullRead b 1 mid

@@ -77,15 +77,19 @@ TakesOrAsks does shape salt old new b b' (Err fault) = AsksOnce does old new
 abbrev pub tree_blocks : ShapeRecord → List ℕ → List (List ℕ) → List PlacedRecord
 tree_blocks shape salt digests = completed (begun_builder shape salt) digests ++ last_completed (pushed (begun_builder shape salt) digests)
 
--- the first data blocks were read in order, and the hash blocks that their digests complete were written
-pub record HandsGrowth {D H : Type 0} (asks : D → Call → D → Type 0) (does : H → Call → H → Type 0) (shape : ShapeRecord) (salt : List ℕ) (d : D) (h : H) (d' : D) (h' : H) (b : BuilderRecord) : Type 0 where
+-- the first data blocks were read in order, and the builder took the digests of the blocks that these reads returned
+pub record TakesGrowth {D : Type 0} (asks : D → Call → D → Type 0) (shape : ShapeRecord) (salt : List ℕ) (d d' : D) (b : BuilderRecord) : Type 0 where
   pub reads : List Call
   pub in_order : AreReadsFrom 0 reads
   pub count : all_read reads ≡ length (digests_read salt shape.data_block reads) * (shape.data_block / 512)
   pub few : length (digests_read salt shape.data_block reads) ≤ shape.blocks
   pub after : b ≡ pushed (begun_builder shape salt) (digests_read salt shape.data_block reads)
   pub asked : Calls asks d reads d'
-  pub handed : Calls does h (writes_of shape.hash_block (completed (begun_builder shape salt) (digests_read salt shape.data_block reads))) h'
+
+-- and the hash blocks that these digests complete were written
+pub record HandsGrowth {D H : Type 0} (asks : D → Call → D → Type 0) (does : H → Call → H → Type 0) (shape : ShapeRecord) (salt : List ℕ) (d : D) (h : H) (d' : D) (h' : H) (b : BuilderRecord) : Type 0 where
+  pub taken : TakesGrowth asks shape salt d d' b
+  pub handed : Calls does h (writes_of shape.hash_block (completed (begun_builder shape salt) (digests_read salt shape.data_block taken.reads))) h'
 
 -- all data blocks were read in order, and all blocks of the tree over the data read were written; `root` is its root
 -- hash

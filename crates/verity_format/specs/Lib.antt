@@ -13,5 +13,7 @@ pub mod Growth
 pub mod Comparing
 pub mod Writing
 pub mod Handing
+pub mod ComparedCalls
+pub mod VerifyCalls
 pub mod Premises
 pub mod Trees

@@ -1,7 +1,7 @@
 //! Reading blocks from a device, and computing their digests.
-ghost use Rattle.std.specs.Prelude.{◌≡◌, ◌^◌, ◌≤◌, OnOk, OnErr, is_ok, length};
+ghost use Rattle.std.specs.Prelude.{◌≡◌, ◌*◌, ◌/◌, ◌^◌, ◌≤◌, OnOk, OnErr, is_ok, length};
 ghost use Rattle.std.specs.Str.{bytes_eq};
-ghost use Rattle.block_device.specs.Call.{DeviceDoes};
+ghost use Rattle.block_device.specs.Call.{DeviceDoes, Read};
 ghost use Rattle.block_device.specs.Device.{HasFailed};
 ghost use Rattle.verity_format.specs.Blocks.{IsOnlyRead, ReadsBlock};
 ghost use Rattle.verity_format.specs.Image.{data_sectors, tree_sectors, image_sectors};
@@ -84,6 +84,7 @@ pub(crate) fn read_block<D: BlockDev>(
     requires { IsBlockOn (D.state device.old) (length block.old) index }
     ensures read { IsOnlyRead (D.state device.old) (D.state device.new) }
     ensures ok { OnOk result (ReadsBlock D.state device.old device.new index block.old block.new) }
+    ensures call { DeviceDoes D.state D.does device.old (Read (index * (length block.old / 512)) block.new (is_ok result)) device.new }
     ensures fault { OnErr result (HasFailed (D.state device.old) (D.state device.new)) }
 {
     let sectors = (block.len() / 512) as u64;

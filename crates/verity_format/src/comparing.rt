@@ -1,8 +1,10 @@
 //! Comparing hash blocks with those stored on a device.
 ghost use Rattle.std.specs.Prelude.{◌≡◌, OnErr, IfOk, IfErr, length};
+ghost use Rattle.block_device.specs.Call.{DeviceDoes};
 ghost use Rattle.block_device.specs.Device.{HasFailed};
 ghost use Rattle.hash_tree.specs.Placing.{lesser};
 ghost use Rattle.verity_format.specs.Blocks.{IsOnlyRead, OnlyReads};
+ghost use Rattle.verity_format.specs.ComparedCalls.{ComparesBlocks, ComparesOver};
 ghost use Rattle.verity_format.specs.Comparing.{ComparesPlaced, ComparesTree};
 ghost use Rattle.verity_format.specs.Growth.{FailsOnEither};
 ghost use Rattle.verity_format.specs.Premises.{AreBlocksOn, HaveTree};
@@ -37,6 +39,7 @@ fn compare_blocks<H: BlockDev>(
     ensures read { IsOnlyRead (H.state hash_dev.old) (H.state hash_dev.new) }
     ensures ok { IfOk result (ComparesPlaced H.state hash_dev.old hash_dev.new (length block.old) blocks.now least) }
     ensures fault { OnErr result (HasFailed (H.state hash_dev.old) (H.state hash_dev.new)) }
+    ensures calls { ComparesBlocks (DeviceDoes H.state H.does) (length block.old) blocks.now least hash_dev.old hash_dev.new result }
 {
     let mut least = least;
     for placed in blocks {
@@ -61,6 +64,7 @@ pub(crate) fn compare_tree<D: BlockDev, H: BlockDev>(
     ensures read { OnlyReads D.state H.state data_dev.old hash_dev.old data_dev.new hash_dev.new }
     ensures compared { IfOk result (λ r. ComparesTree D.state H.state shape.now salt.now data_dev.old hash_dev.old data_dev.new hash_dev.new r.0 r.1) }
     ensures fault { IfErr result (FailsOnEither D.state H.state data_dev.old hash_dev.old data_dev.new hash_dev.new) }
+    ensures calls { ComparesOver (DeviceDoes D.state D.does) (DeviceDoes H.state H.does) shape.now salt.now data_dev.old hash_dev.old data_dev.new hash_dev.new result }
 {
     let mut memory = zeros(alloc, RUN)?;
     let mut block_memory = zeros(alloc, shape.hash_block() as usize)?;

@@ -1,8 +1,10 @@
 //! Verifying: comparing a hash image with a data image.
 ghost use Rattle.std.specs.Prelude.{◌≡◌, List, ℕ, OnOk, IfOk, IfErr};
+ghost use Rattle.block_device.specs.Call.{DeviceDoes};
 ghost use Rattle.verity_format.specs.Blocks.{BothOnlyRead, IsOnlyRead, IsFullRead};
 ghost use Rattle.verity_format.specs.FaultNames.{verify_number, verify_name};
 ghost use Rattle.verity_format.specs.Verifying.{FailsToFindTree, FailsToVerify, FindsBoth, FindsTree, IsReadFrom, IsReadCause, is_too_small};
+ghost use Rattle.verity_format.specs.VerifyCalls.{JudgesOver, JudgesTreeOver, ReadsSuper};
 
 use crate::access::{TreeFault, data_sectors, is_same, read_block, tree_sectors};
 use crate::comparing::compare_tree;
@@ -102,7 +104,7 @@ impl From<TreeFault> for VerifyFault {
 /// Compares the tree over the data device with the one on the hash device, and its root hash with `root`.
 ///
 /// The tree is built level by level, with one block of each level in memory. All data blocks and all hash blocks of
-/// the tree are read, each once. The bytes between the superblock and hash block 1 are not compared.
+/// the tree are read, each once, and the verdict is true of the bytes that these reads returned. The bytes between the superblock and hash block 1 are not compared.
 ///
 /// # Errors
 ///
@@ -120,6 +122,7 @@ pub fn verify<D: BlockDev, H: BlockDev>(
     ensures hash { IsOnlyRead (H.state hash_dev.old) (H.state hash_dev.new) }
     ensures ok { IfOk result (FindsBoth D.state H.state data_dev.old hash_dev.old data_dev.new hash_dev.new root.now) }
     ensures err { IfErr result (FailsToVerify D.state H.state data_dev.old hash_dev.old data_dev.new hash_dev.new) }
+    ensures calls { JudgesOver (DeviceDoes D.state D.does) (DeviceDoes H.state H.does) data_dev.old hash_dev.old data_dev.new hash_dev.new root.now result }
 {
     let superblock = read_superblock(hash_dev)?;
     verify_tree(alloc, data_dev, hash_dev, &superblock.tree(), root)
@@ -143,6 +146,7 @@ pub fn verify_tree<D: BlockDev, H: BlockDev>(
     ensures read { BothOnlyRead D.state H.state data_dev.old hash_dev.old data_dev.new hash_dev.new }
     ensures ok { IfOk result (FindsTree D.state H.state tree.now data_dev.old hash_dev.old data_dev.new hash_dev.new root.now) }
     ensures err { IfErr result (FailsToFindTree D.state H.state tree.now data_dev.old hash_dev.old data_dev.new hash_dev.new) }
+    ensures calls { JudgesTreeOver (DeviceDoes D.state D.does) (DeviceDoes H.state H.does) tree.now.shape tree.now.salt data_dev.old hash_dev.old data_dev.new hash_dev.new root.now result }
 {
     if is_too_small(data_dev, hash_dev, &tree.shape) {
         return Err(VerifyFault::TooSmall);
@@ -169,6 +173,7 @@ pub fn read_superblock<H: BlockDev>(hash_dev: &mut H) -> Result<Superblock, Veri
     ensures found { IfOk result (λ s. (sector : List ℕ) × IsReadFrom (H.state hash_dev.old) sector s) }
     ensures full { OnOk result (IsFullRead (H.state hash_dev.old) 1 (H.state hash_dev.new)) }
     ensures err { IfErr result (IsReadCause (H.state hash_dev.old) (H.state hash_dev.new)) }
+    ensures calls { ReadsSuper (DeviceDoes H.state H.does) hash_dev.old hash_dev.new result }
 {
     if hash_dev.sectors() == 0 {
         return Err(VerifyFault::TooSmall);

@@ -3,12 +3,14 @@
 #![tactic(auto)]
 
 mod image;
+mod service;
 
 pub use block_device::{BlockDev, DeviceFault, FileDev, MemoryDev, OpenFault, SyncDev};
 pub use image::{BlockFault, VerityImage};
 pub use nbd_server::{Export, ServiceFault, serve};
 pub use program_io::{Counted, WriteFault};
 pub use request_queue::{BytesFault, Queue, Reply, Request, RunFault};
+pub use service::serve_device;
 pub use stack_config::{Config, DevId, Leaf};
 pub use stack_engine::{Fault, IoFault, Stack};
 pub use stack_loader::{LoadFault, Refusal, config_over};

@@ -1,11 +1,12 @@
--- What `scan [--cache N] [--map FILE] [--progress] [--json] STACK NAME BINDING...` says.
+-- What `scan [--cache N] [--map FILE] [--progress] [--json | --chart] STACK NAME BINDING...` says.
 use Rattle.std.specs.Prelude.{codes, Bool, List, Option, Ok, map, ℕ}
+use Rattle.charts.specs.declared.form.ReportForm.{ReportForm}
 use Rattle.command_line.specs.Bindings.{BindingRecord, binding_record}
 use Rattle.command_line.specs.BindingWords.{bindings_of}
 use Rattle.command_line.specs.FormatOptions.{OptionTexts, text_of}
 use Rattle.command_line.specs.Misuses.{Reading, when}
 use Rattle.command_line.specs.Positional.{positional}
-use Rattle.command_line.specs.Values.{cache_said, map_said}
+use Rattle.command_line.specs.Values.{cache_said, map_said, report_form}
 use Rattle.command_line.specs.declared.words.scan.ScanWords.{ScanWords}
 
 pub record ScanRecord : Type 0 where
@@ -15,7 +16,7 @@ pub record ScanRecord : Type 0 where
   pub bindings : List BindingRecord
   pub map : Option (List ℕ)
   pub progress : Bool
-  pub json : Bool
+  pub form : ReportForm
 
 unfoldable pub scan_said : OptionTexts → List (List ℕ) → Reading ScanRecord
 scan_said texts words =
@@ -23,6 +24,7 @@ scan_said texts words =
     when (positional (codes "NAME") stack.1) (λ name.
     when (cache_said texts.cache) (λ cache.
     when (map_said texts.map) (λ path.
+    when (report_form texts.json texts.chart) (λ form.
     when (bindings_of name.1) (λ bindings. Ok (record {
       cache = cache;
       stack = stack.0;
@@ -30,8 +32,8 @@ scan_said texts words =
       bindings = bindings;
       map = path;
       progress = texts.progress;
-      json = texts.json;
-    }))))))
+      form = form;
+    })))))))
 
 -- what the program's own value says
 abbrev pub scan_record : ScanWords → ScanRecord
@@ -42,5 +44,5 @@ scan_record w = record {
   bindings = map binding_record w.bindings.items;
   map = text_of w.map;
   progress = w.progress;
-  json = w.json;
+  form = w.form;
 }

@@ -21,6 +21,7 @@ tree_verify_said texts words =
     when (positional (codes "HASH") data_path.1) (λ hash_path.
     when (refuse_if texts.all (codes "--all") WithNoSuperblock) (λ a.
     when (refuse_if texts.json (codes "--json") WithNoSuperblock) (λ b.
+    when (refuse_if texts.chart (codes "--chart") WithNoSuperblock) (λ d.
     when (refuse_if (not (is_some texts.salt)) (codes "--salt") Missing) (λ c.
     when (offset_of texts.hash_offset) (λ hash_offset.
     when (root_alone texts.root_hash_file hash_path.1) (λ root.
@@ -30,7 +31,7 @@ tree_verify_said texts words =
       root = root;
       hash_offset = hash_offset;
       progress = texts.progress;
-    }))))))))
+    })))))))))
 
 -- what the program's own value says
 abbrev pub tree_verify_record : TreeVerifyWords → TreeVerifyRecord

@@ -11,7 +11,7 @@ use crate::misuse::{Cause, refuse_if};
 use crate::option_words::OptionWords;
 use crate::words::verify::{VerifyWords, verify_words};
 
-/// A verity image is checked, and the parity over it. `verify.all` and `verify.json` are false.
+/// A verity image is checked, and the parity over it. `verify.all` is false and `verify.form` is `Lines`.
 #[derive(Drop)]
 pub struct FecVerifyWords<'a> {
     pub verify: VerifyWords<'a>,

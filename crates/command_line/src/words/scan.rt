@@ -1,4 +1,4 @@
-//! `scan [--cache N] [--map FILE] [--progress] [--json] STACK NAME BINDING...`
+//! `scan [--cache N] [--map FILE] [--progress] [--json | --chart] STACK NAME BINDING...`
 ghost use Rattle.command_line.specs.Invocations.{scan};
 ghost use Rattle.command_line.specs.Reading.{ReadsAs};
 ghost use Rattle.command_line.specs.FormatOptions.{option_texts, texts_of};
@@ -10,7 +10,8 @@ use crate::fault::WordsFault;
 use crate::invocation::Invocation;
 use crate::option_words::OptionWords;
 use crate::positional::positional;
-use crate::values::{cache_of, map_of};
+use crate::values::{cache_of, map_of, report_form};
+use charts::ReportForm;
 use std::alloc::Global;
 
 /// A device is gone over, where a map is kept but for what that says was had.
@@ -22,10 +23,10 @@ pub struct ScanWords<'a> {
     pub bindings: Vec<Binding<'a>>,
     pub map: Option<&'a str>,
     pub progress: bool,
-    pub json: bool,
+    pub form: ReportForm,
 }
 
-/// `[--cache N] [--map FILE] [--progress] [--json] STACK NAME BINDING...`
+/// `[--cache N] [--map FILE] [--progress] [--json | --chart] STACK NAME BINDING...`
 #[tactic(auto, unfolding(crate::specs::words::Scan::scan_said))]
 pub fn scan_of<'a>(
     alloc: Global,
@@ -38,6 +39,7 @@ pub fn scan_of<'a>(
     let (name, words) = positional("NAME", words)?;
     let cache = cache_of(options.cache)?;
     let map = map_of(options.map)?;
+    let form = report_form(options.json, options.chart)?;
     let bindings = bindings_of(alloc, words)?;
     Ok(Invocation::Scan(ScanWords {
         cache,
@@ -46,6 +48,6 @@ pub fn scan_of<'a>(
         bindings,
         map,
         progress: options.progress,
-        json: options.json,
+        form,
     }))
 }

@@ -33,6 +33,7 @@ pub fn tree_verify_of<'a>(
     let (hash_path, words) = positional("HASH", words)?;
     refuse_if(options.all, "--all", Cause::WithNoSuperblock)?;
     refuse_if(options.json, "--json", Cause::WithNoSuperblock)?;
+    refuse_if(options.chart, "--chart", Cause::WithNoSuperblock)?;
     refuse_if(options.salt.is_none(), "--salt", Cause::Missing)?;
     let hash_offset = offset_of(options.hash_offset)?;
     match root_alone(options.root_hash_file, words) {

@@ -1,4 +1,4 @@
-//! `verify [--all [--json]] [--hash-offset BYTES] [--root-hash-file FILE | --pin FILE] [--progress] DATA HASH [ROOT]`
+//! `verify [--all [--json | --chart]] [--hash-offset BYTES] [--root-hash-file FILE | --pin FILE] [--progress] DATA HASH [ROOT]`
 ghost use Rattle.command_line.specs.Misuses.{ReadsValue};
 ghost use Rattle.command_line.specs.Invocations.{verify};
 ghost use Rattle.command_line.specs.Reading.{ReadsAs};
@@ -10,7 +10,8 @@ use crate::invocation::Invocation;
 use crate::misuse::{Cause, Misuse, refuse_if};
 use crate::option_words::{OptionWords, in_superblock};
 use crate::positional::{positional, root_or_pin_alone};
-use crate::values::{RootOrPin, offset_of};
+use crate::values::{RootOrPin, offset_of, report_form};
+use charts::ReportForm;
 
 /// A verity image is checked.
 #[derive(Drop)]
@@ -20,11 +21,11 @@ pub struct VerifyWords<'a> {
     pub root: RootOrPin<'a>,
     pub hash_offset: u64,
     pub all: bool,
-    pub json: bool,
+    pub form: ReportForm,
     pub progress: bool,
 }
 
-/// `[--all [--json]] [--hash-offset BYTES] [--root-hash-file FILE | --pin FILE] [--progress] DATA HASH [ROOT]`
+/// `[--all [--json | --chart]] [--hash-offset BYTES] [--root-hash-file FILE | --pin FILE] [--progress] DATA HASH [ROOT]`
 pub fn verify_of<'a>(
     options: &OptionWords<'a>,
     words: &[&'a str],
@@ -49,6 +50,8 @@ pub fn verify_words<'a>(
     let (hash_path, words) = positional("HASH", words)?;
     in_superblock(options)?;
     refuse_if(options.json && !options.all, "--json", Cause::WithoutAll)?;
+    refuse_if(options.chart && !options.all, "--chart", Cause::WithoutAll)?;
+    let form = report_form(options.json, options.chart)?;
     let hash_offset = offset_of(options.hash_offset)?;
     match root_or_pin_alone(options.pin, options.root_hash_file, words) {
         Ok(root) => Ok(VerifyWords {
@@ -57,7 +60,7 @@ pub fn verify_words<'a>(
             root,
             hash_offset,
             all: options.all,
-            json: options.json,
+            form,
             progress: options.progress,
         }),
         Err(misuse) => Err(misuse),

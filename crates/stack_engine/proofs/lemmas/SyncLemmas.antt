@@ -48,7 +48,7 @@ map-first f blind leaves zero = refl
 map-first f blind [] (suc i) = refl
 map-first f blind (x ∷ more) (suc i) = ap (λ a. a ∷ map f (synced_first i more)) (blind x) ∙ ap (λ l. f x ∷ l) (map-first f blind more i)
 
-length-first : (leaves : List Device) (i : ℕ) → length (synced_first i leaves) ≡ length leaves
+pub length-first : (leaves : List Device) (i : ℕ) → length (synced_first i leaves) ≡ length leaves
 length-first leaves zero = refl
 length-first [] (suc i) = refl
 length-first (x ∷ more) (suc i) = ap suc (length-first more i)

@@ -1,11 +1,16 @@
-use Rattle.std.proofs.Common.{◌≡◌, ◌/◌, ℕ, List, length, sym, ap, ◌∙◌, arith, refl, inl}
+use Rattle.std.proofs.Common.{◌≡◌, ◌<◌, ◌/◌, ℕ, List, length, subst, sym, ap, ◌∙◌, arith, refl, inl}
 use Rattle.std.proofs.lemmas.Result.{err_from_is_err_and}
-use Rattle.fec_area.specs.Layouts.{IsParityOf, round_bytes}
+use Rattle.block_device.specs.Call.{DeviceDoes}
+use Rattle.fec_area.specs.GivenParity.{ChecksRounds}
+use Rattle.fec_area.specs.Handing.{round_sectors}
+use Rattle.fec_area.specs.Layouts.{IsParityOf, code_rounds, round_bytes}
 use Rattle.verity_format.specs.Blocks.{block_at}
 use Rattle.verity_format.proofs.lemmas.DeviceLemmas.{only_read-none, only_read-then, steady-then}
 use Rattle.fec_area.proofs.CallLemmas.{call-read, other-told, same-told, read-none, read-then, unfailed-none, unfailed-then, one_failed-then, laid-then, image-then}
+use Rattle.fec_area.proofs.GivenParityLemmas.{rounds-failed, rounds-more, rounds-none, rounds-stopped, rounds-to}
 use Rattle.fec_area.proofs.LayoutLemmas.{round-quotient}
-use Rattle.fec_area.proofs.WritingLemmas.{round-at, round-more, round-other, write-inside}
+use Rattle.fec_area.proofs.RoundLemmas.{parity-unique}
+use Rattle.fec_area.proofs.WritingLemmas.{bytes-other, bytes-same, round-at, round-more, round-other, write-inside}
 use Rattle.fec_area.proofs.checking.check_rounds.Goals as goal
 
 pub loop-round-init : goal.loop-round-init
@@ -15,6 +20,7 @@ loop-round-init g c = record {
   parity_read = only_read-none (g.P.BlockDev.state c.args.parity_dev.now);
   parity_unfailed = refl;
   parity = λ one other third r lt. absurd (omega (arith, lt));
+  rounds = rounds-none (DeviceDoes g.D.BlockDev.state g.D.BlockDev.does) (DeviceDoes g.H.BlockDev.state g.H.BlockDev.does) (DeviceDoes g.P.BlockDev.state g.P.BlockDev.does) c.args.code.now.layout.now c.args.data_dev.now c.args.hash_dev.now c.args.parity_dev.now;
 }
 
 pub sum_parity-requires-clause-can : goal.sum_parity-requires-clause-can
@@ -58,7 +64,14 @@ loop-round-preserved g c =
     let b = g.H.BlockDev.state c.args.hash_dev.now in
     let first = round-quotient l (length c.args.stored.now) valid c.requires.stored in
     let size = c.loop-round.auto.stored ∙ c.requires.stored in
+    let asks = DeviceDoes g.D.BlockDev.state g.D.BlockDev.does in
+    let does = DeviceDoes g.H.BlockDev.state g.H.BlockDev.does in
+    let reads = DeviceDoes g.P.BlockDev.state g.P.BlockDev.does in
+    let inside : round < code_rounds l = omega (arith, c.loop-round-test.true, c.rounds-round-end.ensures.value) in
     record {
+      rounds =
+          rounds-more asks does reads l c.loop-round.round c.args.data_dev.now c.args.hash_dev.now c.args.parity_dev.now c.loop-round.data_dev c.loop-round.hash_dev c.loop-round.parity_dev c.loop-round.invariant.rounds inside c.sum_parity.new.data_dev c.sum_parity.new.hash_dev parity c.in_ok-sum_parity.ensures.given (length c.args.stored.now / 512)
+          (ap (λ (n : ℕ). n / 512) c.requires.stored) stored c.read.new.self c.in_ok-read.ensures.call (bytes-same parity stored (sym c.is_same.ensures ∙ same-told c.is_same.result c.if-not-is_same.false));
       read = read-then here.read c.sum_parity.ensures.read;
       unfailed = unfailed-then here.unfailed c.in_ok-sum_parity.ensures.ok;
       parity_read = only_read-then here.parity_read (call-read c.in_ok-read.ensures.moved);
@@ -93,3 +106,51 @@ returns-then-not-is_same-clause-ok g c one other third =
       round-other l a.image b.image (g.P.BlockDev.state c.args.parity_dev.now).image round parity stored valid (c.sum_parity.auto.parity ∙ c.loop-round.auto.parity ∙ c.requires.sums.parity_is) (c.read.auto.out ∙ size) at
           (sym c.is_same.ensures ∙ other-told c.is_same.result c.if-not-is_same.true) summed,
     )
+
+pub returns-in_err-sum_parity-clause-calls : goal.returns-in_err-sum_parity-clause-calls
+returns-in_err-sum_parity-clause-calls g c =
+    let p = err_from_is_err_and c.from_residual.result c.from_residual.ensures.1 in
+    let asks = DeviceDoes g.D.BlockDev.state g.D.BlockDev.does in
+    let does = DeviceDoes g.H.BlockDev.state g.H.BlockDev.does in
+    let reads = DeviceDoes g.P.BlockDev.state g.P.BlockDev.does in
+    let l = c.args.code.now.layout.now in
+    let inside : c.loop-round.round < code_rounds l = omega (arith, c.loop-round-test.true, c.rounds-round-end.ensures.value) in
+    rw p.1 (rounds-stopped asks does reads l c.loop-round.round c.args.data_dev.now c.args.hash_dev.now c.args.parity_dev.now c.loop-round.data_dev c.loop-round.hash_dev c.loop-round.parity_dev c.loop-round.invariant.rounds inside c.sum_parity.new.data_dev c.sum_parity.new.hash_dev c.in_err-sum_parity.ensures.given)
+
+pub returns-in_err-read-clause-calls : goal.returns-in_err-read-clause-calls
+returns-in_err-read-clause-calls g c =
+    let p = err_from_is_err_and c.from_residual-in_err-read.result c.from_residual-in_err-read.ensures.1 in
+    let asks = DeviceDoes g.D.BlockDev.state g.D.BlockDev.does in
+    let does = DeviceDoes g.H.BlockDev.state g.H.BlockDev.does in
+    let reads = DeviceDoes g.P.BlockDev.state g.P.BlockDev.does in
+    let l = c.args.code.now.layout.now in
+    let inside : c.loop-round.round < code_rounds l = omega (arith, c.loop-round-test.true, c.rounds-round-end.ensures.value) in
+    let s : ℕ = length c.args.stored.now / 512 in
+    let is : s ≡ round_sectors l = ap (λ (n : ℕ). n / 512) c.requires.stored in
+    rw p.1 (rounds-failed asks does reads l c.loop-round.round c.args.data_dev.now c.args.hash_dev.now c.args.parity_dev.now c.loop-round.data_dev c.loop-round.hash_dev c.loop-round.parity_dev c.loop-round.invariant.rounds inside c.sum_parity.new.data_dev c.sum_parity.new.hash_dev c.sum_parity.new.parity c.in_ok-sum_parity.ensures.given s is c.read.new.out c.read.new.self c.in_err-read.ensures.call)
+
+pub returns-then-not-is_same-clause-calls : goal.returns-then-not-is_same-clause-calls
+returns-then-not-is_same-clause-calls g c =
+    let asks = DeviceDoes g.D.BlockDev.state g.D.BlockDev.does in
+    let does = DeviceDoes g.H.BlockDev.state g.H.BlockDev.does in
+    let reads = DeviceDoes g.P.BlockDev.state g.P.BlockDev.does in
+    let l = c.args.code.now.layout.now in
+    let inside : c.loop-round.round < code_rounds l = omega (arith, c.loop-round-test.true, c.rounds-round-end.ensures.value) in
+    let s : ℕ = length c.args.stored.now / 512 in
+    let is : s ≡ round_sectors l = ap (λ (n : ℕ). n / 512) c.requires.stored in
+    let valid = c.requires.sums.laid.layout in
+    let parity = c.sum_parity.new.parity in
+    let stored = c.read.new.out in
+    let other = bytes-other parity stored (sym c.is_same.ensures ∙ other-told c.is_same.result c.if-not-is_same.true) in
+    rounds-to asks does reads l c.loop-round.round c.args.data_dev.now c.args.hash_dev.now c.args.parity_dev.now c.loop-round.data_dev c.loop-round.hash_dev c.loop-round.parity_dev c.loop-round.invariant.rounds inside c.sum_parity.new.data_dev c.sum_parity.new.hash_dev parity c.in_ok-sum_parity.ensures.given s is stored c.read.new.self c.in_ok-read.ensures.call
+    (λ x y one stands.
+    other (parity-unique l x y c.loop-round.round parity stored valid (c.sum_parity.auto.parity ∙ c.loop-round.auto.parity ∙ c.requires.sums.parity_is) (c.read.auto.out ∙ c.loop-round.auto.stored ∙ c.requires.stored) one stands))
+
+pub returns-clause-calls : goal.returns-clause-calls
+returns-clause-calls g c =
+    let asks = DeviceDoes g.D.BlockDev.state g.D.BlockDev.does in
+    let does = DeviceDoes g.H.BlockDev.state g.H.BlockDev.does in
+    let reads = DeviceDoes g.P.BlockDev.state g.P.BlockDev.does in
+    let l = c.args.code.now.layout.now in
+    let end : c.loop-round.round ≡ code_rounds l = omega (arith, c.loop-round-test.false, c.loop-round.auto.round-end, c.rounds-round-end.ensures.value) in
+    subst (λ (n : ℕ). ChecksRounds asks does reads l n c.args.data_dev.now c.args.hash_dev.now c.args.parity_dev.now c.loop-round.data_dev c.loop-round.hash_dev c.loop-round.parity_dev) end c.loop-round.invariant.rounds

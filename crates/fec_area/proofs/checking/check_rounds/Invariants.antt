@@ -1,5 +1,7 @@
 use Rattle.std.proofs.Common.{◌≡◌, IsTrue}
+use Rattle.block_device.specs.Call.{DeviceDoes}
 use Rattle.verity_format.specs.Blocks.{AreOnlyRead, IsOnlyRead}
+use Rattle.fec_area.specs.GivenParity.{ChecksRounds}
 use Rattle.fec_area.specs.Rounds.{AreUnfailed}
 use Rattle.fec_area.proofs.WritingLemmas.{AreWrittenRounds}
 use Rattle.fec_area.proofs.checking.check_rounds.Given as goal
@@ -13,4 +15,5 @@ invariant-loop-round g l = record {
   parity_unfailed : (g.P.BlockDev.state l.parity_dev).failures ≡ (g.P.BlockDev.state l.fn.parity_dev).failures;
   parity : IsTrue (g.D.BlockDev.state l.fn.data_dev).steady → IsTrue (g.H.BlockDev.state l.fn.hash_dev).steady → IsTrue (g.P.BlockDev.state l.fn.parity_dev).steady
       → AreWrittenRounds l.code.layout.now (g.D.BlockDev.state l.fn.data_dev).image (g.H.BlockDev.state l.fn.hash_dev).image (g.P.BlockDev.state l.fn.parity_dev).image l.round;
+  rounds : ChecksRounds (DeviceDoes g.D.BlockDev.state g.D.BlockDev.does) (DeviceDoes g.H.BlockDev.state g.H.BlockDev.does) (DeviceDoes g.P.BlockDev.state g.P.BlockDev.does) l.code.layout.now l.round l.fn.data_dev l.fn.hash_dev l.fn.parity_dev l.data_dev l.hash_dev l.parity_dev;
 }

@@ -1,11 +1,16 @@
-use Rattle.std.proofs.Common.{◌≡◌, ◌*◌, ◌/◌, ℕ, true, false, List, length, sym, ap, ◌∙◌, subst, refl, inl, inr, arith}
+use Rattle.std.proofs.Common.{◌≡◌, ◌-◌, ◌*◌, ◌/◌, ℕ, true, false, List, length, sym, ap, ◌∙◌, subst, refl, inl, inr, arith}
 use Rattle.std.proofs.lemmas.Result.{err_from_is_err_and}
+use Rattle.block_device.specs.Call.{DeviceDoes, Read}
 use Rattle.verity_format.specs.Blocks.{block_at}
 use Rattle.fec_area.specs.Asking.{kept_of, sectors_on_data, sectors_on_hash}
+use Rattle.fec_area.specs.Given.{gathered, kept_index_at}
+use Rattle.fec_area.specs.Handing.{round_sectors}
 use Rattle.fec_area.specs.Layouts.{round_bytes}
+use Rattle.fec_area.specs.Restoring.{IsFirstRestored}
 use Rattle.fec_area.specs.Rounds.{AreRestored}
 use Rattle.fec_area.proofs.AskingLemmas.{asked-for-read, first-again, parity-asked}
 use Rattle.fec_area.proofs.CallLemmas.{call-read, read-none}
+use Rattle.fec_area.proofs.GivenLemmas.{gives-weaker}
 use Rattle.fec_area.proofs.LayoutLemmas.{parity-small, round-quotient}
 use Rattle.fec_area.proofs.RestoringLemmas.{first-restored}
 use Rattle.fec_area.proofs.WritingLemmas.{round-at, round-within, write-inside}
@@ -118,3 +123,45 @@ pub returns-in_err-restore_blocks-clause-sure : goal.returns-in_err-restore_bloc
 returns-in_err-restore_blocks-clause-sure g c never =
     let p = err_from_is_err_and c.from_residual-in_err-restore_blocks.result c.from_residual-in_err-restore_blocks.ensures.1 in
     rw p.1 (c.in_err-restore_blocks.ensures.sure (never.0, never.1))
+
+pub returns-in_err-read-clause-calls : goal.returns-in_err-read-clause-calls
+returns-in_err-read-clause-calls g c =
+    let p = err_from_is_err_and c.from_residual.result c.from_residual.ensures.1 in
+    let reads = DeviceDoes g.P.BlockDev.state g.P.BlockDev.does in
+    let stored : List ℕ = c.read.new.out in
+    let call : reads c.args.parity_dev.now (Read (c.args.gap.now.round * round_sectors c.args.gap.now.code.layout.now) stored false) c.read.new.self =
+    subst (λ (n : ℕ). reads c.args.parity_dev.now (Read (c.args.gap.now.round * (n / 512)) stored false) c.read.new.self) c.requires.can.parity_is c.in_err-read.ensures.call in
+    rw p.1 (inl (stored, call, refl, refl))
+
+pub returns-in_err-restore_blocks-clause-calls : goal.returns-in_err-restore_blocks-clause-calls
+returns-in_err-restore_blocks-clause-calls g c =
+    let p = err_from_is_err_and c.from_residual-in_err-restore_blocks.result c.from_residual-in_err-restore_blocks.ensures.1 in
+    let reads = DeviceDoes g.P.BlockDev.state g.P.BlockDev.does in
+    let stored : List ℕ = c.read.new.out in
+    rw p.1
+    (inr (record {
+      parity = stored;
+      of_parity = subst (λ (n : ℕ). reads c.args.parity_dev.now (Read (c.args.gap.now.round * (n / 512)) stored true) c.read.new.self) c.requires.can.parity_is c.in_ok-read.ensures.call;
+      blocks = c.in_err-restore_blocks.ensures.given;
+    }))
+
+pub returns-clause-calls : goal.returns-clause-calls
+returns-clause-calls g c =
+    let asks = DeviceDoes g.D.BlockDev.state g.D.BlockDev.does in
+    let does = DeviceDoes g.H.BlockDev.state g.H.BlockDev.does in
+    let reads = DeviceDoes g.P.BlockDev.state g.P.BlockDev.does in
+    let l = c.args.gap.now.code.layout.now in
+    let round = c.args.gap.now.round in
+    let stored : List ℕ = c.read.new.out in
+    let places = c.args.gap.now.places.now in
+    let sums = c.restore_blocks.new.sums in
+    let bytes = c.take_column.new.column in
+    let indices = gathered (kept_index_at l round places) (255 - l.roots) in
+    record {
+      parity = stored;
+      of_parity = subst (λ (n : ℕ). reads c.args.parity_dev.now (Read (round * (n / 512)) stored true) c.read.new.self) c.requires.can.parity_is c.in_ok-read.ensures.call;
+      blocks =
+          gives-weaker asks does l indices indices refl (λ x y. AreRestored l x y round stored places sums) (λ x y. IsFirstRestored l x y round stored places bytes)
+          (λ x y restored. first-restored l x y round stored places sums bytes c.requires.some (c.take_column.auto.column ∙ c.restore_blocks.auto.block ∙ c.requires.can.block_is) c.take_column.ensures restored)
+          c.args.data_dev.now c.args.hash_dev.now c.restore_blocks.new.data_dev c.restore_blocks.new.hash_dev true c.in_ok-restore_blocks.ensures.given;
+    }

@@ -1,5 +1,6 @@
 use Rattle.std.proofs.Common.{ap, inl, inr, refl, sym, ◌∙◌}
 use Rattle.verity_commands.specs.declared.verity_fault.VerityFault.TheVariants.{Usage}
+use Rattle.command_line.specs.FormatOptions.{option_texts}
 use Rattle.verity_commands.specs.Endings.{words_ending}
 use Rattle.fec_commands.specs.declared.fault.FecFault.TheVariants.{Verity}
 use Rattle.fec_commands.specs.FecFaults.{unwritten}
@@ -7,14 +8,14 @@ use Rattle.fec_commands.proofs.EndingLemmas.{err-from, quiet, unsaid, verity-qui
 use Rattle.fec_commands.proofs.invoke.invoke_format_fec.Goals as goal
 
 pub returns-then-not-is_roots-clause-err : goal.returns-then-not-is_roots-clause-err
-returns-then-not-is_roots-clause-err g c = (inl (record { cause = Usage; unsaid = tt; is = refl; same = refl }), refl)
+returns-then-not-is_roots-clause-err g c = (inl (record { cause = Usage; unsaid = inl (refl, sym c.is_roots.ensures ∙ c.if-not-is_roots.true); is = refl; same = refl }), refl)
 
 pub returns-then-says_two_sizes-clause-err : goal.returns-then-says_two_sizes-clause-err
 returns-then-says_two_sizes-clause-err g c =
     (inr (inl (record { options = c.in-Ok.said; said = c.in-Ok.ensures.ok; two = sym c.says_two_sizes.ensures ∙ c.if-says_two_sizes.true; is = refl; same = refl })), refl)
 
 pub returns-in-Err-clause-err : goal.returns-in-Err-clause-err
-returns-in-Err-clause-err g c = (inl (record { cause = words_ending c.in-Err.fault; unsaid = unsaid c.in-Err.fault; is = ap Verity c.from.ensures; same = refl }), verity-quiet c.from.result _)
+returns-in-Err-clause-err g c = (inl (record { cause = words_ending c.in-Err.fault; unsaid = inr (unsaid (option_texts c.args.options.now) c.in-Err.fault c.in-Err.ensures.err); is = ap Verity c.from.ensures; same = refl }), verity-quiet c.from.result _)
 
 pub returns-in_err-check_file-clause-err : goal.returns-in_err-check_file-clause-err
 returns-in_err-check_file-clause-err g c =

@@ -1,12 +1,14 @@
-use Rattle.std.proofs.Common.{inl, inr, refl}
+use Rattle.std.proofs.Common.{inl, inr, refl, sym, ◌∙◌}
 use Rattle.std.proofs.lemmas.Result.{IfErr-weaker, on_ok_weaker}
-use Rattle.verity_commands.specs.declared.verity_fault.VerityFault.TheVariants.{Usage}
 use Rattle.fec_commands.specs.FecFaults.{unopened}
 use Rattle.fec_commands.proofs.EndingLemmas.{err-from}
 use Rattle.fec_commands.proofs.invoke.invoke_verify_fec.Goals as goal
 
 pub returns-then-words-clause-err : goal.returns-then-words-clause-err
-returns-then-words-clause-err g c = inl (record { cause = Usage; unsaid = tt; is = refl; same = refl }, refl)
+returns-then-words-clause-err g c = inl (record { misused = inl c.if-words.true; is = refl; same = refl }, refl)
+
+pub returns-then-not-is_roots-clause-err : goal.returns-then-not-is_roots-clause-err
+returns-then-not-is_roots-clause-err g c = inl (record { misused = inr (sym c.is_roots.ensures ∙ c.if-not-is_roots.true); is = refl; same = refl }, refl)
 
 pub returns-in_err-three-clause-err : goal.returns-in_err-three-clause-err
 returns-in_err-three-clause-err g c =

@@ -21,4 +21,4 @@ returns g c =
     let back = c.part-2.result.now in
     let some : ReadsEnds e first offset len front (reply_data c.in_ok-ends.ends.behind) mid = subst (λ (l : List ℕ). ReadsEnds e first offset len l (reply_data c.in_ok-ends.ends.behind) mid) (sym c.part.ensures) c.in_ok-ends.ensures.ok in
     let ends : ReadsEnds e first offset len front back mid = subst (λ (l : List ℕ). ReadsEnds e first offset len front l mid) (sym c.part-2.ensures) some in
-    zeros-written e first mid c.store_zeros.new.queue offset len (omega arith) front back c.store_zeros.result ends c.store_zeros.ensures.ok c.store_zeros.ensures.err
+    zeros-written e first mid c.store_zeros.new.queue offset len (omega arith) front back c.store_zeros.result ends c.store_zeros.ensures.ok c.store_zeros.ensures.err c.store_zeros.ensures.turns

@@ -2,43 +2,40 @@ use Rattle.std.proofs.Common.{◌≡◌, ◌<◌, ◌≤◌, ◌%◌, ◌∙◌,
 use Rattle.std.proofs.lemmas.Result.{err_from_is_err_and}
 use Rattle.nbd_protocol.specs.Exports.{export_record}
 use Rattle.nbd_protocol.specs.Chunks.{error_at_chunk}
-use Rattle.nbd_server.specs.Delivery.{IsDeliveryPiece}
+use Rattle.nbd_server.specs.Delivery.{AreNextBytes}
 use Rattle.nbd_server.specs.Status.{touched}
 use Rattle.nbd_server.specs.Transmission.{ReadsExport}
 use Rattle.nbd_server.proofs.DeliveryLemmas.{lost-stuck, part-size, piece-bytes, piece-lost, piece-put_off, piece-sent, rest-left, sent-stuck}
 use Rattle.nbd_server.proofs.delivery.deliver_piece.Goals as goal
 
-pub piece_len-size-requires-clause-rest : goal.piece_len-size-requires-clause-rest
-piece_len-size-requires-clause-rest g c = rest-left c.args.queue.now.stack.config (export_record c.args.export.now) c.args.delivery c.args.progress c.requires.bytes (omega (arith, c.requires.some))
-
 pub at-at-requires : goal.at-at-requires
-at-at-requires g c = rest-left c.args.queue.now.stack.config (export_record c.args.export.now) c.args.delivery c.args.progress c.requires.bytes (omega (arith, c.requires.some))
+at-at-requires g c = rest-left c.args.queue.now.stack.config (export_record c.args.export.now) c.args.delivery c.args.piece.progress c.requires.bytes (omega (arith, c.requires.piece.bytes.inside))
 
 pub read_piece-requires : goal.read_piece-requires
 read_piece-requires g c =
     let w = c.args.queue.now in
-    piece-bytes (export_record c.args.export.now) c.args.delivery c.args.progress w w c.piece_len-size.result c.at-at.result c.at-at.ensures c.piece_len-size.ensures w.stack.config c.requires.bytes
+    piece-bytes (export_record c.args.export.now) c.args.delivery c.args.piece.progress w w c.args.piece.size c.at-at.result c.at-at.ensures c.requires.piece.bytes w.stack.config c.requires.bytes
 
 -- ---- it was read
 
 pub say_piece-requires-clause-rest : goal.say_piece-requires-clause-rest
-say_piece-requires-clause-rest g c = rest-left c.args.queue.now.stack.config (export_record c.args.export.now) c.args.delivery c.args.progress c.requires.bytes (omega (arith, c.requires.some))
+say_piece-requires-clause-rest g c = rest-left c.args.queue.now.stack.config (export_record c.args.export.now) c.args.delivery c.args.piece.progress c.requires.bytes (omega (arith, c.requires.piece.bytes.inside))
 
 pub say_piece-requires-clause-piece : goal.say_piece-requires-clause-piece
 say_piece-requires-clause-piece g c =
-    let size = part-size c.read_piece.new.room.bytes.items (c.at-at.result % 512) c.piece_len-size.result c.in-Ok.ensures.inside in
-    let held : length c.part-content.result.now ≡ c.piece_len-size.result = ap (λ (l : List ℕ). length l) c.part-content.ensures ∙ size in
-    subst (λ (n : ℕ). IsDeliveryPiece c.args.delivery c.args.progress n) (sym held) c.piece_len-size.ensures
+    let size = part-size c.read_piece.new.room.bytes.items (c.at-at.result % 512) c.args.piece.size c.in-Ok.ensures.inside in
+    let held : length c.part-content.result.now ≡ c.args.piece.size = ap (λ (l : List ℕ). length l) c.part-content.ensures ∙ size in
+    subst (λ (n : ℕ). AreNextBytes c.args.delivery c.args.piece.progress n) (sym held) c.requires.piece.bytes
 
 pub returns-in_err-say_piece-in-Ok-clause-err : goal.returns-in_err-say_piece-in-Ok-clause-err
 returns-in_err-say_piece-in-Ok-clause-err g c =
     let old = g.W.Write.contents c.args.writer.now.inner in
     let new = g.W.Write.contents c.say_piece.new.writer.inner in
     let items = c.read_piece.new.room.bytes.items in
-    let size = part-size items (c.at-at.result % 512) c.piece_len-size.result c.in-Ok.ensures.inside in
+    let size = part-size items (c.at-at.result % 512) c.args.piece.size c.in-Ok.ensures.inside in
     let p = err_from_is_err_and c.from_residual.result c.from_residual.ensures.1 in
-    rw p.1 (sent-stuck (export_record c.args.export.now) c.args.delivery c.args.progress c.args.queue.now c.read_piece.new.queue c.piece_len-size.result c.at-at.result c.at-at.ensures c.piece_len-size.ensures old new
-    (take c.piece_len-size.result (drop (c.at-at.result % 512) items)) (omega (arith, size, c.piece_len-size.ensures.some)) c.in-Ok.ensures.ok)
+    rw p.1 (sent-stuck (export_record c.args.export.now) c.args.delivery c.args.piece.progress c.args.queue.now c.read_piece.new.queue c.args.piece.size c.at-at.result c.at-at.ensures c.requires.piece old new
+    (take c.args.piece.size (drop (c.at-at.result % 512) items)) (omega (arith, size, c.requires.piece.bytes.some)) c.in-Ok.ensures.ok)
 
 pub returns-in_err-say_piece-in-Ok-clause-failed : goal.returns-in_err-say_piece-in-Ok-clause-failed
 returns-in_err-say_piece-in-Ok-clause-failed g c =
@@ -51,13 +48,13 @@ returns-in_ok-say_piece-in-Ok-clause-ok g c =
     let w = c.args.queue.now in
     let w' = c.read_piece.new.queue in
     let at = c.at-at.result in
-    let size = c.piece_len-size.result in
+    let size = c.args.piece.size in
     let old = g.W.Write.contents c.args.writer.now.inner in
     let new = g.W.Write.contents c.say_piece.new.writer.inner in
     let content = c.part-content.result.now in
     let held : length content ≡ size = ap (λ (l : List ℕ). length l) c.part-content.ensures ∙ part-size c.read_piece.new.room.bytes.items (at % 512) size c.in-Ok.ensures.inside in
     let reads : ReadsExport e w at size (Ok content) w' = subst (λ (l : List ℕ). ReadsExport e w at size (Ok l) w') (sym c.part-content.ensures) c.in-Ok.ensures.ok in
-    piece-sent e c.args.delivery c.args.progress w w' size at c.at-at.ensures c.piece_len-size.ensures old new (length content) held content reads c.in_ok-say_piece-in-Ok.ensures.ok
+    piece-sent e c.args.delivery c.args.piece.progress w w' size at c.at-at.ensures c.requires.piece old new (length content) held content reads c.in_ok-say_piece-in-Ok.ensures.ok
 
 pub returns-in_ok-say_piece-in-Ok-clause-kept : goal.returns-in_ok-say_piece-in-Ok-clause-kept
 returns-in_ok-say_piece-in-Ok-clause-kept g c = c.in_ok-say_piece-in-Ok.ensures.kept
@@ -68,19 +65,19 @@ pub returns-then-touched-gt1-clause-ok : goal.returns-then-touched-gt1-clause-ok
 returns-then-touched-gt1-clause-ok g c =
     let old = g.W.Write.contents c.args.writer.now.inner in
     let at = c.at-at.result in
-    let size = c.piece_len-size.result in
+    let size = c.args.piece.size in
     let several : 1 < touched at size = omega (arith, c.touched.ensures, c.if-touched-gt1.true) in
-    piece-put_off (export_record c.args.export.now) c.args.delivery c.args.progress c.args.queue.now c.read_piece.new.queue size at c.at-at.ensures c.piece_len-size.ensures old old c.in-Err.error c.in-Err.ensures.err several refl
+    piece-put_off (export_record c.args.export.now) c.args.delivery c.args.piece.progress c.args.queue.now c.read_piece.new.queue size at c.at-at.ensures c.requires.piece old old c.in-Err.error c.in-Err.ensures.err several refl
 
 pub returns-in_err-say_error_at-in-Err-clause-err : goal.returns-in_err-say_error_at-in-Err-clause-err
 returns-in_err-say_error_at-in-Err-clause-err g c =
     let old = g.W.Write.contents c.args.writer.now.inner in
     let new = g.W.Write.contents c.say_error_at.new.writer.inner in
     let at = c.at-at.result in
-    let size = c.piece_len-size.result in
+    let size = c.args.piece.size in
     let few : touched at size ≤ 1 = omega (arith, c.touched.ensures, c.if-touched-gt1.false) in
     let p = err_from_is_err_and c.from_residual-in_err-say_error_at-in-Err.result c.from_residual-in_err-say_error_at-in-Err.ensures.1 in
-    rw p.1 (lost-stuck (export_record c.args.export.now) c.args.delivery c.args.progress c.args.queue.now c.read_piece.new.queue size at c.at-at.ensures c.piece_len-size.ensures old new c.in-Err.error c.in-Err.ensures.err few)
+    rw p.1 (lost-stuck (export_record c.args.export.now) c.args.delivery c.args.piece.progress c.args.queue.now c.read_piece.new.queue size at c.at-at.ensures c.requires.piece old new c.in-Err.error c.in-Err.ensures.err few)
 
 pub returns-in_err-say_error_at-in-Err-clause-failed : goal.returns-in_err-say_error_at-in-Err-clause-failed
 returns-in_err-say_error_at-in-Err-clause-failed g c =
@@ -92,9 +89,9 @@ returns-in_ok-say_error_at-in-Err-clause-ok g c =
     let old = g.W.Write.contents c.args.writer.now.inner in
     let new = g.W.Write.contents c.say_error_at.new.writer.inner in
     let at = c.at-at.result in
-    let size = c.piece_len-size.result in
+    let size = c.args.piece.size in
     let few : touched at size ≤ 1 = omega (arith, c.touched.ensures, c.if-touched-gt1.false) in
-    (error_at_chunk c.args.delivery.cookie at c.in-Err.error, piece-lost (export_record c.args.export.now) c.args.delivery c.args.progress c.args.queue.now c.read_piece.new.queue size at c.at-at.ensures c.piece_len-size.ensures old new c.in-Err.error c.in-Err.ensures.err few, c.in_ok-say_error_at-in-Err.ensures.ok)
+    (error_at_chunk c.args.delivery.cookie at c.in-Err.error, piece-lost (export_record c.args.export.now) c.args.delivery c.args.piece.progress c.args.queue.now c.read_piece.new.queue size at c.at-at.ensures c.requires.piece old new c.in-Err.error c.in-Err.ensures.err few, c.in_ok-say_error_at-in-Err.ensures.ok)
 
 pub returns-in_ok-say_error_at-in-Err-clause-kept : goal.returns-in_ok-say_error_at-in-Err-clause-kept
 returns-in_ok-say_error_at-in-Err-clause-kept g c = c.in_ok-say_error_at-in-Err.ensures.kept

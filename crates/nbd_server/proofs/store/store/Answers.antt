@@ -1,5 +1,6 @@
 use Rattle.nbd_protocol.specs.Exports.{export_record}
-use Rattle.nbd_server.proofs.StoreLemmas.{not-refused, stored-all, unstored}
+use Rattle.nbd_server.proofs.StoreLemmas.{stored-all, unstored}
+use Rattle.nbd_server.proofs.WritableLemmas.{not-refused}
 use Rattle.nbd_server.proofs.store.store.Goals as goal
 
 pub returns-in-Ok-clause-ok : goal.returns-in-Ok-clause-ok

@@ -12,7 +12,7 @@ use Rattle.partition_commands.proofs.root_stack.print_root_stack.Goals as goal
 pub returns-in_err-table-clause-err : goal.returns-in_err-table-clause-err
 returns-in_err-table-clause-err g c =
     err-from c.from_residual.result _ (Refused (Table c.in_err-table.field-0.0)) c.from_residual.ensures.1
-    (inl (record { fault = c.in_err-table.field-0.0; read_device = g.D.BlockDev.state c.find_noted.new.device; none = c.in_err-table.ensures.err; is = refl }))
+    (inl (record { fault = c.in_err-table.field-0.0; read_device = c.find_noted.new.device; none = c.in_err-table.ensures.err; is = refl }))
 
 pub returns-in_err-both-clause-err : goal.returns-in_err-both-clause-err
 returns-in_err-both-clause-err g c =
@@ -28,7 +28,7 @@ pub returns-in_err-superblock-clause-err : goal.returns-in_err-superblock-clause
 returns-in_err-superblock-clause-err g c =
     err-from c.from_residual-in_err-superblock.result _ (Refused c.in_err-superblock.field-0.0) c.from_residual-in_err-superblock.ensures.1
     (inr (inr (
-      g.D.BlockDev.state c.in_err-superblock.ensures.err.0,
+      c.in_err-superblock.ensures.err.0,
       record {
         table = c.in_ok-table.table;
         read_device = g.D.BlockDev.state c.find_noted.new.device;
@@ -78,7 +78,7 @@ returns-clause-err g c =
       fitting = c.in_ok-superblock.ensures.ok;
     } in
     let ended = rw (c.sectors-sectors.ensures.size, c.deref-2.ensures.value, c.in_ok-text.ensures.ok) at c.say_loadable.ensures.err in
-    IfErr-weaker c.say_loadable.result _ _ (say-root pair c.say_loadable.new.writer.failed) ended
+    IfErr-weaker c.say_loadable.result _ _ (say-root g.D.BlockDev.state c.args.device c.args.size c.args.trusted.now pair c.say_loadable.new.writer.failed) ended
 
 pub returns-in_err-table-clause-noted : goal.returns-in_err-table-clause-noted
 returns-in_err-table-clause-noted g c =

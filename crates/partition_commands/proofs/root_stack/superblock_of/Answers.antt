@@ -20,6 +20,7 @@ returns-then-is_unfit-clause-err g c = (
       super = c.in_ok-superblock.superblock;
       sector = c.in_ok-superblock.ensures.ok.1.0;
       read = rw c.part_of.ensures at c.in_ok-superblock.ensures.ok.1.1;
+      pinned = c.in_ok-superblock.ensures.ok.2;
       unfit = sym c.is_unfit.ensures ∙ c.if-is_unfit.true;
     },
   )),

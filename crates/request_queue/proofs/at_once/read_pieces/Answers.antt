@@ -5,16 +5,18 @@ use Rattle.stack_engine.specs.Bytes.{EachBytes}
 use Rattle.stack_rules.specs.Records.{Configuration}
 use Rattle.stack_engine.specs.KeptBlocks.{ReadKeeps}
 use Rattle.request_queue.specs.AtOnce.{ReadsInTurn, no_read}
+use Rattle.request_queue.specs.PieceCalls.{GivesInTurn, none_given}
 use Rattle.request_queue.specs.Ranges.{HaveSectors, range_at}
 use Rattle.request_queue.proofs.lemmas.BytesLemmas.{bytes-none, front-is, slice-end, slice-more, slice-length, piece-within, meets-later}
 use Rattle.request_queue.proofs.lemmas.KeptLemmas.{keeps-then}
-use Rattle.request_queue.proofs.TurnLemmas.{turn-ends, turn-more}
+use Rattle.request_queue.proofs.TurnLemmas.{given-ends, given-more, turn-ends, turn-more}
 use Rattle.request_queue.proofs.WrittenPieceLemmas.{take-all}
 use Rattle.request_queue.proofs.at_once.read_pieces.Goals as goal
 
 pub pieces-init : goal.pieces-init
 pieces-init g c = record {
   turns = no_read;
+  given = none_given;
   sectors = c.requires;
   had = bytes-none c.args.stack.now c.args.device.0 c.args.first;
   kept = record { same = λ none. refl; checked = c.cached-kept.ensures.checked };
@@ -54,6 +56,16 @@ returns-in_err-read_bytes-clause-read g c =
       pieces = turn-ends c.args.stack.now c.pieces.stack c.read_bytes.new.self c.args.device.0 c.args.first (length c.args.out.now) c.pieces.out c.pieces.done n b.whole b.sectors.whole b.size inside c.piece_bytes.ensures b.turns fault piece c.in_err-read_bytes.ensures.spent;
     })
 
+pub returns-in_err-read_bytes-clause-given : goal.returns-in_err-read_bytes-clause-given
+returns-in_err-read_bytes-clause-given g c =
+    let b = c.pieces.invariant in
+    let end = c.pieces.done + c.piece_bytes.result in
+    let fault = c.in_err-read_bytes.field-0.0 in
+    let p = err_from_is_err_and c.from_residual.result c.from_residual.ensures.1 in
+    let inside : end ≤ length c.pieces.out = omega (arith, c.piece_bytes.ensures.inside, c.pieces-test.true) in
+    rw (p.1, p.2)
+    (given-ends c.args.stack.now c.pieces.stack c.read_bytes.new.self c.args.device.0 c.args.first (length c.args.out.now) c.pieces.out c.pieces.done c.piece_bytes.result b.whole b.sectors.whole b.size inside c.piece_bytes.ensures b.given fault c.in_err-read_bytes.ensures.given)
+
 pub returns-in_err-read_bytes-clause-memory : goal.returns-in_err-read_bytes-clause-memory
 returns-in_err-read_bytes-clause-memory g c =
     let b = c.pieces.invariant in
@@ -79,6 +91,12 @@ returns-clause-read g c =
       pieces = subst (λ (l : List ℕ). ReadsInTurn (range_at c.args.device.0 c.args.first sectors) c.args.stack.now (Ok l) c.pieces.stack) all b.turns;
     }
 
+pub returns-clause-given : goal.returns-clause-given
+returns-clause-given g c =
+    let b = c.pieces.invariant in
+    let all : take c.pieces.done c.pieces.out ≡ c.pieces.out = take-all c.pieces.out c.pieces.done b.within (omega (arith, c.pieces-test.false)) in
+    subst (λ (l : List ℕ). GivesInTurn g.D.BlockDev.state g.D.BlockDev.does (range_at c.args.device.0 c.args.first (length c.args.out.now / 512)) c.args.stack.now (Ok l) c.pieces.stack) all b.given
+
 pub pieces-preserved : goal.pieces-preserved
 pieces-preserved g c =
     let b = c.pieces.invariant in
@@ -94,6 +112,8 @@ pieces-preserved g c =
     record {
       turns = turn-more c.args.stack.now c.pieces.stack c.read_bytes.new.self c.args.device.0 c.args.first (length c.args.out.now) c.pieces.out c.pieces.done c.piece_bytes.result b.whole b.sectors.whole b.size inside c.piece_bytes.ensures b.turns c.read_bytes.new.out _
           (sym (front-is c.args.stack.now c.pieces.stack c.read_bytes.new.self c.args.device.0 c.args.first c.pieces.out c.pieces.done end b.whole above inside b.had c.read_bytes.new.out last piece)) piece c.in_ok-read_bytes.ensures.spent;
+      given = given-more c.args.stack.now c.pieces.stack c.read_bytes.new.self c.args.device.0 c.args.first (length c.args.out.now) c.pieces.out c.pieces.done c.piece_bytes.result b.whole b.sectors.whole b.size inside c.piece_bytes.ensures b.given c.read_bytes.new.out _
+          (sym (front-is c.args.stack.now c.pieces.stack c.read_bytes.new.self c.args.device.0 c.args.first c.pieces.out c.pieces.done end b.whole above inside b.had c.read_bytes.new.out last piece)) c.in_ok-read_bytes.ensures.given;
       had = slice-more c.args.stack.now c.pieces.stack c.read_bytes.new.self c.args.device.0 c.args.first c.pieces.out c.pieces.done end b.whole above inside b.had c.read_bytes.new.out last piece;
       sectors = subst (λ (k : Configuration). HaveSectors k c.args.device.0 c.args.first (length c.args.out.now)) (sym c.in_ok-read_bytes.ensures.any.config) b.sectors;
       kept = keeps-then c.args.stack.now c.pieces.stack c.read_bytes.new.self c.args.device.0 c.args.first (c.pieces.done / 512) (length (take (end - c.pieces.done) (drop c.pieces.done c.pieces.out)) / 512) (end / 512)

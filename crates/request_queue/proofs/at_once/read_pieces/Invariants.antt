@@ -2,6 +2,7 @@ use Rattle.std.proofs.Common.{◌≡◌, ◌≤◌, ◌-◌, ◌/◌, ◌%◌, O
 use Rattle.stack_engine.specs.Bytes.{EachBytes}
 use Rattle.stack_engine.specs.KeptBlocks.{ReadKeeps}
 use Rattle.request_queue.specs.AtOnce.{ReadsInTurn}
+use Rattle.request_queue.specs.PieceCalls.{GivesInTurn}
 use Rattle.request_queue.specs.Ranges.{HaveSectors, range_at}
 use Rattle.request_queue.proofs.at_once.read_pieces.Given as goal
 
@@ -10,6 +11,7 @@ abbrev pub invariant-pieces : goal.invariant-pieces
 invariant-pieces g l = record {
   sectors : HaveSectors l.stack.config l.device.0 l.first (length l.fn.out);
   turns : ReadsInTurn (range_at l.device.0 l.first (length l.fn.out / 512)) l.fn.stack (Ok (take l.done l.out)) l.stack;
+  given : GivesInTurn g.D.BlockDev.state g.D.BlockDev.does (range_at l.device.0 l.first (length l.fn.out / 512)) l.fn.stack (Ok (take l.done l.out)) l.stack;
   had : EachBytes l.fn.stack l.device.0 l.first (l.done / 512) (Ok (take l.done l.out)) l.stack;
   kept : ReadKeeps l.fn.stack l.device.0 l.first (l.done / 512) l.stack;
   whole : l.done % 512 ≡ 0;

@@ -16,7 +16,7 @@ runs-preserved c =
     let le : n ≤ c.runs.left = omega (arith, c.min-count.ensures) in
     let had = ap (λ (r : Run). r.had) (sym c.next_run-run.ensures.first) in
     let is : marks_ahead c.runs.ahead ≡ replicate n run.had ++ marks_ahead c.pass.new.self =
-    sym c.next_run-run.ensures.same ∙ c.pass.ensures ∙ ap (λ (h : Bool). replicate n h ++ marks_ahead c.pass.new.self) had in
+    sym c.next_run-run.ensures.same ∙ c.pass.ensures.marks ∙ ap (λ (h : Bool). replicate n h ++ marks_ahead c.pass.new.self) had in
     record {
       moved = moved-more _ _ n c.runs.left run.had le is (marks c.runs.map) (marks c.push.new.self) c.in_ok-push.ensures ∙ u.moved;
       rest = rest-more _ _ n c.runs.left run.had le is ∙ u.rest;

@@ -17,7 +17,7 @@ returns-in-Err-sync-clause-err g c = inr (record {
   counts = c.in-Ok.counts;
   unsynced = g.O.BlockDev.state c.copy_to-left.result.0.out;
   passed = rw c.in-Ok.is at c.copy_to-left.ensures.ok;
-  failed = c.in-Err-sync.ensures.err.failed;
+  failed = c.in-Err-sync.ensures.err;
   sure = λ h. false≢true (c.in-Err-sync.ensures.sure h);
   is = refl;
 })

@@ -1,4 +1,4 @@
-use Rattle.std.proofs.Common.{arith, ◌∙◌, ℕ, Bool, List, Option, Ok, refl, ap, subst}
+use Rattle.std.proofs.Common.{arith, ◌∙◌, ◌+◌, inr, ℕ, Bool, List, Option, Ok, refl, ap, subst}
 use Rattle.std.proofs.lemmas.Bool.{false≢true}
 use Rattle.block_device.specs.Device.{Device}
 use Rattle.rescue_map.specs.MapText.{map_text}
@@ -15,13 +15,30 @@ pub returns-in_err-rescued-clause-err : goal.returns-in_err-rescued-clause-err
 returns-in_err-rescued-clause-err g c =
     let k = kept g.I.Images.relations.replaces (map_path_of c.args.turn.file) c.args.d.0 c.args.turn.sectors in
     let now = progressed c.args.images.now (sides c.args.stack.now (g.O.BlockDev.state c.args.out.now) (g.L.Listing.told c.args.listing.now)) c.args.turn.map.now c.args.turn.span.first in
-    err-from c.from_residual.result _ (recovery_ending c.in_err-rescued.field-0.0) c.from_residual.ensures.1 (stops-rescue k now _ _ c.in_err-rescued.field-0.0 c.in_err-rescued.ensures.err)
+    err-from c.from_residual.result _ (recovery_ending c.in_err-rescued.field-0.0) c.from_residual.ensures.1 (stops-rescue k now c.args.turn.span _ _ _ c.in_err-rescued.field-0.0 c.requires.next c.requires.wanted c.in_err-rescued.ensures.err)
 
 pub returns-in_err-sync-clause-err : goal.returns-in_err-sync-clause-err
 returns-in_err-sync-clause-err g c =
     let r = c.in_ok-rescued.ensures.ok in
-    err-from c.from_residual-in_err-sync.result _ Output c.from_residual-in_err-sync.ensures.1
-    (refl, failed-behind (g.O.BlockDev.state c.args.out.now) (g.O.BlockDev.state c.rescue.new.out) (g.O.BlockDev.state c.sync.new.self) r.unfailed c.in_err-sync.ensures.err.failed, λ h. false≢true (c.in_err-sync.ensures.sure (r.copied.same.never_fails h)))
+    let old : Sides = sides c.args.stack.now (g.O.BlockDev.state c.args.out.now) (g.L.Listing.told c.args.listing.now) in
+    let left : Sides = sides c.rescue.new.stack (g.O.BlockDev.state c.rescue.new.out) (g.L.Listing.told c.rescue.new.listing) in
+    err-from c.from_residual-in_err-sync.result _ Output c.from_residual-in_err-sync.ensures.1 (
+      refl,
+      failed-behind (g.O.BlockDev.state c.args.out.now) (g.O.BlockDev.state c.rescue.new.out) (g.O.BlockDev.state c.sync.new.self) r.unfailed c.in_err-sync.ensures.err.failed,
+      λ h. false≢true (c.in_err-sync.ensures.sure (r.copied.same.never_fails h)),
+      record {
+        span = c.args.turn.span;
+        end = c.args.turn.span.first + c.args.turn.span.count;
+        next = c.requires.next;
+        fails = inr (record {
+          left = left;
+          rescued = c.in_ok-rescued.rescued;
+          rescues = subst (λ (l : List Bool). Rescues l c.args.d.0 old c.in_ok-rescued.rescued left) c.requires.wanted c.in_ok-rescued.ensures.ok;
+          unsynced = c.in_err-sync.ensures.err;
+          stack = refl;
+        });
+      },
+    )
 
 pub returns-in_err-map-clause-err : goal.returns-in_err-map-clause-err
 returns-in_err-map-clause-err g c =

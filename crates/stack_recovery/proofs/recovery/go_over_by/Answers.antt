@@ -1,23 +1,33 @@
-use Rattle.std.proofs.Common.{◌≡◌, ◌⊎◌, ◌+◌, ◌-◌, ◌≤◌, ◌<◌, ◌*◌, ◌/◌, ◌^◌, ℕ, Bool, true, false, List, Ok, Err, arith, refl, sym, ◌∙◌, ap, ap₂, subst, length, take, Option, None, is_some, inr}
+use Rattle.std.proofs.Common.{◌≡◌, ◌⊎◌, ◌+◌, ◌-◌, ◌≤◌, ◌<◌, ◌*◌, ◌/◌, ◌^◌, ℕ, Bool, true, false, List, [], ◌∷◌, ◌++◌, replicate, Ok, Err, IsErrAnd, arith, refl, sym, ◌∙◌, ap, ap₂, subst, length, take, Option, None, is_some, inr}
 use Rattle.std.proofs.lemmas.Bool.{false≢true}
 use Rattle.std.proofs.lemmas.List.{length-take-le}
+use Rattle.block_device.specs.Call.{DeviceDoes, Write}
+use Rattle.block_device.specs.Device.{IsWritten}
+use Rattle.block_device.proofs.lemmas.CallLemmas.{calls-last}
 use Rattle.stack_rules.specs.Names.{mapped, size}
 use Rattle.stack_rules.specs.Records.{Configuration}
 use Rattle.stack_engine.specs.Bytes.{EachBytes}
 use Rattle.stack_meaning.specs.declared.fault.IoFault.{IoFault}
 use Rattle.rescue_map.specs.Aheads.{marks_ahead}
+use Rattle.rescue_map.specs.Maps.{marks}
 use Rattle.rescue_map.specs.declared.map.Run.{Run}
-use Rattle.stack_recovery.specs.declared.fault.RecoveryFault.TheVariants.{Output}
+use Rattle.stack_recovery.specs.declared.fault.RecoveryFault.{RecoveryFault}
+use Rattle.stack_recovery.specs.declared.fault.RecoveryFault.TheVariants.{NoMemory, Output}
 use Rattle.runs.specs.Runs.{run}
 use Rattle.runs.specs.Tallies.{EndsAt}
 use Rattle.stack_recovery.specs.LostRuns.{LostRun}
 use Rattle.stack_recovery.specs.declared.tally.Tally.{Tally}
 use Rattle.stack_recovery.specs.Alike.{AreAlike}
 use Rattle.stack_recovery.specs.Losses.{ListsLost, NotesLost, TalliesLost}
+use Rattle.stack_recovery.specs.PassPieces.{IsNextPiece, pass_over}
+use Rattle.stack_recovery.specs.PieceLimits.{limit_after_bytes, limit_after_failure}
+use Rattle.stack_recovery.specs.Pieces.{EndsAligned}
 use Rattle.stack_recovery.specs.Recoveries.{EndsEarly, Sides, sides}
 use Rattle.stack_recovery.specs.Surveys.{AreMarked}
 use Rattle.stack_recovery.proofs.AheadLemmas.{ahead-inside, ahead-next, first-run, marked-next, notes-some}
-use Rattle.stack_recovery.proofs.UnderwayLemmas.{IsUnderway, begun, ends-in-piece, few, note-room, runs-short, underway-again, underway-all, underway-had, underway-kept, underway-lost, underway-none}
+use Rattle.stack_recovery.proofs.HandingLemmas.{hands-failed, hands-in-piece, hands-over, hands-part}
+use Rattle.stack_recovery.proofs.PieceLemmas.{next-piece}
+use Rattle.stack_recovery.proofs.UnderwayLemmas.{IsUnderway, ends-in-piece, fails-output, few, note-room, runs-short, underway-again, underway-all, underway-had, underway-kept, underway-lost, underway-none}
 use Rattle.stack_recovery.proofs.WritingLemmas.{err-from}
 use Rattle.stack_recovery.proofs.recovery.go_over_by.Goals as goal
 
@@ -27,7 +37,12 @@ pieces-init g c =
     let before : List Bool = marks_ahead c.args.ahead in
     let all = c.sectors-sectors.ensures ∙ ap (λ (x : Configuration). size x (mapped c.args.d.0)) c.config.ensures.value in
     record {
-      so_far = subst (λ (t : Tally). IsUnderway before c.args.d.0 old old 0 t c.args.noted.now) (sym c.new-tally.ensures) (underway-none before c.args.d.0 old c.args.noted.now c.requires.begun);
+      so_far = record {
+        calls = [];
+        under = subst (λ (t : Tally). IsUnderway (is_some c.args.noted.now) before c.args.d.0 old old 0 t c.args.noted.now c.new-piece_limit.result []) (sym c.new-tally.ensures)
+            (underway-none (is_some c.args.noted.now) before c.args.d.0 old c.args.noted.now c.new-piece_limit.result c.requires.begun c.new-piece_limit.ensures.value);
+        did = refl;
+      };
       ahead = refl;
       config = refl;
       within = omega arith;
@@ -36,6 +51,7 @@ pieces-init g c =
       piece_limit = c.new-piece_limit.ensures.piece_limit;
       unfailed = refl;
       noted = refl;
+      single = c.requires.single;
     }
 
 pub note-requires-clause-room : goal.note-requires-clause-room
@@ -43,7 +59,7 @@ note-requires-clause-room g c =
     let u = c.pieces.invariant in
     let first = first-run c.pieces.ahead c.next_run-run.new.self c.next_run-run.result c.next_run-run.ensures.same c.next_run-run.ensures.first in
     let inside = ahead-inside (marks_ahead c.args.ahead) c.pieces.at c.sectors-sectors.result c.next_run-run.result.count c.next_run-run.result.had _ _ (c.requires.fits ∙ sym u.all) u.ahead first u.within in
-    λ x e. note-room _ _ _ _ _ _ _ u.so_far c.next_run-run.result.count (omega (arith, inside, u.few)) x e
+    λ x e. note-room _ _ _ _ _ _ _ _ _ _ u.so_far.under c.next_run-run.result.count (omega (arith, inside, u.few)) x e
 
 pub returns-in_err-note-clause-err : goal.returns-in_err-note-clause-err
 returns-in_err-note-clause-err g c =
@@ -53,7 +69,7 @@ returns-in_err-note-clause-err g c =
     let makes_map : Bool = is_some c.args.noted.now in
     err-from c.from_residual.result _ _ c.from_residual.ensures.1
     (subst (EndsEarly makes_map (marks_ahead c.args.ahead) c.args.d.0 old new) (sym c.in_err-note.ensures.err.0)
-    (runs-short _ _ _ _ _ _ _ u.so_far makes_map c.pieces.stack u.unfailed (inr (sym u.noted ∙ c.in_err-note.ensures.made, c.in_err-note.ensures.err.1))))
+    (runs-short _ _ _ _ _ _ _ _ _ _ u.so_far.under c.pieces.stack u.unfailed (inr (sym u.noted ∙ c.in_err-note.ensures.made, c.in_err-note.ensures.err.1))))
 
 pub overflow_add-at : goal.overflow_add-at
 overflow_add-at g c =
@@ -72,8 +88,12 @@ pieces-preserved-then-run g c =
     let marked : AreMarked before c.pieces.at here.count true = subst (AreMarked before c.pieces.at here.count) c.if-run.true (marked-next before c.pieces.at here.count here.count here.had _ (omega arith) (u.ahead ∙ first)) in
     let tally : c.close.new.self ≡ record { last = None; lost = c.pieces.tally.lost } = ap₂ {C = Tally} (λ (l : Option LostRun) (m : ℕ). record { last = l; lost = m }) c.close.ensures.last c.close.ensures.lost in
     record {
-      so_far = underway-kept _ _ _ _ _ _ _ u.so_far here.count (g.L.Listing.told c.close.new.listing) c.close.new.self c.note.new.noted c.next_run-run.ensures.some marked c.in_ok-note.ensures.ok c.close.ensures.text tally;
-      ahead = ahead-next before c.pieces.at here.count _ _ _ (u.ahead ∙ sym c.next_run-run.ensures.same) c.pass.ensures;
+      so_far = record {
+        calls = u.so_far.calls;
+        under = underway-kept _ _ _ _ _ _ _ _ _ _ u.so_far.under here.count (g.L.Listing.told c.close.new.listing) c.close.new.self c.note.new.noted c.next_run-run.ensures.some marked c.in_ok-note.ensures.ok c.close.ensures.text tally;
+        did = u.so_far.did;
+      };
+      ahead = ahead-next before c.pieces.at here.count _ _ _ (u.ahead ∙ sym c.next_run-run.ensures.same) c.pass.ensures.marks;
       config = u.config;
       within = inside;
       all = u.all;
@@ -81,6 +101,7 @@ pieces-preserved-then-run g c =
       piece_limit = u.piece_limit;
       unfailed = u.unfailed;
       noted = notes-some c.pieces.noted c.note.new.noted _ c.in_ok-note.ensures.ok ∙ u.noted;
+      single = λ none. c.pass.ensures.rest ∙ c.next_run-run.ensures.single (u.single none);
     }
 
 pub overflow_add-at-else-run : goal.overflow_add-at-else-run
@@ -114,7 +135,7 @@ note-requires-in-Ok-clause-room g c =
     let u = c.pieces.invariant in
     let first = first-run c.pieces.ahead c.next_run-run.new.self c.next_run-run.result c.next_run-run.ensures.same c.next_run-run.ensures.first in
     let inside = ahead-inside (marks_ahead c.args.ahead) c.pieces.at c.sectors-sectors.result c.next_run-run.result.count c.next_run-run.result.had _ _ (c.requires.fits ∙ sym u.all) u.ahead first u.within in
-    λ x e. note-room _ _ _ _ _ _ _ u.so_far c.from-count.result (omega (arith, inside, u.few, c.from-count.ensures, c.piece_at-piece.ensures.inside)) x e
+    λ x e. note-room _ _ _ _ _ _ _ _ _ _ u.so_far.under c.from-count.result (omega (arith, inside, u.few, c.from-count.ensures, c.piece_at-piece.ensures.inside)) x e
 
 pub returns-in_err-note-in-Ok-clause-err : goal.returns-in_err-note-in-Ok-clause-err
 returns-in_err-note-in-Ok-clause-err g c =
@@ -124,7 +145,7 @@ returns-in_err-note-in-Ok-clause-err g c =
     let makes_map : Bool = is_some c.args.noted.now in
     err-from c.from_residual-in_err-note-in-Ok.result _ _ c.from_residual-in_err-note-in-Ok.ensures.1
     (subst (EndsEarly makes_map (marks_ahead c.args.ahead) c.args.d.0 old new) (sym c.in_err-note-in-Ok.ensures.err.0)
-    (runs-short _ _ _ _ _ _ _ u.so_far makes_map c.read_bytes.new.self u.unfailed (inr (sym u.noted ∙ c.in_err-note-in-Ok.ensures.made, c.in_err-note-in-Ok.ensures.err.1))))
+    (runs-short _ _ _ _ _ _ _ _ _ _ u.so_far.under c.read_bytes.new.self u.unfailed (inr (sym u.noted ∙ c.in_err-note-in-Ok.ensures.made, c.in_err-note-in-Ok.ensures.err.1))))
 
 pub write-requires-clause-range : goal.write-requires-clause-range
 write-requires-clause-range g c =
@@ -139,15 +160,24 @@ write-requires-clause-range g c =
     record {
       some = omega (arith, len, c.piece_at-piece.ensures.some);
       whole = omega (arith, len);
-      inside = omega (arith, len, inside, c.piece_at-piece.ensures.inside, u.all, c.requires.room, u.so_far.copied.same.size);
+      inside = omega (arith, len, inside, c.piece_at-piece.ensures.inside, u.all, c.requires.room, u.so_far.under.copied.same.size);
     }
 
 pub returns-in_err-write-in-Ok-clause-err : goal.returns-in_err-write-in-Ok-clause-err
 returns-in_err-write-in-Ok-clause-err g c =
-    err-from c.from_residual-in_err-write-in-Ok.result _ Output c.from_residual-in_err-write-in-Ok.ensures.1 (
-      begun _ _ _ _ _ _ _ c.pieces.invariant.so_far c.read_bytes.new.self _,
-      (subst (λ (n : ℕ). (n < (g.O.BlockDev.state c.write.new.self).failures) ⊎ (n ≡ 2 ^ 64 - 1)) c.pieces.invariant.unfailed c.in_err-write-in-Ok.ensures.fault, λ h. false≢true (c.in_err-write-in-Ok.ensures.sure (c.pieces.invariant.so_far.copied.same.never_fails h))),
-    )
+    let u = c.pieces.invariant in
+    let n : ℕ = c.piece_at-piece.result.count in
+    let wide : length (take (n * 512) c.pieces.room) ≡ n * 512 = length-take-le (n * 512) c.pieces.room (omega (arith, c.requires.buffer, c.pieces.auto.room, c.piece_at-piece.ensures.few)) in
+    let number : length (take (n * 512) c.pieces.room) / 512 ≡ n = omega (arith, wide) in
+    let bytes : List ℕ = c.read_bytes.new.out in
+    let piece = subst (λ (m : ℕ). EachBytes c.pieces.stack c.args.d.0 c.pieces.at m (Ok bytes) c.read_bytes.new.self) number (record { any = c.in-Ok.ensures.any; steady = c.in-Ok.ensures.steady }) in
+    let len : length bytes ≡ 512 * n = piece.any.may.read.run.len in
+    let count : length bytes / 512 ≡ n = omega (arith, len) in
+    err-from c.from_residual-in_err-write-in-Ok.result _ Output c.from_residual-in_err-write-in-Ok.ensures.1
+    (fails-output _ _ _ _ _ _ _ _ _ _ u.so_far.under n bytes c.read_bytes.new.self (g.O.BlockDev.state c.write.new.self) piece
+    (subst (λ (m : ℕ). IsWritten (g.O.BlockDev.state c.pieces.out) c.pieces.at m false (g.O.BlockDev.state c.write.new.self)) count c.in_err-write-in-Ok.ensures.moved)
+    (subst (λ (m : ℕ). (m < (g.O.BlockDev.state c.write.new.self).failures) ⊎ (m ≡ 2 ^ 64 - 1)) u.unfailed c.in_err-write-in-Ok.ensures.fault)
+    (λ h. false≢true (c.in_err-write-in-Ok.ensures.sure (u.so_far.under.copied.same.never_fails h))))
 
 pub pieces-preserved-in-Ok : goal.pieces-preserved-in-Ok
 pieces-preserved-in-Ok g c =
@@ -169,13 +199,23 @@ pieces-preserved-in-Ok g c =
     let k : ℕ = length bytes / 512 in
     let count : length bytes / 512 ≡ n = omega (arith, len) in
     let same : c.from-count.result ≡ n = c.from-count.ensures in
+    let next : IsNextPiece (pass_over c.args.stack.now.config c.args.d.0 before (is_some c.args.noted.now)) c.pieces.at c.pieces.piece_limit.most n =
+    next-piece c.args.stack.now.config c.args.d.0 before (is_some c.args.noted.now) c.pieces.at here.count c.sectors-sectors.result c.pieces.piece_limit.most n (marks c.next_run-run.new.self.rest.now)
+    (u.ahead ∙ subst (λ (h : Bool). marks_ahead c.pieces.ahead ≡ replicate here.count h ++ marks c.next_run-run.new.self.rest.now) c.if-run.false first) (c.requires.fits ∙ sym u.all) u.within
+    inside u.all (λ none. ap marks (c.next_run-run.ensures.single (u.single none)))
+    (subst (λ (x : Configuration). EndsAligned x c.args.d.0 c.pieces.at (c.pieces.at + here.count) c.pieces.piece_limit.most n) (c.config-else-run.ensures.value ∙ u.config) c.piece_at-piece.ensures.ends) in
     record {
-      so_far = subst (λ (m : ℕ). IsUnderway before c.args.d.0 old new (c.pieces.at + m) c.close-in-Ok.new.self c.note-in-Ok.new.noted) (sym same)
-          (underway-had _ _ _ _ _ _ _ u.so_far n bytes c.read_bytes.new.self k _ (g.O.BlockDev.state c.write.new.self) (g.L.Listing.told c.close-in-Ok.new.listing) c.close-in-Ok.new.self c.note-in-Ok.new.noted
-          c.piece_at-piece.ensures.some piece marked (rw same at c.in_ok-note-in-Ok.ensures.ok) count c.in_ok-write-in-Ok.ensures.moved
-          c.in_ok-write-in-Ok.ensures.image
-          c.close-in-Ok.ensures.text tally);
-      ahead = ahead-next before c.pieces.at c.from-count.result _ _ _ (u.ahead ∙ sym c.next_run-run.ensures.same) c.pass-in-Ok.ensures;
+      so_far = record {
+        calls = u.so_far.calls ++ Write c.pieces.at bytes true ∷ [];
+        under = subst (λ (m : ℕ). IsUnderway (is_some c.args.noted.now) before c.args.d.0 old new (c.pieces.at + m) c.close-in-Ok.new.self c.note-in-Ok.new.noted c.after_bytes-piece_limit.result (u.so_far.calls ++ Write c.pieces.at bytes true ∷ [])) (sym same)
+            (underway-had _ _ _ _ _ _ _ _ _ _ u.so_far.under n bytes c.read_bytes.new.self k _ (g.O.BlockDev.state c.write.new.self) (g.L.Listing.told c.close-in-Ok.new.listing) c.close-in-Ok.new.self c.note-in-Ok.new.noted
+            c.after_bytes-piece_limit.result next (c.after_bytes-piece_limit.ensures.value ∙ ap (λ (m : ℕ). limit_after_bytes c.pieces.piece_limit n (c.pieces.at + m)) same)
+            c.piece_at-piece.ensures.some piece marked (rw same at c.in_ok-note-in-Ok.ensures.ok) count c.in_ok-write-in-Ok.ensures.moved
+            c.in_ok-write-in-Ok.ensures.image
+            c.close-in-Ok.ensures.text tally);
+        did = calls-last (DeviceDoes g.O.BlockDev.state g.O.BlockDev.does) c.args.out.now c.pieces.out c.write.new.self u.so_far.calls (Write c.pieces.at bytes true) u.so_far.did c.in_ok-write-in-Ok.ensures.call;
+      };
+      ahead = ahead-next before c.pieces.at c.from-count.result _ _ _ (u.ahead ∙ sym c.next_run-run.ensures.same) c.pass-in-Ok.ensures.marks;
       config = c.in-Ok.ensures.any.config ∙ u.config;
       within = omega (arith, inside, same, c.piece_at-piece.ensures.inside);
       all = u.all;
@@ -183,6 +223,7 @@ pieces-preserved-in-Ok g c =
       piece_limit = c.after_bytes-piece_limit.ensures.piece_limit;
       unfailed = c.in_ok-write-in-Ok.ensures.moved.failures ∙ u.unfailed;
       noted = notes-some c.pieces.noted c.note-in-Ok.new.noted _ c.in_ok-note-in-Ok.ensures.ok ∙ u.noted;
+      single = λ none. c.pass-in-Ok.ensures.rest ∙ c.next_run-run.ensures.single (u.single none);
     }
 
 pub lose_piece-requires : goal.lose_piece-requires
@@ -193,9 +234,9 @@ lose_piece-requires g c =
     let inside = ahead-inside (marks_ahead c.args.ahead) c.pieces.at c.sectors-sectors.result c.next_run-run.result.count c.next_run-run.result.had _ _ (c.requires.fits ∙ sym u.all) u.ahead first u.within in
     record {
       some = c.piece_at-piece.ensures.some;
-      marks = λ x e. note-room _ _ _ _ _ _ _ u.so_far n (omega (arith, inside, u.few, c.piece_at-piece.ensures.inside)) x e;
-      ends = subst (EndsAt c.pieces.tally.last) (sym u.so_far.here) u.so_far.tallied.ends;
-      few = few _ _ _ _ _ _ _ u.so_far;
+      marks = λ x e. note-room _ _ _ _ _ _ _ _ _ _ u.so_far.under n (omega (arith, inside, u.few, c.piece_at-piece.ensures.inside)) x e;
+      ends = subst (EndsAt c.pieces.tally.last) (sym u.so_far.under.here) u.so_far.under.tallied.ends;
+      few = few _ _ _ _ _ _ _ _ _ _ u.so_far.under;
       room = omega (arith, inside, u.few, c.piece_at-piece.ensures.inside);
     }
 
@@ -204,7 +245,7 @@ returns-in_err-lose_piece-in-Err-clause-err g c =
     let u = c.pieces.invariant in
     let count : ℕ = length (take (c.piece_at-piece.result.count * 512) c.pieces.room) / 512 in
     err-from c.from_residual-in_err-lose_piece-in-Err.result _ _ c.from_residual-in_err-lose_piece-in-Err.ensures.1
-    (ends-in-piece _ _ _ _ _ _ _ u.so_far g.L.Listing.told (is_some c.args.noted.now) c.read_bytes.new.self c.in-Err.fault c.pieces.listing c.lose_piece.new.listing c.in_err-lose_piece-in-Err.field-0.0 refl u.unfailed u.noted
+    (ends-in-piece _ _ _ _ _ _ _ _ _ _ u.so_far.under g.L.Listing.told c.read_bytes.new.self c.in-Err.fault c.pieces.listing c.lose_piece.new.listing c.in_err-lose_piece-in-Err.field-0.0 refl u.unfailed u.noted
     (λ is. record {
       count = count;
       answered = subst (λ (f : IoFault). EachBytes c.pieces.stack c.args.d.0 c.pieces.at count (Err f) c.read_bytes.new.self) is (record { any = c.in-Err.ensures.any; steady = c.in-Err.ensures.steady });
@@ -234,18 +275,29 @@ pieces-preserved-then-branch g c =
     let old : Sides = sides c.args.stack.now (g.O.BlockDev.state c.args.out.now) (g.L.Listing.told c.args.listing.now) in
     let new : Sides = sides c.read_bytes.new.self (g.O.BlockDev.state c.pieces.out) (g.L.Listing.told c.lose_piece.new.listing) in
     let same : c.from-count.result ≡ n = c.from-count.ensures in
+    let next : IsNextPiece (pass_over c.args.stack.now.config c.args.d.0 before (is_some c.args.noted.now)) c.pieces.at c.pieces.piece_limit.most n =
+    next-piece c.args.stack.now.config c.args.d.0 before (is_some c.args.noted.now) c.pieces.at here.count c.sectors-sectors.result c.pieces.piece_limit.most n (marks c.next_run-run.new.self.rest.now)
+    (u.ahead ∙ subst (λ (h : Bool). marks_ahead c.pieces.ahead ≡ replicate here.count h ++ marks c.next_run-run.new.self.rest.now) c.if-run.false first) (c.requires.fits ∙ sym u.all) u.within
+    inside u.all (λ none. ap marks (c.next_run-run.ensures.single (u.single none)))
+    (subst (λ (x : Configuration). EndsAligned x c.args.d.0 c.pieces.at (c.pieces.at + here.count) c.pieces.piece_limit.most n) (c.config-else-run.ensures.value ∙ u.config) c.piece_at-piece.ensures.ends) in
     record {
-      so_far = subst (λ (m : ℕ). IsUnderway before c.args.d.0 old new (c.pieces.at + m) c.lose_piece.new.tally c.lose_piece.new.noted) (sym same)
-          (underway-lost _ _ _ _ _ _ _ u.so_far n c.in-Err.fault c.read_bytes.new.self (g.L.Listing.told c.lose_piece.new.listing) c.lose_piece.new.tally c.lose_piece.new.noted
-          c.piece_at-piece.ensures.some piece marked noting alike call.ensures.kind told tally);
-      ahead = ahead-next before c.pieces.at c.from-count.result _ _ _ (u.ahead ∙ sym c.next_run-run.ensures.same) c.pass-then-branch.ensures;
+      so_far = record {
+        calls = u.so_far.calls;
+        under = subst (λ (m : ℕ). IsUnderway (is_some c.args.noted.now) before c.args.d.0 old new (c.pieces.at + m) c.lose_piece.new.tally c.lose_piece.new.noted c.after_loss-piece_limit.result u.so_far.calls) (sym same)
+            (underway-lost _ _ _ _ _ _ _ _ _ _ u.so_far.under n c.in-Err.fault c.read_bytes.new.self (g.L.Listing.told c.lose_piece.new.listing) c.lose_piece.new.tally c.lose_piece.new.noted
+            c.after_loss-piece_limit.result next c.after_loss-piece_limit.ensures.value
+            c.piece_at-piece.ensures.some piece marked noting alike call.ensures.kind told tally);
+        did = u.so_far.did;
+      };
+      ahead = ahead-next before c.pieces.at c.from-count.result _ _ _ (u.ahead ∙ sym c.next_run-run.ensures.same) c.pass-then-branch.ensures.marks;
       config = c.in-Err.ensures.any.config ∙ u.config;
       within = omega (arith, inside, same, c.piece_at-piece.ensures.inside);
       all = u.all;
       few = u.few;
-      piece_limit = c.after_loss-piece_limit.ensures;
+      piece_limit = c.after_loss-piece_limit.ensures.piece_limit;
       unfailed = u.unfailed;
       noted = notes-some c.pieces.noted c.lose_piece.new.noted _ noting ∙ u.noted;
+      single = λ none. c.pass-then-branch.ensures.rest ∙ c.next_run-run.ensures.single (u.single none);
     }
 
 pub pieces-preserved : goal.pieces-preserved
@@ -259,13 +311,24 @@ pieces-preserved g c =
     let wide : length (take (n * 512) c.pieces.room) ≡ n * 512 = length-take-le (n * 512) c.pieces.room (omega (arith, c.requires.buffer, c.pieces.auto.room, c.piece_at-piece.ensures.few)) in
     let number : length (take (n * 512) c.pieces.room) / 512 ≡ n = omega (arith, wide) in
     let piece = subst (λ (m : ℕ). EachBytes c.pieces.stack c.args.d.0 c.pieces.at m (Err c.in-Err.fault) c.read_bytes.new.self) number (record { any = c.in-Err.ensures.any; steady = c.in-Err.ensures.steady }) in
+    let inside = ahead-inside before c.pieces.at c.sectors-sectors.result here.count here.had _ _ (c.requires.fits ∙ sym u.all) u.ahead first u.within in
+    let next : IsNextPiece (pass_over c.args.stack.now.config c.args.d.0 before (is_some c.args.noted.now)) c.pieces.at c.pieces.piece_limit.most n =
+    next-piece c.args.stack.now.config c.args.d.0 before (is_some c.args.noted.now) c.pieces.at here.count c.sectors-sectors.result c.pieces.piece_limit.most n (marks c.next_run-run.new.self.rest.now)
+    (u.ahead ∙ subst (λ (h : Bool). marks_ahead c.pieces.ahead ≡ replicate here.count h ++ marks c.next_run-run.new.self.rest.now) c.if-run.false first) (c.requires.fits ∙ sym u.all) u.within
+    inside u.all (λ none. ap marks (c.next_run-run.ensures.single (u.single none)))
+    (subst (λ (x : Configuration). EndsAligned x c.args.d.0 c.pieces.at (c.pieces.at + here.count) c.pieces.piece_limit.most n) (c.config-else-run.ensures.value ∙ u.config) c.piece_at-piece.ensures.ends) in
     let call = c.in_ok-lose_piece-in-Err in
     let isnt : call.field-0 ≡ false = c.if-branch.false in
     let noted = subst (NotesLost n c.pieces.noted c.lose_piece.new.noted) isnt call.ensures.noted in
     let tally = subst (TalliesLost (run c.pieces.at n c.in-Err.fault) c.pieces.tally c.lose_piece.new.tally) isnt call.ensures.tallied in
     let told = subst (ListsLost g.L.Listing.told (run c.pieces.at n c.in-Err.fault) c.pieces.tally c.pieces.listing c.lose_piece.new.listing) isnt call.ensures.told in
     record {
-      so_far = rw (noted, tally, told) (underway-again _ _ _ _ _ _ _ u.so_far n c.in-Err.fault c.read_bytes.new.self piece marked);
+      so_far = record {
+        calls = u.so_far.calls;
+        under = rw (noted, tally, told) (underway-again _ _ _ _ _ _ _ _ _ _ u.so_far.under n c.in-Err.fault c.read_bytes.new.self c.after_failure-piece_limit.result next
+            (c.after_failure-piece_limit.ensures.value ∙ ap (λ (m : ℕ). limit_after_failure n (c.pieces.at + m)) c.from-count.ensures) piece marked);
+        did = u.so_far.did;
+      };
       ahead = u.ahead ∙ sym c.next_run-run.ensures.same;
       config = c.in-Err.ensures.any.config ∙ u.config;
       within = u.within;
@@ -274,14 +337,47 @@ pieces-preserved g c =
       piece_limit = c.after_failure-piece_limit.ensures.piece_limit;
       unfailed = u.unfailed;
       noted = ap (λ (m : Option (List Run)). is_some m) noted ∙ u.noted;
+      single = λ none. c.next_run-run.ensures.single (u.single none);
     }
 
 pub counts-requires : goal.counts-requires
-counts-requires g c = omega (arith, few _ _ _ _ _ _ _ c.pieces.invariant.so_far, c.pieces.invariant.within, c.close-2.ensures.lost)
+counts-requires g c = omega (arith, few _ _ _ _ _ _ _ _ _ _ c.pieces.invariant.so_far.under, c.pieces.invariant.within, c.close-2.ensures.lost)
 
 pub returns-clause-ok : goal.returns-clause-ok
 returns-clause-ok g c =
     let u = c.pieces.invariant in
     let all : c.sectors-sectors.result ≡ c.pieces.at = omega (arith, u.within, c.pieces-test.false) in
-    underway-all _ _ _ _ _ _ _ u.so_far (g.L.Listing.told c.close-2.new.listing) c.sectors-sectors.result _ (sym all ∙ u.all) all
-    c.close-2.ensures.text (c.counts.ensures ∙ ap (λ m. record { read = c.sectors-sectors.result - m; lost = m }) c.close-2.ensures.lost) u.unfailed
+    underway-all _ _ _ _ _ _ _ _ _ _ u.so_far.under (g.L.Listing.told c.close-2.new.listing) c.sectors-sectors.result _ (sym all ∙ u.all) all
+    c.close-2.ensures.text (c.counts.ensures ∙ ap (λ m. record { read = c.sectors-sectors.result - m; lost = m }) c.close-2.ensures.lost) u.unfailed u.noted
+
+pub returns-clause-handed : goal.returns-clause-handed
+returns-clause-handed g c =
+    let u = c.pieces.invariant in
+    let all : c.sectors-sectors.result ≡ c.pieces.at = omega (arith, u.within, c.pieces-test.false) in
+    hands-over _ _ _ _ _ _ _ _ _ _ _ _ u.so_far c.args.listing.now c.close-2.new.listing (sym all ∙ u.all)
+
+pub returns-in_err-note-clause-stopped : goal.returns-in_err-note-clause-stopped
+returns-in_err-note-clause-stopped g c =
+    err-from c.from_residual.result _ NoMemory (subst (λ (e : RecoveryFault). IsErrAnd c.from_residual.result (λ f. f ≡ e)) c.in_err-note.ensures.err.0 c.from_residual.ensures.1)
+    (hands-part _ _ _ _ _ _ _ _ _ _ _ _ c.pieces.invariant.so_far c.args.listing.now c.pieces.listing c.pieces.stack)
+
+pub returns-in_err-note-in-Ok-clause-stopped : goal.returns-in_err-note-in-Ok-clause-stopped
+returns-in_err-note-in-Ok-clause-stopped g c =
+    err-from c.from_residual-in_err-note-in-Ok.result _ NoMemory (subst (λ (e : RecoveryFault). IsErrAnd c.from_residual-in_err-note-in-Ok.result (λ f. f ≡ e)) c.in_err-note-in-Ok.ensures.err.0 c.from_residual-in_err-note-in-Ok.ensures.1)
+    (hands-part _ _ _ _ _ _ _ _ _ _ _ _ c.pieces.invariant.so_far c.args.listing.now c.pieces.listing c.read_bytes.new.self)
+
+pub returns-in_err-write-in-Ok-clause-stopped : goal.returns-in_err-write-in-Ok-clause-stopped
+returns-in_err-write-in-Ok-clause-stopped g c =
+    let n : ℕ = c.piece_at-piece.result.count in
+    let wide : length (take (n * 512) c.pieces.room) ≡ n * 512 = length-take-le (n * 512) c.pieces.room (omega (arith, c.requires.buffer, c.pieces.auto.room, c.piece_at-piece.ensures.few)) in
+    let number : length (take (n * 512) c.pieces.room) / 512 ≡ n = omega (arith, wide) in
+    let bytes : List ℕ = c.read_bytes.new.out in
+    let piece = subst (λ (m : ℕ). EachBytes c.pieces.stack c.args.d.0 c.pieces.at m (Ok bytes) c.read_bytes.new.self) number (record { any = c.in-Ok.ensures.any; steady = c.in-Ok.ensures.steady }) in
+    err-from c.from_residual-in_err-write-in-Ok.result _ Output c.from_residual-in_err-write-in-Ok.ensures.1
+    (hands-failed _ _ _ _ _ _ _ _ _ _ _ _ c.pieces.invariant.so_far c.args.listing.now c.pieces.listing c.read_bytes.new.self c.write.new.self n bytes piece c.in_err-write-in-Ok.ensures.call)
+
+pub returns-in_err-lose_piece-in-Err-clause-stopped : goal.returns-in_err-lose_piece-in-Err-clause-stopped
+returns-in_err-lose_piece-in-Err-clause-stopped g c =
+    err-from c.from_residual-in_err-lose_piece-in-Err.result _ _ c.from_residual-in_err-lose_piece-in-Err.ensures.1
+    (hands-in-piece _ _ _ _ _ _ _ _ _ _ _ _ c.pieces.invariant.so_far c.args.listing.now c.lose_piece.new.listing c.read_bytes.new.self c.in-Err.fault (is_some c.pieces.noted) c.pieces.listing c.lose_piece.new.listing
+    c.in_err-lose_piece-in-Err.field-0.0 c.in_err-lose_piece-in-Err.ensures.err)

@@ -1,15 +1,16 @@
-use Rattle.std.proofs.Common.{◌≡◌, ◌-◌, ◌+◌, ◌*◌, ◌≤◌, ◌^◌, drop, is_some}
+use Rattle.std.proofs.Common.{◌≡◌, ◌-◌, ◌+◌, ◌*◌, ◌≤◌, ◌^◌, drop, false, [], is_some}
+use Rattle.block_device.specs.Call.{DeviceDoes}
 use Rattle.stack_rules.specs.Names.{mapped, size}
 use Rattle.rescue_map.specs.Aheads.{marks_ahead}
 use Rattle.stack_recovery.specs.Pieces.{IsPieceLimit}
 use Rattle.stack_recovery.specs.Recoveries.{sides}
-use Rattle.stack_recovery.proofs.UnderwayLemmas.{IsUnderway}
+use Rattle.stack_recovery.proofs.HandingLemmas.{IsHanding}
 use Rattle.stack_recovery.proofs.recovery.go_over_by.Given as goal
 
 -- the sectors before this one are had or lost
 abbrev pub invariant-pieces : goal.invariant-pieces
 invariant-pieces g l = record {
-  so_far : IsUnderway (marks_ahead l.fn.ahead) l.fn.d.0 (sides l.fn.stack (g.O.BlockDev.state l.fn.out) (g.L.Listing.told l.fn.listing)) (sides l.stack (g.O.BlockDev.state l.out) (g.L.Listing.told l.listing)) l.at l.tally l.noted;
+  so_far : IsHanding (DeviceDoes g.O.BlockDev.state g.O.BlockDev.does) (is_some l.fn.noted) (marks_ahead l.fn.ahead) l.fn.d.0 (sides l.fn.stack (g.O.BlockDev.state l.fn.out) (g.L.Listing.told l.fn.listing)) (sides l.stack (g.O.BlockDev.state l.out) (g.L.Listing.told l.listing)) l.at l.tally l.noted l.piece_limit l.fn.out l.out;
   ahead : drop l.at (marks_ahead l.fn.ahead) ≡ marks_ahead l.ahead;
   config : l.stack.config ≡ l.fn.stack.config;
   within : l.at ≤ l.sectors;
@@ -18,6 +19,7 @@ invariant-pieces g l = record {
   piece_limit : IsPieceLimit l.piece_limit.most;
   unfailed : (g.O.BlockDev.state l.out).failures ≡ (g.O.BlockDev.state l.fn.out).failures;
   noted : is_some l.noted ≡ is_some l.fn.noted;
+  single : is_some l.fn.noted ≡ false → l.ahead.rest.now ≡ [];
 }
 
 -- a piece that is lost in part makes the next one shorter

@@ -11,5 +11,5 @@ returns-in-Ok-Done-Ok g c =
     let is : c.step.result ≡ Ok (Done (Ok c.in-Ok-Done-Ok.reply)) = search rules in
     let same : c.unwrap_or-first.result ≡ first_sector c.args.queue.now c.args.ticket = search rules in
     writes_reply g.W.Write.contents (λ reply. RepliesTo WholeStep c.args.queue.now (step c.args.ticket) reply c.step.new.self) (reply_text c.unwrap_or-first.result c.in-Ok-Done-Ok.reply)
-    (step_replies c.args.queue.now c.step.new.self c.args.ticket c.unwrap_or-first.result c.in-Ok-Done-Ok.reply c.step.result is same c.step.ensures)
+    (step_replies c.args.queue.now c.step.new.self c.args.ticket c.unwrap_or-first.result c.in-Ok-Done-Ok.reply c.step.result is same c.step.ensures.step)
     c.say_reply.ensures

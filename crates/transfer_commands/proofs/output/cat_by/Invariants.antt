@@ -1,13 +1,12 @@
 use Rattle.std.proofs.Common.{◌-◌, ◌+◌, ◌*◌, ◌≤◌}
 use Rattle.stack_recovery.specs.Pieces.{IsPieceLimit}
-use Rattle.transfer_commands.specs.Cats.{IsCat, cat_side}
+use Rattle.transfer_commands.specs.Cats.{cat_side}
 use Rattle.transfer_commands.proofs.CatLemmas.{IsCatting}
 use Rattle.transfer_commands.proofs.output.cat_by.Given as goal
 
 -- the sectors before this one were written out
 abbrev pub invariant-pieces : goal.invariant-pieces
 invariant-pieces g l = record {
-  so_far : IsCat l.fn.d.0 l.fn.range.first (l.at - l.fn.range.first) (cat_side l.fn.stack (g.W.Write.contents l.fn.writer.inner)) (cat_side l.stack (g.W.Write.contents l.writer.inner));
   catting : IsCatting l.fn.d.0 l.fn.range.first (l.at - l.fn.range.first) l.end (cat_side l.fn.stack (g.W.Write.contents l.fn.writer.inner)) (cat_side l.stack (g.W.Write.contents l.writer.inner)) l.piece_limit;
   from : l.fn.range.first ≤ l.at;
   within : l.at ≤ l.end;

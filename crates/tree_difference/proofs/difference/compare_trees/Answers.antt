@@ -5,11 +5,13 @@ use Rattle.verity_format.specs.Superblock.{shape_of}
 use Rattle.verity_format.proofs.lemmas.DeviceLemmas.{only_read-then}
 use Rattle.tree_difference.specs.declared.trees.TreePair.{TreePair}
 use Rattle.tree_difference.specs.declared.walk.Walk.{Walk}
-use Rattle.tree_difference.specs.Comparisons.{Compares, ReadsDiffering, difference_world}
+use Rattle.tree_difference.specs.Comparisons.{Compares, IsReported, ReadsDiffering, difference_world}
 use Rattle.tree_difference.specs.Differences.{HaveTrees, trees_in, trees_of}
 use Rattle.tree_difference.specs.Trees.{Trees}
 use Rattle.tree_difference.proofs.DifferenceLemmas.{aligned-read, aligned-read-second, can-compare, compares-was, comparison-cause, have-trees, reads-was, same-trees, walk-cause}
 use Rattle.tree_difference.proofs.ErrLemmas.{err-from, ok-both}
+use Rattle.tree_difference.specs.declared.fault.DifferenceFault.TheVariants.{NoMemory}
+use Rattle.tree_difference.proofs.ReportLemmas.{reported-none, reported-was}
 use Rattle.tree_difference.proofs.RootLemmas.{first-cause, second-cause}
 use Rattle.tree_difference.proofs.difference.compare_trees.Goals as goal
 
@@ -99,3 +101,50 @@ returns-clause-err g c =
     (only_read-then c.check_root_block.ensures.read aligned.first.full.read) (only_read-then c.check_root_block-2.ensures.read aligned.second.full.read)
     (aligned.first.full.failures ∙ c.in_ok-check_root_block.ensures.ok.1.failures) (aligned.second.full.failures ∙ c.in_ok-check_root_block-2.ensures.ok.1.failures) fault cause)
     c.compare.ensures.err
+
+pub returns-in_err-check_root_block-clause-before : goal.returns-in_err-check_root_block-clause-before
+returns-in_err-check_root_block-clause-before g c =
+    let fault = c.in_err-check_root_block.field-0.0 in
+    err-from c.from_residual.result _ fault c.from_residual.ensures.1
+    (reported-none (trees_of c.args.pair.now) _ _ _ _ (g.L.Listing.told c.args.listing.now) c.args.most fault c.in_err-check_root_block.ensures.first)
+
+pub returns-in_err-check_root_block-2-clause-before : goal.returns-in_err-check_root_block-2-clause-before
+returns-in_err-check_root_block-2-clause-before g c =
+    let fault = c.in_err-check_root_block-2.field-0.0 in
+    err-from c.from_residual-in_err-check_root_block-2.result _ fault c.from_residual-in_err-check_root_block-2.ensures.1
+    (reported-none (trees_of c.args.pair.now) _ _ _ _ (g.L.Listing.told c.args.listing.now) c.args.most fault c.in_err-check_root_block-2.ensures.first)
+
+pub returns-in_err-walk-clause-before : goal.returns-in_err-walk-clause-before
+returns-in_err-walk-clause-before g c =
+    err-from c.from_residual-in_err-walk.result _ NoMemory c.from_residual-in_err-walk.ensures.1
+    (reported-none (trees_of c.args.pair.now) _ _ _ _ (g.L.Listing.told c.args.listing.now) c.args.most NoMemory tt)
+
+pub returns-in_err-align-clause-before : goal.returns-in_err-align-clause-before
+returns-in_err-align-clause-before g c =
+    let fault = c.in_err-align.field-0.0 in
+    err-from c.from_residual-in_err-align.result _ fault c.from_residual-in_err-align.ensures.1
+    (reported-none (trees_of c.args.pair.now) _ _ _ _ (g.L.Listing.told c.args.listing.now) c.args.most fault c.in_err-align.ensures.first)
+
+pub returns-clause-before : goal.returns-clause-before
+returns-clause-before g c =
+    let pair : TreePair = c.args.pair.now in
+    let w : Walk = c.in_ok-walk.walk in
+    let w' : Walk = c.align.new.walk in
+    let d0 : Device = g.D.BlockDev.state c.args.first.now in
+    let e0 : Device = g.E.BlockDev.state c.args.second.now in
+    let d1 : Device = g.D.BlockDev.state c.check_root_block.new.device in
+    let e1 : Device = g.E.BlockDev.state c.check_root_block-2.new.device in
+    let d2 : Device = g.D.BlockDev.state c.align.new.first in
+    let e2 : Device = g.E.BlockDev.state c.align.new.second in
+    let d3 : Device = g.D.BlockDev.state c.compare.new.first in
+    let e3 : Device = g.E.BlockDev.state c.compare.new.second in
+    let old : Option (List ℕ) = g.L.Listing.told c.args.listing.now in
+    let new : Option (List ℕ) = g.L.Listing.told c.compare.new.listing in
+    let aligned = c.in_ok-align.ensures.ok in
+    let have : HaveTrees w d1 e1 = have-trees pair w d0 d1 e0 e1 c.in_ok-walk.ensures.ok c.requires c.begin.ensures.valid c.check_root_block.ensures.read.same.size c.check_root_block-2.ensures.read.same.size in
+    let is : trees_in w' ≡ trees_of pair = same-trees w w' d1 e1 d2 e2 have aligned ∙ c.in_ok-walk.ensures.ok.trees in
+    IfErr-weaker c.compare.result _ _
+    (λ fault before. reported-was (trees_of pair) d0 e0 d2 e2 d3 e3 old new c.args.most fault
+    (only_read-then c.check_root_block.ensures.read aligned.first.full.read) (only_read-then c.check_root_block-2.ensures.read aligned.second.full.read)
+    (subst (λ (x : Trees). IsReported x (difference_world d2 e2 d3 e3 old new) c.args.most fault) is before))
+    c.compare.ensures.before

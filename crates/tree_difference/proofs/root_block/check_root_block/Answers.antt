@@ -8,6 +8,7 @@ use Rattle.tree_path.specs.Path.{IsPathOf, PathRecord}
 use Rattle.tree_path.specs.Steps.{IsDown, steps}
 use Rattle.tree_difference.specs.Causes.{IsWayCause}
 use Rattle.tree_difference.specs.RootBlocks.{root_level}
+use Rattle.tree_difference.proofs.ReportLemmas.{first-block}
 use Rattle.tree_difference.proofs.RootLemmas.{root-cause, root-full, root-read}
 use Rattle.tree_difference.proofs.root_block.check_root_block.Goals as goal
 
@@ -40,4 +41,10 @@ returns-clause-err g c =
     IfErr-weaker c.read_down.result _ _
     (λ fault cause. root-cause s c.args.root p q d d' c.args.which fault is c.shape.ensures.valid
     (subst₂ (λ (n m : ℕ). IsWayCause (steps p q d d' 0 n) c.args.which m fault) top low cause))
+    c.read_down.ensures.err
+
+pub returns-clause-first : goal.returns-clause-first
+returns-clause-first g c =
+    IfErr-weaker c.read_down.result _ _
+    (λ fault cause. first-block c.in_ok-path.path c.read_down.new.path (g.H.BlockDev.state c.args.device.now) (g.H.BlockDev.state c.read_down.new.device) c.levels-top.result c.saturating_sub.result c.args.which fault cause)
     c.read_down.ensures.err

@@ -1,20 +1,29 @@
-use Rattle.std.proofs.Common.{ap, arith}
+use Rattle.std.proofs.Common.{ap, arith, inr, refl, subst, sym}
 use Rattle.verity_format.specs.Image.{tree_sectors}
-use Rattle.tree_difference.proofs.ErrLemmas.{err-from}
+use Rattle.tree_difference.specs.Superblocks.{IsOneImageCause}
 use Rattle.tree_difference.proofs.SuperblockLemmas.{unpinned-cause}
 use Rattle.tree_difference.proofs.superblocks.superblock_of.Goals as goal
 
-pub returns-in_err-check_pin-clause-err : goal.returns-in_err-check_pin-clause-err
-returns-in_err-check_pin-clause-err g c =
-    let fault = c.in_err-check_pin.field-0.0 in
-    err-from c.from_residual.result _ fault c.from_residual.ensures.1
-    (unpinned-cause (g.H.BlockDev.state c.args.device.now) (g.H.BlockDev.state c.read_superblock.new.hash_dev) c.args.pin.now c.args.which c.in-Ok.superblock c.in-Ok.ensures.found.0 c.in-Ok.ensures.found.1 fault c.in_err-check_pin.ensures.err)
+pub returns-in-Err-clause-err : goal.returns-in-Err-clause-err
+returns-in-Err-clause-err g c =
+    let device = g.H.BlockDev.state c.args.device.now in
+    let device' = g.H.BlockDev.state c.read_pinned.new.hash_dev in
+    subst (IsOneImageCause device device' c.args.pin.now c.args.which) (sym c.unpinned_fault.ensures)
+    (unpinned-cause device device' c.args.pin.now c.args.which c.in-Err.fault c.in-Err.ensures.err)
+
+pub returns-then-sectors-tree_sectors-clause-err : goal.returns-then-sectors-tree_sectors-clause-err
+returns-then-sectors-tree_sectors-clause-err g c = (
+  refl,
+  inr (record {
+    s = c.in-Ok.superblock;
+    reads = c.in-Ok.ensures.ok;
+    past = omega (arith, c.if-sectors-tree_sectors.true, c.tree_sectors.ensures.value, ap tree_sectors c.shape.ensures.value, c.sectors.ensures.size, c.in-Ok.ensures.ok.one.read.same.size);
+    is = refl;
+  }),
+)
 
 pub returns-clause-ok : goal.returns-clause-ok
 returns-clause-ok g c = record {
-  sector = c.in-Ok.ensures.found.0;
-  from = c.in-Ok.ensures.found.1;
-  pinned = c.in_ok-check_pin.ensures.ok;
-  fits = omega (arith, c.if-sectors-tree_sectors.false, c.tree_sectors.ensures.value, ap tree_sectors c.shape.ensures.value, c.sectors.ensures.size, c.in-Ok.ensures.full.read.same.size);
-  full = c.in-Ok.ensures.full;
+  reads = c.in-Ok.ensures.ok;
+  fits = omega (arith, c.if-sectors-tree_sectors.false, c.tree_sectors.ensures.value, ap tree_sectors c.shape.ensures.value, c.sectors.ensures.size, c.in-Ok.ensures.ok.one.read.same.size);
 }

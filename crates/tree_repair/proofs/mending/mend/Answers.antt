@@ -33,7 +33,7 @@ returns-in-None-clause-ok g c =
         copies_read = c.seek.ensures.read;
         beneath_read = only_read-none (g.B.BlockDev.state c.is_there.new.device);
         beneath_more = omega arith;
-        none = subst (λ (n : ℕ). AreInNone cs s.copy_first (wanted c.args.sought.now.repair.now.salt s.digest n)) long c.in-None.ensures.none;
+        none = subst (λ (n : ℕ). AreInNone cs (map g.C.BlockDev.state c.seek.new.copies.items) s.copy_first (wanted c.args.sought.now.repair.now.salt s.digest n)) long c.in-None.ensures.none;
       },
     )
 

@@ -2,12 +2,11 @@ use Rattle.std.proofs.Common.{List, ℕ, sym, ap, ◌∙◌, inl, inr}
 use Rattle.std.specs.Str.{bytes_eq}
 use Rattle.std.proofs.lemmas.Bool.{false≢true}
 use Rattle.tree_shape.specs.Digests.{digest}
-use Rattle.verity_format.proofs.lemmas.DeviceLemmas.{only_read-none}
 use Rattle.tree_repair.specs.Jobs.{job}
 use Rattle.tree_repair.specs.Runs.{IsRefusal}
 use Rattle.tree_repair.specs.ParitySearches.{trial}
 use Rattle.tree_repair.proofs.TryLemmas.{made-or}
-use Rattle.tree_repair.proofs.RunLemmas.{world-none}
+use Rattle.tree_repair.proofs.RunLemmas.{parity-none, world-none}
 use Rattle.tree_repair.specs.ParityBounds.{round_bill}
 use Rattle.tree_repair.proofs.ParityBillLemmas.{asked-none}
 use Rattle.tree_repair.proofs.ParityLemmas.{err-from, if_ok-from}
@@ -17,7 +16,7 @@ pub returns-in-None-clause-read : goal.returns-in-None-clause-read
 returns-in-None-clause-read g c = world-none c.args.image.now
 
 pub returns-in-None-clause-parity : goal.returns-in-None-clause-parity
-returns-in-None-clause-parity g c = only_read-none (g.P.BlockDev.state c.args.parity.now)
+returns-in-None-clause-parity g c = parity-none (g.P.BlockDev.state c.args.parity.now)
 
 pub restore-requires-clause-index : goal.restore-requires-clause-index
 restore-requires-clause-index g c = c.in-Some.ensures.inside

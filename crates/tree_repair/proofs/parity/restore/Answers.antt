@@ -15,6 +15,9 @@ use Rattle.tree_repair.proofs.parity.restore.Goals.{in-Ok, in-Err}
 pub restore_block-requires-clause-laid : goal.restore_block-requires-clause-laid
 restore_block-requires-clause-laid g c = subst (λ (w : RepairWorld). IsLaidOn c.args.losses.now.layout w.data_dev w.hash_dev) (sym c.image.view_is) c.requires.laid
 
+pub returns-clause-parity : goal.returns-clause-parity
+returns-clause-parity g c = record { read = c.restore_block.ensures.parity; more = c.restore_block.ensures.parity_counted }
+
 pub returns-clause-within : goal.returns-clause-within
 returns-clause-within g c =
     let l = c.args.losses.now in

@@ -1,7 +1,6 @@
 use Rattle.std.proofs.Common.{◌+◌, Bool, IsTrue, arith, refl, subst, sym, take}
 use Rattle.std.proofs.lemmas.Bool.{and_parts}
 use Rattle.std.proofs.lemmas.List.{take_all}
-use Rattle.verity_format.proofs.lemmas.DeviceLemmas.{only_read-none, only_read-then}
 use Rattle.tree_repair.specs.Jobs.{job}
 use Rattle.tree_repair.specs.Passes.{AreBack}
 use Rattle.tree_repair.specs.ParitySearches.{AreSought}
@@ -9,26 +8,26 @@ use Rattle.fec_area.specs.declared.layout.Layout.{Layout}
 use Rattle.tree_repair.proofs.BackLemmas.{back-next, back-none}
 use Rattle.tree_repair.proofs.LosingLemmas.{all-sought-alike, alike-permuted}
 use Rattle.tree_repair.proofs.TryLemmas.{sought-next}
-use Rattle.tree_repair.proofs.RunLemmas.{can-later, ended-from, ends-read, has-none, has-then, laid-later, memory-within, refused-within, world-none}
+use Rattle.tree_repair.proofs.RunLemmas.{can-later, ended-from, ends-read, has-none, has-then, laid-later, memory-within, parity-none, parity-then, refused-within, world-none}
 use Rattle.tree_repair.specs.ParityBounds.{IsAskedWithin, parity_bill, sought_among}
 use Rattle.tree_repair.proofs.ParityBillLemmas.{asked-none}
 use Rattle.tree_repair.proofs.ParityPassLemmas.{tells-came, tells-none, tells-then, work-last, work-next}
 use Rattle.tree_repair.proofs.parity.restore_bad.Goals as goal
 
 pub returns-in_err-lost-clause-parity : goal.returns-in_err-lost-clause-parity
-returns-in_err-lost-clause-parity g c = only_read-none (g.P.BlockDev.state c.args.parity.now)
+returns-in_err-lost-clause-parity g c = parity-none (g.P.BlockDev.state c.args.parity.now)
 
 pub returns-in_err-lost-clause-run : goal.returns-in_err-lost-clause-run
 returns-in_err-lost-clause-run g c = ended-from c.from_residual.result c.from_residual.ensures.1 (ends-read (world-none c.args.image.now) (refused-within 1 (omega arith) c.in_err-lost.ensures.err.1))
 
 pub returns-in_err-last_path-clause-parity : goal.returns-in_err-last_path-clause-parity
-returns-in_err-last_path-clause-parity g c = only_read-none (g.P.BlockDev.state c.args.parity.now)
+returns-in_err-last_path-clause-parity g c = parity-none (g.P.BlockDev.state c.args.parity.now)
 
 pub returns-in_err-last_path-clause-run : goal.returns-in_err-last_path-clause-run
 returns-in_err-last_path-clause-run g c = ended-from c.from_residual-in_err-last_path.result c.from_residual-in_err-last_path.ensures.1 (ends-read (world-none c.args.image.now) (memory-within 4096 (omega arith) c.in_err-last_path.ensures.err))
 
 pub each-init : goal.each-init
-each-init g c = record { tree = c.in_ok-last_path.ensures.ok; back = λ yes. back-none (job c.args.repair.now) c.args.image.now; came = tells-none 1 has-none; within = asked-none _ c.args.image.now (g.P.BlockDev.state c.args.parity.now); sought = (refl, (refl, refl)); parity = only_read-none (g.P.BlockDev.state c.args.parity.now); run = has-none }
+each-init g c = record { tree = c.in_ok-last_path.ensures.ok; back = λ yes. back-none (job c.args.repair.now) c.args.image.now; came = tells-none 1 has-none; within = asked-none _ c.args.image.now (g.P.BlockDev.state c.args.parity.now); sought = (refl, (refl, refl)); parity = parity-none (g.P.BlockDev.state c.args.parity.now); run = has-none }
 
 pub restore_block_at-requires-clause-can : goal.restore_block_at-requires-clause-can
 restore_block_at-requires-clause-can g c = can-later c.each.invariant.run c.requires.can
@@ -47,13 +46,13 @@ each-preserved g c = record {
       (g.P.BlockDev.state c.each.parity) (g.P.BlockDev.state c.restore_block_at.new.parity) c.each.all c.in_ok-back.back c.are_both-all.result c.each-test.true c.are_both-all.ensures c.each.invariant.back c.in_ok-back.ensures.sought;
   came = tells-then c.each.tree c.in_ok-back.back c.is_in_tree-tree.result c.is_in_tree-tree.ensures c.each.invariant.came c.in_ok-back.ensures.came;
   within = work-next c.args.repair.now.shape c.of-losses.result.layout c.args.blocks.now c.each.bad-index _ c.each-test.true c.each.invariant.within c.restore_block_at.ensures.within;
-  parity = only_read-then c.each.invariant.parity c.restore_block_at.ensures.parity;
+  parity = parity-then c.each.invariant.parity c.restore_block_at.ensures.parity;
   run = has-then c.each.invariant.run c.in_ok-back.ensures.run;
   tree = c.restore_block_at.ensures.tree;
 }
 
 pub returns-in_err-back-clause-parity : goal.returns-in_err-back-clause-parity
-returns-in_err-back-clause-parity g c = only_read-then c.each.invariant.parity c.restore_block_at.ensures.parity
+returns-in_err-back-clause-parity g c = parity-then c.each.invariant.parity c.restore_block_at.ensures.parity
 
 pub returns-in_err-back-clause-run : goal.returns-in_err-back-clause-run
 returns-in_err-back-clause-run g c = ended-from c.from_residual-in_err-back.result c.from_residual-in_err-back.ensures.1 (has-then c.each.invariant.run c.in_err-back.ensures.run)

@@ -1,5 +1,5 @@
 use Rattle.std.proofs.Common.{IsTrue, take, None}
-use Rattle.verity_format.specs.Blocks.{IsOnlyRead}
+use Rattle.tree_repair.specs.Worlds.{IsParityRead}
 use Rattle.tree_repair.specs.Jobs.{job}
 use Rattle.tree_repair.specs.ParityBounds.{IsAskedWithin, TellsOfHash, parity_bill, sought_among}
 use Rattle.tree_repair.specs.Passes.{AreBack}
@@ -10,7 +10,7 @@ use Rattle.tree_repair.proofs.parity.restore_bad.Given as goal
 -- the blocks so far
 abbrev pub invariant-each : goal.invariant-each
 invariant-each g l = record {
-  parity : IsOnlyRead (g.P.BlockDev.state l.fn.parity) (g.P.BlockDev.state l.parity);
+  parity : IsParityRead (g.P.BlockDev.state l.fn.parity) (g.P.BlockDev.state l.parity);
   sought : AreSought (job l.fn.repair) l.losses.layout l.losses.lost.items (take l.bad-index l.blocks) l.fn.image l.image (g.P.BlockDev.state l.fn.parity) (g.P.BlockDev.state l.parity) l.tree;
   within : IsAskedWithin (parity_bill l.fn.repair.shape l.losses.layout 0 0 (sought_among (take l.bad-index l.blocks))) l.fn.image l.image (g.P.BlockDev.state l.fn.parity) (g.P.BlockDev.state l.parity);
   came : TellsOfHash (job l.fn.repair) 1 l.fn.image l.image (g.W.Write.contents l.fn.writer.inner) (g.W.Write.contents l.writer.inner) None l.tree;

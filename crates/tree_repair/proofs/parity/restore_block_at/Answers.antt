@@ -2,21 +2,20 @@ use Rattle.std.proofs.Common.{Bool, false, inl, inr, refl, subst, sym}
 use Rattle.tree_repair.specs.Jobs.{job}
 use Rattle.tree_repair.specs.ParitySearches.{IsSoughtAt, trial}
 use Rattle.tree_repair.proofs.TryLemmas.{sought-behind}
-use Rattle.verity_format.proofs.lemmas.DeviceLemmas.{only_read-none}
-use Rattle.tree_repair.proofs.RunLemmas.{can-read, has-behind, has-none, has-read, laid-read, world-none}
+use Rattle.tree_repair.proofs.RunLemmas.{can-read, has-behind, has-none, has-read, laid-read, parity-none, world-none}
 use Rattle.tree_repair.specs.ParityBounds.{IsAskedWithin, parity_bill, tries_of}
 use Rattle.tree_repair.proofs.ParityBillLemmas.{asked-none, work-along, work-way}
 use Rattle.tree_repair.proofs.ParityPassLemmas.{tells-behind, tells-none}
 use Rattle.tree_repair.proofs.parity.restore_block_at.Goals as goal
 
 pub returns-then-bad-clause-parity : goal.returns-then-bad-clause-parity
-returns-then-bad-clause-parity g c = only_read-none (g.P.BlockDev.state c.args.parity.now)
+returns-then-bad-clause-parity g c = parity-none (g.P.BlockDev.state c.args.parity.now)
 
 pub returns-then-bad-clause-run : goal.returns-then-bad-clause-run
 returns-then-bad-clause-run g c = has-none
 
 pub returns-then-not-is_place-clause-parity : goal.returns-then-not-is_place-clause-parity
-returns-then-not-is_place-clause-parity g c = only_read-none (g.P.BlockDev.state c.args.parity.now)
+returns-then-not-is_place-clause-parity g c = parity-none (g.P.BlockDev.state c.args.parity.now)
 
 pub returns-then-not-is_place-clause-run : goal.returns-then-not-is_place-clause-run
 returns-then-not-is_place-clause-run g c = has-none
@@ -25,7 +24,7 @@ pub reach-requires-clause-place : goal.reach-requires-clause-place
 reach-requires-clause-place g c = c.is_place.ensures.some c.if-not-is_place.false
 
 pub returns-then-not-reach-clause-parity : goal.returns-then-not-reach-clause-parity
-returns-then-not-reach-clause-parity g c = only_read-none (g.P.BlockDev.state c.args.parity.now)
+returns-then-not-reach-clause-parity g c = parity-none (g.P.BlockDev.state c.args.parity.now)
 
 pub returns-then-not-reach-clause-run : goal.returns-then-not-reach-clause-run
 returns-then-not-reach-clause-run g c = has-read c.reach.ensures.read
@@ -52,19 +51,19 @@ pub returns-then-bad-clause-sought : goal.returns-then-bad-clause-sought
 returns-then-bad-clause-sought g c =
     subst (λ (found : Bool). IsSoughtAt (job c.args.repair.now) c.args.bad.now.place.height c.args.bad.now.place.index
     (trial c.args.losses.now.layout c.args.losses.now.lost.items c.args.image.now c.args.image.now (g.P.BlockDev.state c.args.parity.now) (g.P.BlockDev.state c.args.parity.now)) found false) (sym c.if-bad.true)
-    (refl, record { image = world-none c.args.image.now; parity = only_read-none (g.P.BlockDev.state c.args.parity.now) })
+    (refl, record { image = world-none c.args.image.now; parity = parity-none (g.P.BlockDev.state c.args.parity.now) })
 
 pub returns-then-not-is_place-clause-sought : goal.returns-then-not-is_place-clause-sought
 returns-then-not-is_place-clause-sought g c =
     subst (λ (found : Bool). IsSoughtAt (job c.args.repair.now) c.args.bad.now.place.height c.args.bad.now.place.index
     (trial c.args.losses.now.layout c.args.losses.now.lost.items c.args.image.now c.args.image.now (g.P.BlockDev.state c.args.parity.now) (g.P.BlockDev.state c.args.parity.now)) found false) (sym c.if-bad.false)
-    (inl (refl, (record { image = world-none c.args.image.now; parity = only_read-none (g.P.BlockDev.state c.args.parity.now) }, inl (c.is_place.ensures.none c.if-not-is_place.true))))
+    (inl (refl, (record { image = world-none c.args.image.now; parity = parity-none (g.P.BlockDev.state c.args.parity.now) }, inl (c.is_place.ensures.none c.if-not-is_place.true))))
 
 pub returns-then-not-reach-clause-sought : goal.returns-then-not-reach-clause-sought
 returns-then-not-reach-clause-sought g c =
     subst (λ (found : Bool). IsSoughtAt (job c.args.repair.now) c.args.bad.now.place.height c.args.bad.now.place.index
     (trial c.args.losses.now.layout c.args.losses.now.lost.items c.args.image.now c.reach.new.image (g.P.BlockDev.state c.args.parity.now) (g.P.BlockDev.state c.args.parity.now)) found false) (sym c.if-bad.false)
-    (inl (refl, (record { image = c.reach.ensures.read; parity = only_read-none (g.P.BlockDev.state c.args.parity.now) }, inr (rw c.if-not-reach.true at c.reach.ensures.way))))
+    (inl (refl, (record { image = c.reach.ensures.read; parity = parity-none (g.P.BlockDev.state c.args.parity.now) }, inr (rw c.if-not-reach.true at c.reach.ensures.way))))
 
 pub returns-clause-sought : goal.returns-clause-sought
 returns-clause-sought g c =

@@ -1,10 +1,9 @@
 use Rattle.std.proofs.Common.{ℕ, List, length, ap, arith, ◌∙◌, inl}
 use Rattle.std.proofs.lemmas.List.{length-replicate}
-use Rattle.verity_format.proofs.lemmas.DeviceLemmas.{only_read-none}
 use Rattle.tree_repair.specs.Jobs.{job}
 use Rattle.tree_repair.proofs.TryLemmas.{tried-placed}
 use Rattle.tree_repair.proofs.ParityLemmas.{size-block}
-use Rattle.tree_repair.proofs.RunLemmas.{can-read, ended-from, ends-read, ends-refused, has-behind, has-read, refused-within, world-none}
+use Rattle.tree_repair.proofs.RunLemmas.{can-read, ended-from, ends-read, ends-refused, has-behind, has-read, parity-none, refused-within, world-none}
 use Rattle.tree_repair.specs.ParityBounds.{along_bill}
 use Rattle.tree_repair.specs.Runs.{size_at}
 use Rattle.tree_repair.proofs.ParityBillLemmas.{asked-along, asked-none, asked-round_alone}
@@ -12,13 +11,13 @@ use Rattle.tree_repair.proofs.ParityPassLemmas.{tells-behind, tells-from, tells-
 use Rattle.tree_repair.proofs.parity.restore_missing.Goals as goal
 
 pub returns-in_err-made-clause-parity : goal.returns-in_err-made-clause-parity
-returns-in_err-made-clause-parity g c = only_read-none (g.P.BlockDev.state c.args.parity.now)
+returns-in_err-made-clause-parity g c = parity-none (g.P.BlockDev.state c.args.parity.now)
 
 pub returns-in_err-made-clause-run : goal.returns-in_err-made-clause-run
 returns-in_err-made-clause-run g c = ended-from c.from_residual.result c.from_residual.ensures.1 (ends-read (world-none c.args.image.now) (refused-within c.block_size-size.result (omega (arith, c.block_size-size.ensures, (size-block c.args.missing.now.repair.now.shape c.args.missing.now.place.height c.requires.can.valid).most)) c.in_err-made.ensures.err.1))
 
 pub returns-in_err-read-clause-parity : goal.returns-in_err-read-clause-parity
-returns-in_err-read-clause-parity g c = only_read-none (g.P.BlockDev.state c.args.parity.now)
+returns-in_err-read-clause-parity g c = parity-none (g.P.BlockDev.state c.args.parity.now)
 
 pub returns-in_err-read-clause-run : goal.returns-in_err-read-clause-run
 returns-in_err-read-clause-run g c = ended-from c.from_residual-in_err-read.result c.from_residual-in_err-read.ensures.1 (ends-read (world-none c.args.image.now) (refused-within c.block_size-size.result (omega (arith, c.block_size-size.ensures, (size-block c.args.missing.now.repair.now.shape c.args.missing.now.place.height c.requires.can.valid).most)) c.in_err-read.ensures.err.1))

@@ -23,10 +23,10 @@ pub run_passes-requires-clause-can : goal.run_passes-requires-clause-can
 run_passes-requires-clause-can g c = can-begin c.args.plan.now true (job c.repair_of-repair.result) c.args.image.now c.repair_of-repair.ensures c.in_ok-check_room.ensures.ok c.requires.allowed c.requires.first
 
 pub returns-in_err-all-clause-parity : goal.returns-in_err-all-clause-parity
-returns-in_err-all-clause-parity g c = c.run_passes.ensures.parity
+returns-in_err-all-clause-parity g c = c.run_passes.ensures.parity.read
 
 pub returns-clause-parity : goal.returns-clause-parity
-returns-clause-parity g c = c.run_passes.ensures.parity
+returns-clause-parity g c = c.run_passes.ensures.parity.read
 
 pub returns-in_err-all-clause-err : goal.returns-in_err-all-clause-err
 returns-in_err-all-clause-err g c =

@@ -1,15 +1,14 @@
 use Rattle.std.proofs.Common.{IsTrue, false, sym, ◌∙◌, ◌&&◌, Bool, ap}
 use Rattle.std.proofs.lemmas.Bool.{false≢true}
-use Rattle.verity_format.proofs.lemmas.DeviceLemmas.{only_read-none}
 use Rattle.tree_repair.proofs.BackLemmas.{all-good-pass}
 use Rattle.tree_repair.proofs.PassLemmas.{pass-of}
-use Rattle.tree_repair.proofs.RunLemmas.{can-later, ended-from, has-then, laid-later}
+use Rattle.tree_repair.proofs.RunLemmas.{can-later, ended-from, has-then, laid-later, parity-none}
 use Rattle.tree_repair.proofs.ParityPassLemmas.{runs-not, runs-pass, runs-told}
 use Rattle.tree_repair.proofs.passes.run_pass.Goals as goal
 use Rattle.tree_repair.proofs.passes.run_pass.Goals.{then-tree, else-tree}
 
 pub returns-in_err-repair_heights-clause-parity : goal.returns-in_err-repair_heights-clause-parity
-returns-in_err-repair_heights-clause-parity g c = only_read-none (g.P.BlockDev.state c.args.parity.now)
+returns-in_err-repair_heights-clause-parity g c = parity-none (g.P.BlockDev.state c.args.parity.now)
 
 pub returns-in_err-repair_heights-clause-run : goal.returns-in_err-repair_heights-clause-run
 returns-in_err-repair_heights-clause-run g c = ended-from c.from_residual.result c.from_residual.ensures.1 c.in_err-repair_heights.ensures.notes.run

@@ -1,11 +1,10 @@
 use Rattle.std.proofs.Common.{◌+◌, ◌-◌, arith, ◌∙◌, ℕ, subst, sym}
 use Rattle.std.proofs.lemmas.Bool.{false≢true}
-use Rattle.verity_format.proofs.lemmas.DeviceLemmas.{only_read-then}
 use Rattle.tree_repair.specs.Jobs.{job}
 use Rattle.tree_repair.specs.Passes.{ArePasses}
 use Rattle.tree_repair.proofs.BackLemmas.{all-good-behind}
 use Rattle.tree_repair.proofs.PassLemmas.{passes-first, passes-next}
-use Rattle.tree_repair.proofs.RunLemmas.{can-later, ended-from, has-then, laid-later}
+use Rattle.tree_repair.proofs.RunLemmas.{can-later, ended-from, has-then, laid-later, parity-then}
 use Rattle.tree_repair.proofs.ParityPassLemmas.{runs-end, runs-from, runs-more, runs-then}
 use Rattle.tree_repair.proofs.passes.run_passes.Goals as goal
 
@@ -30,7 +29,7 @@ passes-preserved g c = record {
   within =
       let n = c.args.layout.now.hash_blocks in
       runs-then (1 + n - c.passes.left) (1 + n - (c.passes.left - 1)) (omega (arith, c.passes.invariant.few, c.if-left-gt0.true)) c.passes-test.true c.passes.invariant.within c.in_ok-came-2.ensures.within;
-  parity = only_read-then c.passes.invariant.parity c.run_pass-in-passes.ensures.parity;
+  parity = parity-then c.passes.invariant.parity c.run_pass-in-passes.ensures.parity;
   run = has-then c.passes.invariant.run c.in_ok-came-2.ensures.run;
   passes = subst (λ (n : ℕ). ArePasses (job c.args.repair.now) c.args.layout.now n c.args.image.now c.run_pass-in-passes.new.image (g.P.BlockDev.state c.args.parity.now) (g.P.BlockDev.state c.run_pass-in-passes.new.parity) c.in_ok-came-2.came.tree)
       (omega (arith, c.passes.invariant.few, c.if-left-gt0.true)) (passes-next c.passes.invariant.run c.passes.invariant.parity c.passes.invariant.passes c.passes-test.true c.in_ok-came-2.ensures.pass);
@@ -38,7 +37,7 @@ passes-preserved g c = record {
 }
 
 pub returns-in_err-came-2-clause-parity : goal.returns-in_err-came-2-clause-parity
-returns-in_err-came-2-clause-parity g c = only_read-then c.passes.invariant.parity c.run_pass-in-passes.ensures.parity
+returns-in_err-came-2-clause-parity g c = parity-then c.passes.invariant.parity c.run_pass-in-passes.ensures.parity
 
 pub returns-in_err-came-2-clause-run : goal.returns-in_err-came-2-clause-run
 returns-in_err-came-2-clause-run g c = ended-from c.from_residual-in_err-came-2.result c.from_residual-in_err-came-2.ensures.1 (has-then c.passes.invariant.run c.in_err-came-2.ensures.run)

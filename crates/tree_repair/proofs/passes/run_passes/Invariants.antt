@@ -1,5 +1,5 @@
 use Rattle.std.proofs.Common.{◌≤◌, ◌+◌, ◌-◌, IsTrue, None}
-use Rattle.verity_format.specs.Blocks.{IsOnlyRead}
+use Rattle.tree_repair.specs.Worlds.{IsParityRead}
 use Rattle.tree_repair.specs.Jobs.{job}
 use Rattle.tree_repair.specs.Outcomes.{IsAllGood}
 use Rattle.tree_repair.specs.ParityBounds.{RunsInPasses}
@@ -10,7 +10,7 @@ use Rattle.tree_repair.proofs.passes.run_passes.Given as goal
 -- the passes so far
 abbrev pub invariant-passes : goal.invariant-passes
 invariant-passes g l = record {
-  parity : IsOnlyRead (g.P.BlockDev.state l.fn.parity) (g.P.BlockDev.state l.parity);
+  parity : IsParityRead (g.P.BlockDev.state l.fn.parity) (g.P.BlockDev.state l.parity);
   within : RunsInPasses (job l.fn.repair) l.fn.layout (1 + l.fn.layout.hash_blocks - l.left) l.fn.image l.image (g.P.BlockDev.state l.fn.parity) (g.P.BlockDev.state l.parity) (g.W.Write.contents l.fn.writer.inner) (g.W.Write.contents l.writer.inner) None l.came.tree;
   run : HasRun (job l.fn.repair) l.fn.image l.image (g.W.Write.contents l.fn.writer.inner) (g.W.Write.contents l.writer.inner) None;
   passes : ArePasses (job l.fn.repair) l.fn.layout (l.fn.layout.hash_blocks - l.left) l.fn.image l.image (g.P.BlockDev.state l.fn.parity) (g.P.BlockDev.state l.parity) l.came.tree;

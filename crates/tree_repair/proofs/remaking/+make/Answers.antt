@@ -1,4 +1,5 @@
 use Rattle.std.proofs.Common.{◌≡◌, ◌<◌, ◌+◌, ◌-◌, ◌*◌, ◌++◌, ℕ, List, length, take, drop, replicate, refl, subst, ap, sym, ◌∙◌, arith}
+use Rattle.std.proofs.lemmas.Bool.{true≢false}
 use Rattle.tree_shape.specs.Digests.{digest}
 use Rattle.tree_shape.proofs.lemmas.ShapeFactLemmas.{levels-few}
 use Rattle.hash_tree.specs.Tree.{filled}
@@ -7,7 +8,7 @@ use Rattle.tree_repair.proofs.AskedLemmas.{make-ends}
 use Rattle.tree_repair.proofs.BillLemmas.{leaves-none, leaves-then}
 use Rattle.tree_repair.specs.Remaking.{ground}
 use Rattle.tree_repair.specs.Runs.{size_at}
-use Rattle.tree_repair.proofs.MakeLemmas.{above, block-next, both-none, both-then, digests, made-all, made-none, none-yet, over-before}
+use Rattle.tree_repair.proofs.MakeLemmas.{above, block-next, both-none, both-then, digests, made-all, made-none, none-yet, one-failed-since, over-before}
 use Rattle.tree_repair.proofs.remaking.+make.Goals as goal
 
 pub returns-then-steps-eq0-clause-made : goal.returns-then-steps-eq0-clause-made
@@ -36,6 +37,15 @@ each-init g t c =
           (leaves-none (made_over s c.args.making.from (left_of s low first)) c.args.image.now);
       written = λ steady steadily. c.fill.ensures.after (λ y h. h) ∙ ap (λ (n : ℕ). replicate n 0) long ∙ sym (none-yet here (c.args.making.steps - 1) c.children_of-beneath.result.first s.hash_block);
     }
+
+pub returns-then-steps-eq0-clause-fails : goal.returns-then-steps-eq0-clause-fails
+returns-then-steps-eq0-clause-fails g t c = c.read_at.ensures.fails
+
+pub returns-then-not-make-clause-fails : goal.returns-then-not-make-clause-fails
+returns-then-not-make-clause-fails g t c = λ no. one-failed-since c.args.image.now c.each.image c.make.new.image c.each.invariant.read c.make.ensures.read (c.make.ensures.fails c.if-not-make.true)
+
+pub returns-clause-fails : goal.returns-clause-fails
+returns-clause-fails g t c = λ no. absurd (true≢false no)
 
 pub returns-then-not-make-clause-read : goal.returns-then-not-make-clause-read
 returns-then-not-make-clause-read g t c = both-then c.args.image.now c.each.image c.make.new.image c.each.invariant.read c.make.ensures.read

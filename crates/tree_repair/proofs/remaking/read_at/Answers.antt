@@ -1,11 +1,10 @@
-use Rattle.std.proofs.Common.{◌≡◌, ◌≤◌, ◌-◌, IsTrue, map, suc, ap, refl, subst, sym, ◌∙◌, arith}
+use Rattle.std.proofs.Common.{◌≡◌, ◌≤◌, ◌-◌, IsTrue, false, inl, inr, map, suc, ap, refl, subst, sym, ◌∙◌, arith}
 use Rattle.verity_format.specs.Image.{data_sectors, tree_sectors}
 use Rattle.verity_format.proofs.lemmas.DeviceLemmas.{only_read-none}
 use Rattle.tree_repair.specs.AccessBudgets.{LeavesBlock, made_over}
 use Rattle.tree_repair.proofs.AskedLemmas.{made-data, made-hash}
-use Rattle.tree_repair.specs.StoredTrees.{IsOverIn, stands_in}
+use Rattle.tree_repair.specs.StoredTrees.{HasOneFailedIn, IsOverIn, stands_in}
 use Rattle.tree_path.specs.Unused.{digests_in}
-use Rattle.tree_repair.specs.Remaking.{IsSure}
 use Rattle.tree_repair.specs.Runs.{size_at}
 use Rattle.tree_repair.specs.Worlds.{AreBothRead, RepairWorld, repair_world}
 use Rattle.tree_repair.proofs.remaking.read_at.Goals as goal
@@ -45,9 +44,12 @@ returns-then-height-eq0-clause-stands g c =
     subst (λ (w : RepairWorld). IsTrue c.read_data.result → IsOverIn w (stands_in c.args.shape.now w c.args.height c.args.number) c.read_data.new.block) c.image.view_is
     (rw c.if-height-eq0.true (λ ok steady steadily. c.read_data.ensures.stands ok steady))
 
-pub returns-then-height-eq0-clause-sure : goal.returns-then-height-eq0-clause-sure
-returns-then-height-eq0-clause-sure g c =
-    subst (λ (w : RepairWorld). IsSure w.data_dev w.hash_dev c.read_data.result) c.image.view_is (λ never none. c.read_data.ensures.sure never)
+pub returns-then-height-eq0-clause-fails : goal.returns-then-height-eq0-clause-fails
+returns-then-height-eq0-clause-fails g c =
+    let i = c.image.inside in
+    let a = repair_world (g.D.BlockDev.state i.data) (g.H.BlockDev.state i.hash) (map g.C.BlockDev.state i.data_copies.items) (map g.C.BlockDev.state i.hash_copies.items) in
+    let b = repair_world (g.D.BlockDev.state c.read_data.new.data_dev) a.hash_dev a.data_copies a.hash_copies in
+    subst (λ (w : RepairWorld). c.read_data.result ≡ false → HasOneFailedIn w b) c.image.view_is (λ no. inl (c.read_data.ensures.fails no))
 
 pub returns-clause-read : goal.returns-clause-read
 returns-clause-read g c =
@@ -63,9 +65,12 @@ returns-clause-stands g c =
     subst (λ (w : RepairWorld). IsTrue c.read_hash.result → IsOverIn w (stands_in c.args.shape.now w c.args.height c.args.number) c.read_hash.new.block) c.image.view_is
     (rw some (λ ok steady steadily. c.read_hash.ensures.stands ok steadily))
 
-pub returns-clause-sure : goal.returns-clause-sure
-returns-clause-sure g c =
-    subst (λ (w : RepairWorld). IsSure w.data_dev w.hash_dev c.read_hash.result) c.image.view_is (λ never none. c.read_hash.ensures.sure none)
+pub returns-clause-fails : goal.returns-clause-fails
+returns-clause-fails g c =
+    let i = c.image.inside in
+    let a = repair_world (g.D.BlockDev.state i.data) (g.H.BlockDev.state i.hash) (map g.C.BlockDev.state i.data_copies.items) (map g.C.BlockDev.state i.hash_copies.items) in
+    let b = repair_world a.data_dev (g.H.BlockDev.state c.read_hash.new.hash_dev) a.data_copies a.hash_copies in
+    subst (λ (w : RepairWorld). c.read_hash.result ≡ false → HasOneFailedIn w b) c.image.view_is (λ no. inr (c.read_hash.ensures.fails no))
 
 pub returns-then-height-eq0-clause-asked : goal.returns-then-height-eq0-clause-asked
 returns-then-height-eq0-clause-asked g c =

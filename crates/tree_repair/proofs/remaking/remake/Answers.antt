@@ -1,14 +1,14 @@
 use Rattle.std.proofs.Common.{◌≡◌, ◌+◌, ◌-◌, ℕ, suc, inl, inr, ap, sym, subst, add-one, arith}
-use Rattle.std.proofs.lemmas.Bool.{cases_lt}
+use Rattle.std.proofs.lemmas.Bool.{true≢false}
 use Rattle.tree_shape.specs.Shape.{ancestor}
 use Rattle.tree_shape.proofs.lemmas.ShapeFactLemmas.{levels-few}
 use Rattle.tree_repair.specs.AccessBudgets.{LeavesWorld}
 use Rattle.tree_path.specs.Unused.{digests_in}
-use Rattle.tree_repair.specs.Remaking.{IsUnlike, ground, made_on}
+use Rattle.tree_repair.specs.Remaking.{IsNowhereFrom, lost_hash}
 use Rattle.tree_repair.specs.Runs.{size_at}
 use Rattle.tree_repair.proofs.AskedLemmas.{tried-all, tried-at, untried_of}
 use Rattle.tree_repair.proofs.BillLemmas.{leaves-none}
-use Rattle.tree_repair.proofs.MakeLemmas.{both-none, both-then, unlike-before}
+use Rattle.tree_repair.proofs.MakeLemmas.{both-none, both-then, nowhere-next, nowhere-none, over-before, unlike-before}
 use Rattle.tree_repair.proofs.remaking.remake.Goals as goal
 
 pub overflow_add-from : goal.overflow_add-from
@@ -49,7 +49,7 @@ heights-init g c =
       high = omega arith;
       read = both-none c.args.image.now;
       asked = subst (λ (n : ℕ). LeavesWorld (due (suc c.args.level)) (due n) c.args.image.now c.args.image.now) (sym (add-one c.args.level)) (leaves-none (due (suc c.args.level)) c.args.image.now);
-      none = λ k low high. absurd (omega (arith, low, high));
+      none = nowhere-none (lost_hash s c.args.sought.now.repair.now.salt c.args.level c.args.index c.args.sought.now.digest) c.args.image.now.data_dev c.args.image.now.hash_dev;
     }
 
 pub heights-preserved : goal.heights-preserved
@@ -68,11 +68,36 @@ heights-preserved g c =
       read = both-then c.args.image.now c.heights.image c.is_made.new.image c.heights.invariant.read c.is_made.ensures.read;
       asked = tried-at s level c.args.index from c.heights.from (level + 1 - from) c.block_on_path-number.result (omega (arith, c.heights-test.true)) (omega (arith, c.heights.invariant.high)) c.block_on_path-number.ensures.value
           c.args.image.now c.heights.image c.is_made.new.image c.heights.invariant.asked c.is_made.ensures.asked;
-      none = λ k low high. elim (cases_lt k c.heights.from) [
-        | inl new ↦
-            let here : k ≡ from = omega (arith, low, new) in
-            subst (λ (m : ℕ). IsUnlike salt d h c.args.sought.now.digest (made_on (ground s salt d h m) level c.args.index)) (sym here)
-            (unlike-before s salt d h d1 h1 c.heights.invariant.read.devices from (level + 1 - from) (ancestor s (level + 1) c.args.index) c.args.sought.now.digest unlike)
-        | inr old ↦ c.heights.invariant.none k old high
-      ];
+      none = nowhere-next (lost_hash s salt level c.args.index c.args.sought.now.digest) d h d1 h1 c.is_made.new.image.data_dev c.is_made.new.image.hash_dev from c.heights.from (omega (arith, c.heights-test.true))
+          (omega (arith, c.heights.invariant.high, c.heights-test.true)) c.is_made.ensures.read.data_more c.is_made.ensures.read.hash_more c.heights.invariant.none
+          (elim unlike [
+            | inl failed ↦ inl failed
+            | inr other ↦ inr (unlike-before s salt d h d1 h1 c.heights.invariant.read.devices from (level + 1 - from) (ancestor s (level + 1) c.args.index) c.args.sought.now.digest other)
+          ]);
     }
+
+pub returns-then-is_made-clause-made : goal.returns-then-is_made-clause-made
+returns-then-is_made-clause-made g c = λ yes.
+    let s = c.args.sought.now.repair.now.shape in
+    let salt = c.args.sought.now.repair.now.salt in
+    let d = c.args.image.now.data_dev in
+    let h = c.args.image.now.hash_dev in
+    let d1 = c.heights.image.data_dev in
+    let h1 = c.heights.image.hash_dev in
+    let from : ℕ = c.heights.from - 1 in
+    let level = c.args.level in
+    let over = rw c.block_on_path-number.ensures.value at c.is_made.ensures.stand c.if-is_made.true in
+    record {
+      from = from;
+      beneath = omega (arith, c.heights.invariant.high, c.heights-test.true);
+      stand = over-before s salt d h d1 h1 c.heights.invariant.read.devices from (level + 1 - from) (ancestor s (level + 1) c.args.index) c.is_made.new.block over;
+    }
+
+pub returns-then-is_made-clause-none : goal.returns-then-is_made-clause-none
+returns-then-is_made-clause-none g c = λ no. absurd (true≢false no)
+
+pub returns-clause-none : goal.returns-clause-none
+returns-clause-none g c = λ no.
+    let x = lost_hash c.args.sought.now.repair.now.shape c.args.sought.now.repair.now.salt c.args.level c.args.index c.args.sought.now.digest in
+    let all : c.heights.from ≡ 0 = omega (arith, c.heights-test.false) in
+    subst (λ (n : ℕ). IsNowhereFrom x n c.args.image.now.data_dev c.args.image.now.hash_dev c.heights.image.data_dev c.heights.image.hash_dev) all c.heights.invariant.none

@@ -1,8 +1,8 @@
-use Rattle.std.proofs.Common.{◌≤◌, ◌+◌, ℕ, suc}
+use Rattle.std.proofs.Common.{◌≤◌, ◌+◌, suc}
 use Rattle.tree_shape.specs.Shape.{ancestor}
 use Rattle.tree_repair.specs.AccessBudgets.{LeavesWorld}
 use Rattle.tree_repair.proofs.AskedLemmas.{untried_of}
-use Rattle.tree_repair.specs.Remaking.{IsUnlike, ground, made_on}
+use Rattle.tree_repair.specs.Remaking.{IsNowhereFrom, lost_hash}
 use Rattle.tree_repair.specs.Worlds.{AreBothRead}
 use Rattle.tree_repair.proofs.remaking.remake.Given as goal
 
@@ -13,9 +13,8 @@ invariant-heights g l = record {
   read : AreBothRead l.fn.image l.image;
   asked : LeavesWorld (untried_of l.fn.sought.repair.now.shape (suc l.fn.level) (ancestor l.fn.sought.repair.now.shape (suc l.fn.level) l.fn.index) (suc l.fn.level))
       (untried_of l.fn.sought.repair.now.shape (suc l.fn.level) (ancestor l.fn.sought.repair.now.shape (suc l.fn.level) l.fn.index) l.from) l.fn.image l.image;
-  none : (k : ℕ) → l.from ≤ k → k ≤ l.fn.level
-      → IsUnlike l.fn.sought.repair.now.salt l.fn.image.data_dev l.fn.image.hash_dev l.fn.sought.digest
-      (made_on (ground l.fn.sought.repair.now.shape l.fn.sought.repair.now.salt l.fn.image.data_dev l.fn.image.hash_dev k) l.fn.level l.fn.index);
+  none : IsNowhereFrom (lost_hash l.fn.sought.repair.now.shape l.fn.sought.repair.now.salt l.fn.level l.fn.index l.fn.sought.digest) l.from
+      l.fn.image.data_dev l.fn.image.hash_dev l.image.data_dev l.image.hash_dev;
 }
 
 abbrev pub decreases-heights : goal.decreases-heights

@@ -19,8 +19,11 @@ pub returns-clause-none : goal.returns-clause-none
 returns-clause-none g c =
     let state = g.C.BlockDev.state in
     let copies = c.args.copies.now in
-    subst (λ (n : ℕ). IfNone c.seek_copies.result (AreNotIn (map state copies.items) c.args.first (wanted c.args.salt.now c.args.digest.now (length c.args.block.now / 512)) n)) (sym (length-map copies.items state))
-    (rw c.as_mut_slice.ensures.value at c.seek_copies.ensures.none)
+    let w = wanted c.args.salt.now c.args.digest.now (length c.args.block.now / 512) in
+    let held : length c.seek_copies.new.copies ≡ copies.len = c.seek_copies.auto.copies ∙ ap (λ l. length l) c.as_mut_slice.ensures.value ∙ sym copies.ok.0 in
+    subst (λ l. IfNone c.seek_copies.result (AreNotIn (map state copies.items) (map state l) c.args.first w (length (map state copies.items)))) (sym (with_items_is copies c.seek_copies.new.copies held))
+    (subst (λ (n : ℕ). IfNone c.seek_copies.result (AreNotIn (map state copies.items) (map state c.seek_copies.new.copies) c.args.first w n)) (sym (length-map copies.items state))
+    (rw c.as_mut_slice.ensures.value at c.seek_copies.ensures.none))
 
 pub returns-clause-asked : goal.returns-clause-asked
 returns-clause-asked g c =

@@ -9,7 +9,7 @@ copies-init g c = record { read = each-none (map g.C.BlockDev.state c.args.copie
 
 pub returns-then-has-clause-read : goal.returns-then-has-clause-read
 returns-then-has-clause-read g c =
-    each-next g.C.BlockDev.state (map g.C.BlockDev.state c.args.copies.now) c.copies.copies c.copies.k c.index-copies-k.result c.has.new.device (omega arith) c.copies.invariant.read c.has.ensures.read
+    each-next g.C.BlockDev.state (map g.C.BlockDev.state c.args.copies.now) c.copies.copies c.copies.k c.index-copies-k.result c.has.new.device (omega arith) c.copies.invariant.read c.has.ensures.read c.has.ensures.counted
 
 pub returns-then-has-clause-found : goal.returns-then-has-clause-found
 returns-then-has-clause-found g c =
@@ -23,11 +23,11 @@ copies-preserved g c =
     let long : length c.copies.block / 512 ≡ length c.args.block.now / 512 = ap (λ (n : ℕ). n / 512) c.copies.auto.block in
     let old = map g.C.BlockDev.state c.args.copies.now in
     record {
-      read = each-next g.C.BlockDev.state old c.copies.copies c.copies.k c.index-copies-k.result c.has.new.device (omega arith) c.copies.invariant.read c.has.ensures.read;
+      read = each-next g.C.BlockDev.state old c.copies.copies c.copies.k c.index-copies-k.result c.has.new.device (omega arith) c.copies.invariant.read c.has.ensures.read c.has.ensures.counted;
       asked = so_far-next g.C.BlockDev.state old (length c.args.block.now / 512) c.copies.copies c.copies.k c.index-copies-k.result c.has.new.device (omega arith) c.copies.invariant.asked (rw long at c.has.ensures.asked);
       none = not-in-next g.C.BlockDev.state old c.copies.copies c.copies.k c.index-copies-k.result c.has.new.device (omega arith) c.copies.invariant.read
-          c.args.first (wanted c.args.salt.now c.args.digest.now (length c.args.block.now / 512)) c.copies.invariant.none
-          (subst (λ (n : ℕ). IsWithout (g.C.BlockDev.state (get_or c.copies.copies c.copies.k c.index-copies-k.result)) c.args.first (wanted c.args.salt.now c.args.digest.now n)) long (c.has.ensures.sure c.if-has.false));
+          c.args.first (wanted c.args.salt.now c.args.digest.now (length c.args.block.now / 512)) c.has.ensures.counted c.copies.invariant.none
+          (subst (λ (n : ℕ). IsWithout (g.C.BlockDev.state (get_or c.copies.copies c.copies.k c.index-copies-k.result)) c.args.first (wanted c.args.salt.now c.args.digest.now n) (g.C.BlockDev.state c.has.new.device)) long (c.has.ensures.none c.if-has.false));
     }
 
 pub returns-then-has-clause-asked : goal.returns-then-has-clause-asked

@@ -8,5 +8,5 @@ abbrev pub invariant-copies : goal.invariant-copies
 invariant-copies g l = record {
   read : AreEachRead (map g.C.BlockDev.state l.fn.copies) (map g.C.BlockDev.state l.copies);
   asked : AreReadSoFar l.k (map g.C.BlockDev.state l.fn.copies) (length l.fn.block / 512) (map g.C.BlockDev.state l.copies);
-  none : AreNotIn (map g.C.BlockDev.state l.fn.copies) l.first (wanted l.salt l.digest (length l.fn.block / 512)) l.k;
+  none : AreNotIn (map g.C.BlockDev.state l.fn.copies) (map g.C.BlockDev.state l.copies) l.first (wanted l.salt l.digest (length l.fn.block / 512)) l.k;
 }

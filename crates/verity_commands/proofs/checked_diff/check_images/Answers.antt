@@ -12,18 +12,20 @@ returns-in_err-two-clause-err g c =
 
 pub returns-clause-ok : goal.returns-clause-ok
 returns-clause-ok g c = on_ok_weaker c.check.result (λ done. record {
+  between = c.open_trees.new.images;
   found = c.in_ok-two.field-0;
-  first' = c.check.new.two.first.device;
-  second' = c.check.new.two.second.device;
+  two' = c.check.new.two;
+  closed = c.close_both.ensures;
   opened = c.in_ok-two.ensures.ok;
   holds = done;
 }) c.check.ensures.ok
 
 pub returns-clause-err : goal.returns-clause-err
 returns-clause-err g c = IfErr-weaker c.check.result _ _ (λ fault ends. inr (record {
+  between = c.open_trees.new.images;
   found = c.in_ok-two.field-0;
-  first' = c.check.new.two.first.device;
-  second' = c.check.new.two.second.device;
+  two' = c.check.new.two;
+  closed = c.close_both.ensures;
   opened = c.in_ok-two.ensures.ok;
   holds = ends;
 })) c.check.ensures.err

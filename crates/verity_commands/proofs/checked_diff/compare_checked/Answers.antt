@@ -23,6 +23,7 @@ returns-in_err-totals-clause-err g c =
       between = g.L.Listing.told c.check_second.new.listing;
       checks = record { over = c.check_second.ensures.over; tells = c.in_ok-whole_tree.ensures.ok };
       cause = c.in_err-totals.ensures.err;
+      before = c.in_err-totals.ensures.before;
     }))
 
 pub returns-clause-ok : goal.returns-clause-ok

@@ -12,18 +12,20 @@ returns-in_err-two-clause-err g c =
 
 pub returns-clause-ok : goal.returns-clause-ok
 returns-clause-ok g c = on_ok_weaker c.diff.result (λ done. record {
+  between = c.open_trees.new.images;
   found = c.in_ok-two.field-0;
-  first' = c.diff.new.two.first.device;
-  second' = c.diff.new.two.second.device;
+  two' = c.diff.new.two;
+  closed = c.close_both.ensures;
   opened = c.in_ok-two.ensures.ok;
   holds = done;
 }) c.diff.ensures.ok
 
 pub returns-clause-err : goal.returns-clause-err
 returns-clause-err g c = IfErr-weaker c.diff.result _ _ (λ fault ends. inr (record {
+  between = c.open_trees.new.images;
   found = c.in_ok-two.field-0;
-  first' = c.diff.new.two.first.device;
-  second' = c.diff.new.two.second.device;
+  two' = c.diff.new.two;
+  closed = c.close_both.ensures;
   opened = c.in_ok-two.ensures.ok;
   holds = ends;
 })) c.diff.ensures.err

@@ -1,6 +1,8 @@
+use Rattle.command_line.specs.FormatOptions.{option_texts}
+use Rattle.verity_commands.specs.Endings.{words_ending}
 use Rattle.std.proofs.Common.{inl, inr, refl}
 use Rattle.verity_commands.specs.declared.verity_fault.VerityFault.TheVariants.{Image}
-use Rattle.verity_commands.proofs.EndingLemmas.{err-from, quiet, unwritten-quiet}
+use Rattle.verity_commands.proofs.EndingLemmas.{err-from, quiet, unsaid, unwritten-quiet}
 use Rattle.verity_commands.proofs.pinned.invoke_format_pinned.Goals as goal
 
 pub returns-in_err-check_pin_path-clause-err : goal.returns-in_err-check_pin_path-clause-err
@@ -52,3 +54,9 @@ returns-in_err-print_made-clause-err g c =
       ),
       unwritten-quiet _ fault _ _ c.in_err-print_made.ensures.err,
     )
+
+pub returns-in_err-options-clause-err : goal.returns-in_err-options-clause-err
+returns-in_err-options-clause-err g c =
+    let fault = c.in_err-options.field-0.0 in
+    err-from c.from_residual.result _ (words_ending fault) c.from_residual.ensures.1
+    (inl (unsaid (option_texts c.args.options.now) fault c.in_err-options.ensures.err, refl), quiet (words_ending fault) _)

@@ -38,7 +38,7 @@ returns-clause-ok g c =
       hash_dev' = after.hash_dev;
       super_read = subst (λ (v : Device). ReadsSuper v first c.args.trusted.now.pin super) c.place_parts-two.ensures.hash c.in_ok-superblock.ensures.ok;
       one = subst (λ (v : Device). IsFullRead v 1 read_dev) c.place_parts-two.ensures.hash c.in_ok-superblock.ensures.full;
-      says = subst₂ (λ (t : VerityTree) (v : Device). SaysFound c.args.json t (pass v read_dev after.data_dev after.hash_dev old printed) root true) c.tree.ensures.value c.place_parts-two.ensures.data done;
+      says = subst₂ (λ (t : VerityTree) (v : Device). SaysFound c.args.form t (pass v read_dev after.data_dev after.hash_dev old printed) root true) c.tree.ensures.value c.place_parts-two.ensures.data done;
     })
     c.say_survey.ensures.ok
 
@@ -61,6 +61,6 @@ returns-clause-err g c =
       hash_dev' = after.hash_dev;
       super_read = subst (λ (v : Device). ReadsSuper v first c.args.trusted.now.pin super) c.place_parts-two.ensures.hash c.in_ok-superblock.ensures.ok;
       one = subst (λ (v : Device). IsFullRead v 1 read_dev) c.place_parts-two.ensures.hash c.in_ok-superblock.ensures.full;
-      ends = subst₂ (λ (t : VerityTree) (v : Device). IsSurveyEnd c.args.json t (pass v read_dev after.data_dev after.hash_dev old printed) root failed fault) c.tree.ensures.value c.place_parts-two.ensures.data ends;
+      ends = subst₂ (λ (t : VerityTree) (v : Device). IsSurveyEnd c.args.form t (pass v read_dev after.data_dev after.hash_dev old printed) root failed fault) c.tree.ensures.value c.place_parts-two.ensures.data ends;
     }))
     c.say_survey.ensures.err

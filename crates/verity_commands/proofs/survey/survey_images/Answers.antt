@@ -15,7 +15,7 @@ returns-clause-ok g c =
     (λ done. record {
       two = c.in_ok-two.two;
       opened = c.in_ok-two.ensures.ok;
-      surveys = subst₃ (λ (d h : Device) (end : ℕ). SurveysPlaced c.args.order.json d h end c.args.order.hash_first c.args.trusted.now old new) (ap state watched.ensures.data) (ap state watched.ensures.hash) c.data_end-end.ensures done;
+      surveys = subst₃ (λ (d h : Device) (end : ℕ). SurveysPlaced c.args.order.form d h end c.args.order.hash_first c.args.trusted.now old new) (ap state watched.ensures.data) (ap state watched.ensures.hash) c.data_end-end.ensures done;
     })
     c.survey_behind.ensures.ok
 
@@ -29,6 +29,6 @@ returns-clause-err g c =
     (λ fault ends. inr (record {
       two = c.in_ok-two.two;
       opened = c.in_ok-two.ensures.ok;
-      ends = subst₃ (λ (d h : Device) (end : ℕ). IsPlacedSurveyEnd c.args.order.json d h end c.args.order.hash_first c.args.trusted.now old new c.survey_behind.new.writer.failed fault) (ap state watched.ensures.data) (ap state watched.ensures.hash) c.data_end-end.ensures ends;
+      ends = subst₃ (λ (d h : Device) (end : ℕ). IsPlacedSurveyEnd c.args.order.form d h end c.args.order.hash_first c.args.trusted.now old new c.survey_behind.new.writer.failed fault) (ap state watched.ensures.data) (ap state watched.ensures.hash) c.data_end-end.ensures ends;
     }))
     c.survey_behind.ensures.err

@@ -1,4 +1,4 @@
-use Rattle.std.proofs.Common.{inr, refl}
+use Rattle.std.proofs.Common.{inr}
 use Rattle.verity_commands.proofs.OpeningLemmas.{err-from}
 use Rattle.verity_commands.proofs.trusted_trees.both_trusted_in.Goals as goal
 
@@ -10,9 +10,6 @@ returns-in_err-second-clause-err g c =
 pub returns-clause-ok : goal.returns-clause-ok
 returns-clause-ok g c = record {
   between = c.trusted_in.new.images;
-  first = c.in_ok-first.first;
-  second = c.in_ok-second.second;
   first_told = c.in_ok-first.ensures.ok;
   second_told = c.in_ok-second.ensures.ok;
-  is = refl;
 }

@@ -6,7 +6,7 @@ use Rattle.tree_shape.specs.Shape.{ShapeRecord}
 use Rattle.tree_shape.proofs.lemmas.ShapeFaultLemmas.{first_fault-none}
 use Rattle.verity_format.specs.declared.formatting.FormatFault.{FormatFault}
 use Rattle.verity_format.specs.Superblock.{SuperRecord, shape_of}
-use Rattle.verity_format.specs.Image.{data_sectors, image_sectors, formatted, tree_sectors}
+use Rattle.verity_format.specs.Image.{image_sectors, formatted, tree_sectors}
 use Rattle.verity_format.specs.Handing.{HandsImage}
 use Rattle.verity_format.specs.Writing.{IsPartOfTree, IsTreeWritten}
 use Rattle.verity_format.proofs.lemmas.RoomLemmas.{fits-from_none, format-room}

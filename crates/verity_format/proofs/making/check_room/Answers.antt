@@ -1,4 +1,4 @@
-use Rattle.std.proofs.Common.{◌≡◌, ◌∙◌, arith, sym}
+use Rattle.std.proofs.Common.{◌∙◌, arith, sym}
 use Rattle.verity_format.proofs.lemmas.RoomLemmas.{data_too_small, hash_too_small, not_refused, read_only}
 use Rattle.verity_format.proofs.making.check_room.Goals as goal
 

@@ -1,8 +1,7 @@
-use Rattle.std.proofs.Common.{◌≡◌, ◌∙◌, ℕ, IsTrue, None, Some, ap, arith, refl, sym}
+use Rattle.std.proofs.Common.{◌≡◌, ◌∙◌, ℕ, None, ap, arith, refl, sym}
 use Rattle.std.proofs.lemmas.Result.{err_from_is_err_and}
 use Rattle.block_device.specs.Call.{DeviceDoes}
 use Rattle.verity_format.specs.Formatting.{room_refusal}
-use Rattle.verity_format.specs.Image.{tree_sectors}
 use Rattle.verity_format.specs.Trees.{tree_refusal}
 use Rattle.verity_format.proofs.lemmas.DeviceLemmas.{only_read-none}
 use Rattle.verity_format.proofs.HandingLemmas.{stopped-none}

@@ -1,9 +1,10 @@
-use Rattle.std.proofs.Common.{Bool, ◌≡◌, ◌∙◌, ℕ, List, Option, Some, None, false, sym, subst, true}
+use Rattle.std.proofs.Common.{Bool, ◌≡◌, ◌∙◌, ℕ, List, Option, Some, None, false, refl, sym, subst, true}
 use Rattle.std.specs.Str.{bytes_eq}
 use Rattle.std.proofs.lemmas.Result.{err_from_is_err_and}
 use Rattle.std.proofs.lemmas.Slice.Eq.{bytes_eq-Decides}
+use Rattle.block_device.specs.Call.{DeviceDoes}
 use Rattle.verity_format.specs.Comparing.{IsTreeCompared}
-use Rattle.verity_format.proofs.VerifyingLemmas.{pair-cause, verdict-area, verdict-stored}
+use Rattle.verity_format.proofs.VerifyingLemmas.{pair-cause, stops-part, verdict-area, verdict-stored}
 use Rattle.verity_format.proofs.verifying.verify_tree.Goals as goal
 
 pub returns-in-Some-clause-ok : goal.returns-in-Some-clause-ok
@@ -68,3 +69,39 @@ returns-in_err-least-clause-err g c =
     let p = err_from_is_err_and c.from_residual.result c.from_residual.ensures.1 in
     rw (p.1, p.2)
     (pair-cause c.args.tree.now.shape (g.D.BlockDev.state c.args.data_dev.now) (g.H.BlockDev.state c.args.hash_dev.now) (g.D.BlockDev.state c.compare_tree.new.data_dev) (g.H.BlockDev.state c.compare_tree.new.hash_dev) _ c.in_err-least.ensures.fault)
+
+pub returns-then-is_too_small-clause-calls : goal.returns-then-is_too_small-clause-calls
+returns-then-is_too_small-clause-calls g c = (refl, refl)
+
+pub returns-in_err-least-clause-calls : goal.returns-in_err-least-clause-calls
+returns-in_err-least-clause-calls g c =
+    let p = err_from_is_err_and c.from_residual.result c.from_residual.ensures.1 in
+    let asks = DeviceDoes g.D.BlockDev.state g.D.BlockDev.does in
+    let does = DeviceDoes g.H.BlockDev.state g.H.BlockDev.does in
+    let t = c.args.tree.now in
+    rw (p.1, p.2)
+    (stops-part asks does t.shape t.salt c.args.data_dev.now c.args.hash_dev.now c.compare_tree.new.data_dev c.compare_tree.new.hash_dev _ c.in_err-least.ensures.calls)
+
+pub returns-in-Some-clause-calls : goal.returns-in-Some-clause-calls
+returns-in-Some-clause-calls g c = record {
+  least = c.in_ok-least.least;
+  computed = c.in_ok-least.expected;
+  whole = c.in_ok-least.ensures.calls;
+  verdict_is = c.in-Some.is;
+}
+
+pub returns-then-not-is_same-clause-calls : goal.returns-then-not-is_same-clause-calls
+returns-then-not-is_same-clause-calls g c = record {
+  least = c.in_ok-least.least;
+  computed = c.in_ok-least.expected;
+  whole = c.in_ok-least.ensures.calls;
+  verdict_is = (c.in_default.is, λ e. unlike c.in_ok-least.expected c.args.root.now c.is_same.result c.is_same.ensures c.if-not-is_same.true e);
+}
+
+pub returns-clause-calls : goal.returns-clause-calls
+returns-clause-calls g c = record {
+  least = c.in_ok-least.least;
+  computed = c.in_ok-least.expected;
+  whole = c.in_ok-least.ensures.calls;
+  verdict_is = (c.in_default.is, (bytes_eq-Decides c.in_ok-least.expected c.args.root.now).0 (sym c.is_same.ensures ∙ c.if-not-is_same.false));
+}

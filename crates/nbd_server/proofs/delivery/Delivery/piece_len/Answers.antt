@@ -1,14 +1,28 @@
-use Rattle.std.proofs.Common.{◌<◌, ◌≤◌, ◌+◌, arith}
-use Rattle.nbd_server.proofs.DeliveryLemmas.{single-touched}
+use Rattle.std.proofs.Common.{◌≡◌, ◌<◌, ◌≤◌, ◌+◌, ◌-◌, ◌*◌, ◌%◌, arith}
+use Rattle.nbd_protocol.specs.Exports.{export_record}
+use Rattle.nbd_server.proofs.DeliveryLemmas.{rest-left, single-touched}
 use Rattle.nbd_server.proofs.delivery.Delivery.piece_len.Goals as goal
 
+pub at-at-requires : goal.at-at-requires
+at-at-requires c = rest-left c.args.config.now (export_record c.args.export.now) c.args.self c.args.progress c.requires.bytes (omega (arith, c.requires.some))
+
+pub piece_sectors-sectors-requires-clause-bytes : goal.piece_sectors-sectors-requires-clause-bytes
+piece_sectors-sectors-requires-clause-bytes c = record { export = c.requires.bytes.export; within = omega (arith, c.at-at.ensures, c.requires.bytes.within, c.requires.some) }
+
 pub returns : goal.returns
-returns c = record {
-  some = omega (arith, c.min.ensures, c.room_at-room.ensures.some, c.requires.some, c.from.ensures);
-  few = omega (arith, c.min.ensures, c.room_at-room.ensures.few);
-  inside = omega (arith, c.min.ensures, c.from.ensures, c.requires.some);
-  single = λ below.
-      let size : c.min.result ≤ c.room_at-room.result = omega (arith, c.min.ensures) in
-      let some : 0 < c.min.result = omega (arith, c.min.ensures, c.room_at-room.ensures.some, c.requires.some, c.from.ensures) in
-      single-touched c.at.result (c.args.self.offset + c.args.progress.done) c.min.result c.room_at-room.result c.at.ensures some size (c.room_at-room.ensures.single (grind (arith, below)));
-}
+returns c =
+    let is = rw c.at-at.ensures at c.piece_sectors-sectors.ensures.value in
+    let sectors = c.piece_sectors-sectors.result in
+    let some : 0 < c.min.result = omega (arith, c.min.ensures, c.piece_sectors-sectors.ensures.few.0, c.requires.some, c.from.ensures) in
+    record {
+      value = omega (arith, is, c.at-at.ensures, c.min.ensures, c.from.ensures);
+      bytes = record {
+        some = some;
+        few = omega (arith, c.min.ensures, c.piece_sectors-sectors.ensures.few.1);
+        inside = omega (arith, c.min.ensures, c.from.ensures, c.requires.some);
+      };
+      single = λ below.
+          let size : c.min.result ≤ 512 * sectors - c.at-at.result % 512 = omega (arith, c.min.ensures) in
+          let one : sectors ≡ 1 = grind (arith, c.piece_sectors-sectors.ensures.value, below) in
+          single-touched c.at-at.result (c.args.self.offset + c.args.progress.done) c.min.result (512 * sectors - c.at-at.result % 512) c.at-at.ensures some size (omega (arith, one));
+    }

@@ -3,8 +3,8 @@ use Rattle.std.proofs.lemmas.List.{replicate-append-replicate}
 use Rattle.rescue_map.specs.Maps.{marks}
 use Rattle.rescue_map.proofs.ahead.Ahead.pass.Goals as goal
 
-pub returns : goal.returns
-returns c =
+pub returns-clause-marks : goal.returns-clause-marks
+returns-clause-marks c =
     let first = c.args.self.now.first in
     let rest = marks c.args.self.now.rest.now in
     let n = c.args.count in

@@ -9,6 +9,7 @@ use Rattle.verity_format.proofs.lemmas.DeviceLemmas.{full_read-then}
 use Rattle.tree_difference.specs.declared.walk.Walk.{Walk}
 use Rattle.tree_difference.specs.Walks.{IsOn}
 use Rattle.tree_difference.proofs.ErrLemmas.{err-from}
+use Rattle.tree_difference.proofs.ReportLemmas.{way-then}
 use Rattle.tree_difference.proofs.WalkLemmas.{cause-then, on-entered, on-read, on-was, trees-entered, trees-then}
 use Rattle.tree_difference.proofs.walk.Walk.descend.Goals as goal
 
@@ -54,3 +55,10 @@ returns-in_err-enter-clause-err g c =
     err-from c.from_residual.result _ c.in_err-enter.field-0.0 c.from_residual.ensures.1
     (cause-then c.args.self.now c.levels.self (g.D.BlockDev.state c.args.first.now) (g.E.BlockDev.state c.args.second.now) (g.D.BlockDev.state c.levels.first) (g.E.BlockDev.state c.levels.second) (g.D.BlockDev.state c.enter.new.first) (g.E.BlockDev.state c.enter.new.second)
     c.in_err-enter.field-0.0 before.trees before.first_read.read before.second_read.read before.first_read.failures before.second_read.failures c.in_err-enter.ensures.err)
+
+pub returns-in_err-enter-clause-way : goal.returns-in_err-enter-clause-way
+returns-in_err-enter-clause-way g c =
+    let before = c.levels.invariant in
+    let low : c.levels.level - 1 + 1 ≤ c.args.top = omega (arith, c.if-level-eq0.false, before.few) in
+    err-from c.from_residual.result _ c.in_err-enter.field-0.0 c.from_residual.ensures.1
+    (way-then c.args.self.now c.levels.self c.args.index (c.levels.level - 1 + 1) c.args.top c.in_err-enter.field-0.0 before.trees low c.in_err-enter.ensures.way)

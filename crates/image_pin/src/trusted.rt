@@ -1,5 +1,5 @@
 //! What is trusted of an image.
-use image_pin::Pin;
+use crate::pin::Pin;
 use tree_shape::Digest;
 
 /// The root hash of an image, and the pin that it comes from if a pin was given. Without a pin the shape of the tree is the

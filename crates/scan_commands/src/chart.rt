@@ -1,0 +1,95 @@
+//! A map of a device's lost sectors.
+ghost use Rattle.std.specs.Prelude.{◌≡◌, IfErr, OnOk};
+ghost use Rattle.program_io.specs.Counted.{Writes};
+ghost use Rattle.stack_recovery.specs.Texts.{lost_text};
+ghost use Rattle.scan_commands.specs.Reports.{EndsChart, TellsChart};
+ghost use Rattle.scan_commands.specs.Charts.{charted_text, is_lost, touches};
+
+use crate::recovering_fault::RecoveringFault;
+use crate::report::tell_counts;
+use charts::{Marks, is_touched, say_chart};
+use program_io::{Counted, WriteFault};
+use stack_recovery::{Counts, KeptRuns, Listing, LostRun};
+use std::io::Write;
+
+/// The lost runs of a device, of which a map is drawn.
+#[derive(Clone, Copy)]
+struct LostRuns<'a> {
+    runs: &'a [LostRun],
+}
+
+impl Marks for LostRuns<'_> {
+    ghost use Rattle.scan_commands.specs.Charts.{lost_mark};
+
+    ghost marking = { λ lost. lost_mark lost.runs.now };
+
+    fn mark(&self, first: u64, width: u64) -> &'static str {
+        if is_lost(self.runs, first, width) {
+            "x"
+        } else {
+            "."
+        }
+    }
+}
+
+// Whether one of `width` sectors from sector `at` on is lost.
+fn is_lost(runs: &[LostRun], at: u64, width: u64) -> bool
+    ensures { result ≡ is_lost runs.now at width }
+{
+    runs.iter().any(|run| touches(at, width, *run))
+}
+
+// Whether one of them is in the run.
+fn touches(at: u64, width: u64, run: LostRun) -> bool
+    ensures { result ≡ touches at width run }
+{
+    is_touched(at, width, run.first, run.count)
+}
+
+/// Prints a line for each lost run, a map of all sectors, and the counts if no sector is lost.
+///
+/// # Errors
+///
+/// - `NoMemory` if memory ran out for a run.
+/// - `Write` if not all can be written.
+/// - `Lost` with the counts if sectors are lost.
+pub(crate) fn tell_chart<'a, W: Write>(
+    kept: &KeptRuns,
+    counts: Counts,
+    writer: &mut Counted<W>,
+) -> Result<(), RecoveringFault<'a>>
+    ensures ok { OnOk result (TellsChart W.contents kept.now counts writer.old writer.new) }
+    ensures err { IfErr result (EndsChart W.contents kept.now counts writer.old writer.new) }
+{
+    if kept.refused {
+        return Err(RecoveringFault::NoMemory);
+    }
+    say_charted(writer, kept.runs.as_slice(), counts)?;
+    tell_counts(counts, writer)
+}
+
+// Prints a line for each lost run, and a map of all sectors.
+fn say_charted<W: Write>(
+    writer: &mut Counted<W>,
+    runs: &[LostRun],
+    counts: Counts,
+) -> Result<(), WriteFault>
+    ensures { Writes W.contents writer.old writer.new (charted_text runs.now counts) result }
+{
+    say_lost(writer, runs)?;
+    let sectors = counts.read.saturating_add(counts.lost);
+    say_chart(writer, &LostRuns { runs }, sectors)
+}
+
+// Prints a line for each run.
+fn say_lost<W: Write>(writer: &mut Counted<W>, runs: &[LostRun]) -> Result<(), WriteFault>
+    ensures { Writes W.contents writer.old writer.new (lost_text runs.now) result }
+{
+    'lines: for run in runs {
+        writer.tell(*run);
+    }
+    if writer.failed() {
+        return Err(WriteFault);
+    }
+    Ok(())
+}

@@ -1,0 +1,85 @@
+-- The calls on the output device, while sectors are left.
+use Rattle.std.proofs.Common.{◌≡◌, ℕ, true, false, Bool, List, [], ◌∷◌, ◌++◌, length, replicate, Option, Result, Ok, Err, IfErr, IfOk, OnOk, refl, sym, ◌∙◌, subst}
+use Rattle.std.proofs.lemmas.List.{append-nil}
+use Rattle.block_device.specs.Call.{Call, Calls, Write}
+use Rattle.block_device.proofs.lemmas.CallLemmas.{calls-last}
+use Rattle.stack_rules.specs.Names.{mapped, size}
+use Rattle.stack_meaning.specs.declared.fault.IoFault.{IoFault}
+use Rattle.stack_engine.specs.Bytes.{EachBytes}
+use Rattle.stack_engine.specs.Stacks.{StackRecord}
+use Rattle.rescue_map.specs.declared.map.Run.{Run}
+use Rattle.stack_recovery.specs.declared.fault.RecoveryFault.{RecoveryFault}
+use Rattle.stack_recovery.specs.declared.fault.RecoveryFault.TheVariants as recovery
+use Rattle.stack_recovery.specs.declared.piece_limit.PieceLimit.{PieceLimit}
+use Rattle.stack_recovery.specs.declared.tally.Tally.{Tally}
+use Rattle.stack_recovery.specs.Handing.{HandsOver, HandsOverPart, copy_calls}
+use Rattle.stack_recovery.specs.Losses.{StopsInPiece}
+use Rattle.stack_recovery.specs.Recoveries.{Parties, Sides, parties}
+use Rattle.stack_recovery.specs.Surveys.{all_states}
+use Rattle.stack_recovery.proofs.AheadLemmas.{marks-none}
+use Rattle.stack_recovery.proofs.SurveyLemmas.{survey-same}
+use Rattle.stack_recovery.proofs.UnderwayLemmas.{IsUnderway}
+
+-- such a pass, whose writes are the calls on the output device
+pub record IsHanding {O : Type 0} (Did : O → Call → O → Type 0) (makes_map : Bool) (before : List Bool) (d : ℕ) (old new : Sides) (at : ℕ) (tally : Tally) (made : Option (List Run)) (limit : PieceLimit) (out out' : O) : Type 0 where
+  pub calls : List Call
+  pub under : IsUnderway makes_map before d old new at tally made limit calls
+  pub did : Calls Did out calls out'
+
+module _ {O L : Type 0} (Did : O → Call → O → Type 0) (makes_map : Bool) (before : List Bool) (d : ℕ) (old now : Sides) (at : ℕ) (tally : Tally) (noted : Option (List Run)) (limit : PieceLimit) (out out' : O) (h : IsHanding Did makes_map before d old now at tally noted limit out out') (a b : L) where
+  -- all sectors are done
+  pub hands-over : at ≡ size old.stack.config (mapped d) → HandsOver Did before d (parties old.stack out a) (parties now.stack out' b)
+  hands-over all = record {
+    reads = h.under.reads;
+    survey = h.under.survey;
+    whole = sym h.under.here ∙ all;
+    made = subst (λ (l : List Call). Calls Did out l out') h.under.written h.did;
+  }
+
+  -- memory ran out
+  pub hands-part : (stack : StackRecord) → HandsOverPart Did before d (parties old.stack out a) (parties stack out' b) recovery.NoMemory
+  hands-part stack = record {
+    reads = h.under.reads;
+    left = now.stack;
+    last = [];
+    survey = h.under.survey;
+    made = subst (λ (l : List Call). Calls Did out l out') (h.under.written ∙ sym (append-nil (copy_calls 0 h.under.reads))) h.did;
+    ends = refl;
+  }
+
+  pub hands-in-piece : (stack : StackRecord) (fault : IoFault) (m : Bool) (x y : L) (error : RecoveryFault) → StopsInPiece fault m x y error → HandsOverPart Did before d (parties old.stack out a) (parties stack out' b) error
+  hands-in-piece stack fault m x y recovery.NoMemory p = hands-part stack
+  hands-in-piece stack fault m x y recovery.Output p = absurd p
+
+  -- a write failed
+  pub hands-failed : (stack : StackRecord) (out'' : O) (n : ℕ) (bytes : List ℕ) → EachBytes now.stack d at n (Ok bytes) stack → Did out' (Write at bytes false) out''
+      → HandsOverPart Did before d (parties old.stack out a) (parties stack out'' b) recovery.Output
+  hands-failed stack out'' n bytes read call = record {
+    reads = h.under.reads;
+    left = now.stack;
+    last = Write (length (all_states h.under.reads)) bytes false ∷ [];
+    survey = h.under.survey;
+    made = subst (λ (l : List Call). Calls Did out (l ++ Write (length (all_states h.under.reads)) bytes false ∷ []) out'') h.under.written
+        (calls-last Did out out' out'' h.calls (Write (length (all_states h.under.reads)) bytes false) h.did (subst (λ (k : ℕ). Did out' (Write k bytes false) out'') h.under.here call));
+    ends = (n, bytes, subst (λ (k : ℕ). EachBytes now.stack d k n (Ok bytes) stack) h.under.here read, refl);
+  }
+
+-- ---- if no sector was read before
+
+pub hands-none : {O L : Type 0} (Did : O → Call → O → Type 0) (n d : ℕ) (old new : Parties O L) → HandsOver Did (replicate n false) d old new → HandsOver Did [] d old new
+hands-none Did n d old new p = record {
+  reads = p.reads;
+  survey = survey-same (replicate n false) [] d 0 old.stack p.reads new.stack (marks-none n) p.survey;
+  whole = p.whole;
+  made = p.made;
+}
+
+pub part-none : {O L : Type 0} (Did : O → Call → O → Type 0) (n d : ℕ) (old new : Parties O L) (fault : RecoveryFault) → HandsOverPart Did (replicate n false) d old new fault → HandsOverPart Did [] d old new fault
+part-none Did n d old new fault p = record {
+  reads = p.reads;
+  left = p.left;
+  last = p.last;
+  survey = survey-same (replicate n false) [] d 0 old.stack p.reads p.left (marks-none n) p.survey;
+  made = p.made;
+  ends = p.ends;
+}

@@ -1,0 +1,41 @@
+-- The calls on the output device of a recovery.
+use Rattle.std.specs.Prelude.{◌≡◌, ℕ, ◌+◌, Bool, true, false, List, [], ◌∷◌, ◌++◌, length, Ok}
+use Rattle.block_device.specs.Call.{Call, Calls, Write}
+use Rattle.stack_rules.specs.Names.{mapped, size}
+use Rattle.stack_engine.specs.Bytes.{EachBytes}
+use Rattle.stack_engine.specs.Stacks.{StackRecord}
+use Rattle.stack_recovery.specs.declared.fault.RecoveryFault.{RecoveryFault}
+use Rattle.stack_recovery.specs.declared.fault.RecoveryFault.TheVariants.{NoMemory, Output}
+use Rattle.stack_recovery.specs.Recoveries.{Parties}
+use Rattle.stack_recovery.specs.Surveys.{Finding, IsSurveyOver, PieceRead, again, all_states, had, kept, lost, states_of}
+
+-- a piece that was read is written at once, by one call; no other piece is
+abbrev pub calls_found : ℕ → Finding → List Call
+calls_found first (had bytes) = Write first bytes true ∷ []
+calls_found first other = []
+
+-- the calls for a list of pieces, from sector `first` on
+abbrev pub copy_calls : ℕ → List PieceRead → List Call
+copy_calls first [] = []
+copy_calls first (r ∷ more) = calls_found first r.found ++ copy_calls (first + length (states_of r)) more
+
+-- All sectors of device d were read or are lost, and the calls on the output device are those of the pieces, in order.
+pub record HandsOver {O L : Type 0} (Did : O → Call → O → Type 0) (marks : List Bool) (d : ℕ) (old new : Parties O L) : Type 0 where
+  pub reads : List PieceRead
+  pub survey : IsSurveyOver marks d 0 old.stack reads new.stack
+  pub whole : length (all_states reads) ≡ size old.stack.config (mapped d)
+  pub made : Calls Did old.out (copy_calls 0 reads) new.out
+
+-- the calls after those of the pieces: none, or the failed write of the piece that was read last, from sector `at` on
+abbrev pub IsLastCall : ℕ → ℕ → StackRecord → StackRecord → RecoveryFault → List Call → Type 0
+IsLastCall d at left stack NoMemory calls = calls ≡ []
+IsLastCall d at left stack Output calls = (n : ℕ) × (bytes : List ℕ) × EachBytes left d at n (Ok bytes) stack × (calls ≡ Write at bytes false ∷ [])
+
+-- The recovery ended early: the calls on the output device are those of the pieces so far. A write that failed is the last one.
+pub record HandsOverPart {O L : Type 0} (Did : O → Call → O → Type 0) (marks : List Bool) (d : ℕ) (old new : Parties O L) (fault : RecoveryFault) : Type 0 where
+  pub reads : List PieceRead
+  pub left : StackRecord
+  pub last : List Call
+  pub survey : IsSurveyOver marks d 0 old.stack reads left
+  pub made : Calls Did old.out (copy_calls 0 reads ++ last) new.out
+  pub ends : IsLastCall d (length (all_states reads)) left new.stack fault last
