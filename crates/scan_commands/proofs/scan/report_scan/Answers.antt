@@ -47,9 +47,9 @@ returns-in_err-charted-in-Chart-clause-err g c = rw c.in-Chart.is (
     err-from c.from_residual-in_err-charted-in-Chart.result _ (Pass c.in_err-charted-in-Chart.field-0.0) c.from_residual-in_err-charted-in-Chart.ensures.1
     (inl (record {
       before = kept_text c.new-runs.result;
-      told = kept_text c.run_pass-2.new.listing;
+      told = kept_text c.run_pass-in-Chart.new.listing;
       begun = none-kept _ _ c.new-runs.ensures.runs c.new-runs.ensures.refused;
-      stopped = stops-by (calls g.I.Images.relations g.I.Dev.BlockDev.state c.args.images.now c.run_pass-2.new.images) (option_map map_path_of c.map_at-map.result) _ c.args.passing.now.device.0 _ c.in_err-charted-in-Chart.field-0.0 c.map_at-map.ensures c.in_err-charted-in-Chart.ensures.err;
+      stopped = stops-by (calls g.I.Images.relations g.I.Dev.BlockDev.state c.args.images.now c.run_pass-in-Chart.new.images) (option_map map_path_of c.map_at-map.result) _ c.args.passing.now.device.0 _ c.in_err-charted-in-Chart.field-0.0 c.map_at-map.ensures c.in_err-charted-in-Chart.ensures.err;
       kept = refl;
     })))
 
@@ -78,9 +78,9 @@ returns-in_err-found-in-Object-clause-err g c = rw c.in-Object.is (
     err-from c.from_residual-in_err-found-in-Object.result _ (Pass c.in_err-found-in-Object.field-0.0) c.from_residual-in_err-found-in-Object.ensures.1
     (inl (record {
       before = kept_text c.new-kept.result;
-      told = kept_text c.run_pass-3.new.listing;
+      told = kept_text c.run_pass-in-Object.new.listing;
       begun = none-kept _ _ c.new-kept.ensures.runs c.new-kept.ensures.refused;
-      stopped = stops-by (calls g.I.Images.relations g.I.Dev.BlockDev.state c.args.images.now c.run_pass-3.new.images) (option_map map_path_of c.map_at-map.result) _ c.args.passing.now.device.0 _ c.in_err-found-in-Object.field-0.0 c.map_at-map.ensures c.in_err-found-in-Object.ensures.err;
+      stopped = stops-by (calls g.I.Images.relations g.I.Dev.BlockDev.state c.args.images.now c.run_pass-in-Object.new.images) (option_map map_path_of c.map_at-map.result) _ c.args.passing.now.device.0 _ c.in_err-found-in-Object.field-0.0 c.map_at-map.ensures c.in_err-found-in-Object.ensures.err;
       kept = refl;
     })))
 
