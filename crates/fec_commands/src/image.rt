@@ -1,9 +1,9 @@
 //! A verity image and its parity file, open, and the layout of the parity.
-ghost use Rattle.std.specs.Prelude.{◌≡◌, ◌&&◌, nat_le, nat_lt, IfErr, IfOk};
+ghost use Rattle.std.specs.Prelude.{◌≡◌, nat_lt, IfErr, IfOk};
 ghost use Rattle.image_files.specs.Opener.{IsFresh};
 ghost use Rattle.fec_area.specs.Layouts.{IsLayout};
 ghost use Rattle.fec_commands.specs.Images.{Does, OpensThree, RefusesThree, end_of_data, three_data_end};
-ghost use Rattle.fec_commands.specs.Layings.{IsLaidOut, IsNotLaidOut, IsRoots};
+ghost use Rattle.fec_commands.specs.Layings.{IsLaidOut, IsNotLaidOut, IsRoots, is_roots};
 
 use crate::fault::FecFault;
 use block_device::{BlockDev, FileId};

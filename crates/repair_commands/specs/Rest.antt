@@ -1,5 +1,6 @@
 -- The report on an image after its repair.
 use Rattle.std.specs.Prelude.{◌≡◌, ℕ, Bool, true, false, List, Option, Result, Ok, Err}
+use Rattle.charts.specs.declared.form.ReportForm.TheVariants.{Lines}
 use Rattle.std.specs.Io.KnownBytes.{Appends}
 use Rattle.block_device.specs.Device.{Device}
 use Rattle.program_io.specs.Counted.{CountedRecord}
@@ -48,7 +49,7 @@ TellsRest Partly plan t t' old new = IsScanned t t' × SaysSurvey plan.tree (sca
 -- the totals couldn't be printed; or the image couldn't be scanned, or not all of it is valid
 abbrev pub IsRestEnd : Outcome → Plan → SurveyedDevices → SurveyedDevices → Option (List ℕ) → Option (List ℕ) → Bool → TreeFault → Type 0
 IsRestEnd (Whole count) plan t t' old new failed fault = (t' ≡ t) × ((fault ≡ Write) × (failed ≡ true))
-IsRestEnd Partly plan t t' old new failed fault = IsScanned t t' × IsSurveyEnd false plan.tree (scan_of t t' old new) plan.root failed fault
+IsRestEnd Partly plan t t' old new failed fault = IsScanned t t' × IsSurveyEnd Lines plan.tree (scan_of t t' old new) plan.root failed fault
 
 -- after a repair to the end
 abbrev pub Tells : Result Outcome RepairFault → Bool → Plan → SurveyedDevices → SurveyedDevices → Option (List ℕ) → Option (List ℕ) → Type 0
@@ -85,4 +86,4 @@ SaysLines data_state hash_state d h d' h' plan contents before behind =
 
 abbrev pub IsLinesEnd : {D H W : Type 0} → (D → Device) → (H → Device) → D → H → D → H → Plan → (W → Option (List ℕ)) → CountedRecord W → CountedRecord W → TreeFault → Type 0
 IsLinesEnd data_state hash_state d h d' h' plan contents before behind =
-    IsSurveyEnd false plan.tree (pass (data_state d) (hash_state h) (data_state d') (hash_state h') (contents before.inner) (contents behind.inner)) plan.root behind.failed
+    IsSurveyEnd Lines plan.tree (pass (data_state d) (hash_state h) (data_state d') (hash_state h') (contents before.inner) (contents behind.inner)) plan.root behind.failed

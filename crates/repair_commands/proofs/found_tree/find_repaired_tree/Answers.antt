@@ -12,7 +12,7 @@ pub returns-in-Err-clause-err : goal.returns-in-Err-clause-err
 returns-in-Err-clause-err g c =
     let device = g.H.BlockDev.state c.args.hash_dev.now in
     let device' = g.H.BlockDev.state c.read_pinned.new.hash_dev in
-    subst (λ (f : TreeFault). FindsNoTree device c.args.first c.args.trusted.now device' f) (sym (c.from-2.ensures ∙ ap no_tree_fault c.from.ensures))
+    subst (λ (f : TreeFault). FindsNoTree device c.args.first c.args.trusted.now device' f) (sym (c.from-in-Err.ensures ∙ ap no_tree_fault c.from.ensures))
     (unpinned-end device c.args.first c.args.trusted.now device' c.in-Err.fault c.in-Err.ensures.err)
 
 pub returns-in_err-whole-clause-read : goal.returns-in_err-whole-clause-read

@@ -1,4 +1,5 @@
-use Rattle.std.proofs.Common.{ap, false, sym, true}
+use Rattle.charts.specs.declared.form.ReportForm.TheVariants.{Lines}
+use Rattle.std.proofs.Common.{ap, sym, true}
 use Rattle.std.proofs.Math.Path.{subst₂}
 use Rattle.std.proofs.lemmas.Result.{IfErr-weaker, on_ok_weaker}
 use Rattle.verity_commands.specs.Surveyed.{SurveyedDevices}
@@ -48,6 +49,6 @@ returns-clause-err g c =
         data_read = read-alone _ _ _ _ data_was data_is c.say_lines-told.ensures.data (c.into_inner-data_after.ensures.kept _ c.requires.0);
         hash_read = read-alone _ _ _ _ hash_was hash_is c.say_lines-told.ensures.hash (c.into_inner-hash_after.ensures.kept _ c.requires.1);
       },
-      subst₂ (λ (t t' : SurveyedDevices). IsSurveyEnd false plan.tree (scan_of t t' old new) plan.root failed fault) (two-same _ _ _ _ data_was hash_was) (two-same _ _ _ _ data_is hash_is) ends,
+      subst₂ (λ (t t' : SurveyedDevices). IsSurveyEnd Lines plan.tree (scan_of t t' old new) plan.root failed fault) (two-same _ _ _ _ data_was hash_was) (two-same _ _ _ _ data_is hash_is) ends,
     ))
     c.say_lines-told.ensures.err
