@@ -23,6 +23,8 @@ only_read-then {a = a} {b = b} {c = c} n m k p q fits = record {
   reads = omega (arith, p.reads, q.reads);
   writes = q.writes ∙ p.writes;
   image = λ h. q.image (subst IsTrue (sym p.same.steady) h) ∙ p.image h;
+  more = omega (arith, p.more, q.more);
+  sure = λ never. q.sure (p.same.never_fails never) ∙ p.sure never;
 }
 
 -- the entries of a header that was read lie on the disk

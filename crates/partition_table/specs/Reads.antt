@@ -8,12 +8,14 @@ use Rattle.partition_table.specs.declared.read_fault.ReadFault.TheVariants.{Devi
 use Rattle.partition_table.specs.declared.sector_size.Disk.{Disk}
 use Rattle.partition_table.specs.Disks.{unit_of}
 
--- the device was only read, at most n of its sectors in all
+-- the device was only read, at most n of its sectors in all; its failures only grow, and don't if it never fails
 pub record IsReadAtMost (old : Device) (n : ℕ) (new : Device) : Type 0 where
   pub same : IsSameDevice old new
   pub reads : new.reads ≤ old.reads + n
   pub writes : new.writes ≡ old.writes
   pub image : IsTrue old.steady → new.image ≡ old.image
+  pub more : old.failures ≤ new.failures
+  pub sure : IsTrue old.never_fails → new.failures ≡ old.failures
 
 -- `count` sectors of the disk as they were read; from a steady device, the sectors stored there
 pub record AreSectorsRead (device : Device) (disk : Disk) (first count : ℕ) (bytes : List ℕ) : Type 0 where
