@@ -22,9 +22,13 @@ pub record AreSectorsRead (device : Device) (disk : Disk) (first count : ℕ) (b
   pub size : length bytes ≡ 512 * (count * unit_of disk.size)
   pub stands : IsTrue device.steady → bytes ≡ concat (run_of device.image (first * unit_of disk.size) (count * unit_of disk.size))
 
+-- a call failed, and the device isn't one that never fails
+abbrev pub HasFailedCall : Device → Device → Type 0
+HasFailedCall old new = HasFailed old new × (IsTrue old.never_fails → ⊥)
+
 -- why n sectors of 512 bytes weren't read: the device call failed, or the allocation of at most their bytes failed
 abbrev pub IsUnread : Device → Device → ℕ → ReadFault → Type 0
-IsUnread old new n DeviceFailed = HasFailed old new
+IsUnread old new n DeviceFailed = HasFailedCall old new
 IsUnread old new n NoMemory = (new.failures ≡ old.failures) × IsOutOfMemory (512 * n)
 IsUnread old new n (Table fault) = ⊥
 
