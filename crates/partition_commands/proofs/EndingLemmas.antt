@@ -4,22 +4,15 @@ use Rattle.std.specs.Prelude.{IfErr, IsErrAnd}
 use Rattle.allocation.specs.Asked.{asked}
 use Rattle.allocation.specs.declared.out_of_memory.OutOfMemory.{OutOfMemory}
 use Rattle.block_device.specs.Device.{Device}
-use Rattle.device_adapters.specs.declared.part.Part.{Part}
-use Rattle.device_adapters.specs.Windows.{windowed}
-use Rattle.image_pin.specs.declared.pin.Pin.{Pin as ImagePin}
-use Rattle.image_pin.specs.declared.pinned.PinnedFault.{PinnedFault}
-use Rattle.image_pin.specs.declared.pinned.PinnedFault.TheVariants as pinned
 use Rattle.image_pin.specs.declared.trusted.TrustedRoot.{TrustedRoot}
-use Rattle.image_pin.specs.PinnedReads.{IsPinnedCause}
 use Rattle.partition_table.specs.declared.sector_size.SectorSize.{SectorSize}
 use Rattle.partition_table.specs.declared.table.PartitionTable.{PartitionTable}
-use Rattle.verity_format.specs.declared.verifying.VerifyFault.TheVariants as verify
 use Rattle.stack_rules.proofs.lemmas.PassingLemmas.{out_of_memory-more}
 use Rattle.partition_commands.specs.declared.fault.PartitionsFault.{PartitionsFault}
 use Rattle.partition_commands.specs.declared.fault.PartitionsFault.TheVariants.{NoMemory, NotLoadable, Open, Pin, Refused, Write}
 use Rattle.partition_commands.specs.Commands.{EndsUnloadable, IsEntriesEnd}
 use Rattle.partition_commands.specs.Loads.{IsLoadableEnd, IsRefusedRoom, IsStackEnd, IsStackUnloadable, stack_room}
-use Rattle.partition_commands.specs.RootCommands.{FindsPair, IsPartSuperEnd, IsRootTextEnd, pair_text, unpinned_refusal}
+use Rattle.partition_commands.specs.RootCommands.{FindsPair, IsRootTextEnd, pair_text}
 use Rattle.partition_commands.specs.RootStacks.{root_room}
 
 -- what holds of a fault holds of the result that hands it on
@@ -40,15 +33,6 @@ say-root state device size trusted pair failed Write ends = ends
 say-root state device size trusted pair failed (Open file) ends = absurd ends
 say-root state device size trusted pair failed (Pin cause) ends = absurd ends
 say-root state device size trusted pair failed (Refused refusal) ends = absurd ends
-
--- a part of a device has no superblock of the pin
-pub unpinned-end : (old new : Device) (part part' : Part) (pin : Option ImagePin) (fault : PinnedFault)
-    → IsPinnedCause (windowed old part) pin (windowed new part') fault → IsPartSuperEnd old new part pin (unpinned_refusal fault)
-unpinned-end old new part part' pin (pinned.Unread verify.Device) cause = cause
-unpinned-end old new part part' pin (pinned.Unread verify.TooSmall) cause = cause
-unpinned-end old new part part' pin (pinned.Unread (verify.Super field)) cause = cause
-unpinned-end old new part part' pin (pinned.Unread verify.NoMemory) cause = absurd cause
-unpinned-end old new part part' pin (pinned.Unpinned mismatch) cause = (windowed new part', cause)
 
 -- a text of all partitions that isn't
 pub say-entries : (old new : Device) (size : SectorSize) (table : PartitionTable) (failed : Bool) (fault : PartitionsFault)

@@ -23,6 +23,8 @@ only_read-then {a = a} {b = b} {c = c} n m k p q fits = record {
   reads = omega (arith, p.reads, q.reads);
   writes = q.writes ∙ p.writes;
   image = λ h. q.image (subst IsTrue (sym p.same.steady) h) ∙ p.image h;
+  more = omega (arith, p.more, q.more);
+  sure = λ never. q.sure (p.same.never_fails never) ∙ p.sure never;
 }
 
 -- the entries of a header that was read lie on the disk
@@ -30,7 +32,7 @@ pub on_disk : (device : Device) (disk : Disk) (sector : ℕ) (header : Header) �
 on_disk device disk sector header h = subst (IsOnDisk disk) (sym h.value) (IsOnDisk-from_none disk sector h.sector_bytes h.good)
 
 -- why sectors of a copy were not read, after calls that didn't fail
-pub unread-cause : (a b c : Device) (disk : Disk) (sector n : ℕ) (fault : ReadFault) → b.failures ≡ a.failures → n ≤ 2048 → IsUnread b c n fault → IsCopyCause a c disk sector fault
-unread-cause a b c disk sector n DeviceFailed same few h = subst (λ (f : ℕ). (f < c.failures) ⊎ (f ≡ 2 ^ 64 - 1)) same h
-unread-cause a b c disk sector n NoMemory same few h = (h.0 ∙ same, (h.1.0, omega (arith, h.1.1, few), h.1.2))
-unread-cause a b c disk sector n (Table fault) same few h = absurd h
+pub unread-cause : (a b c : Device) (disk : Disk) (sector n : ℕ) (fault : ReadFault) → IsSameDevice a b → b.failures ≡ a.failures → n ≤ 2048 → IsUnread b c n fault → IsCopyCause a c disk sector fault
+unread-cause a b c disk sector n DeviceFailed device same few h = (subst (λ (f : ℕ). (f < c.failures) ⊎ (f ≡ 2 ^ 64 - 1)) same h.0, λ never. h.1 (device.never_fails never))
+unread-cause a b c disk sector n NoMemory device same few h = (h.0 ∙ same, (h.1.0, omega (arith, h.1.1, few), h.1.2))
+unread-cause a b c disk sector n (Table fault) device same few h = absurd h

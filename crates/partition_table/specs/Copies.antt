@@ -3,7 +3,7 @@
 use Rattle.std.specs.Prelude.{◌≡◌, ◌==◌, ◌&&◌, ℕ, Bool, List, take, Option, Some, None}
 use Rattle.std.specs.Str.{bytes_eq}
 use Rattle.allocation.specs.Refusal.{IsOutOfMemory}
-use Rattle.block_device.specs.Device.{Device, HasFailed}
+use Rattle.block_device.specs.Device.{Device}
 use Rattle.partition_table.specs.declared.copy.TableCopy.{TableCopy}
 use Rattle.partition_table.specs.declared.header.Header.{Header}
 use Rattle.partition_table.specs.declared.read_fault.ReadFault.{ReadFault}
@@ -12,7 +12,7 @@ use Rattle.partition_table.specs.declared.sector_size.Disk.{Disk}
 use Rattle.partition_table.specs.declared.table_fault.TableFault.{TableFault}
 use Rattle.partition_table.specs.Headers.{array_bytes, array_sectors, header_fault, table_header}
 use Rattle.partition_table.specs.Partitions.{array_fault, or_fault, partitions_in}
-use Rattle.partition_table.specs.Reads.{AreSectorsRead}
+use Rattle.partition_table.specs.Reads.{AreSectorsRead, HasFailedCall}
 
 -- the header's sector and, if the header is valid, the sectors of the entries, as they were read
 pub record IsCopyRead (device : Device) (disk : Disk) (sector : ℕ) (header array : List ℕ) : Type 0 where
@@ -62,7 +62,7 @@ largest_allocation = 0x100000
 
 -- why a copy isn't used: a device call failed, an allocation failed, or the copy that was read has a fault
 abbrev pub IsCopyCause : Device → Device → Disk → ℕ → ReadFault → Type 0
-IsCopyCause old new disk sector DeviceFailed = HasFailed old new
+IsCopyCause old new disk sector DeviceFailed = HasFailedCall old new
 IsCopyCause old new disk sector NoMemory = (new.failures ≡ old.failures) × IsOutOfMemory largest_allocation
 IsCopyCause old new disk sector (Table fault) = IsBadCopy old disk sector fault
 

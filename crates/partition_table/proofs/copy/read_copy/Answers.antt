@@ -31,5 +31,5 @@ returns-in_err-array-clause-err g c =
     let on = on_disk _ c.args.disk c.args.sector c.in_ok-header.header c.in_ok-header.ensures.ok in
     let was = err_from_is_err_and c.from_residual-in_err-array.result c.from_residual-in_err-array.ensures.1 in
     rw (was.1, was.2)
-    (unread-cause (g.D.BlockDev.state c.args.device.now) (g.D.BlockDev.state c.read_header.new.device) (g.D.BlockDev.state c.read_sectors.new.device) c.args.disk c.args.sector _ c.in_err-array.field-0.0 c.in_ok-header.ensures.full
+    (unread-cause (g.D.BlockDev.state c.args.device.now) (g.D.BlockDev.state c.read_header.new.device) (g.D.BlockDev.state c.read_sectors.new.device) c.args.disk c.args.sector _ c.in_err-array.field-0.0 c.in_ok-header.ensures.read.same c.in_ok-header.ensures.full
     (rw c.array_sectors-count.ensures on.few) c.in_err-array.ensures.err)
