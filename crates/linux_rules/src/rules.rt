@@ -97,7 +97,7 @@ fn stack_refusal(config: &Config, blocks: &[u64]) -> Option<LinuxRefusal>
     None
 }
 
-/// Checks that Linux would load the configuration, and read and write the same bytes.
+/// Checks nine rules on what Linux refuses of a configuration, or reads otherwise.
 ///
 /// # Errors
 ///

@@ -51,7 +51,7 @@ use Rattle.stack_commands.specs.StackCommands.{IsListEnd, IsReadEnd, IsWriteEnd,
 use Rattle.stack_commands.specs.Uses.{IsTreesEnd}
 use Rattle.stack_commands.specs.Verifying.{ChecksImage, GoesOverImage, IsCheckCommandEnd, IsGoingOverEnd}
 
--- what stands behind a context's references when it was used
+-- what a context's references lent when it was used
 abbrev pub ContextLeft : Type 0 → Type 0 → Type 0
 ContextLeft S T = MutBor S × (MutBor (CountedRecord T) × ⊤)
 

@@ -71,7 +71,7 @@ IsEnd fault old new status = (status ≡ ending_status fault) × Appends old new
 abbrev pub IsObjectEnd : CommandFault → Option (List ℕ) → Option (List ℕ) → ℕ → Type 0
 IsObjectEnd fault old new status = (status ≡ ending_status fault) × ((object : List ℕ) × ((ending_object (ending_text fault) ≡ Some object) × Appends old new object))
 
--- its text was printed, or the object of its line if one is asked for; then it is the text only if it has no line, or memory ran out
+-- its text was printed, or if an object is asked for maybe the object of its line; that it is the object then is only tested
 abbrev pub IsEndAs : Bool → CommandFault → Option (List ℕ) → Option (List ℕ) → ℕ → Type 0
 IsEndAs json fault old new status = IsEnd fault old new status ⊎ ((json ≡ true) × IsObjectEnd fault old new status)
 
