@@ -1,5 +1,5 @@
 -- Images in memory as files.
-use Rattle.std.proofs.Common.{◌≡◌, ◌<◌, ◌%◌, ◌==◌, ℕ, Bool, true, false, not, List, length, take, Option, Some, None, Result, Ok, Err, Vec, refl, sym, ap, subst, ◌∙◌}
+use Rattle.std.proofs.Common.{◌≡◌, ◌<◌, ◌%◌, ◌==◌, ◌&&◌, ℕ, Bool, true, false, not, List, length, take, Option, Some, None, Result, Ok, Err, Vec, refl, sym, ap, subst, ◌∙◌}
 use Rattle.std.specs.Prelude.{slice_get}
 use Rattle.std.specs.Option.{option_map}
 use Rattle.std.proofs.lemmas.Bool.{eq-eqb, eqb-false, eqb-true, false≢true}
@@ -10,7 +10,7 @@ use Rattle.block_device.specs.Device.{Device}
 use Rattle.block_device.specs.Memory.{memory_bytes}
 use Rattle.image_files.specs.declared.images.FileText.{FileText}
 use Rattle.image_files.specs.declared.images.OpenImage.{OpenImage}
-use Rattle.image_files.specs.Promises.{AreApart, FileRecord, HoldsSectors, IsApartFrom}
+use Rattle.image_files.specs.Promises.{AreApart, FileRecord, HoldsSectors, IsApartFrom, IsSameFile}
 use Rattle.command_tests.specs.declared.named_images.MemoryImages.{MemoryImages}
 use Rattle.image_files.specs.declared.texts.ReplaceFault.{ReplaceFault}
 use Rattle.command_tests.specs.Files.{file_at_place, file_under}
@@ -19,7 +19,7 @@ use Rattle.command_tests.specs.Named.{IsChanged, Stands, image_bytes, named_plac
 
 -- what stands at a place as a file
 abbrev pub file-of : ℕ → List ℕ → FileRecord
-file-of place bytes = record { id = id_at place; bytes = bytes }
+file-of place bytes = record { id = id_at place; bytes = bytes; regular = true }
 
 pub under : (m : MemoryImages) (path : List ℕ) (place : ℕ) (bytes : List ℕ) → Stands m.names.items m.images.items path place bytes
     → file_under m path ≡ Some (file-of place bytes)
@@ -30,9 +30,16 @@ pub copy-opened : (m : MemoryImages) (path : List ℕ) (writable : Bool) (image 
     → (file : FileRecord) × (file_under m path ≡ Some file) × (image.id ≡ file.id) × HoldsSectors (ghosts.state image.device) file
 copy-opened m path writable image c = (file-of c.place c.bytes, under m path c.place c.bytes c.stands, c.id, ap (λ (d : Device). d.image) c.is)
 
-pub text-told : (m : MemoryImages) (path : List ℕ) (most : ℕ) (text : FileText) → IsText m path most text
-    → (file : FileRecord) × (file_under m path ≡ Some file) × (text.id ≡ file.id) × (text.bytes.items ≡ take most file.bytes)
-text-told m path most text t = (file-of t.place t.bytes, under m path t.place t.bytes t.stands, t.id, t.is)
+-- the file under a path is what stands there
+the-file : (m : MemoryImages) (path : List ℕ) (place : ℕ) (bytes : List ℕ) (file : FileRecord) → Stands m.names.items m.images.items path place bytes → file_under m path ≡ Some file
+    → file-of place bytes ≡ file
+the-file m path place bytes file s is = same_Some (file-of place bytes) file (sym (under m path place bytes s) ∙ is)
+
+pub text-told : (m : MemoryImages) (path : List ℕ) (most : ℕ) (text : FileText) (file : FileRecord) → IsText m path most text → file_under m path ≡ Some file
+    → (text.id ≡ file.id) × (text.bytes.items ≡ take most file.bytes)
+text-told m path most text file t is =
+    let same = the-file m path t.place t.bytes file t.stands is in
+    (t.id ∙ ap (λ (f : FileRecord). f.id) same, t.is ∙ ap (λ (f : FileRecord). take most f.bytes) same)
 
 -- it stands at a place
 pub record IsAt (m : MemoryImages) (path : List ℕ) (file : FileRecord) : Type 0 where
@@ -71,14 +78,20 @@ put-at old new path device place placed = subst (λ (o : Option ℕ). PutsAt o (
 placed-still : (old new : MemoryImages) (path : List ℕ) (place : ℕ) → new.names ≡ old.names → named_place old.names.items path ≡ Some place → named_place new.names.items path ≡ Some place
 placed-still old new path place same placed = subst (λ names. named_place names.items path ≡ Some place) (sym same) placed
 
+still-same : (file : FileRecord) (place : ℕ) (bytes bytes' : List ℕ) → file ≡ file-of place bytes → IsSameFile file (file-of place bytes')
+still-same file place bytes bytes' is = record { id = sym (ap (λ (f : FileRecord). f.id) is); regular = sym (ap (λ (f : FileRecord). f.regular) is) }
+
+pub regular-under : (m : MemoryImages) (path : List ℕ) (file : FileRecord) → file_under m path ≡ Some file → file.regular ≡ true
+regular-under m path file is = ap (λ (f : FileRecord). f.regular) (is-at m path file is).is
+
 pub image-taken : (old new : MemoryImages) (path : List ℕ) (device : MemoryDev) (file : FileRecord) → PutsAt (named_place old.names.items path) (memory_bytes device) old new
-    → file_under old path ≡ Some file → (file' : FileRecord) × (file_under new path ≡ Some file') × (file'.id ≡ file.id) × HoldsSectors (ghosts.state device) file'
+    → file_under old path ≡ Some file → (file' : FileRecord) × (file_under new path ≡ Some file') × IsSameFile file file' × HoldsSectors (ghosts.state device) file'
 image-taken old new path device file taken is =
     let at = is-at old path file is in
     let put = put-at old new path device at.place at.placed taken in (
       file-of at.place (memory_bytes device),
       under new path at.place (memory_bytes device) (record { placed = placed-still old new path at.place put.0 at.placed; found = put.1.here (within old.images.items at.place at.bytes at.found) }),
-      sym (ap (λ (f : FileRecord). f.id) at.is),
+      still-same file at.place at.bytes (memory_bytes device) at.is,
       refl,
     )
 
@@ -103,13 +116,13 @@ changed-at old new path change place placed = subst (λ (o : Option ℕ). Change
 
 -- so it stands there then
 pub changed : (old new : MemoryImages) (path : List ℕ) (change : List ℕ → List ℕ) (file : FileRecord) → ChangesAt (named_place old.names.items path) change old new
-    → file_under old path ≡ Some file → (file' : FileRecord) × (file_under new path ≡ Some file') × (file'.id ≡ file.id) × (file'.bytes ≡ change file.bytes)
+    → file_under old path ≡ Some file → (file' : FileRecord) × (file_under new path ≡ Some file') × IsSameFile file file' × (file'.bytes ≡ change file.bytes)
 changed old new path change file is_changed is =
     let at = is-at old path file is in
     let at_place = changed-at old new path change at.place at.placed is_changed in (
       file-of at.place (change at.bytes),
       under new path at.place (change at.bytes) (record { placed = placed-still old new path at.place at_place.0 at.placed; found = at_place.1.here ∙ ap (option_map change) at.found }),
-      sym (ap (λ (f : FileRecord). f.id) at.is),
+      still-same file at.place at.bytes (change at.bytes) at.is,
       sym (ap (λ (f : FileRecord). change f.bytes) at.is),
     )
 
@@ -152,9 +165,10 @@ none-kept old new path other change is_changed none = go (named_place old.names.
     go (Some place) c =
         ap (λ names. file_at_place new.images.items (named_place names.items other)) c.0 ∙ at place c.1 (named_place old.names.items other) none
 
-pub part-measured : (m : MemoryImages) (path : List ℕ) (part : Bool) → IsMeasured m path part
-    → (file : FileRecord) × (file_under m path ≡ Some file) × (part ≡ not (length file.bytes % 512 == 0))
-part-measured m path part t = (file-of t.place t.bytes, under m path t.place t.bytes t.stands, t.is)
+pub part-measured : (m : MemoryImages) (path : List ℕ) (part : Bool) (file : FileRecord) → IsMeasured m path part → file_under m path ≡ Some file
+    → part ≡ (file.regular && not (length file.bytes % 512 == 0))
+part-measured m path part file t is =
+    t.is ∙ ap (λ (f : FileRecord). f.regular && not (length f.bytes % 512 == 0)) (the-file m path t.place t.bytes file t.stands is)
 
 -- ---- bytes in the place of a file's
 

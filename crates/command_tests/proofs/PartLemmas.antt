@@ -1,22 +1,22 @@
 -- Parts of images in memory as parts of files.
-use Rattle.std.proofs.Common.{◌≡◌, ◌+◌, ◌*◌, ◌/◌, ◌≤◌, ◌++◌, ℕ, Bool, true, List, [], length, take, drop, Some, Ok, arith, refl, sym, ap, subst, ◌∙◌, nat_le, rules, add-zero, length-append, length-drop}
-use Rattle.std.proofs.lemmas.List.{append-nil, drop-drop, length-take-le, take-append-le, take-take}
+use Rattle.std.proofs.Common.{◌≡◌, ◌+◌, ◌*◌, ◌/◌, ◌≤◌, ◌++◌, ℕ, Bool, true, List, [], length, take, drop, Some, Ok, arith, refl, sym, ap, subst, ◌∙◌, nat_le, rules, add-zero, length-drop}
+use Rattle.std.proofs.lemmas.List.{append-nil, length-take-le}
 use Rattle.std.proofs.Math.Nat.{mul_comm}
-use Rattle.std.proofs.Math.Seq.{drop-append_seam}
 use Rattle.block_device.proofs.lemmas.SectorLemmas.{sectors_of-append, sectors_of-split}
 use Rattle.block_device.specs.contracts.memory.MemoryDevBlockDev.TheImpl.{ghosts}
 use Rattle.block_device.specs.declared.memory.MemoryDev.{MemoryDev}
 use Rattle.block_device.specs.Device.{Device, sectors_of}
 use Rattle.block_device.specs.Memory.{memory_bytes}
 use Rattle.device_adapters.specs.declared.part.Part.{Part}
+use Rattle.image_files.proofs.lemmas.OverwriteLemmas.{IsOverwritten, overwritten}
 use Rattle.image_files.specs.declared.images.OpenImage.{OpenImage}
-use Rattle.image_files.specs.Promises.{FileRecord, HoldsPart, IsGrown, TakesPart}
+use Rattle.image_files.specs.Promises.{FileRecord, HoldsPart, IsGrown, IsSameFile, TakesPart}
 use Rattle.command_tests.specs.declared.named_images.MemoryImages.{MemoryImages}
 use Rattle.command_tests.specs.Files.{file_under}
 use Rattle.command_tests.specs.MemoryRelations.{ChangesAt, GrowsAt, IsPartCopy}
 use Rattle.command_tests.specs.Named.{named_place}
 use Rattle.command_tests.specs.Parts.{LiesWithin, grown_image, part_bytes, with_bytes, with_part}
-use Rattle.command_tests.proofs.FileLemmas.{changed, file-of, under}
+use Rattle.command_tests.proofs.FileLemmas.{changed, file-of, regular-under, under}
 
 -- sectors of a text's first bytes, whatever stands behind them
 sectors-front : (count : ℕ) (bytes rest : List ℕ) → count * 512 ≤ length bytes → sectors_of count (take (count * 512) bytes ++ rest) ≡ sectors_of count bytes
@@ -51,31 +51,6 @@ part-opened m path writable part image c = (
 
 -- ---- a part that is put back
 
--- bytes in place of those from an offset on
-record IsPlaced (image : List ℕ) (offset : ℕ) (bytes new : List ℕ) : Type 0 where
-  front : take offset new ≡ take offset image
-  middle : drop offset new ≡ bytes ++ drop (offset + length bytes) image
-  back : drop (offset + length bytes) new ≡ drop (offset + length bytes) image
-  same : length new ≡ length image
-
-placed : (image : List ℕ) (offset : ℕ) (bytes : List ℕ) → offset + length bytes ≤ length image
-    → IsPlaced image offset bytes (take offset image ++ (bytes ++ drop (offset + length bytes) image))
-placed image offset bytes fits =
-    let tail = bytes ++ drop (offset + length bytes) image in
-    let len : length (take offset image) ≡ offset = length-take-le offset image (omega (arith, fits)) in
-    let behind : drop offset (take offset image ++ tail) ≡ tail =
-    ap (λ (n : ℕ). drop n (take offset image ++ tail)) (sym len) ∙ drop-append_seam (take offset image) tail in
-    record {
-      front = take-append-le offset (take offset image) tail (omega (arith, len)) ∙ take-take offset offset image (omega arith);
-      middle = behind;
-      back =
-          sym (drop-drop (length bytes) offset (take offset image ++ tail))
-          ∙ (ap (drop (length bytes)) behind ∙ drop-append_seam bytes (drop (offset + length bytes) image));
-      same =
-          length-append (take offset image) tail
-          ∙ omega (arith, len, length-append bytes (drop (offset + length bytes) image), length-drop (offset + length bytes) image, fits);
-    }
-
 with-bytes : (image : List ℕ) (offset : ℕ) (bytes : List ℕ) → offset + length bytes ≤ length image
     → with_bytes image offset bytes ≡ take offset image ++ (bytes ++ drop (offset + length bytes) image)
 with-bytes image offset bytes fits =
@@ -87,21 +62,21 @@ with-part image part bytes inside =
     let test : nat_le (part.first + part.count) (length image / 512) ≡ true = search rules in rw test refl
 
 put-back : (image : List ℕ) (part : Part) (bytes : List ℕ) → LiesWithin image part → part.count * 512 ≤ length bytes
-    → IsPlaced image (part.first * 512) (take (part.count * 512) bytes) (with_part image part bytes)
+    → IsOverwritten image (part.first * 512) (take (part.count * 512) bytes) (with_part image part bytes)
 put-back image part bytes inside enough =
     let held = take (part.count * 512) bytes in
     let len : length held ≡ part.count * 512 = length-take-le (part.count * 512) bytes enough in
     let fits : part.first * 512 + length held ≤ length image = omega (arith, len, inside) in
-    subst (λ (new : List ℕ). IsPlaced image (part.first * 512) held new) (sym (with-part image part bytes inside ∙ with-bytes image (part.first * 512) held fits)) (placed image (part.first * 512) held fits)
+    subst (λ (new : List ℕ). IsOverwritten image (part.first * 512) held new) (sym (with-part image part bytes inside ∙ with-bytes image (part.first * 512) held fits)) (overwritten image (part.first * 512) held fits)
 
-takes : (device : MemoryDev) (part : Part) (file file' : FileRecord) → file'.id ≡ file.id → (ghosts.state device).size ≡ part.count → LiesWithin file.bytes part
+takes : (device : MemoryDev) (part : Part) (file file' : FileRecord) → IsSameFile file file' → (ghosts.state device).size ≡ part.count → LiesWithin file.bytes part
     → file'.bytes ≡ with_part file.bytes part (memory_bytes device) → TakesPart (ghosts.state device) part file file'
 takes device part file file' same size inside is =
     let bytes = memory_bytes device in
     let held = take (part.count * 512) bytes in
     let enough : part.count * 512 ≤ length bytes = omega (arith, size) in
     let len : length held ≡ part.count * 512 = length-take-le (part.count * 512) bytes enough in
-    let p = subst (λ (new : List ℕ). IsPlaced file.bytes (part.first * 512) held new) (sym is) (put-back file.bytes part bytes inside enough) in
+    let p = subst (λ (new : List ℕ). IsOverwritten file.bytes (part.first * 512) held new) (sym is) (put-back file.bytes part bytes inside enough) in
     let end : part.first * 512 + length held ≡ (part.first + part.count) * 512 = omega (arith, len) in
     record {
       same = same;
@@ -125,4 +100,4 @@ pub image-grown : (old new : MemoryImages) (path : List ℕ) (sectors : ℕ) (fi
     → (file' : FileRecord) × (file_under new path ≡ Some file') × IsGrown file file' sectors
 image-grown old new path sectors file is_grown is =
     let c = changed old new path (λ image. grown_image image sectors) file is_grown is in
-    (c.0, c.1, record { same = c.2; bytes = c.3 })
+    (c.0, c.1, record { same = c.2; bytes = c.3 ∙ sym (rw (regular-under old path file is) refl) })

@@ -3,7 +3,7 @@
 
 mod system;
 
-use image_files::FileImages;
+use image_files::{FileImages, SystemCalls};
 use program_io::Counted;
 use stack_commands::{CommandFault, command, end, writes_data};
 use std::fs::File;
@@ -25,7 +25,8 @@ fn main(rt: HostRuntime) -> ExitCode {
     };
     let mut reader = Counted::new(rt.reader());
     let mut writer = Counted::new(buffered);
-    let (mut images, mut system) = (FileImages::new(&rt), System::new(&rt));
+    let mut images = FileImages::new(&rt, SystemCalls::new(&rt));
+    let mut system = System::new(&rt);
     let status = match words_of(&rt) {
         Ok(words) => command(
             rt.alloc(),

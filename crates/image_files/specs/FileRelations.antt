@@ -1,5 +1,5 @@
 -- What a proof sees of images in files: no clause of the library says which file a path leads to, nor what it holds.
-use Rattle.std.specs.Prelude.{◌≡◌, ◌≢◌, ◌⊎◌, ◌*◌, ◌%◌, ◌↔◌, ℕ, Bool, true, IsTrue, List, Option, Result, Ok, Err}
+use Rattle.std.specs.Prelude.{◌≡◌, ◌≢◌, ◌⊎◌, ◌*◌, ◌%◌, ◌↔◌, ℕ, Bool, true, IsTrue, List, Option, None, Result, Ok, Err, IfOk, codes}
 use Rattle.std.specs.Fs.{file_type, metadata_len, IsFile}
 use Rattle.std.specs.declared.fs.File.{File}
 use Rattle.std.specs.declared.fs.attrs.Metadata.{Metadata}
@@ -7,20 +7,25 @@ use Rattle.block_device.specs.declared.file_id.FileId.{FileId}
 use Rattle.block_device.specs.declared.open_fault.OpenFault.{OpenFault}
 use Rattle.block_device.specs.Device.{Device}
 use Rattle.block_device.specs.File.{IsOpened}
-use Rattle.block_device.specs.FileCalls.{IsOfPath, Opened}
-use Rattle.block_device.specs.Identity.{IsLongEnough}
+use Rattle.block_device.specs.FileCalls.{IsOfFile, IsOfPath, Opened}
+use Rattle.block_device.specs.Identity.{IsLongEnough, IsToldId}
 use Rattle.device_adapters.specs.declared.part.Part.{Part}
 use Rattle.device_adapters.specs.Parts.{LiesInside}
 use Rattle.device_adapters.specs.Windows.{windowed}
+use Rattle.image_files.specs.declared.images.FileText.{FileText}
 use Rattle.image_files.specs.declared.images.OpenImage.{OpenImage}
+use Rattle.image_files.specs.Calls.{FileRelations}
+use Rattle.image_files.specs.Drafts.{Replaces, Tries}
 use Rattle.image_files.specs.FileLocks.{Locks, LocksAtMost}
 use Rattle.image_files.specs.ImageCalls.{WasMade, Open, OpenPart, ReadText, Close, ClosePart, Grow, Measure, Compare, Replace, TryReplace}
+use Rattle.image_files.specs.NewFiles.{FailsToMake, Makes}
+use Rattle.image_files.specs.OnePlace.{ResolvesAtMost}
 use Rattle.image_files.specs.Opener.{Opener}
 use Rattle.image_files.specs.declared.texts.ReplaceFault.{ReplaceFault}
 
--- what a proof sees of a device, which file it is, whether the system opened it under a path, for writing too or not, and
--- which files an opener has locked
-pub record FileView (S D : Type 0) : Type 1 where
+-- What a proof sees of a device, which file it is, whether the system opened it under a path, for writing too or not, which
+-- files an opener has locked, and the file system by whose calls it makes and replaces files.
+pub record FileView (S D C F : Type 0) : Type 1 where
   pub state : D → Device
   pub id : D → Option FileId
   pub opened : D → List ℕ → Bool → Type 0
@@ -28,21 +33,21 @@ pub record FileView (S D : Type 0) : Type 1 where
   -- the device of all sectors of its file, and what the system said of how many they are
   pub whole : D → Device
   pub sized : D → ℕ → Type 0
-  -- which calls made the file under a path, or found one there
-  pub made : List ℕ → Type 0
-  -- which calls replaced the text under a path, and which tried to
-  pub replaced : List ℕ → List ℕ → Result (Unit {0}) ReplaceFault → Type 0
-  pub tried : List ℕ → Result (Unit {0}) ReplaceFault → Type 0
+  -- which file the system opened under a path to read a text
+  pub read : List ℕ → File → Type 0
+  -- what each call of the file system leaves, and the file system of an opener
+  pub relations : FileRelations C F
+  pub calls : S → C
 
 -- a file as it was opened under its path, of the size that the system said of it, and which one it is
-pub record IsOpenFile {S D : Type 0} (view : FileView S D) (image : OpenImage D) (path : List ℕ) (writable : Bool) : Type 0 where
+pub record IsOpenFile {S D C F : Type 0} (view : FileView S D C F) (image : OpenImage D) (path : List ℕ) (writable : Bool) : Type 0 where
   pub asked : view.opened image.device path writable
   pub device : IsOpened (view.state image.device) writable
   pub size : view.sized image.device (view.state image.device).size
   pub id : image.id ≡ view.id image.device
 
 -- a part of one, inside of it: of all that was opened under the path
-pub record IsOpenPart {S D : Type 0} (view : FileView S D) (image : OpenImage D) (path : List ℕ) (writable : Bool) (part : Part) : Type 0 where
+pub record IsOpenPart {S D C F : Type 0} (view : FileView S D C F) (image : OpenImage D) (path : List ℕ) (writable : Bool) (part : Part) : Type 0 where
   pub asked : view.opened image.device path writable
   pub is : IsOpened (view.whole image.device) writable
   pub size : view.sized image.device (view.whole image.device).size
@@ -50,40 +55,64 @@ pub record IsOpenPart {S D : Type 0} (view : FileView S D) (image : OpenImage D)
   pub device : view.state image.device ≡ windowed (view.whole image.device) part
   pub id : image.id ≡ view.id image.device
 
-abbrev pub OpensFile : {D F : Type 0} → (OpenImage D → Type 0) → Result (OpenImage D) F → Type 0
+abbrev pub OpensFile : {D E : Type 0} → (OpenImage D → Type 0) → Result (OpenImage D) E → Type 0
 OpensFile Is (Ok image) = Is image
 OpensFile Is (Err fault) = Unit {0}
 
 -- a file that is opened for writing is locked from then on, and no lock is let go
-abbrev pub LocksFile : {S D F : Type 0} → FileView S D → Bool → Result (OpenImage D) F → S → S → Type 0
+abbrev pub LocksFile : {S D C F E : Type 0} → FileView S D C F → Bool → Result (OpenImage D) E → S → S → Type 0
 LocksFile view writable (Ok image) old new = Locks writable image.id (view.locked old) (view.locked new)
 LocksFile view writable (Err fault) old new = LocksAtMost (view.locked old) (view.locked new)
 
--- the system said that no regular file is under the path; or the file was made where there was none, and has that many sectors
-abbrev pub Grows : Type 0 → List ℕ → ℕ → Result (Unit {0}) OpenFault → Type 0
-Grows Made path sectors (Ok done) = ((said : Metadata) × IsOfPath path said × (IsFile (file_type said) → ⊥)) ⊎ (Made × ((file : File) × Opened path true file × IsLongEnough file (sectors * 512)))
-Grows Made path sectors (Err fault) = Unit {0}
+-- the same files are locked
+abbrev pub LocksNoMore : {S D C F : Type 0} → FileView S D C F → S → S → Type 0
+LocksNoMore view old new = view.locked new ≡ view.locked old
+
+-- the file system isn't called
+abbrev pub CallsNothing : {S D C F : Type 0} → FileView S D C F → S → S → Type 0
+CallsNothing view old new = view.calls new ≡ view.calls old
+
+-- the standard input is no file; another text is of the file that was opened to read it, with the identity that the system reported
+pub record IsTextOf (Read : File → Type 0) (path : List ℕ) (text : FileText) : Type 0 where
+  pub input : path ≡ codes "-" → text.id ≡ None
+  pub file : (path ≡ codes "-" → ⊥) → (file : File) × Read file × ((said : Metadata) × IsOfFile file said × IsToldId said text.id)
+
+-- the system said that no regular file is under the path, and the file system isn't called
+pub record IsOfFixedSize {C : Type 0} (old : C) (path : List ℕ) (new : C) : Type 0 where
+  pub said : Metadata
+  pub of : IsOfPath path said
+  pub kind : IsFile (file_type said) → ⊥
+  pub same : new ≡ old
+
+-- the file was made if there was none, by no other call of the file system, and has that many sectors
+pub record IsGrownFile {C F : Type 0} (r : FileRelations C F) (old : C) (path : List ℕ) (sectors : ℕ) (new : C) : Type 0 where
+  pub makes : Makes r old path new
+  pub file : File
+  pub opened : Opened path true file
+  pub long : IsLongEnough file (sectors * 512)
+
+-- which calls of the file system are made to grow a file: also if it isn't grown, those that make it or fail to, or none
+abbrev pub Grows : {C F : Type 0} → FileRelations C F → C → List ℕ → ℕ → Result (Unit {0}) OpenFault → C → Type 0
+Grows r old path sectors (Ok done) new = IsOfFixedSize old path new ⊎ IsGrownFile r old path sectors new
+Grows r old path sectors (Err fault) new = (new ≡ old) ⊎ (Makes r old path new ⊎ FailsToMake r old path fault new)
 
 -- whether a regular file ends inside a sector, by the size that the system said of the path
 abbrev pub EndsInPart : List ℕ → Result Bool OpenFault → Type 0
 EndsInPart path (Ok part) = (said : Metadata) × IsOfPath path said × (IsTrue part ↔ (IsFile (file_type said) × (metadata_len said % 512 ≢ 0)))
 EndsInPart path (Err fault) = Unit {0}
 
--- the same files are locked
-abbrev pub LocksNoMore : {S D : Type 0} → FileView S D → S → S → Type 0
-LocksNoMore view old new = view.locked new ≡ view.locked old
-
--- Each says that the call was made, on this opener. What files hold is not in the opener, so none says that nothing changed.
-abbrev pub file_relations : {S D : Type 0} → FileView S D → Opener S D
+-- Each says that the call was made on this opener, and which calls of its file system it made. What files hold is not in the
+-- opener, so none says that nothing changed.
+abbrev pub file_relations : {S D C F : Type 0} → FileView S D C F → Opener S D
 file_relations {D = D} view = record {
-  opens = λ old path writable outcome new. WasMade old (Open path writable outcome) new × LocksFile view writable outcome old new × OpensFile (λ image. IsOpenFile view image path writable) outcome;
-  opens_part = λ old path writable part outcome new. WasMade old (OpenPart path writable part outcome) new × LocksFile view writable outcome old new × OpensFile (λ image. IsOpenPart view image path writable part) outcome;
-  tells = λ old path most outcome new. WasMade {D = D} old (ReadText path most outcome) new × LocksNoMore view old new;
-  takes = λ old path device new. WasMade old (Close path device) new × LocksNoMore view old new;
-  takes_part = λ old path part device new. WasMade old (ClosePart path part device) new × LocksNoMore view old new;
-  grows = λ old path sectors outcome new. WasMade {D = D} old (Grow path sectors outcome) new × LocksAtMost (view.locked old) (view.locked new) × Grows (view.made path) path sectors outcome;
-  measures = λ old path outcome new. WasMade {D = D} old (Measure path outcome) new × LocksNoMore view old new × EndsInPart path outcome;
-  compares = λ old path other outcome new. WasMade {D = D} old (Compare path other outcome) new × LocksNoMore view old new;
-  replaces = λ old path bytes outcome new. WasMade {D = D} old (Replace path bytes outcome) new × LocksNoMore view old new × view.replaced path bytes outcome;
-  tries = λ old path outcome new. WasMade {D = D} old (TryReplace path outcome) new × LocksNoMore view old new × view.tried path outcome;
+  opens = λ old path writable outcome new. WasMade old (Open path writable outcome) new × CallsNothing view old new × LocksFile view writable outcome old new × OpensFile (λ image. IsOpenFile view image path writable) outcome;
+  opens_part = λ old path writable part outcome new. WasMade old (OpenPart path writable part outcome) new × CallsNothing view old new × LocksFile view writable outcome old new × OpensFile (λ image. IsOpenPart view image path writable part) outcome;
+  tells = λ old path most outcome new. WasMade {D = D} old (ReadText path most outcome) new × CallsNothing view old new × LocksNoMore view old new × IfOk outcome (IsTextOf (view.read path) path);
+  takes = λ old path device new. WasMade old (Close path device) new × CallsNothing view old new × LocksNoMore view old new;
+  takes_part = λ old path part device new. WasMade old (ClosePart path part device) new × CallsNothing view old new × LocksNoMore view old new;
+  grows = λ old path sectors outcome new. WasMade {D = D} old (Grow path sectors outcome) new × LocksAtMost (view.locked old) (view.locked new) × Grows view.relations (view.calls old) path sectors outcome (view.calls new);
+  measures = λ old path outcome new. WasMade {D = D} old (Measure path outcome) new × CallsNothing view old new × LocksNoMore view old new × EndsInPart path outcome;
+  compares = λ old path other outcome new. WasMade {D = D} old (Compare path other outcome) new × LocksNoMore view old new × ResolvesAtMost view.relations (view.calls old) path other (view.calls new);
+  replaces = λ old path bytes outcome new. WasMade {D = D} old (Replace path bytes outcome) new × LocksNoMore view old new × Replaces view.relations (view.calls old) path bytes outcome (view.calls new);
+  tries = λ old path outcome new. WasMade {D = D} old (TryReplace path outcome) new × LocksNoMore view old new × Tries view.relations (view.calls old) path outcome (view.calls new);
 }

@@ -1,6 +1,9 @@
 pub mod Apart
 pub mod FileLocks
+pub mod FileLaws
 pub mod FileRelations
+pub mod FilesAfter
+pub mod Histories
 pub mod ImageCalls
 pub mod FileUses
 pub mod OneFile

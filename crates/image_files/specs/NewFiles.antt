@@ -38,7 +38,7 @@ pub record IsUnlistedFile {S F : Type 0} (r : FileRelations S F) (old : S) (path
   pub makes : r.makes resolved target (Ok file) made
   pub failed : r.lists made target (Err cause) new
 
--- a file was created, or one stands there
+-- a file was created, or one is there
 abbrev pub Makes : {S F : Type 0} → FileRelations S F → S → List ℕ → S → Type 0
 Makes r old path new = IsNewFile r old path new ⊎ IsRefusedFile r old path AlreadyExists new
 

@@ -1,7 +1,9 @@
 -- Paths that lead to one place, be there a file or not.
-use Rattle.std.specs.Prelude.{◌≡◌, ℕ, Bool, true, List, Ok, Err}
+use Rattle.std.specs.Prelude.{◌≡◌, ◌⊎◌, ℕ, Bool, true, List, Result, Ok, Err}
 use Rattle.block_device.specs.declared.open_fault.OpenFault.TheVariants.{NoMemory}
+use Rattle.image_files.specs.Calls.{FileRelations}
 use Rattle.image_files.specs.declared.opening.UnopenedFile.{UnopenedFile}
+use Rattle.image_files.specs.declared.texts.ReplaceFault.{ReplaceFault}
 use Rattle.image_files.specs.Opener.{Calls}
 
 -- the calls are one that found whether two paths lead to one place, as equal ones do
@@ -13,3 +15,11 @@ pub record Compares {S D : Type 0} (w : Calls S D) (path other : List ℕ) (one 
 pub record FailsToCompare {S D : Type 0} (w : Calls S D) (path other : List ℕ) (file : UnopenedFile) : Type 0 where
   pub is : (file.fault ≡ NoMemory) × (file.path.now ≡ path)
   pub failed : w.relations.compares w.old path other (Err NoMemory) w.new
+
+-- a path was resolved, or can't be
+abbrev pub Resolves : {C F : Type 0} → FileRelations C F → C → List ℕ → C → Type 0
+Resolves r old path new = (outcome : Result (List ℕ) ReplaceFault) × r.resolves old path outcome new
+
+-- both paths were resolved, or the first alone, or none, as of equal ones
+abbrev pub ResolvesAtMost : {C F : Type 0} → FileRelations C F → C → List ℕ → List ℕ → C → Type 0
+ResolvesAtMost {C} r old path other new = (new ≡ old) ⊎ (Resolves r old path new ⊎ ((between : C) × Resolves r old path between × Resolves r between other new))

@@ -33,7 +33,7 @@ pub was-asked : {S : Type 0} (old : S) (call : SystemCall) (new : S) → Seal �
 unfolding WasAsked
 was-asked old call new seal = tt
 
--- options of a file that is created, and refused where its name is taken: nothing that stands there is opened or emptied
+-- options of a file that is created, and refused where its name is taken: nothing that is there is opened or emptied
 abbrev pub exclusive : Bool → OpenOptions
 exclusive read = with_create_new (with_write (with_read new_options read) true) true
 
@@ -42,6 +42,10 @@ abbrev pub CreatesNew : {S : Type 0} → S → List ℕ → Result File CreateFa
 CreatesNew old name (Ok file) new = WasAsked old (OpenBy (exclusive false) name (Ok file)) new
 CreatesNew old name (Err Exists) new = WasAsked old (OpenBy (exclusive false) name (Err AlreadyExists)) new
 CreatesNew old name (Err Failed) new = Unit {0}
+
+-- the system opened the file under a path for reading alone
+abbrev pub IsOpenText : {S : Type 0} → List ℕ → File → Type 0
+IsOpenText {S} path file = (s : S) × WasAsked s (OpenBy (with_read new_options true) path (Ok file)) s
 
 abbrev pub system_relations : {S : Type 0} → FileRelations S File
 system_relations = record {

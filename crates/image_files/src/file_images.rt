@@ -1,5 +1,5 @@
 //! Images in files.
-ghost use Rattle.std.specs.Prelude.{◌≡◌, ◌≤◌, length, OnErr, OnOk, IfErr, IfOk};
+ghost use Rattle.std.specs.Prelude.{◌≡◌, ◌≤◌, ◌↔◌, codes, length, IsTrue, OnErr, OnOk, IfErr, IfOk};
 ghost use Rattle.block_device.specs.Any.{any_id, any_opened};
 ghost use Rattle.block_device.specs.File.{IsOpened};
 ghost use Rattle.block_device.specs.FileCalls.{Opened};
@@ -7,20 +7,20 @@ ghost use Rattle.block_device.specs.FileId.{file_id, file_of};
 ghost use Rattle.image_files.specs.FileLocks.{Locks, LocksAtMost};
 ghost use Rattle.image_files.specs.Sizes.{IsSized, any_sized};
 
+use crate::calls::FileCalls;
+use crate::draft::{replace_text, try_draft};
 use crate::file_locks::FileLocks;
-use crate::file_texts::FileTexts;
 use crate::growing::make_file;
 use crate::images::{FileText, Images, OpenImage};
 use crate::one_place::is_one_place;
 use crate::parts::PartFault;
-use crate::system_calls::SystemCalls;
-use crate::texts::{ReplaceFault, Texts};
+use crate::system_calls::open_to_read;
+use crate::texts::ReplaceFault;
 use block_device::{
     AnyDev, BlockDev, FileDev, FileId, MemoryDev, OpenFault, metadata_at, metadata_of,
 };
 use device_adapters::{OutsideDevice, Part, Window};
 use std::alloc::Global;
-use std::fs;
 use std::fs::File;
 use std::io::{ErrorKind, Read};
 use std::rt::Files;
@@ -31,6 +31,12 @@ const INPUT: &str = "-";
 const SECTOR: u64 = 512;
 
 const MAX_SECTORS: u64 = 1 << 54;
+
+fn is_input(path: &str) -> bool
+    ensures { IsTrue result ↔ (path.now ≡ codes "-") }
+{
+    path == INPUT
+}
 
 // At most so many first bytes of what can be read.
 fn first_bytes<S: Read + Drop>(alloc: Global, source: S, most: usize) -> Result<Vec<u8>, OpenFault>
@@ -66,23 +72,23 @@ fn open_file<R: Files<File = File>>(
 /// Images in files, under their paths; the text under `-` is the standard input's. Each file that is opened for writing, or
 /// grown, stays locked against other processes as long as these live.
 #[derive(Drop)]
-pub struct FileImages<'a, R> {
+pub struct FileImages<'a, R, C> {
     rt: &'a R,
     locks: FileLocks,
+    calls: C,
 }
 
-impl<'a, R: AllocGlobal> FileImages<'a, R> {
-    pub fn new(rt: &'a R) -> FileImages<'a, R> {
+impl<'a, R: AllocGlobal, C> FileImages<'a, R, C> {
+    /// Opens files of `rt`, and makes and replaces files by `calls`.
+    pub fn new(rt: &'a R, calls: C) -> FileImages<'a, R, C> {
         let locks = FileLocks::new(rt.alloc());
-        FileImages { rt, locks }
+        FileImages { rt, locks, calls }
     }
 }
 
-impl<R: Files<File = File> + AllocGlobal + Input> Images for FileImages<'_, R> {
-    ghost use Rattle.image_files.specs.Drafts.{Replaces, Tries};
+impl<R: Files<File = File> + AllocGlobal + Input, C: FileCalls> Images for FileImages<'_, R, C> {
     ghost use Rattle.image_files.specs.FileRelations.{file_relations};
-    ghost use Rattle.image_files.specs.NewFiles.{Makes};
-    ghost use Rattle.image_files.specs.SystemFiles.{system_relations};
+    ghost use Rattle.image_files.specs.SystemFiles.{IsOpenText};
     ghost use Rattle.image_files.specs.declared.system_calls.SystemCalls.{SystemCalls};
 
     type Dev = Window<AnyDev>;
@@ -94,9 +100,9 @@ impl<R: Files<File = File> + AllocGlobal + Input> Images for FileImages<'_, R> {
       locked = λ images. images.locks.files.items;
       whole = λ window. ⟦<AnyDev as BlockDev>⟧.state window.inner;
       sized = λ window sectors. any_sized window.inner sectors;
-      made = λ path. (before after : SystemCalls R) × Makes system_relations before path after;
-      replaced = λ path bytes outcome. (before after : SystemCalls R) × Replaces system_relations before path bytes outcome after;
-      tried = λ path outcome. (before after : SystemCalls R) × Tries system_relations before path outcome after;
+      read = IsOpenText {SystemCalls R};
+      relations = C.relations;
+      calls = λ images. images.calls;
     }) };
 
     #[tactic(auto, using(crate::proofs::FileLemmas::made))]
@@ -127,14 +133,11 @@ impl<R: Files<File = File> + AllocGlobal + Input> Images for FileImages<'_, R> {
     // A file of any kind that can be read, or what stands in the standard input.
     #[tactic(auto, using(crate::proofs::FileLemmas::made))]
     fn read_text(&mut self, path: &str, most: usize) -> Result<FileText, OpenFault> {
-        if path == INPUT {
+        if is_input(path) {
             let bytes = first_bytes(self.rt.alloc(), self.rt.reader(), most)?;
             return Ok(FileText { bytes, id: None });
         }
-        let file = match fs::open(self.rt, path) {
-            Ok(file) => file,
-            Err(error) => return Err(OpenFault::from(error.kind())),
-        };
+        let file = open_to_read(self.rt, path)?;
         let id = FileId::of(&metadata_of(&file)?);
         let bytes = first_bytes(self.rt.alloc(), file, most)?;
         Ok(FileText { bytes, id })
@@ -162,7 +165,7 @@ impl<R: Files<File = File> + AllocGlobal + Input> Images for FileImages<'_, R> {
         if sectors > MAX_SECTORS {
             return Err(OpenFault::TooLarge);
         }
-        make_file(self.rt, path)?;
+        make_file(&mut self.calls, path)?;
         let file = open_file(self.rt, &mut self.locks, path, true)?;
         file.lengthen(sectors * SECTOR)
     }
@@ -175,17 +178,17 @@ impl<R: Files<File = File> + AllocGlobal + Input> Images for FileImages<'_, R> {
 
     #[tactic(auto, using(crate::proofs::FileLemmas::made))]
     fn is_one_place(&mut self, path: &str, other: &str) -> Result<bool, OpenFault> {
-        is_one_place(self.rt, path, other)
+        is_one_place(self.rt, &mut self.calls, path, other)
     }
 
+    #[tactic(auto, using(crate::proofs::FileLemmas::made))]
     fn replace(&mut self, path: &str, bytes: &[u8]) -> Result<(), ReplaceFault> {
-        let calls = SystemCalls::new(self.rt);
-        FileTexts::new(self.rt.alloc(), calls).replace(path, bytes)
+        replace_text(self.rt.alloc(), &mut self.calls, path, bytes)
     }
 
+    #[tactic(auto, using(crate::proofs::FileLemmas::made))]
     fn try_replace(&mut self, path: &str) -> Result<(), ReplaceFault> {
-        let calls = SystemCalls::new(self.rt);
-        FileTexts::new(self.rt.alloc(), calls).try_replace(path)
+        try_draft(self.rt.alloc(), &mut self.calls, path)
     }
 
     fn of_memory(memory: MemoryDev) -> Window<AnyDev> {

@@ -1,31 +1,18 @@
 //! Files that are made.
 ghost use Rattle.std.specs.Prelude.{IfErr, OnOk};
 ghost use Rattle.image_files.specs.NewFiles.{FailsToMake, Makes};
-ghost use Rattle.image_files.specs.SystemFiles.{system_relations};
-ghost use Rattle.image_files.specs.declared.system_calls.SystemCalls.{SystemCalls as Calls};
 
 use crate::calls::{CallFault, FileCalls};
-use crate::system_calls::SystemCalls;
 use crate::texts::ReplaceFault;
 use block_device::OpenFault;
-use std::fs::File;
 use std::io::ErrorKind;
-use std::rt::Files;
 
 /// Makes an empty file if a path leads to none, and syncs the folder that lists it.
 ///
 /// # Errors
 ///
 /// What the system answered.
-pub fn make_file<R: Files<File = File> + AllocGlobal>(rt: &R, path: &str) -> Result<(), OpenFault>
-    ensures { OnOk result ((before after : Calls R) × Makes system_relations before path.now after) }
-{
-    make_by(&mut SystemCalls::new(rt), path)?;
-    Ok(())
-}
-
-// The same by the calls of a file system.
-fn make_by<C: FileCalls>(calls: &mut C, path: &str) -> Result<(), OpenFault>
+pub fn make_file<C: FileCalls>(calls: &mut C, path: &str) -> Result<(), OpenFault>
     ensures ok { OnOk result (Makes C.relations calls.old path.now calls.new) }
     ensures err { IfErr result (λ fault. FailsToMake C.relations calls.old path.now fault calls.new) }
 {

@@ -9,6 +9,7 @@ mod file_texts;
 mod file_use;
 mod growing;
 mod images;
+pub mod laws;
 mod memory_text;
 mod one_file;
 mod one_place;

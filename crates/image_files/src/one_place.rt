@@ -1,13 +1,13 @@
 //! Whether two paths lead to one place.
 ghost use Rattle.std.specs.Prelude.{◌≡◌, true, IfErr, IfOk};
 ghost use Rattle.block_device.specs.declared.open_fault.OpenFault.TheVariants as open_fault;
+ghost use Rattle.image_files.specs.OnePlace.{Resolves, ResolvesAtMost};
 
 use crate::calls::FileCalls;
 use crate::one_file::is_one_file;
-use crate::system_calls::{SystemCalls, folder_and_name};
+use crate::system_calls::folder_and_name;
 use crate::texts::ReplaceFault;
 use block_device::{FileId, OpenFault, metadata_at};
-use std::fs::File;
 use std::rt::Files;
 
 /// Whether both paths lead to one name in one folder, after the symbolic links at their ends.
@@ -15,21 +15,23 @@ use std::rt::Files;
 /// # Errors
 ///
 /// `NoMemory`.
-pub fn is_one_place<R: Files<File = File> + AllocGlobal>(
+pub fn is_one_place<R: Files, C: FileCalls>(
     rt: &R,
+    calls: &mut C,
     path: &str,
     other: &str,
 ) -> Result<bool, OpenFault>
     ensures equal { IfOk result (λ one. path.now ≡ other.now → one ≡ true) }
     ensures err { IfErr result (λ fault. fault ≡ open_fault.NoMemory) }
+    ensures calls { ResolvesAtMost C.relations calls.old path.now other.now calls.new }
 {
     if path == other {
         return Ok(true);
     }
-    let Some(target) = target_of(rt, path)? else {
+    let Some(target) = target_of(calls, path)? else {
         return Ok(false);
     };
-    let Some(other_target) = target_of(rt, other)? else {
+    let Some(other_target) = target_of(calls, other)? else {
         return Ok(false);
     };
     let (folder, name) = folder_and_name(target.as_str());
@@ -45,13 +47,11 @@ pub fn is_one_place<R: Files<File = File> + AllocGlobal>(
 /// # Errors
 ///
 /// `NoMemory`.
-pub fn target_of<R: Files<File = File> + AllocGlobal>(
-    rt: &R,
-    path: &str,
-) -> Result<Option<String>, OpenFault>
-    ensures { IfErr result (λ fault. fault ≡ open_fault.NoMemory) }
+pub fn target_of<C: FileCalls>(calls: &mut C, path: &str) -> Result<Option<String>, OpenFault>
+    ensures err { IfErr result (λ fault. fault ≡ open_fault.NoMemory) }
+    ensures calls { Resolves C.relations calls.old path.now calls.new }
 {
-    match SystemCalls::new(rt).resolve(path) {
+    match calls.resolve(path) {
         Ok(target) => Ok(Some(target)),
         Err(ReplaceFault::NoMemory) => Err(OpenFault::NoMemory),
         Err(_) => Ok(None),

@@ -1,9 +1,12 @@
 //! The operating system's files.
+ghost use Rattle.std.specs.Prelude.{IfOk};
 ghost use Rattle.image_files.specs.Calls.{IsNoDraft};
-ghost use Rattle.image_files.specs.SystemFiles.{CreatesNew, OpenBy, WasAsked};
+ghost use Rattle.image_files.specs.SystemFiles.{CreatesNew, IsOpenText, OpenBy, WasAsked};
+ghost use Rattle.image_files.specs.declared.system_calls.SystemCalls.{SystemCalls as Calls};
 
 use crate::calls::{CallFault, CreateFault, FileCalls};
 use crate::texts::ReplaceFault;
+use block_device::OpenFault;
 use std::fs::{File, Metadata, OpenFile, OpenOptions, Permissions};
 use std::io::{ErrorKind, Write};
 use std::os::fd::AsFd;
@@ -39,6 +42,20 @@ pub fn folder_and_name(path: &str) -> (&str, &str) {
         None => (".", path),
         Some(("", name)) => ("/", name),
         Some((folder, name)) => (folder, name),
+    }
+}
+
+/// The file under a path, opened for reading alone.
+///
+/// # Errors
+///
+/// The fault of what the system answered.
+pub fn open_to_read<R: Files<File = File> + AllocGlobal>(rt: &R, path: &str) -> Result<File, OpenFault>
+    ensures { IfOk result (IsOpenText {Calls R} path.now) }
+{
+    match SystemCalls::new(rt).open_by(OpenOptions::new().read(true), NEW_FILE, path) {
+        Ok(file) => Ok(file),
+        Err(kind) => Err(OpenFault::from(kind)),
     }
 }
 

@@ -8,25 +8,29 @@ use Rattle.command_tests.proofs.laws.images_keep_files.Goals as goal
 
 pub returns : goal.returns
 returns c = record {
-  kept_opening = λ old new path writable outcome is. ap file_under is.0;
-  kept_reading = λ old new path most outcome is. ap file_under is.0;
-  opened = λ old new path writable image is. copy-opened old path writable image is.1;
-  steady = λ old new path writable image is. ap (λ d. d.steady) is.1.is;
-  told = λ old new path most text is. text-told old path most text is.1;
-  taken = image-taken;
-  kept_taking = others-kept;
-  kept_opening_part = λ old new path writable part outcome is. ap file_under is.0;
-  opened_part = λ old new path writable part image is. part-opened old path writable part image is.1;
-  steady_part = λ old new path writable part image is. ap (λ d. d.steady) is.1.is;
-  taken_part = part-taken;
-  kept_taking_part = λ old new path other part device file another is. others-unchanged old new path other (λ image. with_part image part (memory_bytes device)) file another is;
-  grown = image-grown;
-  kept_growing = λ old new path other sectors file another is. others-unchanged old new path other (λ image. grown_image image sectors) file another is;
-  kept_measuring = λ old new path outcome is. ap file_under is.0;
-  measured = λ old new path part is. part-measured old path part is.1;
-  kept_comparing = λ old new path other outcome is. ap file_under is.0;
-  made_apart = λ old between new path other sectors compared is. none-kept between new path other (λ image. grown_image image sectors) is;
-  replaced = text-replaced;
-  kept_replacing = others-unreplaced;
-  kept_trying = λ old new path outcome is. ap file_under is.0;
+  shows = record {
+    opened = λ old new path writable image is. copy-opened old path writable image is.1;
+    steady = λ old new path writable image is. ap (λ d. d.steady) is.1.is;
+    opened_part = λ old new path writable part image is. part-opened old path writable part image is.1;
+    steady_part = λ old new path writable part image is. ap (λ d. d.steady) is.1.is;
+    told = λ old new path most text file is. text-told old path most text file is.1;
+    measured = λ old new path part file is. part-measured old path part file is.1;
+    made_apart = λ old between new path other sectors compared is. none-kept between new path other (λ image. grown_image image sectors) is;
+  };
+  changes = record {
+    kept_opening = λ old new path writable outcome is. ap file_under is.0;
+    kept_reading = λ old new path most outcome is. ap file_under is.0;
+    kept_opening_part = λ old new path writable part outcome is. ap file_under is.0;
+    kept_measuring = λ old new path outcome is. ap file_under is.0;
+    kept_comparing = λ old new path other outcome is. ap file_under is.0;
+    kept_trying = λ old new path outcome is. ap file_under is.0;
+    taken = image-taken;
+    kept_taking = others-kept;
+    taken_part = part-taken;
+    kept_taking_part = λ old new path other part device file another is. others-unchanged old new path other (λ image. with_part image part (memory_bytes device)) file another is;
+    grown = image-grown;
+    kept_growing = λ old new path other sectors file another is. others-unchanged old new path other (λ image. grown_image image sectors) file another is;
+    replaced = text-replaced;
+    kept_replacing = others-unreplaced;
+  };
 }
