@@ -32,7 +32,7 @@ not-apart : (file : FileRecord) → AreApart file file → ⊥
 not-apart file apart = go file.id apart.0 apart.2
   where
     go : (id : Option FileId) → IsSome id → is_one_file id id ≡ false → ⊥
-    go None some is = some
+    go None some is = false≢true some
     go (Some id) some is = false≢true (sym is ∙ itself id)
 
 same-name : (path : List ℕ) → bytes_eq path path ≡ true
@@ -52,7 +52,8 @@ apart-from o file another is apart here is' = subst (λ (f : FileRecord). AreApa
 another-name : (files : Files) (path other : List ℕ) (file another : FileRecord) → files path ≡ Some file → files other ≡ Some another → AreApart file another → is_name_of files path other ≡ false
 another-name files path other file another is is' apart =
     let test = another-path files path other another is' (apart-from (files path) file another is apart) in
-    ap (λ (e : Bool). e || is_one_file (id_under files path) (id_under files other)) test ∙ (rw (is, is') apart.2)
+    let differs : is_one_file (id_under files path) (id_under files other) ≡ false = rw (is, is') apart.2 in
+    ap (λ (e : Bool). e || is_one_file (id_under files path) (id_under files other)) test ∙ differs
 
 -- ---- one change
 
@@ -113,7 +114,6 @@ part-kept device part file whole size inside =
 
 step : {D : Type 0} (state : D → Device) (ids : ℕ → Option FileId) (start : Files) (calls : List (ImageCall D)) (n : ℕ) (call : ImageCall D) → slice_get calls n ≡ Some call
     → files_at state ids start calls (suc n) ≡ files_after state (ids n) (files_at state ids start calls n) call
-unfolding files_at
 step state ids start [] n call is = absurd (none-some call is)
 step state ids start (c ∷ rest) zero call is = ap (files_after state (ids 0) start) (same_Some c call is)
 step state ids start (c ∷ rest) (suc n) call is = step state (λ k. ids (suc k)) (files_after state (ids 0) start c) rest n call is

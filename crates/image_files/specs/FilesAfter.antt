@@ -1,5 +1,5 @@
 -- What files hold after the calls of a history, by the effects of its calls alone.
-use Rattle.std.specs.Prelude.{◌≡◌, ◌||◌, ◌+◌, ◌*◌, ◌++◌, ℕ, zero, suc, Bool, true, List, [], ◌∷◌, length, take, drop, replicate, Option, Some, None, Ok, if◌then◌else◌}
+use Rattle.std.specs.Prelude.{◌||◌, ◌+◌, ◌*◌, ◌++◌, ℕ, suc, Bool, true, List, [], ◌∷◌, length, take, drop, replicate, Option, Some, None, Ok, if◌then◌else◌}
 use Rattle.std.specs.List.{concat}
 use Rattle.std.specs.Option.{option_and_then, option_map}
 use Rattle.std.specs.Str.{bytes_eq}
@@ -42,8 +42,11 @@ files_after state id files (Grow path sectors (Ok done)) = grown_files (files pa
 files_after state id files (Replace path bytes (Ok done)) = with_new files path id bytes
 files_after state id files call = files
 
--- the files after the first n calls; `ids` are the identities that new files get by them
-unfoldable pub files_at : {D : Type 0} → (D → Device) → (ℕ → Option FileId) → Files → List (ImageCall D) → ℕ → Files
-files_at state ids start calls zero = start
-files_at state ids start [] (suc n) = start
-files_at state ids start (call ∷ rest) (suc n) = files_at state (λ k. ids (suc k)) (files_after state (ids 0) start call) rest n
+-- the files after all these calls; `ids` are the identities that new files get by them
+abbrev pub files_after_all : {D : Type 0} → (D → Device) → (ℕ → Option FileId) → Files → List (ImageCall D) → Files
+files_after_all state ids files [] = files
+files_after_all state ids files (call ∷ rest) = files_after_all state (λ k. ids (suc k)) (files_after state (ids 0) files call) rest
+
+-- the files after the first n calls of a history
+abbrev pub files_at : {D : Type 0} → (D → Device) → (ℕ → Option FileId) → Files → List (ImageCall D) → ℕ → Files
+files_at state ids start calls n = files_after_all state ids start (take n calls)

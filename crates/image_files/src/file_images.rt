@@ -8,14 +8,14 @@ ghost use Rattle.image_files.specs.FileLocks.{Locks, LocksAtMost};
 ghost use Rattle.image_files.specs.Sizes.{IsSized, any_sized};
 
 use crate::calls::FileCalls;
-use crate::draft::{replace_text, try_draft};
 use crate::file_locks::FileLocks;
+use crate::file_texts::FileTexts;
 use crate::growing::make_file;
 use crate::images::{FileText, Images, OpenImage};
 use crate::one_place::is_one_place;
 use crate::parts::PartFault;
 use crate::system_calls::open_to_read;
-use crate::texts::ReplaceFault;
+use crate::texts::{ReplaceFault, Texts};
 use block_device::{
     AnyDev, BlockDev, FileDev, FileId, MemoryDev, OpenFault, metadata_at, metadata_of,
 };
@@ -75,14 +75,15 @@ fn open_file<R: Files<File = File>>(
 pub struct FileImages<'a, R, C> {
     rt: &'a R,
     locks: FileLocks,
-    calls: C,
+    texts: FileTexts<C>,
 }
 
 impl<'a, R: AllocGlobal, C> FileImages<'a, R, C> {
     /// Opens files of `rt`, and makes and replaces files by `calls`.
     pub fn new(rt: &'a R, calls: C) -> FileImages<'a, R, C> {
         let locks = FileLocks::new(rt.alloc());
-        FileImages { rt, locks, calls }
+        let texts = FileTexts::new(rt.alloc(), calls);
+        FileImages { rt, locks, texts }
     }
 }
 
@@ -100,9 +101,9 @@ impl<R: Files<File = File> + AllocGlobal + Input, C: FileCalls> Images for FileI
       locked = λ images. images.locks.files.items;
       whole = λ window. ⟦<AnyDev as BlockDev>⟧.state window.inner;
       sized = λ window sectors. any_sized window.inner sectors;
-      read = IsOpenText {SystemCalls R};
+      read = IsOpenText {S = SystemCalls R};
       relations = C.relations;
-      calls = λ images. images.calls;
+      calls = λ images. images.texts.calls;
     }) };
 
     #[tactic(auto, using(crate::proofs::FileLemmas::made))]
@@ -165,7 +166,7 @@ impl<R: Files<File = File> + AllocGlobal + Input, C: FileCalls> Images for FileI
         if sectors > MAX_SECTORS {
             return Err(OpenFault::TooLarge);
         }
-        make_file(&mut self.calls, path)?;
+        make_file(&mut self.texts.calls, path)?;
         let file = open_file(self.rt, &mut self.locks, path, true)?;
         file.lengthen(sectors * SECTOR)
     }
@@ -178,17 +179,17 @@ impl<R: Files<File = File> + AllocGlobal + Input, C: FileCalls> Images for FileI
 
     #[tactic(auto, using(crate::proofs::FileLemmas::made))]
     fn is_one_place(&mut self, path: &str, other: &str) -> Result<bool, OpenFault> {
-        is_one_place(self.rt, &mut self.calls, path, other)
+        is_one_place(self.rt, &mut self.texts.calls, path, other)
     }
 
     #[tactic(auto, using(crate::proofs::FileLemmas::made))]
     fn replace(&mut self, path: &str, bytes: &[u8]) -> Result<(), ReplaceFault> {
-        replace_text(self.rt.alloc(), &mut self.calls, path, bytes)
+        self.texts.replace(path, bytes)
     }
 
     #[tactic(auto, using(crate::proofs::FileLemmas::made))]
     fn try_replace(&mut self, path: &str) -> Result<(), ReplaceFault> {
-        try_draft(self.rt.alloc(), &mut self.calls, path)
+        self.texts.try_replace(path)
     }
 
     fn of_memory(memory: MemoryDev) -> Window<AnyDev> {

@@ -7,7 +7,7 @@ use std::alloc::Global;
 /// Texts in files, under their paths.
 #[derive(Drop)]
 pub struct FileTexts<C> {
-    calls: C,
+    pub calls: C,
     alloc: Global,
 }
 

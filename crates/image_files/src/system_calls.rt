@@ -50,8 +50,11 @@ pub fn folder_and_name(path: &str) -> (&str, &str) {
 /// # Errors
 ///
 /// The fault of what the system answered.
-pub fn open_to_read<R: Files<File = File> + AllocGlobal>(rt: &R, path: &str) -> Result<File, OpenFault>
-    ensures { IfOk result (IsOpenText {Calls R} path.now) }
+pub fn open_to_read<R: Files<File = File> + AllocGlobal>(
+    rt: &R,
+    path: &str,
+) -> Result<File, OpenFault>
+    ensures { IfOk result (IsOpenText {S = Calls R} path.now) }
 {
     match SystemCalls::new(rt).open_by(OpenOptions::new().read(true), NEW_FILE, path) {
         Ok(file) => Ok(file),

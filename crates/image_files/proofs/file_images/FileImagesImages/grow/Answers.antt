@@ -20,7 +20,7 @@ pub returns : goal.returns
 returns g c = (
   made _ _ _,
   locks_at_most true (file_id c.in_ok-file.file) c.args.self.now.locks.files.items c.open_file.new.locks.files.items c.in_ok-file.ensures.locked.0,
-  grows g.C.FileCalls.relations c.args.self.now.calls c.make_file.new.calls c.args.path.now c.args.sectors c.lengthen.result (file_of c.in_ok-file.file)
+  grows g.C.FileCalls.relations c.args.self.now.texts.calls c.make_file.new.calls c.args.path.now c.args.sectors c.lengthen.result (file_of c.in_ok-file.file)
       c.in_ok-make_file.ensures.ok c.in_ok-file.ensures.locked.1 c.lengthen.ensures,
 )
 
