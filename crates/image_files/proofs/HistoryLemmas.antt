@@ -10,7 +10,7 @@ use Rattle.image_files.specs.Opener.{Opener}
 use Rattle.image_files.specs.Promises.{Files}
 
 -- the opener after n of its calls
-value-at : {S D : Type 0} (o : Opener S D) (old : S) (calls : List (ImageCall D)) (new : S) → AreMade o old calls new → ℕ → S
+abbrev value-at : {S D : Type 0} (o : Opener S D) (old : S) (calls : List (ImageCall D)) (new : S) → AreMade o old calls new → ℕ → S
 value-at o old [] new made n = old
 value-at o old (call ∷ rest) new made zero = old
 value-at o old (call ∷ rest) new made (suc n) = value-at o made.between rest new made.rest n
