@@ -1,7 +1,7 @@
 -- What files hold while an opener is used: a premise of who reads the commands' clauses of files. It is taken of one history of
--- calls (`specs/Histories`): `at` is then what was under each path after each call. `ChangesFiles` holds of every history
--- (`laws`); `ShowsFiles` is what the system is trusted with: no contract of the standard library says it. A file's bytes change
--- when its device is closed, so no device may be opened over bytes that were written and not yet closed.
+-- calls (`specs/Histories`): `at` is what is under each path after so many of its calls. For every history files exist that change by
+-- its calls (`specs/FileLaws`). That calls show them (`ShowsFiles`) is assumed: no contract of the standard library says it. A file's
+-- bytes count as changed when its device is closed, so no device may be opened over bytes that were written and not yet closed.
 use Rattle.std.specs.Prelude.{◌≡◌, ◌+◌, ◌-◌, ◌*◌, ◌/◌, ◌%◌, ◌≤◌, ◌==◌, ◌++◌, ◌&&◌, if◌then◌else◌, ℕ, Bool, true, false, not, IsSome, List, length, take, drop, replicate, Option, Some, None, Result, Ok}
 use Rattle.block_device.specs.declared.file_id.FileId.{FileId}
 use Rattle.block_device.specs.declared.open_fault.OpenFault.{OpenFault}
