@@ -1,7 +1,7 @@
 -- Images in memory as files.
 use Rattle.std.specs.Prelude.{ℕ, true, List, Option, Some, None, Vec}
 use Rattle.std.specs.Option.{option_map}
-use Rattle.image_files.specs.Promises.{FileRecord, Files}
+use Rattle.image_files.specs.Promises.{FileRecord}
 use Rattle.command_tests.specs.declared.named_images.MemoryImages.{MemoryImages}
 use Rattle.command_tests.specs.MemoryRelations.{id_at}
 use Rattle.command_tests.specs.Named.{image_bytes, named_place}
@@ -14,5 +14,5 @@ file_at_place images None = None
 file_at_place images (Some place) = file_at images place
 
 -- the image with that name
-abbrev pub file_under : MemoryImages → Files
+abbrev pub file_under : MemoryImages → List ℕ → Option FileRecord
 file_under m path = file_at_place m.images.items (named_place m.names.items path)
