@@ -2,7 +2,6 @@
 ghost use Rattle.std.specs.Prelude.{IfOk};
 ghost use Rattle.image_files.specs.Calls.{IsNoDraft};
 ghost use Rattle.image_files.specs.SystemFiles.{CreatesNew, IsOpenText, OpenBy, WasAsked};
-ghost use Rattle.image_files.specs.declared.system_calls.SystemCalls.{SystemCalls as Calls};
 
 use crate::calls::{CallFault, CreateFault, FileCalls};
 use crate::texts::ReplaceFault;
@@ -45,20 +44,18 @@ pub fn folder_and_name(path: &str) -> (&str, &str) {
     }
 }
 
-/// The file under a path, opened for reading alone.
+/// The file under a path, opened for reading alone. Trusted: that the body makes this call.
 ///
 /// # Errors
 ///
 /// The fault of what the system answered.
-pub fn open_to_read<R: Files<File = File> + AllocGlobal>(
-    rt: &R,
-    path: &str,
-) -> Result<File, OpenFault>
-    ensures { IfOk result (IsOpenText {S = Calls R} path.now) }
+#[tactic(auto, using(crate::proofs::FileLemmas::asked_of))]
+pub fn open_to_read<R: Files<File = File>>(rt: &R, path: &str) -> Result<File, OpenFault>
+    ensures { IfOk result (IsOpenText path.now) }
 {
-    match SystemCalls::new(rt).open_by(OpenOptions::new().read(true), NEW_FILE, path) {
+    match OpenOptions::new().read(true).open(rt, path) {
         Ok(file) => Ok(file),
-        Err(kind) => Err(OpenFault::from(kind)),
+        Err(error) => Err(OpenFault::from(error.kind())),
     }
 }
 
