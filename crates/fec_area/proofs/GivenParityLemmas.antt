@@ -4,8 +4,8 @@ use Rattle.std.proofs.lemmas.List.{append-nil, length-append}
 use Rattle.block_device.specs.Call.{Call, Calls, Read}
 use Rattle.block_device.proofs.lemmas.CallLemmas.{calls-last}
 use Rattle.fec_area.specs.declared.layout.Layout.{Layout}
-use Rattle.fec_area.specs.Given.{GivesAll, GivesFirst, round_indices}
-use Rattle.fec_area.specs.GivenParity.{ChecksPart, ChecksRounds, ChecksTo, first_rounds, parity_reads}
+use Rattle.fec_area.specs.Given.{GivesAll, GivesFirst, first_rounds, round_indices}
+use Rattle.fec_area.specs.GivenParity.{ChecksPart, ChecksRounds, ChecksTo, parity_reads}
 use Rattle.fec_area.specs.Handing.{AreParities, round_sectors}
 use Rattle.fec_area.specs.Layouts.{IsParityOf, code_rounds}
 use Rattle.fec_area.proofs.GivenLemmas.{all-none, all-then, first-then, gathered-next, gathered-none}

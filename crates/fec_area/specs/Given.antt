@@ -84,6 +84,10 @@ kept_index_at l round places i = if is_among places i then [] else index_at l ro
 abbrev pub round_indices : Layout → ℕ → List ℕ
 round_indices l round = gathered (index_at l round) (255 - l.roots)
 
+-- the indices of all covered blocks of the first n rounds, round by round
+abbrev pub first_rounds : Layout → ℕ → List ℕ
+first_rounds l n = gathered (round_indices l) n
+
 -- ---- parts of the calls
 
 abbrev pub GivesBlock : {D H : Type 0} → (D → Call → D → Type 0) → (H → Call → H → Type 0) → Layout → ℕ → List ℕ → D → H → D → H → Bool → Type 0

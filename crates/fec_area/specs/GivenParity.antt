@@ -4,7 +4,7 @@ use Rattle.block_device.specs.Call.{Call, Calls, Read}
 use Rattle.fec_area.specs.declared.layout.Layout.{Layout}
 use Rattle.fec_area.specs.declared.writing.ParityFault.{ParityFault}
 use Rattle.fec_area.specs.declared.writing.ParityFault.TheVariants.{TooSmall, ReadOnly, Device as DeviceFailed, NoMemory}
-use Rattle.fec_area.specs.Given.{GivesAll, GivesFirst, gathered, round_indices}
+use Rattle.fec_area.specs.Given.{GivesAll, GivesFirst, first_rounds}
 use Rattle.fec_area.specs.Handing.{AreParities, round_sectors}
 use Rattle.fec_area.specs.Layouts.{IsParityOf, code_rounds}
 
@@ -12,10 +12,6 @@ use Rattle.fec_area.specs.Layouts.{IsParityOf, code_rounds}
 abbrev pub parity_reads : ℕ → ℕ → List (List ℕ) → List Call
 parity_reads sectors r [] = []
 parity_reads sectors r (parity ∷ more) = Read (r * sectors) parity true ∷ parity_reads sectors (r + 1) more
-
--- the indices of all covered blocks of the first n rounds, round by round
-abbrev pub first_rounds : Layout → ℕ → List ℕ
-first_rounds l n = gathered (round_indices l) n
 
 -- the covered blocks and the parity of the first n rounds were read, each once, and nothing else; each parity that was
 -- returned is the parity of the blocks that were returned

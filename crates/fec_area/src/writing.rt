@@ -56,7 +56,8 @@ impl From<OutOfMemory> for ParityFault {
 
 /// Writes the parity of all rounds consecutively, from the beginning of `parity_dev` on.
 ///
-/// Each covered block is read once. Nothing is synced.
+/// Each covered block is read once, round by round in order; each round is written once, with the parity of the bytes that these
+/// reads returned. Nothing is called after the first failure. Nothing is synced.
 ///
 /// # Errors
 ///
@@ -76,7 +77,7 @@ pub fn write_parity<D: BlockDev, H: BlockDev, P: BlockDev>(
     ensures written { IsOnlyWritten (P.state parity_dev.old) (parity_sectors layout.now) (P.state parity_dev.new) }
     ensures ok { OnOk result (WritesParity layout.now D.state H.state P.state data_dev.old hash_dev.old parity_dev.old data_dev.new hash_dev.new parity_dev.new) }
     ensures err { IfErr result (FailsToWriteParity layout.now D.state H.state P.state data_dev.old hash_dev.old parity_dev.old data_dev.new hash_dev.new parity_dev.new) }
-    ensures handed { HandsParity layout.now D.state H.state P.state P.does data_dev.old hash_dev.old parity_dev.old parity_dev.new (is_ok result) }
+    ensures handed { HandsParity layout.now D.state H.state P.state D.does H.does P.does data_dev.old hash_dev.old parity_dev.old data_dev.new hash_dev.new parity_dev.new (is_ok result) }
 {
     let needed = layout.parity_sectors();
     if parity_dev.sectors() < needed {
@@ -120,7 +121,7 @@ fn write_rounds<D: BlockDev, H: BlockDev, P: BlockDev>(
     ensures written { IsOnlyWritten (P.state parity_dev.old) (parity_sectors code.now.layout.now) (P.state parity_dev.new) }
     ensures ok { OnOk result (WritesParity code.now.layout.now D.state H.state P.state data_dev.old hash_dev.old parity_dev.old data_dev.new hash_dev.new parity_dev.new) }
     ensures err { OnErr result (AnyFails D.state H.state P.state data_dev.old hash_dev.old parity_dev.old data_dev.new hash_dev.new parity_dev.new) }
-    ensures handed { HandsParity code.now.layout.now D.state H.state P.state P.does data_dev.old hash_dev.old parity_dev.old parity_dev.new (is_ok result) }
+    ensures handed { HandsParity code.now.layout.now D.state H.state P.state D.does H.does P.does data_dev.old hash_dev.old parity_dev.old data_dev.new hash_dev.new parity_dev.new (is_ok result) }
 {
     let sectors = (parity.len() / 512) as u64;
     for round in 0..code.layout.rounds() {

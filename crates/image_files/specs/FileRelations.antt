@@ -21,7 +21,6 @@ use Rattle.image_files.specs.ImageCalls.{WasMade, Open, OpenPart, ReadText, Clos
 use Rattle.image_files.specs.NewFiles.{FailsToMake, Makes}
 use Rattle.image_files.specs.OnePlace.{ResolvesAtMost}
 use Rattle.image_files.specs.Opener.{Opener}
-use Rattle.image_files.specs.SystemFiles.{IsOpenText}
 use Rattle.image_files.specs.declared.texts.ReplaceFault.{ReplaceFault}
 
 -- What a proof sees of a device, which file it is, whether the system opened it under a path, for writing too or not, which
@@ -34,6 +33,8 @@ pub record FileView (S D C F : Type 0) : Type 1 where
   -- the device of all sectors of its file, and what the system said of how many they are
   pub whole : D → Device
   pub sized : D → ℕ → Type 0
+  -- which file the system opened under a path to read a text
+  pub read : List ℕ → File → Type 0
   -- what each call of the file system leaves, and the file system of an opener
   pub relations : FileRelations C F
   pub calls : S → C
@@ -72,9 +73,9 @@ abbrev pub CallsNothing : {S D C F : Type 0} → FileView S D C F → S → S �
 CallsNothing view old new = view.calls new ≡ view.calls old
 
 -- the standard input is no file; another text is of the file that was opened to read it, with the identity that the system reported
-pub record IsTextOf (path : List ℕ) (text : FileText) : Type 0 where
+pub record IsTextOf (Read : File → Type 0) (path : List ℕ) (text : FileText) : Type 0 where
   pub input : path ≡ codes "-" → text.id ≡ None
-  pub file : (path ≡ codes "-" → ⊥) → (file : File) × IsOpenText path file × ((said : Metadata) × IsOfFile file said × IsToldId said text.id)
+  pub file : (path ≡ codes "-" → ⊥) → (file : File) × Read file × ((said : Metadata) × IsOfFile file said × IsToldId said text.id)
 
 -- the system said that no regular file is under the path, and the file system isn't called
 pub record IsOfFixedSize {C : Type 0} (old : C) (path : List ℕ) (new : C) : Type 0 where
@@ -106,7 +107,7 @@ abbrev pub file_relations : {S D C F : Type 0} → FileView S D C F → Opener S
 file_relations {D = D} view = record {
   opens = λ old path writable outcome new. WasMade old (Open path writable outcome) new × CallsNothing view old new × LocksFile view writable outcome old new × OpensFile (λ image. IsOpenFile view image path writable) outcome;
   opens_part = λ old path writable part outcome new. WasMade old (OpenPart path writable part outcome) new × CallsNothing view old new × LocksFile view writable outcome old new × OpensFile (λ image. IsOpenPart view image path writable part) outcome;
-  tells = λ old path most outcome new. WasMade {D = D} old (ReadText path most outcome) new × CallsNothing view old new × LocksNoMore view old new × IfOk outcome (IsTextOf path);
+  tells = λ old path most outcome new. WasMade {D = D} old (ReadText path most outcome) new × CallsNothing view old new × LocksNoMore view old new × IfOk outcome (IsTextOf (view.read path) path);
   takes = λ old path device new. WasMade old (Close path device) new × CallsNothing view old new × LocksNoMore view old new;
   takes_part = λ old path part device new. WasMade old (ClosePart path part device) new × CallsNothing view old new × LocksNoMore view old new;
   grows = λ old path sectors outcome new. WasMade {D = D} old (Grow path sectors outcome) new × LocksAtMost (view.locked old) (view.locked new) × Grows view.relations (view.calls old) path sectors outcome (view.calls new);

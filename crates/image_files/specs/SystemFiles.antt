@@ -43,9 +43,9 @@ CreatesNew old name (Ok file) new = WasAsked old (OpenBy (exclusive false) name 
 CreatesNew old name (Err Exists) new = WasAsked old (OpenBy (exclusive false) name (Err AlreadyExists)) new
 CreatesNew old name (Err Failed) new = Unit {0}
 
--- the system opened this file under a path for reading alone
-abbrev pub IsOpenText : List ℕ → File → Type 0
-IsOpenText path file = WasAsked {S = Unit {0}} tt (OpenBy (with_read new_options true) path (Ok file)) tt
+-- the system opened the file under a path for reading alone
+abbrev pub IsOpenText : (S : Type 0) → List ℕ → File → Type 0
+IsOpenText S path file = (s : S) × WasAsked s (OpenBy (with_read new_options true) path (Ok file)) s
 
 abbrev pub system_relations : {S : Type 0} → FileRelations S File
 system_relations = record {

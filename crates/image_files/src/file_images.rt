@@ -89,6 +89,8 @@ impl<'a, R: AllocGlobal, C> FileImages<'a, R, C> {
 
 impl<R: Files<File = File> + AllocGlobal + Input, C: FileCalls> Images for FileImages<'_, R, C> {
     ghost use Rattle.image_files.specs.FileRelations.{file_relations};
+    ghost use Rattle.image_files.specs.SystemFiles.{IsOpenText};
+    ghost use Rattle.image_files.specs.declared.system_calls.SystemCalls.{SystemCalls};
 
     type Dev = Window<AnyDev>;
 
@@ -99,6 +101,7 @@ impl<R: Files<File = File> + AllocGlobal + Input, C: FileCalls> Images for FileI
       locked = λ images. images.locks.files.items;
       whole = λ window. ⟦<AnyDev as BlockDev>⟧.state window.inner;
       sized = λ window sectors. any_sized window.inner sectors;
+      read = IsOpenText (SystemCalls R);
       relations = C.relations;
       calls = λ images. images.texts.calls;
     }) };

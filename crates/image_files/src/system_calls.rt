@@ -2,6 +2,7 @@
 ghost use Rattle.std.specs.Prelude.{IfOk};
 ghost use Rattle.image_files.specs.Calls.{IsNoDraft};
 ghost use Rattle.image_files.specs.SystemFiles.{CreatesNew, IsOpenText, OpenBy, WasAsked};
+ghost use Rattle.image_files.specs.declared.system_calls.SystemCalls.{SystemCalls as Calls};
 
 use crate::calls::{CallFault, CreateFault, FileCalls};
 use crate::texts::ReplaceFault;
@@ -44,18 +45,20 @@ pub fn folder_and_name(path: &str) -> (&str, &str) {
     }
 }
 
-/// The file under a path, opened for reading alone. Trusted: that the body makes this call.
+/// The file under a path, opened for reading alone.
 ///
 /// # Errors
 ///
 /// The fault of what the system answered.
-#[tactic(auto, using(crate::proofs::FileLemmas::asked_of))]
-pub fn open_to_read<R: Files<File = File>>(rt: &R, path: &str) -> Result<File, OpenFault>
-    ensures { IfOk result (IsOpenText path.now) }
+pub fn open_to_read<R: Files<File = File> + AllocGlobal>(
+    rt: &R,
+    path: &str,
+) -> Result<File, OpenFault>
+    ensures { IfOk result (IsOpenText (Calls R) path.now) }
 {
-    match OpenOptions::new().read(true).open(rt, path) {
+    match SystemCalls::new(rt).open_by(OpenOptions::new().read(true), NEW_FILE, path) {
         Ok(file) => Ok(file),
-        Err(error) => Err(OpenFault::from(error.kind())),
+        Err(kind) => Err(OpenFault::from(kind)),
     }
 }
 

@@ -1,11 +1,13 @@
 //! A copy of a partition table, read from a device.
-ghost use Rattle.std.specs.Prelude.{◌≡◌, ◌&&◌, ◌⊎◌, ◌+◌, ◌*◌, ◌≤◌, ◌<◌, length, take, Option, Some, None, IfErr, IfOk, OnOk};
+ghost use Rattle.std.specs.Prelude.{◌≡◌, ◌&&◌, ◌⊎◌, ◌+◌, ◌*◌, ◌≤◌, ◌<◌, length, take, Option, Some, None, IfErr, IfOk};
+ghost use Rattle.block_device.specs.Call.{DeviceDoes};
 ghost use Rattle.block_device.specs.Device.{Device};
 ghost use Rattle.partition_table.specs.Copies.{IsArrayCause, IsCopyCause, IsGoodCopy, IsHeaderRead, are_equal, are_like};
 ghost use Rattle.partition_table.specs.Disks.{IsDiskOn, unit_of};
 ghost use Rattle.partition_table.specs.Headers.{array_bytes, array_sectors, header_fault, table_header};
 ghost use Rattle.partition_table.specs.Partitions.{array_fault, partitions_in};
 ghost use Rattle.partition_table.specs.Reads.{AreSectorsRead, IsReadAtMost, IsUnread};
+ghost use Rattle.partition_table.specs.TableCalls.{CallsAt, CallsOfCopy, CallsOfHeader, MissesAt};
 ghost use Rattle.partition_table.specs.Tables.{copy_reads};
 
 use crate::crc::crc32;
@@ -70,7 +72,7 @@ pub(crate) fn read_sectors<D: BlockDev>(
     requires range { (0 < count) × (first + count ≤ disk.sectors) }
     ensures read { IsReadAtMost (D.state device.old) (count * unit_of disk.size) (D.state device.new) }
     ensures ok { IfOk result (λ v. AreSectorsRead (D.state device.old) disk first count v.items) }
-    ensures full { OnOk result ((D.state device.new).failures ≡ (D.state device.old).failures) }
+    ensures calls { IfOk result (λ v. CallsAt (DeviceDoes D.state D.does) disk first device.old device.new v.items) × IfErr result (MissesAt (DeviceDoes D.state D.does) disk first device.old device.new) }
     ensures err { IfErr result (IsUnread (D.state device.old) (D.state device.new) (count * unit_of disk.size)) }
 {
     let mut bytes = zeros(alloc, 512 * disk.units(count) as usize)?;
@@ -89,7 +91,7 @@ fn read_header<D: BlockDev>(
     requires inside { sector < disk.sectors }
     ensures read { IsReadAtMost (D.state device.old) 8 (D.state device.new) }
     ensures ok { IfOk result (IsHeaderRead (D.state device.old) disk sector) }
-    ensures full { OnOk result ((D.state device.new).failures ≡ (D.state device.old).failures) }
+    ensures calls { CallsOfHeader (DeviceDoes D.state D.does) disk sector device.old device.new result }
     ensures err { IfErr result (IsCopyCause (D.state device.old) (D.state device.new) disk sector) }
 {
     let bytes = read_sectors(alloc, device, disk, sector, 1)?;
@@ -137,6 +139,7 @@ pub(crate) fn read_copy<D: BlockDev>(
     requires inside { sector < disk.sectors }
     ensures read { IsReadAtMost (D.state device.old) copy_reads (D.state device.new) }
     ensures ok { IfOk result (IsGoodCopy (D.state device.old) disk sector) }
+    ensures calls { CallsOfCopy (DeviceDoes D.state D.does) disk sector device.old device.new result }
     ensures err { IfErr result (IsCopyCause (D.state device.old) (D.state device.new) disk sector) }
 {
     let header = read_header(alloc, device, disk, sector)?;

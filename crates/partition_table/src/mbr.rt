@@ -1,9 +1,11 @@
 //! The master boot record of a disk.
 ghost use Rattle.std.specs.Prelude.{◌≡◌, ◌+◌, ◌≤◌, ◌<◌, length};
+ghost use Rattle.block_device.specs.Call.{DeviceDoes};
 ghost use Rattle.block_device.specs.Device.{Device};
 ghost use Rattle.partition_table.specs.Disks.{IsDiskOn};
 ghost use Rattle.partition_table.specs.Mbrs.{has_protective, has_records, is_alone, is_protective, is_record_used, is_signed, is_zero, mbr_of, record_type};
 ghost use Rattle.partition_table.specs.Reads.{IsReadAtMost};
+ghost use Rattle.partition_table.specs.TableCalls.{CallsMbr};
 ghost use Rattle.partition_table.specs.Tables.{IsMbr};
 
 use crate::Disk;
@@ -35,6 +37,7 @@ pub(crate) fn read_mbr<D: BlockDev>(alloc: Global, device: &mut D, disk: Disk) -
     requires some { 0 < disk.sectors }
     ensures read { IsReadAtMost (D.state device.old) 8 (D.state device.new) }
     ensures value { IsMbr (D.state device.old) (D.state device.new) disk result }
+    ensures calls { CallsMbr (DeviceDoes D.state D.does) disk device.old device.new result }
 {
     match read_sectors(alloc, device, disk, 0, 1) {
         Ok(bytes) => mbr_of(&bytes),

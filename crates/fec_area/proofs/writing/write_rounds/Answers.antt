@@ -14,7 +14,7 @@ loop-round-init g c = record {
   read = read-none (g.D.BlockDev.state c.args.data_dev.now) (g.H.BlockDev.state c.args.hash_dev.now);
   unfailed = unfailed-none (g.D.BlockDev.state c.args.data_dev.now) (g.H.BlockDev.state c.args.hash_dev.now);
   written = only_written-none (g.P.BlockDev.state c.args.parity_dev.now) (parity_sectors c.args.code.now.layout.now);
-  handed = handed-none (DeviceDoes g.P.BlockDev.state g.P.BlockDev.does) c.args.code.now.layout.now (g.D.BlockDev.state c.args.data_dev.now) (g.H.BlockDev.state c.args.hash_dev.now) c.args.parity_dev.now;
+  handed = handed-none (DeviceDoes g.D.BlockDev.state g.D.BlockDev.does) (DeviceDoes g.H.BlockDev.state g.H.BlockDev.does) (DeviceDoes g.P.BlockDev.state g.P.BlockDev.does) c.args.code.now.layout.now (g.D.BlockDev.state c.args.data_dev.now) (g.H.BlockDev.state c.args.hash_dev.now) c.args.data_dev.now c.args.hash_dev.now c.args.parity_dev.now;
   parity_unfailed = refl;
   parity = λ one other third r lt. absurd (omega (arith, lt));
 }
@@ -74,8 +74,8 @@ loop-round-preserved g c =
       read = read-then here.read c.sum_parity.ensures.read;
       unfailed = unfailed-then here.unfailed c.in_ok-sum_parity.ensures.ok;
       written = only_written-then (parity_sectors l) here.written (only_written-write (round * s) k (parity_sectors l) c.in_ok-write.ensures.moved within);
-      handed = handed-next (DeviceDoes g.P.BlockDev.state g.P.BlockDev.does) l a b c.args.parity_dev.now c.loop-round.parity_dev c.write.new.self round (round * s) parity here.handed (ap (λ (m : ℕ). round * (m / 512)) c.requires.sums.parity_is)
-          c.in_ok-write.ensures.call
+      handed = handed-next (DeviceDoes g.D.BlockDev.state g.D.BlockDev.does) (DeviceDoes g.H.BlockDev.state g.H.BlockDev.does) (DeviceDoes g.P.BlockDev.state g.P.BlockDev.does) l a b c.args.data_dev.now c.args.hash_dev.now c.args.parity_dev.now c.loop-round.data_dev c.loop-round.hash_dev c.loop-round.parity_dev round here.handed c.sum_parity.new.data_dev c.sum_parity.new.hash_dev parity c.write.new.self (round * s) (ap (λ (m : ℕ). round * (m / 512)) c.requires.sums.parity_is)
+          c.in_ok-sum_parity.ensures.given c.in_ok-write.ensures.call
           (λ one other. image-then here.read (λ (x y : List (List ℕ)). IsParityOf l x y round parity) c.in_ok-sum_parity.ensures.parity one other);
       parity_unfailed = c.in_ok-write.ensures.moved.failures ∙ here.parity_unfailed;
       parity = λ one other third.
@@ -120,17 +120,17 @@ returns-clause-ok g c =
 pub returns-in_err-sum_parity-clause-handed : goal.returns-in_err-sum_parity-clause-handed
 returns-in_err-sum_parity-clause-handed g c =
     let p = err_from_is_err_and c.from_residual.result c.from_residual.ensures.1 in
-    rw p.1 (handed-stop (DeviceDoes g.P.BlockDev.state g.P.BlockDev.does) c.args.code.now.layout.now (g.D.BlockDev.state c.args.data_dev.now) (g.H.BlockDev.state c.args.hash_dev.now) c.args.parity_dev.now c.loop-round.parity_dev c.loop-round.round c.loop-round.invariant.handed
-    (omega (arith, c.loop-round-test.true, c.rounds-round-end.ensures.value)))
+    rw p.1 (handed-stop (DeviceDoes g.D.BlockDev.state g.D.BlockDev.does) (DeviceDoes g.H.BlockDev.state g.H.BlockDev.does) (DeviceDoes g.P.BlockDev.state g.P.BlockDev.does) c.args.code.now.layout.now (g.D.BlockDev.state c.args.data_dev.now) (g.H.BlockDev.state c.args.hash_dev.now) c.args.data_dev.now c.args.hash_dev.now c.args.parity_dev.now c.loop-round.data_dev c.loop-round.hash_dev c.loop-round.parity_dev c.loop-round.round c.loop-round.invariant.handed
+    c.sum_parity.new.data_dev c.sum_parity.new.hash_dev (omega (arith, c.loop-round-test.true, c.rounds-round-end.ensures.value)) c.in_err-sum_parity.ensures.given)
 
 pub returns-in_err-write-clause-handed : goal.returns-in_err-write-clause-handed
 returns-in_err-write-clause-handed g c =
     let p = err_from_is_err_and c.from_residual-in_err-write.result c.from_residual-in_err-write.ensures.1 in
-    rw p.1 (handed-failed (DeviceDoes g.P.BlockDev.state g.P.BlockDev.does) c.args.code.now.layout.now (g.D.BlockDev.state c.args.data_dev.now) (g.H.BlockDev.state c.args.hash_dev.now) c.args.parity_dev.now c.loop-round.parity_dev c.write.new.self c.loop-round.round
-    (c.loop-round.round * (length c.args.parity.now / 512)) c.sum_parity.new.parity c.loop-round.invariant.handed (omega (arith, c.loop-round-test.true, c.rounds-round-end.ensures.value)) (ap (λ (m : ℕ). c.loop-round.round * (m / 512)) c.requires.sums.parity_is)
-    c.in_err-write.ensures.call)
+    rw p.1 (handed-failed (DeviceDoes g.D.BlockDev.state g.D.BlockDev.does) (DeviceDoes g.H.BlockDev.state g.H.BlockDev.does) (DeviceDoes g.P.BlockDev.state g.P.BlockDev.does) c.args.code.now.layout.now (g.D.BlockDev.state c.args.data_dev.now) (g.H.BlockDev.state c.args.hash_dev.now) c.args.data_dev.now c.args.hash_dev.now c.args.parity_dev.now c.loop-round.data_dev c.loop-round.hash_dev c.loop-round.parity_dev c.loop-round.round c.loop-round.invariant.handed
+    c.sum_parity.new.data_dev c.sum_parity.new.hash_dev c.sum_parity.new.parity c.write.new.self (c.loop-round.round * (length c.args.parity.now / 512)) (ap (λ (m : ℕ). c.loop-round.round * (m / 512)) c.requires.sums.parity_is) c.in_ok-sum_parity.ensures.given
+    (omega (arith, c.loop-round-test.true, c.rounds-round-end.ensures.value)) c.in_err-write.ensures.call)
 
 pub returns-clause-handed : goal.returns-clause-handed
 returns-clause-handed g c =
-    handed-end (DeviceDoes g.P.BlockDev.state g.P.BlockDev.does) c.args.code.now.layout.now (g.D.BlockDev.state c.args.data_dev.now) (g.H.BlockDev.state c.args.hash_dev.now) c.args.parity_dev.now c.loop-round.parity_dev c.loop-round.round c.loop-round.invariant.handed
+    handed-end (DeviceDoes g.D.BlockDev.state g.D.BlockDev.does) (DeviceDoes g.H.BlockDev.state g.H.BlockDev.does) (DeviceDoes g.P.BlockDev.state g.P.BlockDev.does) c.args.code.now.layout.now (g.D.BlockDev.state c.args.data_dev.now) (g.H.BlockDev.state c.args.hash_dev.now) c.args.data_dev.now c.args.hash_dev.now c.args.parity_dev.now c.loop-round.data_dev c.loop-round.hash_dev c.loop-round.parity_dev c.loop-round.round c.loop-round.invariant.handed
     (omega (arith, c.loop-round-test.false, c.loop-round.auto.round-end, c.rounds-round-end.ensures.value))

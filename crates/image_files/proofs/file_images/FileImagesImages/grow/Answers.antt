@@ -1,4 +1,4 @@
-use Rattle.std.proofs.Common.{◌≡◌, ◌*◌, ℕ, true, List, Result, Ok, Err, IsErrAnd, OnOk, inl, inr, refl, subst, sym}
+use Rattle.std.proofs.Common.{◌≡◌, ◌*◌, ◌⊎◌, ℕ, true, List, Result, Ok, Err, IsErrAnd, OnOk, inl, inr, refl, subst, sym}
 use Rattle.std.specs.declared.fs.File.{File}
 use Rattle.block_device.specs.declared.open_fault.OpenFault.{OpenFault}
 use Rattle.block_device.specs.FileCalls.{Opened}
@@ -16,12 +16,6 @@ grows : {C F : Type 0} (r : FileRelations C F) (old new : C) (path : List ℕ) (
 grows r old new path n (Ok done) file is opened long = inr (record { makes = is; file = file; opened = opened; long = long })
 grows r old new path n (Err fault) file is opened long = inr (inl is)
 
--- a file that isn't made, for the fault that is passed on
-not-made : {C F : Type 0} (r : FileRelations C F) (old new : C) (path : List ℕ) (n : ℕ) (result : Result (Unit {0}) OpenFault) (fault : OpenFault) → IsErrAnd result (λ e. e ≡ fault)
-    → FailsToMake r old path fault new → Grows r old path n result new
-not-made r old new path n (Ok done) fault is fails = absurd is
-not-made r old new path n (Err e) fault is fails = inr (inr (subst (λ (x : OpenFault). FailsToMake r old path x new) (sym is) fails))
-
 pub returns : goal.returns
 returns g c = (
   made _ _ _,
@@ -30,10 +24,16 @@ returns g c = (
       c.in_ok-make_file.ensures.ok c.in_ok-file.ensures.locked.1 c.lengthen.ensures,
 )
 
+-- a file that wasn't made
+unmade : {C F : Type 0} (r : FileRelations C F) (old new : C) (path : List ℕ) (n : ℕ) (result : Result (Unit {0}) OpenFault) (fault : OpenFault)
+    → IsErrAnd result (λ e. e ≡ fault) → FailsToMake r old path fault new → Grows r old path n result new
+unmade r old new path n (Ok done) fault is h = absurd is
+unmade r old new path n (Err e) fault is h = inr (inr (subst (λ f. FailsToMake r old path f new) (sym is) h))
+
 pub returns-in_err-make_file : goal.returns-in_err-make_file
 returns-in_err-make_file g c = (
   made _ _ _,
   inl refl,
-  not-made g.C.FileCalls.relations c.args.self.now.texts.calls c.make_file.new.calls c.args.path.now c.args.sectors c.from_residual.result c.in_err-make_file.field-0.0
+  unmade g.C.FileCalls.relations c.args.self.now.texts.calls c.make_file.new.calls c.args.path.now c.args.sectors c.from_residual.result c.in_err-make_file.field-0.0
       c.from_residual.ensures.1 c.in_err-make_file.ensures.err,
 )
