@@ -50,6 +50,7 @@ if command -v dpkg-deb > /dev/null; then
     holds 'the package has the program' eval "dpkg-deb -c '$package' | grep -q ' ./usr/bin/dmstack$'"
     holds 'it is unpacked' dpkg-deb -x "$package" "$room/unpacked"
     holds 'the launched program runs' works "$room/unpacked/usr/bin/dmstack"
+    holds 'it runs in its own folder' eval "(cd '$room/unpacked/usr/bin' && ./dmstack version)"
     for program in "$room"/unpacked/usr/lib/dmstack/*/dmstack; do
         [ ! -e "$program" ] || holds "$program runs" works "$program"
     done

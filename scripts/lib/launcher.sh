@@ -10,4 +10,5 @@ for it in avx2 bmi1 bmi2 f16c fma abm movbe; do
 done
 self=$0
 [ ! -L "$self" ] || self=$(readlink -f "$self")
-exec "${self%/bin/*}/lib/dmstack/$build/dmstack" "$@"
+case $self in */*) ;; *) self=./$self ;; esac
+exec "${self%/*}/../lib/dmstack/$build/dmstack" "$@"
