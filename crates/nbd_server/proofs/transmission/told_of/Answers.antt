@@ -53,9 +53,10 @@ returns-clause-ok g c =
     let at = c.args.offset in
     let extent = c.bytes_at-extent.result in
     let is = rw (c.config.ensures.value, c.stack.ensures) at c.bytes_at-extent.ensures in
-    let other = (extent.kind, kind-other extent.kind known.IgnoresZeros (sym c.is_same_kind.ensures ∙ c.if-is_same_kind.false), extent-begins w.stack.config e at c.args.len extent is) in
+    let differs = kind-other extent.kind known.IgnoresZeros (sym c.is_same_kind.ensures ∙ c.if-is_same_kind.false) in
+    let begins = extent-begins w.stack.config e at c.args.len extent is in
     ok-as c.status_of.result (λ told. HasLineStatus w.stack.config e at c.args.len c.args.one told.items) (λ told. TellsExtents e w at c.args.len c.args.one told.items w)
-    (λ told p. inl (record { other = other; status = p; same = refl })) (rw (c.config-2.ensures.value, c.stack-2.ensures) at c.status_of.ensures.ok)
+    (λ told p. inl (record { other = (extent.kind, differs, begins); status = p; same = refl })) (rw (c.config-2.ensures.value, c.stack-2.ensures) at c.status_of.ensures.ok)
 
 pub returns-clause-err : goal.returns-clause-err
 returns-clause-err g c =
