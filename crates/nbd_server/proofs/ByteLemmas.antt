@@ -1,6 +1,6 @@
 -- Bytes of the export and the sectors that they touch.
 use Rattle.std.proofs.Common.{◌≡◌, ◌≢◌, ◌<◌, ◌≤◌, ℕ, ◌+◌, ◌-◌, ◌*◌, ◌/◌, ◌%◌, ◌^◌, ◌==◌, List, [], ◌∷◌, ◌++◌, length, take, drop, replicate, refl, ap, sym, ◌∙◌, subst, append-nil, append_assoc, arith, inl, inr, Result, Ok, Err}
-use Rattle.std.specs.Prelude.{◌&&◌, ◌⊎◌, Bool, true, false, not, nat_le, nat_lt, IfErr, IfOk, OnOk, if◌then◌else◌}
+use Rattle.std.specs.Prelude.{◌&&◌, Bool, true, false, not, nat_le, nat_lt, IfErr, IfOk, OnOk, if◌then◌else◌}
 use Rattle.std.proofs.lemmas.List.{length-drop, length-replicate, length-take, length-take-le, drop_all}
 use Rattle.std.proofs.Math.Seq.{take-append-add}
 use borrow.Rule.Slice.PartMut.{put_mid, post_of}
@@ -18,7 +18,7 @@ use Rattle.nbd_server.specs.Premises.{IsBare}
 use Rattle.nbd_server.specs.Sectors.{IsStored, IsStoredAtOnce, FailsToPutAtOnce, FailsToZero}
 use Rattle.nbd_server.specs.Replies.{RequestOutcome}
 use Rattle.nbd_server.specs.Status.{touched}
-use Rattle.nbd_server.specs.Transmission.{FailsToReadEnds, Flushes, IsFramed, IsPartInside, IsPart, IsSendable, reply_data, ReadsExport, ReadsEnds, ServesRequest, ServesCommand, Settles, Stays, WritesAtOnce, WritesExport, WritesGiven, WritesPart, WritesByRuns, WritesAny, room_behind, no_bytes}
+use Rattle.nbd_server.specs.Transmission.{FailsToReadEnds, Flushes, IsFramed, IsPartInside, IsPart, IsSendable, reply_data, ReadsExport, ReadsEnds, ServesRequest, ServesCommand, Settles, Stays, WritesAtOnce, WritesGiven, WritesByRuns, WritesAny, room_behind, no_bytes}
 use Rattle.nbd_server.specs.Zeros.{WritesInRuns}
 
 -- ---- what stands around some bytes
@@ -163,22 +163,15 @@ unsettled true Does w' error p = inl p
 
 -- ---- zeros
 
-some-written : (e : ExportRecord) (w : World) (offset : ℕ) (bytes : List ℕ) (outcome : RequestOutcome) (w' : World) → 0 < length bytes → WritesExport e w offset bytes outcome w' ⊎ WritesPart e w offset bytes outcome w'
-    → WritesByRuns e w offset bytes outcome w' → WritesAny e w offset bytes outcome w'
-some-written e w offset [] outcome w' some p runs = absurd (omega (arith, some))
-some-written e w offset (byte ∷ more) outcome w' some p runs = (p, runs)
+some-written : (e : ExportRecord) (w : World) (offset : ℕ) (bytes : List ℕ) (outcome : RequestOutcome) (w' : World) → 0 < length bytes → WritesByRuns e w offset bytes outcome w' → WritesAny e w offset bytes outcome w'
+some-written e w offset [] outcome w' some p = absurd (omega (arith, some))
+some-written e w offset (byte ∷ more) outcome w' some p = p
 
 by-runs : (e : ExportRecord) (w mid w' : World) (offset : ℕ) (bytes sectors : List ℕ) (result : Result Unit RequestError) → IsFramed e w offset bytes sectors mid
-    → WritesInRuns e.device (offset / 512) (length sectors) mid sectors result w' → WritesByRuns e w offset bytes (no_bytes result) w'
-by-runs e w mid w' offset bytes sectors (Ok done) f runs = (sectors, mid, f, runs)
-by-runs e w mid w' offset bytes sectors (Err error) f runs = inr (sectors, mid, f, runs)
-
-zeroed : (e : ExportRecord) (w mid w' : World) (offset : ℕ) (bytes sectors : List ℕ) (result : Result Unit RequestError) → IsFramed e w offset bytes sectors mid
     → OnOk result (IsStored mid e.device (offset / 512) sectors w') → IfErr result (λ error. FailsToZero mid e.device (offset / 512) sectors error w')
-    → WritesExport e w offset bytes (no_bytes result) w' ⊎ WritesPart e w offset bytes (no_bytes result) w'
-zeroed e w mid w' offset bytes sectors (Ok done) f ok err = inl (refl, sectors, mid, f, ok)
-zeroed e w mid w' offset bytes sectors (Err error) f ok (inl err) = inl (inr (sectors, mid, f, err))
-zeroed e w mid w' offset bytes sectors (Err error) f ok (inr err) = inr (ap (λ x. Err x) err.0, sectors, mid, f, err.1, err.2)
+    → WritesInRuns e.device (offset / 512) (length sectors) mid sectors result w' → WritesByRuns e w offset bytes (no_bytes result) w'
+by-runs e w mid w' offset bytes sectors (Ok done) f ok err runs = (refl, sectors, mid, f, record { stored = ok; runs = runs })
+by-runs e w mid w' offset bytes sectors (Err error) f ok err runs = inr (sectors, mid, f, record { fails = err; runs = runs })
 
 module _ (e : ExportRecord) (w mid w' : World) (offset len : ℕ) (some : 0 < len) where
   zeros-some : 0 < length {A = ℕ} (replicate len 0)
@@ -187,7 +180,7 @@ module _ (e : ExportRecord) (w mid w' : World) (offset len : ℕ) (some : 0 < le
   pub zeros-unread : (error : RequestError) → FailsToReadEnds e w offset len w' error → WritesAny e w offset (replicate len 0) (Err error) w'
   zeros-unread error p =
       let unread = subst (λ n. FailsToReadEnds e w offset n w' error) (sym (length-replicate {A = ℕ} len 0)) p in
-      some-written e w offset (replicate len 0) (Err error) w' zeros-some (inl (inl unread)) (inl unread)
+      some-written e w offset (replicate len 0) (Err error) w' zeros-some (inl unread)
 
   pub zeros-written : (before behind : List ℕ) (result : Result Unit RequestError) → ReadsEnds e w offset len before behind mid → OnOk result (IsStored mid e.device (offset / 512) (before ++ (replicate len 0 ++ behind)) w')
       → IfErr result (λ error. FailsToZero mid e.device (offset / 512) (before ++ (replicate len 0 ++ behind)) error w')
@@ -196,7 +189,7 @@ module _ (e : ExportRecord) (w mid w' : World) (offset len : ℕ) (some : 0 < le
       let sectors = before ++ (replicate len 0 ++ behind) in
       let framed : IsFramed e w offset (replicate len 0) sectors mid =
       record { before = before; behind = behind; ends = subst (λ n. ReadsEnds e w offset n before behind mid) (sym (length-replicate {A = ℕ} len 0)) p; sectors_are = refl } in
-      some-written e w offset (replicate len 0) (no_bytes result) w' zeros-some (zeroed e w mid w' offset (replicate len 0) sectors result framed ok err) (by-runs e w mid w' offset (replicate len 0) sectors result framed runs)
+      some-written e w offset (replicate len 0) (no_bytes result) w' zeros-some (by-runs e w mid w' offset (replicate len 0) sectors result framed ok err runs)
 
 -- ---- what can be sent
 

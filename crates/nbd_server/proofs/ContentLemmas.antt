@@ -1,16 +1,17 @@
 -- Zeros at the ends of bytes, and what is told of them.
-use Rattle.std.proofs.Common.{◌≡◌, ◌<◌, ◌≤◌, ℕ, ◌+◌, ◌-◌, ◌==◌, Bool, true, false, List, [], ◌++◌, length, take, drop, replicate, refl, ap, sym, ◌∙◌, subst, append-nil, arith, inl, inr, Option, Result, Ok, Err}
+use Rattle.std.proofs.Common.{◌≡◌, ◌<◌, ◌≤◌, ℕ, ◌+◌, ◌-◌, ◌%◌, ◌==◌, min, Bool, true, false, List, [], ◌++◌, length, take, drop, replicate, refl, ap, sym, ◌∙◌, subst, append-nil, take_all, arith, inl, inr, Option, Result, Ok, Err}
 use Rattle.std.specs.Prelude.{◌&&◌, if◌then◌else◌}
 use Rattle.std.specs.Str.{bytes_eq}
 use Rattle.std.specs.Io.KnownBytes.{Appends}
 use Rattle.std.proofs.KnownBytes.{Appends-trans}
-use Rattle.std.proofs.lemmas.List.{drop-drop, length-drop, length-take-le, replicate-append-replicate, take-append-drop, take-replicate}
+use Rattle.std.proofs.lemmas.Bool.{cases_lt}
+use Rattle.std.proofs.lemmas.List.{drop-drop, drop-take, length-drop, length-take-le, replicate-append-replicate, take-append-drop, take-replicate}
 use Rattle.std.proofs.lemmas.Slice.Eq.{bytes_eq-Decides}
 use Rattle.std.proofs.Math.Seq.{take-add, take-length}
 use Rattle.program_io.specs.Counted.{CountedRecord, Writes, WritesSome}
 use Rattle.program_io.specs.declared.fault.WriteFault.{WriteFault}
 use Rattle.nbd_protocol.specs.Chunks.{data_chunk, hole_chunk}
-use Rattle.nbd_server.specs.Content.{HaveData, TellsContent, TellsData, some_hole}
+use Rattle.nbd_server.specs.Content.{AreZerosBefore, AreZerosBehind, EndWithData, HaveData, TellsContent, TellsData, some_hole, zero_block}
 
 -- ---- zeros
 
@@ -28,10 +29,15 @@ differs : (block : List ℕ) (same : Bool) → same ≡ bytes_eq block (zeros (l
 differs block same is e = λ all. let other : bytes_eq block (zeros (length block)) ≡ true = (bytes_eq-Decides block (zeros (length block))).1 all in let clash : true ≡ false = sym other ∙ sym is ∙ e in cc
 
 -- bytes of which a beginning has data have some
-front-data : (bytes : List ℕ) (n : ℕ) → n ≤ length bytes → HaveData (take n bytes) → HaveData bytes
-front-data bytes n within some = λ all.
-    let size : length (take n bytes) ≡ n = length-take-le n bytes within in
-    some (ap (take n) all ∙ take-replicate n (length bytes) 0 within ∙ ap zeros (sym size))
+pub front-data : (bytes : List ℕ) (n : ℕ) → HaveData (take n bytes) → HaveData bytes
+front-data bytes n some = λ all. elim (cases_lt n (length bytes)) [
+  | inl below ↦
+      let within : n ≤ length bytes = omega (arith, below) in
+      some (ap (take n) all ∙ take-replicate n (length bytes) 0 within ∙ ap zeros (sym (length-take-le n bytes within)))
+  | inr over ↦
+      let whole : take n bytes ≡ bytes = take_all n bytes (omega (arith, over)) in
+      some (whole ∙ all ∙ ap (λ (l : List ℕ). zeros (length l)) (sym whole))
+]
 
 module _ (bytes : List ℕ) (done end : ℕ) (above : done ≤ end) (inside : end ≤ length bytes) where
   part-size : length (take (end - done) (drop done bytes)) ≡ end - done
@@ -46,10 +52,6 @@ module _ (bytes : List ℕ) (done end : ℕ) (above : done ≤ end) (inside : en
       ∙ ap (λ l. zeros done ++ l) (block ∙ ap zeros part-size)
       ∙ zeros-sum done (end - done) end all
 
-  -- a block that isn't zeros
-  pub rest-data : HaveData (take (end - done) (drop done bytes)) → HaveData (drop done bytes)
-  rest-data some = front-data (drop done bytes) (end - done) (omega (arith, length-drop done bytes, inside)) some
-
   -- one block of zeros more at the end
   pub behind-more : drop end bytes ≡ zeros (length bytes - end) → take (end - done) (drop done bytes) ≡ zeros (length (take (end - done) (drop done bytes))) → drop done bytes ≡ zeros (length bytes - done)
   behind-more after block =
@@ -60,9 +62,78 @@ module _ (bytes : List ℕ) (done end : ℕ) (above : done ≤ end) (inside : en
       ∙ ap (λ l. zeros (end - done) ++ l) (drop-drop (end - done) done bytes ∙ ap (λ k. drop k bytes) all ∙ after)
       ∙ zeros-sum (end - done) (length bytes - end) (length bytes - done) sum
 
-pub differs-front : (bytes : List ℕ) (done end : ℕ) (same : Bool) → done ≤ end → end ≤ length bytes → same ≡ bytes_eq (take (end - done) (drop done bytes)) (zeros (length (take (end - done) (drop done bytes)))) → same ≡ false
-    → HaveData (drop done bytes)
-differs-front bytes done end same above inside is e = rest-data bytes done end above inside (differs (take (end - done) (drop done bytes)) same is e)
+-- the first n bytes from `done` on, or all of them
+pub block-is : (bytes : List ℕ) (done end n : ℕ) → end ≡ min (length bytes) (done + n) → done ≤ length bytes → take (end - done) (drop done bytes) ≡ take n (drop done bytes)
+block-is bytes done end n is within = elim (cases_lt (length bytes) (done + n)) [
+  | inl short ↦
+      let rest = drop done bytes in
+      let all : end - done ≡ length rest = omega (arith, is, short, length-drop done bytes) in
+      let few : length rest ≤ n = omega (arith, short, length-drop done bytes) in
+      ap (λ k. take k rest) all ∙ take-length rest ∙ sym (take_all n rest few)
+  | inr long ↦ let size : end - done ≡ n = omega (arith, is, long) in ap (λ k. take k (drop done bytes)) size
+]
+
+-- ---- the zeros with which bytes begin
+
+-- all bytes are zeros
+pub all-before : (bytes : List ℕ) (n : ℕ) → n ≤ length bytes → take n bytes ≡ zeros n → length bytes ≤ n → AreZerosBefore bytes n
+all-before bytes n within is all = record {
+  inside = within;
+  zeros = is;
+  whole = λ below. omega (arith, below, all);
+  next = λ below. let clash : 1 ≤ 0 = omega (arith, below, all) in absurd (not-some clash);
+}
+  where
+    not-some : 1 ≤ 0 → ⊥
+    not-some clash = omega (arith, clash)
+
+-- the next block isn't zeros
+pub some-before : (bytes : List ℕ) (n end : ℕ) (same : Bool) → end ≡ min (length bytes) (n + 4096) → n ≤ length bytes → n % zero_block ≡ 0 → take n bytes ≡ zeros n
+    → same ≡ bytes_eq (take (end - n) (drop n bytes)) (zeros (length (take (end - n) (drop n bytes)))) → same ≡ false → AreZerosBefore bytes n
+some-before bytes n end same ends within whole is eq e = record {
+  inside = within;
+  zeros = is;
+  whole = λ below. whole;
+  next = λ below. subst HaveData (block-is bytes n end zero_block ends within) (differs (take (end - n) (drop n bytes)) same eq e);
+}
+
+-- ---- the zeros with which bytes end
+
+-- so many bytes are left before the zeros
+pub zeros-behind : (bytes : List ℕ) (rest : ℕ) → rest ≤ length bytes → drop rest bytes ≡ zeros (length bytes - rest) → (length bytes - rest) % zero_block ≡ 0 → EndWithData (take rest bytes) → AreZerosBehind bytes (length bytes - rest)
+zeros-behind bytes rest within is whole last =
+    let at : length bytes - (length bytes - rest) ≡ rest = omega (arith, within) in
+    record {
+      inside = omega arith;
+      zeros = ap (λ k. drop k bytes) at ∙ is;
+      whole = whole;
+      last = subst (λ (k : ℕ). EndWithData (take k bytes)) (sym at) last;
+    }
+
+-- they are less than a block
+pub short-end : (bytes : List ℕ) (rest : ℕ) → rest ≤ length bytes → rest < 4096 → EndWithData (take rest bytes)
+short-end bytes rest within few = λ long. absurd (none long)
+  where
+    none : zero_block ≤ length (take rest bytes) → ⊥
+    none long = omega (arith, long, few, length-take-le rest bytes within)
+
+-- the last block of them isn't zeros
+pub data-end : (bytes : List ℕ) (rest : ℕ) (same : Bool) → 4096 ≤ rest → rest ≤ length bytes
+    → same ≡ bytes_eq (take (rest - (rest - 4096)) (drop (rest - 4096) bytes)) (zeros (length (take (rest - (rest - 4096)) (drop (rest - 4096) bytes)))) → same ≡ false → EndWithData (take rest bytes)
+data-end bytes rest same long within eq e =
+    let begin = rest - 4096 in
+    let size : rest - begin ≡ zero_block = omega (arith, long) in
+    let sum : begin + zero_block ≡ rest = omega (arith, long) in
+    let at : length (take rest bytes) - zero_block ≡ begin = omega (arith, length-take-le rest bytes within) in
+    let block : take (rest - begin) (drop begin bytes) ≡ drop (length (take rest bytes) - zero_block) (take rest bytes) =
+    ap (λ k. take k (drop begin bytes)) size ∙ sym (drop-take begin zero_block bytes) ∙ ap (λ k. drop begin (take k bytes)) sum ∙ ap (λ k. drop k (take rest bytes)) (sym at) in
+    λ enough. subst HaveData block (differs (take (rest - begin) (drop begin bytes)) same eq e)
+
+-- no zeros end them
+pub none-behind : (bytes : List ℕ) (n : ℕ) → n ≡ 0 → AreZerosBehind bytes n → EndWithData bytes
+none-behind bytes n none p =
+    let at : length bytes - n ≡ length bytes = omega (arith, none) in
+    subst EndWithData (ap (λ k. take k bytes) at ∙ take-length bytes) p.last
 
 -- bytes before zeros have data where all have
 pub before-data : (bytes : List ℕ) (size : ℕ) → size ≤ length bytes → drop size bytes ≡ zeros (length bytes - size) → HaveData bytes → HaveData (take size bytes)
@@ -88,65 +159,61 @@ told-zeros cookie last at n bytes some is all =
 
 module _ (cookie : ℕ) (last : Bool) (at : ℕ) where
   -- data alone
-  pub told-data : (bytes : List ℕ) → HaveData bytes → TellsData cookie last at bytes (data_chunk last cookie at bytes)
-  told-data bytes some = record {
+  pub told-data : (bytes : List ℕ) → HaveData bytes → EndWithData bytes → TellsData cookie last at bytes (data_chunk last cookie at bytes)
+  told-data bytes some ends = record {
     content = bytes;
     behind = 0;
     some = some;
+    ends = ends;
+    whole = omega arith;
     bytes_are = sym (append-nil bytes);
     chunks_are = sym (append-nil (data_chunk last cookie at bytes));
   }
 
   -- no zeros before them
-  pub told-none : (bytes chunks : List ℕ) → TellsData cookie last at bytes chunks → TellsContent cookie last at bytes chunks
-  told-none bytes chunks told = inl (record {
+  pub told-none : (bytes chunks : List ℕ) → HaveData (take zero_block bytes) → TellsData cookie last at bytes chunks → TellsContent cookie last at bytes chunks
+  told-none bytes chunks begins told = inl (record {
     before = 0;
     rest = bytes;
     more = chunks;
     told = subst (λ (k : ℕ). TellsData cookie last k bytes chunks) (omega arith) told;
+    whole = omega arith;
+    begins = begins;
     bytes_are = refl;
     chunks_are = refl;
   })
 
   module _ (n : ℕ) (bytes : List ℕ) (within : n ≤ length bytes) where
     -- zeros, and what stands behind them
-    pub told-behind : (more : List ℕ) → 0 < n → take n bytes ≡ zeros n → TellsData cookie last (at + n) (drop n bytes) more → TellsContent cookie last at bytes (hole_chunk false cookie at n ++ more)
-    told-behind more some is told = inl (record {
+    pub told-behind : (more : List ℕ) → 0 < n → n < length bytes → AreZerosBefore bytes n → TellsData cookie last (at + n) (drop n bytes) more → TellsContent cookie last at bytes (hole_chunk false cookie at n ++ more)
+    told-behind more some below front told = inl (record {
       before = n;
       rest = drop n bytes;
       more = more;
       told = told;
-      bytes_are = sym (take-append-drop n bytes) ∙ ap (λ l. l ++ drop n bytes) is;
+      whole = front.whole below;
+      begins = front.next below;
+      bytes_are = sym (take-append-drop n bytes) ∙ ap (λ l. l ++ drop n bytes) front.zeros;
       chunks_are = ap (λ l. l ++ more) (sym (hole-some false cookie at n some));
     })
 
     -- data, and zeros behind it
-    pub told-before : (behind : ℕ) → 0 < behind → drop n bytes ≡ zeros behind → HaveData (take n bytes)
+    pub told-before : (behind : ℕ) → 0 < behind → n ≡ length bytes - behind → AreZerosBehind bytes behind → HaveData (take n bytes)
         → TellsData cookie last at bytes (data_chunk false cookie at (take n bytes) ++ hole_chunk last cookie (at + n) behind)
-    told-before behind some is front =
+    told-before behind some n-is back front =
         let size : n ≡ length (take n bytes) = sym (length-take-le n bytes within) in
         let more : false ≡ (behind == 0) && last = grind (arith, some) in
         record {
           content = take n bytes;
           behind = behind;
           some = front;
-          bytes_are = sym (take-append-drop n bytes) ∙ ap (λ l. take n bytes ++ l) is;
+          ends = subst (λ (k : ℕ). EndWithData (take k bytes)) (sym n-is) back.last;
+          whole = back.whole;
+          bytes_are = sym (take-append-drop n bytes) ∙ ap (λ l. take n bytes ++ l) (ap (λ k. drop k bytes) n-is ∙ back.zeros);
           chunks_are = ap (λ b. data_chunk b cookie at (take n bytes) ++ hole_chunk last cookie (at + n) behind) more
               ∙ ap (λ l. data_chunk ((behind == 0) && last) cookie at (take n bytes) ++ l)
               (sym (hole-some last cookie (at + n) behind some) ∙ ap (λ k. some_hole last cookie (at + k) behind) size);
         }
-
--- some chunks tell them
-pub record IsTold (cookie : ℕ) (last : Bool) (at : ℕ) (bytes : List ℕ) : Type 0 where
-  pub text : List ℕ
-  pub tells : TellsContent cookie last at bytes text
-
-pub some-told : (cookie : ℕ) (last : Bool) (at : ℕ) (bytes : List ℕ) → 0 < length bytes → IsTold cookie last at bytes
-some-told cookie last at bytes some = by (bytes_eq bytes (zeros (length bytes))) refl
-  where
-    by : (same : Bool) → same ≡ bytes_eq bytes (zeros (length bytes)) → IsTold cookie last at bytes
-    by true is = record { text = hole_chunk last cookie at (length bytes); tells = inr (record { some = some; bytes_are = compared bytes true is refl; chunks_are = refl }) }
-    by false is = record { text = data_chunk last cookie at bytes; tells = told-none cookie last at bytes (data_chunk last cookie at bytes) (told-data cookie last at bytes (differs bytes false is refl)) }
 
 -- ---- what is written
 
@@ -177,10 +244,10 @@ module _ {T : Type 0} (contents : T → Option (List ℕ)) (P : List ℕ → Typ
 
 -- bytes that begin with data
 pub writes-data : {T : Type 0} (contents : T → Option (List ℕ)) (cookie : ℕ) (last : Bool) (at : ℕ) (bytes : List ℕ) (old new : CountedRecord T) (result : Result Unit WriteFault)
-    → WritesSome contents old new (TellsData cookie last at bytes) result → WritesSome contents old new (TellsContent cookie last at bytes) result
-writes-data contents cookie last at bytes old new (Ok done) p = record {
-  ok = record { text = p.ok.text; holds = told-none cookie last at bytes p.ok.text p.ok.holds; written = p.ok.written };
+    → HaveData (take zero_block bytes) → WritesSome contents old new (TellsData cookie last at bytes) result → WritesSome contents old new (TellsContent cookie last at bytes) result
+writes-data contents cookie last at bytes old new (Ok done) begins p = record {
+  ok = record { text = p.ok.text; holds = told-none cookie last at bytes p.ok.text begins p.ok.holds; written = p.ok.written };
   kept = p.kept;
   failed = tt;
 }
-writes-data contents cookie last at bytes old new (Err fault) p = record { ok = tt; kept = tt; failed = p.failed }
+writes-data contents cookie last at bytes old new (Err fault) begins p = record { ok = tt; kept = tt; failed = p.failed }

@@ -1,6 +1,6 @@
 -- A READ that is answered piece by piece.
 use Rattle.std.proofs.Common.{◌≡◌, ◌<◌, ◌≤◌, ℕ, ◌+◌, ◌-◌, ◌*◌, ◌/◌, ◌%◌, List, [], ◌++◌, drop, length, refl, take, ap, sym, ◌∙◌, subst, arith, inl, inr, Option, Some, None, Result, Ok, Err}
-use Rattle.std.specs.Prelude.{◌⊎◌, ◌==◌, false, OnOk}
+use Rattle.std.specs.Prelude.{◌⊎◌, ◌==◌, Bool, false, true, OnOk}
 use Rattle.std.specs.Io.KnownBytes.{Appends, Keeps}
 use Rattle.std.proofs.KnownBytes.{Appends-kept, Appends-nil, Appends-trans}
 use Rattle.std.proofs.lemmas.Bool.{cases_lt}
@@ -15,16 +15,17 @@ use Rattle.nbd_protocol.specs.Exports.{ExportRecord}
 use Rattle.nbd_protocol.specs.declared.request_error.RequestError.{RequestError}
 use Rattle.nbd_server.specs.Replies.{RequestOutcome}
 use Rattle.nbd_server.specs.Sectors.{IsFetched, FailsToFetch, EndsIn, HasNoBuffer}
-use Rattle.nbd_server.specs.Status.{TouchZeros, touched}
+use Rattle.nbd_server.specs.Status.{IsLineStatus, TouchZeros, touched}
+use Rattle.nbd_server.specs.declared.status.BlockStatus.{BlockStatus}
 use Rattle.nbd_server.specs.Transmission.{ReadsExport}
 use Rattle.nbd_server.specs.Premises.{AreBytesOf, IsDeliveryRest}
 use Rattle.nbd_protocol.specs.Chunks.{error_at_chunk, hole_chunk}
 use Rattle.nbd_server.specs.Content.{TellsContent}
 use Rattle.stack_rules.specs.Records.{Configuration}
-use Rattle.nbd_server.specs.Delivery.{AnswersPiece, Delivers, delivers_none, delivers_more, DeliversPart, GoesOnReplying, IsDelivered, IsLost, AreNextBytes, IsDeliveryPiece, IsStuck, SendsPiece, at_first, next_size}
+use Rattle.nbd_server.specs.Delivery.{AnswersPiece, BeginsWithZeros, Delivers, delivers_none, delivers_more, DeliversPart, GoesOnReplying, IsDelivered, IsLost, AreNextBytes, IsReadPiece, IsStuck, SendsPiece, at_first, next_size}
 use Rattle.nbd_server.specs.declared.delivery.Delivery.{Delivery}
 use Rattle.nbd_server.specs.declared.delivery.Progress.{Progress}
-use Rattle.nbd_server.proofs.ContentLemmas.{some-told}
+use Rattle.nbd_server.proofs.ToldLemmas.{some-told}
 
 -- ---- one read
 
@@ -68,16 +69,16 @@ module _ (e : ExportRecord) (d : Delivery) where
 
   -- a piece is behind the one before it, and done or put off once
   pub goes-inside : (p : Progress) (w : World) (chunk : List ℕ) (next : Progress) (w' : World) → GoesOnReplying e d p w chunk next w' → next.done ≤ d.count
-  goes-inside p w chunk next w' (inl s) = subst (λ (n : Progress). n.done ≤ d.count) (sym s.next_is) s.piece.bytes.inside
+  goes-inside p w chunk next w' (inl s) = subst (λ (n : Progress). n.done ≤ d.count) (sym s.next_is) s.piece.next.bytes.inside
   goes-inside p w chunk next w' (inr (inr s)) = subst (λ (n : Progress). n.done ≤ d.count) (sym s.next_is) s.bytes.inside
-  goes-inside p w chunk next w' (inr (inl s)) = subst (λ (n : Progress). n.done ≤ d.count) (sym s.next_is) (omega (arith, s.piece.bytes.inside))
+  goes-inside p w chunk next w' (inr (inl s)) = subst (λ (n : Progress). n.done ≤ d.count) (sym s.next_is) (omega (arith, s.piece.next.bytes.inside))
 
   pub goes-smaller : (p : Progress) (w : World) (chunk : List ℕ) (next : Progress) (w' : World) → GoesOnReplying e d p w chunk next w'
       → 2 * (d.count - next.done) + (1 - (next.slow - next.done)) < 2 * (d.count - p.done) + (1 - (p.slow - p.done))
   goes-smaller p w chunk next w' (inl s) =
-      subst (λ (n : Progress). 2 * (d.count - n.done) + (1 - (n.slow - n.done)) < 2 * (d.count - p.done) + (1 - (p.slow - p.done))) (sym s.next_is) (omega (arith, s.piece.bytes.inside, s.piece.bytes.some))
+      subst (λ (n : Progress). 2 * (d.count - n.done) + (1 - (n.slow - n.done)) < 2 * (d.count - p.done) + (1 - (p.slow - p.done))) (sym s.next_is) (omega (arith, s.piece.next.bytes.inside, s.piece.next.bytes.some))
   goes-smaller p w chunk next w' (inr (inl s)) =
-      subst (λ (n : Progress). 2 * (d.count - n.done) + (1 - (n.slow - n.done)) < 2 * (d.count - p.done) + (1 - (p.slow - p.done))) (sym s.next_is) (omega (arith, s.piece.bytes.some, put_off-behind p.done p.slow (touched (d.offset + p.done) s.size) s.several s.piece.single))
+      subst (λ (n : Progress). 2 * (d.count - n.done) + (1 - (n.slow - n.done)) < 2 * (d.count - p.done) + (1 - (p.slow - p.done))) (sym s.next_is) (omega (arith, s.piece.next.bytes.some, put_off-behind p.done p.slow (touched (d.offset + p.done) s.size) s.several s.piece.next.single))
   goes-smaller p w chunk next w' (inr (inr s)) =
       subst (λ (n : Progress). 2 * (d.count - n.done) + (1 - (n.slow - n.done)) < 2 * (d.count - p.done) + (1 - (p.slow - p.done))) (sym s.next_is) (omega (arith, s.bytes.inside, s.bytes.some))
 
@@ -119,32 +120,37 @@ then-inside (Err error) at size items room = tt
 pub rest-left : (c : Configuration) (e : ExportRecord) (d : Delivery) (p : Progress) → AreBytesOf c e d.offset d.count → p.done ≤ d.count → IsDeliveryRest d p
 rest-left c e d p bytes inside = record { inside = inside; small = omega (arith, bytes.within, bytes.export.fits) }
 
+-- zeros with which the next piece begins
+pub zeros-told : (c : Configuration) (e : ExportRecord) (at size left : ℕ) (s : BlockStatus) → size ≡ left → IsLineStatus c e at at size s → s.zeros ≡ true → BeginsWithZeros c e at left s.count
+zeros-told c e at size left s is told sure = subst (λ (n : ℕ). BeginsWithZeros c e at n s.count) is (subst (λ (b : Bool). IsLineStatus c e at at size (record { count = s.count; zeros = b })) sure told)
+
 module _ (e : ExportRecord) (d : Delivery) (p : Progress) (w w' : World) (size at : ℕ) (place : at ≡ d.offset + p.done) (piece : AreNextBytes d p size) where
   pub piece-bytes : (c : Configuration) → AreBytesOf c e d.offset d.count → AreBytesOf c e at size
   piece-bytes c bytes = record { export = bytes.export; within = omega (arith, bytes.within, piece.inside, place) }
 
   module _ (old new : Option (List ℕ)) where
-    hole-goes : size ≤ next_size w.stack.config e.device d p → TouchZeros w.stack.config e at size → w' ≡ w
+    hole-goes : size ≤ next_size w.stack.config e.device d p → TouchZeros w.stack.config e at size → BeginsWithZeros w.stack.config e at (next_size w.stack.config e.device d p) size → w' ≡ w
         → GoesOnReplying e d p w (hole_chunk (p.done + size == d.count) d.cookie (d.offset + p.done) size) (record { done = p.done + size; slow = p.slow }) w'
-    hole-goes front zeros same = inr (inr (record {
+    hole-goes front zeros status same = inr (inr (record {
       size = size;
       bytes = piece;
       front = front;
       zeros = subst (λ (k : ℕ). TouchZeros w.stack.config e k size) place zeros;
+      status = subst (λ (k : ℕ). BeginsWithZeros w.stack.config e k (next_size w.stack.config e.device d p) size) place status;
       chunk_is = refl;
       next_is = refl;
       same = same;
     }))
 
     -- it is a hole
-    pub piece-hole : size ≤ next_size w.stack.config e.device d p → TouchZeros w.stack.config e at size → w' ≡ w → Appends old new (hole_chunk (p.done + size == d.count) d.cookie (d.offset + p.done) size)
+    pub piece-hole : size ≤ next_size w.stack.config e.device d p → TouchZeros w.stack.config e at size → BeginsWithZeros w.stack.config e at (next_size w.stack.config e.device d p) size → w' ≡ w → Appends old new (hole_chunk (p.done + size == d.count) d.cookie (d.offset + p.done) size)
         → AnswersPiece e d p w w' old new (Some (record { done = p.done + size; slow = p.slow }))
-    piece-hole front zeros same a = (hole_chunk (p.done + size == d.count) d.cookie (d.offset + p.done) size, hole-goes front zeros same, a)
+    piece-hole front zeros status same a = (hole_chunk (p.done + size == d.count) d.cookie (d.offset + p.done) size, hole-goes front zeros status same, a)
 
-    pub hole-stuck : size ≤ next_size w.stack.config e.device d p → TouchZeros w.stack.config e at size → w' ≡ w → SendsPiece e d p w w'
-    hole-stuck front zeros same = inl (hole_chunk (p.done + size == d.count) d.cookie (d.offset + p.done) size, record { done = p.done + size; slow = p.slow }, hole-goes front zeros same)
+    pub hole-stuck : size ≤ next_size w.stack.config e.device d p → TouchZeros w.stack.config e at size → BeginsWithZeros w.stack.config e at (next_size w.stack.config e.device d p) size → w' ≡ w → SendsPiece e d p w w'
+    hole-stuck front zeros status same = inl (hole_chunk (p.done + size == d.count) d.cookie (d.offset + p.done) size, record { done = p.done + size; slow = p.slow }, hole-goes front zeros status same)
 
-module _ (e : ExportRecord) (d : Delivery) (p : Progress) (w w' : World) (size at : ℕ) (place : at ≡ d.offset + p.done) (piece : IsDeliveryPiece w.stack.config e.device d p size) where
+module _ (e : ExportRecord) (d : Delivery) (p : Progress) (w w' : World) (size at : ℕ) (place : at ≡ d.offset + p.done) (piece : IsReadPiece w.stack.config e d p size) where
   module _ (old new : Option (List ℕ)) where
     sent-goes : (n : ℕ) → n ≡ size → (content chunk : List ℕ) → ReadsExport e w at size (Ok content) w' → TellsContent d.cookie (p.done + n == d.count) (d.offset + p.done) content chunk
         → GoesOnReplying e d p w chunk (record { done = p.done + size; slow = p.slow }) w'
@@ -184,7 +190,7 @@ module _ (e : ExportRecord) (d : Delivery) (p : Progress) (w w' : World) (size a
       size = size;
       error = error;
       piece = piece;
-      one = omega (arith, few, piece.bytes.some, place);
+      one = omega (arith, few, piece.next.bytes.some, place);
       reads = subst (λ (k : ℕ). ReadsExport e w k size (Err error) w') place reads;
       chunk_is = ap (λ (k : ℕ). error_at_chunk d.cookie k error) place;
     }

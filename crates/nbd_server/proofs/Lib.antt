@@ -1,5 +1,6 @@
 pub mod ByteLemmas
 pub mod ContentLemmas
+pub mod ToldLemmas
 pub mod DeliveryLemmas
 pub mod FetchLemmas
 pub mod ServiceLemmas

@@ -15,7 +15,7 @@ use Rattle.nbd_protocol.specs.declared.request_error.RequestError.{RequestError}
 use Rattle.nbd_protocol.specs.Exports.{ExportRecord, export_at}
 use Rattle.nbd_protocol.specs.Headers.{command_of, header_of}
 use Rattle.nbd_server.specs.Replies.{RequestOutcome}
-use Rattle.nbd_server.specs.Transmission.{FailsToReadEnds, Flushes, IsFramed, ReadsExport, ServesCommand, Settles, WritesAtOnce, WritesExport, WritesGiven, WritesPart, WritesPayload, WritesAny, room_behind}
+use Rattle.nbd_server.specs.Transmission.{FailsToReadEnds, Flushes, IsFramed, ReadsExport, ServesCommand, Settles, WritesAtOnce, WritesGiven, WritesPayload, WritesAny, room_behind}
 use Rattle.nbd_server.specs.Service.{BeginsMessage, Conversation, begins, goes_on, IsLastRequest, IsServedRequest, GivesReply, TakesMessage}
 use Rattle.nbd_server.specs.Delivery.{delivery_of}
 use Rattle.nbd_server.specs.declared.delivery.Delivery.{Delivery}
@@ -37,27 +37,22 @@ unread-led : (e : ExportRecord) (w : World) (offset length : ℕ) (error : Reque
 unread-led e w offset length error w' (inl p) = read-led e w (offset - offset % 512) (offset % 512) (Err error) w' p
 unread-led e w offset length error w' (inr p) = ends-led e w p.1 w' offset length (Ok p.0) (Err error) p.2 p.3
 
-bytes-led : (e : ExportRecord) (w : World) (offset : ℕ) (bytes : List ℕ) (outcome : RequestOutcome) (w' : World) → WritesExport e w offset bytes outcome w' → IsLed EachPart w w'
-bytes-led e w offset bytes (Ok content) w' p = led-then EachPart w p.2 w' (framed-led e w offset bytes p.1 p.2 p.3) p.4.led
+bytes-led : (e : ExportRecord) (w : World) (offset : ℕ) (bytes : List ℕ) (outcome : RequestOutcome) (w' : World) → WritesAtOnce e w offset bytes outcome w' → IsLed EachPart w w'
+bytes-led e w offset bytes (Ok content) w' p = led-then EachPart w p.2 w' (framed-led e w offset bytes p.1 p.2 p.3) p.4.stored.led
 bytes-led e w offset bytes (Err error) w' (inl p) = unread-led e w offset (length bytes) error w' p
-bytes-led e w offset bytes (Err error) w' (inr p) = led-then EachPart w p.1 w' (framed-led e w offset bytes p.0 p.1 p.2) p.3.led
-
-part-led : (e : ExportRecord) (w : World) (offset : ℕ) (bytes : List ℕ) (outcome : RequestOutcome) (w' : World) → WritesPart e w offset bytes outcome w' → IsLed EachPart w w'
-part-led e w offset bytes outcome w' p = led-then EachPart w p.2 w' (framed-led e w offset bytes p.1 p.2 p.3) p.4.put.led
+bytes-led e w offset bytes (Err error) w' (inr p) = led-then EachPart w p.1 w' (framed-led e w offset bytes p.0 p.1 p.2) p.3.put.led
 
 write-led : (e : ExportRecord) (w : World) (offset : ℕ) (bytes : List ℕ) (outcome : RequestOutcome) (w' : World) → WritesAny e w offset bytes outcome w' → IsLed EachPart w w'
 write-led e w offset [] outcome w' p = stays-led w w' p.1
-write-led e w offset (byte ∷ more) outcome w' p = elim p.0 [ inl q ↦ bytes-led e w offset (byte ∷ more) outcome w' q | inr q ↦ part-led e w offset (byte ∷ more) outcome w' q ]
-
--- by one write of the queue, or by several
-pub once-export : (e : ExportRecord) (w : World) (offset : ℕ) (bytes : List ℕ) (outcome : RequestOutcome) (w' : World) → WritesAtOnce e w offset bytes outcome w' → WritesExport e w offset bytes outcome w'
-once-export e w offset bytes (Ok content) w' p = (p.0, p.1, p.2, p.3, p.4.stored)
-once-export e w offset bytes (Err error) w' (inl p) = inl p
-once-export e w offset bytes (Err error) w' (inr p) = inr (p.0, p.1, p.2, p.3.put)
+write-led e w offset (byte ∷ more) (Ok content) w' p = led-then EachPart w p.2 w' (framed-led e w offset (byte ∷ more) p.1 p.2 p.3) p.4.stored.led
+write-led e w offset (byte ∷ more) (Err error) w' (inl p) = unread-led e w offset (length (byte ∷ more)) error w' p
+write-led e w offset (byte ∷ more) (Err error) w' (inr p) =
+    let ends : IsLed EachPart p.1 w' = elim p.3.fails [ inl q ↦ q.led | inr q ↦ q.1.put.led ] in
+    led-then EachPart w p.1 w' (framed-led e w offset (byte ∷ more) p.0 p.1 p.2) ends
 
 payload-led : (e : ExportRecord) (w : World) (offset : ℕ) (bytes : List ℕ) (outcome : RequestOutcome) (w' : World) → WritesPayload e w offset bytes outcome w' → IsLed EachPart w w'
 payload-led e w offset [] outcome w' p = stays-led w w' p.1
-payload-led e w offset (byte ∷ more) outcome w' p = bytes-led e w offset (byte ∷ more) outcome w' (once-export e w offset (byte ∷ more) outcome w' p)
+payload-led e w offset (byte ∷ more) outcome w' p = bytes-led e w offset (byte ∷ more) outcome w' p
 
 given-led : (e : ExportRecord) (w : World) (offset : ℕ) (bytes : List ℕ) (outcome : RequestOutcome) (w' : World) → WritesGiven e w offset bytes outcome w' → IsLed EachPart w w'
 given-led e w offset bytes outcome w' (inl p) = stays-led w w' p.1

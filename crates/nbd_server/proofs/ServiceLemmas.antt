@@ -22,7 +22,7 @@ use Rattle.nbd_protocol.specs.Numbers.{big_endian32}
 use Rattle.nbd_protocol.specs.Headers.{command_of, header_of}
 use Rattle.nbd_server.specs.Sectors.{EndsPut, StopsPut}
 use Rattle.nbd_server.specs.Replies.{RequestOutcome}
-use Rattle.nbd_server.specs.Transmission.{FailsToReadEnds, Flushes, IsFramed, ServesCommand, Settles, WritesExport, WritesGiven, WritesPart, WritesPayload, WritesAny, room_behind}
+use Rattle.nbd_server.specs.Transmission.{FailsToReadEnds, Flushes, IsFramed, ServesCommand, Settles, WritesAtOnce, WritesGiven, WritesPayload, WritesAny, room_behind}
 use Rattle.nbd_protocol.specs.Handshake.{greeting, is_info, name_in, phase_after, serving_at, terms_after, terms_after_long}
 use Rattle.nbd_protocol.proofs.lemmas.ExportLemmas.{asked-inside}
 use Rattle.nbd_server.specs.Premises.{IsExportPlaced}
@@ -34,7 +34,7 @@ use Rattle.nbd_server.specs.declared.delivery.Delivery.{Delivery}
 use Rattle.nbd_server.specs.Service.{AnswersOption, BeginsMessage, Conversation, begins, goes_on, EndsMessage, IsInterrupted, IsService, IsLastRequest, IsServedRequest, IsUnanswered, GivesReply, TakesMessage}
 use Rattle.nbd_server.proofs.DeliveryLemmas.{delivered-config, read-config}
 use Rattle.nbd_server.proofs.ReadStatusLemmas.{status-config}
-use Rattle.nbd_server.proofs.RunLemmas.{begun-led, once-export, talk-led}
+use Rattle.nbd_server.proofs.RunLemmas.{begun-led, talk-led}
 use Rattle.request_queue.proofs.lemmas.LedLemmas.{led-then}
 
 -- the messages so far, and the greeting and their replies
@@ -223,21 +223,21 @@ unstored-config : (w : World) (d first : ℕ) (bytes : List ℕ) (error : Reques
 unstored-config w d first bytes error w' (inl p) = p.3.any.config
 unstored-config w d first bytes error w' (inr p) = p.2.put.put.any.config
 
-bytes-config : (e : ExportRecord) (w : World) (offset : ℕ) (bytes : List ℕ) (outcome : RequestOutcome) (w' : World) → WritesExport e w offset bytes outcome w' → w'.stack.config ≡ w.stack.config
-bytes-config e w offset bytes (Ok content) w' p = p.4.put.any.config ∙ framed-config e w offset bytes p.1 p.2 p.3
+bytes-config : (e : ExportRecord) (w : World) (offset : ℕ) (bytes : List ℕ) (outcome : RequestOutcome) (w' : World) → WritesAtOnce e w offset bytes outcome w' → w'.stack.config ≡ w.stack.config
+bytes-config e w offset bytes (Ok content) w' p = p.4.stored.put.any.config ∙ framed-config e w offset bytes p.1 p.2 p.3
 bytes-config e w offset bytes (Err error) w' (inl p) = ends-config e w offset (length bytes) error w' p
-bytes-config e w offset bytes (Err error) w' (inr p) = unstored-config p.1 e.device (offset / 512) p.0 error w' p.3.cause ∙ framed-config e w offset bytes p.0 p.1 p.2
-
-part-config : (e : ExportRecord) (w : World) (offset : ℕ) (bytes : List ℕ) (outcome : RequestOutcome) (w' : World) → WritesPart e w offset bytes outcome w' → w'.stack.config ≡ w.stack.config
-part-config e w offset bytes outcome w' p = p.4.put.put.any.config ∙ framed-config e w offset bytes p.1 p.2 p.3
+bytes-config e w offset bytes (Err error) w' (inr p) = unstored-config p.1 e.device (offset / 512) p.0 error w' p.3.put.cause ∙ framed-config e w offset bytes p.0 p.1 p.2
 
 write-config : (e : ExportRecord) (w : World) (offset : ℕ) (bytes : List ℕ) (outcome : RequestOutcome) (w' : World) → WritesAny e w offset bytes outcome w' → w'.stack.config ≡ w.stack.config
 write-config e w offset [] outcome w' p = same-config w w' p.1
-write-config e w offset (byte ∷ more) outcome w' p = elim p.0 [ inl q ↦ bytes-config e w offset (byte ∷ more) outcome w' q | inr q ↦ part-config e w offset (byte ∷ more) outcome w' q ]
+write-config e w offset (byte ∷ more) (Ok content) w' p = p.4.stored.put.any.config ∙ framed-config e w offset (byte ∷ more) p.1 p.2 p.3
+write-config e w offset (byte ∷ more) (Err error) w' (inl p) = ends-config e w offset (length (byte ∷ more)) error w' p
+write-config e w offset (byte ∷ more) (Err error) w' (inr p) =
+    let ends : w'.stack.config ≡ p.1.stack.config = elim p.3.fails [ inl q ↦ unstored-config p.1 e.device (offset / 512) p.0 error w' q.cause | inr q ↦ q.1.put.put.any.config ] in ends ∙ framed-config e w offset (byte ∷ more) p.0 p.1 p.2
 
 payload-config : (e : ExportRecord) (w : World) (offset : ℕ) (bytes : List ℕ) (outcome : RequestOutcome) (w' : World) → WritesPayload e w offset bytes outcome w' → w'.stack.config ≡ w.stack.config
 payload-config e w offset [] outcome w' p = same-config w w' p.1
-payload-config e w offset (byte ∷ more) outcome w' p = bytes-config e w offset (byte ∷ more) outcome w' (once-export e w offset (byte ∷ more) outcome w' p)
+payload-config e w offset (byte ∷ more) outcome w' p = bytes-config e w offset (byte ∷ more) outcome w' p
 
 given-config : (e : ExportRecord) (w : World) (offset : ℕ) (bytes : List ℕ) (outcome : RequestOutcome) (w' : World) → WritesGiven e w offset bytes outcome w' → w'.stack.config ≡ w.stack.config
 given-config e w offset bytes outcome w' (inl p) = same-config w w' p.1

@@ -17,7 +17,8 @@ use Rattle.nbd_protocol.specs.declared.request_error.RequestError.{RequestError}
 use Rattle.nbd_protocol.specs.declared.export.Export.{Export}
 use Rattle.nbd_protocol.specs.Chunks.{error_at_chunk, hole_chunk}
 use Rattle.nbd_server.specs.Content.{TellsContent}
-use Rattle.nbd_server.specs.Status.{TouchZeros, touched}
+use Rattle.nbd_server.specs.Status.{IsLineStatus, IsOtherKind, TouchZeros, touched}
+use Rattle.nbd_server.specs.declared.extent.ExtentKind.TheVariants as known
 use Rattle.nbd_server.specs.Transmission.{ReadsExport}
 use Rattle.nbd_server.specs.declared.delivery.Delivery.{Delivery}
 use Rattle.nbd_server.specs.declared.delivery.Progress.{Progress}
@@ -71,11 +72,20 @@ pub record IsDeliveryPiece (c : Configuration) (device : ℕ) (d : Delivery) (p 
   pub bytes : AreNextBytes d p size
   pub single : p.done < p.slow → touched (d.offset + p.done) size ≡ 1
 
+-- a piece that is read: it doesn't begin on `zero` lines
+pub record IsReadPiece (c : Configuration) (e : ExportRecord) (d : Delivery) (p : Progress) (size : ℕ) : Type 0 where
+  pub next : IsDeliveryPiece c e.device d p size
+  pub other : IsOtherKind c e known.Zeros (d.offset + p.done)
+
+-- the first n of `left` bytes from an offset on are an extent on `zero` lines
+abbrev pub BeginsWithZeros : Configuration → ExportRecord → ℕ → ℕ → ℕ → Type 0
+BeginsWithZeros c e at left n = IsLineStatus c e at at left (record { count = n; zeros = true })
+
 -- The piece was read and is sent as a hole, data and a hole at most. The last chunk says whether it is the last of the reply.
 pub record IsSent (e : ExportRecord) (d : Delivery) (p : Progress) (w : World) (chunk : List ℕ) (next : Progress) (w' : World) : Type 0 where
   pub size : ℕ
   pub content : List ℕ
-  pub piece : IsDeliveryPiece w.stack.config e.device d p size
+  pub piece : IsReadPiece w.stack.config e d p size
   pub reads : ReadsExport e w (d.offset + p.done) size (Ok content) w'
   pub told : TellsContent d.cookie (p.done + size == d.count) (d.offset + p.done) content chunk
   pub next_is : next ≡ record { done = p.done + size; slow = p.slow }
@@ -84,7 +94,7 @@ pub record IsSent (e : ExportRecord) (d : Delivery) (p : Progress) (w : World) (
 pub record IsPutOff (e : ExportRecord) (d : Delivery) (p : Progress) (w : World) (chunk : List ℕ) (next : Progress) (w' : World) : Type 0 where
   pub size : ℕ
   pub error : RequestError
-  pub piece : IsDeliveryPiece w.stack.config e.device d p size
+  pub piece : IsReadPiece w.stack.config e d p size
   pub several : 1 < touched (d.offset + p.done) size
   pub reads : ReadsExport e w (d.offset + p.done) size (Err error) w'
   pub silent : chunk ≡ []
@@ -94,17 +104,19 @@ pub record IsPutOff (e : ExportRecord) (d : Delivery) (p : Progress) (w : World)
 pub record IsLost (e : ExportRecord) (d : Delivery) (p : Progress) (w : World) (chunk : List ℕ) (w' : World) : Type 0 where
   pub size : ℕ
   pub error : RequestError
-  pub piece : IsDeliveryPiece w.stack.config e.device d p size
+  pub piece : IsReadPiece w.stack.config e d p size
   pub one : touched (d.offset + p.done) size ≡ 1
   pub reads : ReadsExport e w (d.offset + p.done) size (Err error) w'
   pub chunk_is : chunk ≡ error_at_chunk d.cookie (d.offset + p.done) error
 
--- The lines make the first bytes of the piece zeros, whatever the backing devices hold. Nothing is read, and a hole is sent.
+-- The first bytes of the piece are on `zero` lines, so they are zeros whatever the backing devices hold. Nothing is read, and a
+-- hole of all of them is sent.
 pub record IsHole (e : ExportRecord) (d : Delivery) (p : Progress) (w : World) (chunk : List ℕ) (next : Progress) (w' : World) : Type 0 where
   pub size : ℕ
   pub bytes : AreNextBytes d p size
   pub front : size ≤ next_size w.stack.config e.device d p
   pub zeros : TouchZeros w.stack.config e (d.offset + p.done) size
+  pub status : BeginsWithZeros w.stack.config e (d.offset + p.done) (next_size w.stack.config e.device d p) size
   pub chunk_is : chunk ≡ hole_chunk (p.done + size == d.count) d.cookie (d.offset + p.done) size
   pub next_is : next ≡ record { done = p.done + size; slow = p.slow }
   pub same : w' ≡ w

@@ -1,10 +1,12 @@
 -- What the lines of a device say of its sectors before they are read: they are zeros, or a read of them ignores blocks of
 -- zeros.
-use Rattle.std.specs.Prelude.{◌≡◌, ◌<◌, ◌≤◌, ◌+◌, ◌-◌, ℕ, Bool, true, false, IsTrue, List, Some, Ok}
+use Rattle.std.specs.Prelude.{◌≡◌, ◌≢◌, ◌⊎◌, ◌<◌, ◌≤◌, ◌+◌, ◌-◌, ℕ, Bool, true, false, List, Some, Ok, if◌then◌else◌}
 use Rattle.dm_table.specs.declared.verity.Verity.{Verity}
 use Rattle.dm_table.specs.declared.table.Line.{Line}
-use Rattle.dm_table.specs.declared.table.Target.TheVariants.{Verity as verity_target}
+use Rattle.dm_table.specs.declared.table.Target.{Target}
+use Rattle.dm_table.specs.declared.table.Target.TheVariants.{Zero, Verity as verity_target}
 use Rattle.stack_rules.specs.declared.lower.Lower.{Lower}
+use Rattle.stack_rules.specs.declared.lower.Lower.TheVariants.{Leaf as leaf}
 use Rattle.stack_rules.specs.Lines.{IsLine}
 use Rattle.stack_rules.specs.Names.{mapped, named}
 use Rattle.stack_rules.specs.Records.{Configuration}
@@ -34,11 +36,22 @@ pub record LiesOnLine (c : Configuration) (d s : ℕ) (line : Line) : Type 0 whe
   pub start : line.start ≤ s
   pub ends : s < line.start + line.length
 
--- a sector is on a verity line that ignores blocks of zeros, or is mapped to a sector that is
-pub data IgnoresZeros (c : Configuration) : Lower → ℕ → Type 0 where
-  by_line : {d s : ℕ} {line : Line} (v : Verity) → LiesOnLine c d s line → line.target ≡ verity_target v → IsTrue v.ignore_zero_blocks → IgnoresZeros c (mapped d) s
-  by_lower : {d s at : ℕ} {line : Line} {name : List ℕ} {lower : Lower} → LiesOnLine c d s line → HandsOn line.target → beneath line.target (s - line.start) ≡ Some (name, at)
-      → named c name ≡ Some lower → IgnoresZeros c lower at → IgnoresZeros c (mapped d) s
+-- the kind of the sectors of a line that doesn't pass sectors through unchanged
+abbrev pub verity_kind : Verity → ExtentKind
+verity_kind v = if v.ignore_zero_blocks then known.IgnoresZeros else known.Unknown
+
+abbrev pub own_kind : Target → ExtentKind
+own_kind Zero = known.Zeros
+own_kind (verity_target v) = verity_kind v
+own_kind target = known.Unknown
+
+-- The kind of a sector: that of the line that it is on, or of the sector that it is mapped to. Nothing is known of a backing
+-- device.
+pub data HasKind (c : Configuration) : Lower → ℕ → ExtentKind → Type 0 where
+  by_leaf : {l s : ℕ} → HasKind c (leaf l) s known.Unknown
+  by_line : {d s : ℕ} {line : Line} {kind : ExtentKind} → LiesOnLine c d s line → (HandsOn line.target → ⊥) → own_kind line.target ≡ kind → HasKind c (mapped d) s kind
+  by_lower : {d s at : ℕ} {line : Line} {name : List ℕ} {lower : Lower} {kind : ExtentKind} → LiesOnLine c d s line → HandsOn line.target → beneath line.target (s - line.start) ≡ Some (name, at)
+      → named c name ≡ Some lower → HasKind c lower at kind → HasKind c (mapped d) s kind
 
 -- the two kinds are equal
 abbrev pub is_same_kind : ExtentKind → ExtentKind → Bool
@@ -47,21 +60,38 @@ is_same_kind known.IgnoresZeros known.IgnoresZeros = true
 is_same_kind known.Unknown known.Unknown = true
 is_same_kind a b = false
 
--- at least one sector and at most `most`, which are zeros or ignore blocks of zeros if the kind says so
-pub record IsToldExtent (said : ℕ → Said) (Ignores : ℕ → Type 0) (first most : ℕ) (extent : Extent) : Type 0 where
+-- At least one sector and at most `most`, each of the extent's kind. Sectors of the kind `Zeros` are zeros.
+pub record IsToldExtent (said : ℕ → Said) (Has : ℕ → ExtentKind → Type 0) (first most : ℕ) (extent : Extent) : Type 0 where
   pub some : 0 < extent.count
   pub few : extent.count ≤ most
   pub zeros : extent.kind ≡ known.Zeros → AreZeros said first extent.count
-  pub ignores : extent.kind ≡ known.IgnoresZeros → (j : ℕ) → j < extent.count → Ignores (first + j)
+  pub kind : (j : ℕ) → j < extent.count → Has (first + j) extent.kind
+
+-- a sector is of another kind
+abbrev pub HasOtherKind : (ℕ → ExtentKind → Type 0) → ExtentKind → ℕ → Type 0
+HasOtherKind Has kind s = (other : ExtentKind) × (other ≢ kind) × Has s other
+
+-- the most runs that are joined to one extent
+abbrev pub most_runs : ℕ
+most_runs = 4096
+
+-- an extent ends with the sectors that were asked for, before a sector of another kind, or after more than 4,096 sectors
+abbrev pub EndsExtent : (ℕ → ExtentKind → Type 0) → ℕ → ℕ → Extent → Type 0
+EndsExtent Has first most extent = (extent.count ≡ most) ⊎ ((most_runs < extent.count) ⊎ HasOtherKind Has extent.kind (first + extent.count))
+
+-- an extent that is as long as it can be
+pub record IsWholeExtent (said : ℕ → Said) (Has : ℕ → ExtentKind → Type 0) (first most : ℕ) (extent : Extent) : Type 0 where
+  pub told : IsToldExtent said Has first most extent
+  pub ends : EndsExtent Has first most extent
 
 -- ---- the sectors of a source
 
--- sector j of a source ignores blocks of zeros
-abbrev pub SourceIgnores : Configuration → Source → ℕ → Type 0
-SourceIgnores c (Below lower first) j = IgnoresZeros c lower (first + j)
-SourceIgnores c (Units b) j = ⊥
-SourceIgnores c (UnitPart b) j = ⊥
-SourceIgnores c Zeros j = ⊥
-SourceIgnores c Fails j = ⊥
-SourceIgnores c (Block x) j = IsTrue x.verity.now.ignore_zero_blocks
-SourceIgnores c (Blocks x) j = IsTrue x.verity.now.ignore_zero_blocks
+-- the kind of sector j of a source
+abbrev pub SourceHas : Configuration → Source → ℕ → ExtentKind → Type 0
+SourceHas c (Below lower first) j kind = HasKind c lower (first + j) kind
+SourceHas c (Units b) j kind = kind ≡ known.Unknown
+SourceHas c (UnitPart b) j kind = kind ≡ known.Unknown
+SourceHas c Zeros j kind = kind ≡ known.Zeros
+SourceHas c Fails j kind = kind ≡ known.Unknown
+SourceHas c (Block x) j kind = kind ≡ verity_kind x.verity.now
+SourceHas c (Blocks x) j kind = kind ≡ verity_kind x.verity.now

@@ -1,5 +1,5 @@
 -- The transmission phase: the effect and the result of each request.
-use Rattle.std.specs.Prelude.{◌≡◌, ◌⊎◌, ◌≤◌, ℕ, ◌+◌, ◌-◌, ◌*◌, ◌/◌, ◌%◌, Bool, true, false, List, Vec, [], ◌∷◌, ◌++◌, length, take, drop, replicate, Result, Ok, Err, IfOk, Option}
+use Rattle.std.specs.Prelude.{◌≡◌, ◌⊎◌, ◌≤◌, ℕ, ◌+◌, ◌-◌, ◌*◌, ◌/◌, ◌%◌, min, Bool, true, false, List, Vec, [], ◌∷◌, ◌++◌, length, take, drop, replicate, Result, Ok, Err, IfOk, Option, if◌then◌else◌}
 use Rattle.std.specs.Global.{Global}
 use Rattle.std.specs.Io.KnownBytes.{Consumes}
 use Rattle.allocation.specs.Refusal.{IsOutOfMemory}
@@ -11,9 +11,11 @@ use Rattle.nbd_protocol.specs.Exports.{ExportRecord, export_record}
 use Rattle.nbd_protocol.specs.Headers.{command_of, most_length, payload_len}
 use Rattle.nbd_protocol.specs.declared.phase.Agreement.{Agreement}
 use Rattle.nbd_server.specs.Replies.{RequestOutcome}
-use Rattle.nbd_server.specs.Status.{AreReadAsZeros, HasStatus, TouchIgnoring, TouchZeros, touched}
-use Rattle.nbd_server.specs.Sectors.{IsFetched, FailsToFetch, IsStored, IsStoredAtOnce, IsPartPut, FailsToPutAll, FailsToPutAtOnce, most_run_bytes}
-use Rattle.nbd_server.specs.Zeros.{WritesInRuns}
+use Rattle.nbd_server.specs.Status.{HasLineStatus, HasReadStatus, IsByteExtent, IsOtherKind, TouchIgnoring, touched}
+use Rattle.nbd_server.specs.declared.extent.ExtentKind.TheVariants as known
+use Rattle.nbd_server.specs.declared.status.ByteExtent.{ByteExtent}
+use Rattle.nbd_server.specs.Sectors.{IsFetched, FailsToFetch, IsStoredAtOnce, FailsToPutAtOnce}
+use Rattle.nbd_server.specs.Zeros.{IsStoredInRuns, FailsToPutInRuns}
 use Rattle.nbd_protocol.specs.declared.header.Header.{Header}
 use Rattle.nbd_protocol.specs.declared.header.Command.{Command}
 use Rattle.nbd_protocol.specs.declared.header.Command.TheVariants.{Read, Write, Zero, Hint, Flush, Status}
@@ -64,15 +66,7 @@ pub record IsFramed (e : ExportRecord) (w : World) (offset : ℕ) (bytes sectors
   pub ends : ReadsEnds e w offset (length bytes) before behind w'
   pub sectors_are : sectors ≡ before ++ (bytes ++ behind)
 
--- bytes of the export were written, by whole sectors
-abbrev pub WritesExport : ExportRecord → World → ℕ → List ℕ → RequestOutcome → World → Type 0
-WritesExport e w offset bytes (Ok content) w' =
-    (content ≡ []) × (sectors : List ℕ) × (mid : World) × IsFramed e w offset bytes sectors mid × IsStored mid e.device (offset / 512) sectors w'
-WritesExport e w offset bytes (Err error) w' =
-    FailsToReadEnds e w offset (length bytes) w' error
-    ⊎ ((sectors : List ℕ) × (mid : World) × IsFramed e w offset bytes sectors mid × FailsToPutAll mid e.device (offset / 512) sectors error w')
-
--- they were written so by one write of the queue
+-- bytes of the export were written by one write of the queue of whole sectors
 abbrev pub WritesAtOnce : ExportRecord → World → ℕ → List ℕ → RequestOutcome → World → Type 0
 WritesAtOnce e w offset bytes (Ok content) w' =
     (content ≡ []) × (sectors : List ℕ) × (mid : World) × IsFramed e w offset bytes sectors mid × IsStoredAtOnce mid e.device (offset / 512) sectors w'
@@ -85,25 +79,18 @@ abbrev pub WritesPayload : ExportRecord → World → ℕ → List ℕ → Reque
 WritesPayload e w offset [] outcome w' = Stays w outcome w'
 WritesPayload e w offset (byte ∷ more) outcome w' = WritesAtOnce e w offset (byte ∷ more) outcome w'
 
--- an allocation of a run was refused, and the runs before it were written
-abbrev pub WritesPart : ExportRecord → World → ℕ → List ℕ → RequestOutcome → World → Type 0
-WritesPart e w offset bytes outcome w' =
-    (outcome ≡ Err NoMemory) × (sectors : List ℕ) × (mid : World) × IsFramed e w offset bytes sectors mid
-    × IsPartPut mid e.device (offset / 512) sectors w' × IsOutOfMemory most_run_bytes
-
--- their sectors were written in runs, unless what the first and the last sector hold besides couldn't be read
+-- they were written so, but in runs
 abbrev pub WritesByRuns : ExportRecord → World → ℕ → List ℕ → RequestOutcome → World → Type 0
 WritesByRuns e w offset bytes (Ok content) w' =
-    (sectors : List ℕ) × (mid : World) × IsFramed e w offset bytes sectors mid × WritesInRuns e.device (offset / 512) (length sectors) mid sectors (Ok tt) w'
+    (content ≡ []) × (sectors : List ℕ) × (mid : World) × IsFramed e w offset bytes sectors mid × IsStoredInRuns mid e.device (offset / 512) sectors w'
 WritesByRuns e w offset bytes (Err error) w' =
     FailsToReadEnds e w offset (length bytes) w' error
-    ⊎ ((sectors : List ℕ) × (mid : World) × IsFramed e w offset bytes sectors mid × WritesInRuns e.device (offset / 512) (length sectors) mid sectors (Err error) w')
+    ⊎ ((sectors : List ℕ) × (mid : World) × IsFramed e w offset bytes sectors mid × FailsToPutInRuns mid e.device (offset / 512) sectors error w')
 
 -- a write of bytes that are written run by run
 abbrev pub WritesAny : ExportRecord → World → ℕ → List ℕ → RequestOutcome → World → Type 0
 WritesAny e w offset [] outcome w' = Stays w outcome w'
-WritesAny e w offset (byte ∷ more) outcome w' =
-    (WritesExport e w offset (byte ∷ more) outcome w' ⊎ WritesPart e w offset (byte ∷ more) outcome w') × WritesByRuns e w offset (byte ∷ more) outcome w'
+WritesAny e w offset (byte ∷ more) outcome w' = WritesByRuns e w offset (byte ∷ more) outcome w'
 
 -- ---- flushes
 
@@ -124,25 +111,39 @@ ServesZero e w offset length fua outcome w' = Settles fua (WritesAny e w offset 
 
 -- ---- block status
 
--- The first bytes of a range, at most 256 KiB, were read with that outcome. They are on verity lines that ignore blocks of
--- zeros.
-pub record ReadsIgnoring (e : ExportRecord) (w : World) (offset count size : ℕ) (outcome : RequestOutcome) (w' : World) : Type 0 where
-  pub few : size ≤ count
-  pub small : size ≤ 262144
+-- how many bytes from an offset on are read for a status at most: up to a multiple of 256 KiB, or of 64 KiB for one extent
+abbrev pub most_look : ℕ → Bool → ℕ
+most_look offset one = if one then 65536 - offset % 65536 else 262144 - offset % 262144
+
+-- The first of `count` bytes on verity lines that ignore blocks of zeros were read with that outcome.
+pub record ReadsIgnoring (e : ExportRecord) (w : World) (offset count : ℕ) (one : Bool) (size : ℕ) (outcome : RequestOutcome) (w' : World) : Type 0 where
+  pub value : size ≡ min (most_look offset one) count
   pub ignoring : TouchIgnoring w.stack.config e offset size
   pub reads : ReadsExport e w offset size outcome w'
 
--- the status of bytes that were read: zeros are reported for bytes that were read as zeros, and data for bytes that couldn't be
+-- the status of bytes that were read: zeros are reported for blocks that were read as zeros, and data for bytes that couldn't be
 -- read
 pub record ReadsStatus (e : ExportRecord) (w : World) (offset count : ℕ) (one : Bool) (told : List ℕ) (w' : World) : Type 0 where
   pub size : ℕ
   pub outcome : RequestOutcome
-  pub reads : ReadsIgnoring e w offset count size outcome w'
-  pub status : HasStatus (AreReadAsZeros offset outcome) offset size one told
+  pub reads : ReadsIgnoring e w offset count one size outcome w'
+  pub status : HasReadStatus outcome offset size one told
 
--- the status of a byte range: by the lines alone, and then nothing is read, or by the bytes that were read
+-- the status of a byte range that begins on lines that ignore blocks of zeros: of the extent on these lines
+pub record TellsIgnoring (e : ExportRecord) (w : World) (offset count : ℕ) (one : Bool) (told : List ℕ) (w' : World) : Type 0 where
+  pub extent : ByteExtent
+  pub is : IsByteExtent w.stack.config e offset count extent
+  pub kind : extent.kind ≡ known.IgnoresZeros
+  pub reads : ReadsStatus e w offset extent.count one told w'
+
+-- the status of a byte range that begins on other lines: by the lines alone, and nothing is read
+pub record TellsByLines (e : ExportRecord) (w : World) (offset count : ℕ) (one : Bool) (told : List ℕ) (w' : World) : Type 0 where
+  pub other : IsOtherKind w.stack.config e known.IgnoresZeros offset
+  pub status : HasLineStatus w.stack.config e offset count one told
+  pub same : w' ≡ w
+
 abbrev pub TellsExtents : ExportRecord → World → ℕ → ℕ → Bool → List ℕ → World → Type 0
-TellsExtents e w offset count one told w' = (HasStatus (TouchZeros w.stack.config e) offset count one told × (w' ≡ w)) ⊎ ReadsStatus e w offset count one told w'
+TellsExtents e w offset count one told w' = TellsByLines e w offset count one told w' ⊎ TellsIgnoring e w offset count one told w'
 
 -- the status of a byte range, in memory
 abbrev pub AreExtentsTold : ExportRecord → World → ℕ → ℕ → Bool → World → Vec ℕ Global → Type 0
@@ -151,14 +152,14 @@ AreExtentsTold e w offset count one w' told = TellsExtents e w offset count one 
 abbrev pub IsStatusRead : ExportRecord → World → ℕ → ℕ → Bool → World → Vec ℕ Global → Type 0
 IsStatusRead e w offset count one w' told = ReadsStatus e w offset count one told.items w'
 
--- nothing was read, or such bytes were read
-abbrev pub StaysOrReads : ExportRecord → World → ℕ → ℕ → World → Type 0
-StaysOrReads e w offset count w' = (w' ≡ w) ⊎ ((size : ℕ) × (outcome : RequestOutcome) × ReadsIgnoring e w offset count size outcome w')
+-- nothing was read, or the first bytes of an extent on such lines were read
+abbrev pub StaysOrReads : ExportRecord → World → ℕ → ℕ → Bool → World → Type 0
+StaysOrReads e w offset count one w' = (w' ≡ w) ⊎ ((part : ℕ) × (size : ℕ) × (outcome : RequestOutcome) × (part ≤ count) × ReadsIgnoring e w offset part one size outcome w')
 
 -- a BLOCK_STATUS: the status, or an allocation of the four bytes of a number was refused
 abbrev pub TellsStatus : ExportRecord → World → ℕ → ℕ → Bool → RequestOutcome → World → Type 0
 TellsStatus e w offset count one (Ok told) w' = TellsExtents e w offset count one told w'
-TellsStatus e w offset count one (Err error) w' = (error ≡ NoMemory) × StaysOrReads e w offset count w' × IsOutOfMemory 4
+TellsStatus e w offset count one (Err error) w' = (error ≡ NoMemory) × StaysOrReads e w offset count one w' × IsOutOfMemory 4
 
 -- ---- requests
 

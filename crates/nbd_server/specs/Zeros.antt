@@ -10,7 +10,7 @@ use Rattle.request_queue.specs.World.{World}
 use Rattle.nbd_protocol.specs.Headers.{error_of}
 use Rattle.nbd_protocol.specs.declared.request_error.RequestError.{RequestError}
 use Rattle.nbd_protocol.specs.declared.request_error.RequestError.TheVariants.{NoMemory}
-use Rattle.nbd_server.specs.Sectors.{FailsToZero, most_run_bytes}
+use Rattle.nbd_server.specs.Sectors.{IsStored, FailsToZero, most_run_bytes}
 use Rattle.nbd_server.specs.declared.zeros.Zeros.{Zeros}
 
 -- the bytes of these sectors
@@ -56,3 +56,13 @@ pub data WritesInRuns (d first total : ℕ) (w : World) : List ℕ → Result Un
   last_run : {x y : List ℕ} {v w' : World} {fault : IoFault} (z : List ℕ) → WritesInRuns d first total w x (Ok tt) v → IsNextRun v d (first + length x / 512) (total - length x) y (Err fault) w'
       → WritesInRuns d first total w (x ++ (y ++ z)) (Err (error_of fault)) w'
   lacks_run : {x : List ℕ} {v : World} (z : List ℕ) → WritesInRuns d first total w x (Ok tt) v → IsOutOfMemory most_run_bytes → WritesInRuns d first total w (x ++ z) (Err NoMemory) v
+
+-- the sectors were written in runs
+pub record IsStoredInRuns (w : World) (d first : ℕ) (bytes : List ℕ) (w' : World) : Type 0 where
+  pub stored : IsStored w d first bytes w'
+  pub runs : WritesInRuns d first (length bytes) w bytes (Ok tt) w'
+
+-- not all of them were: a run failed, or its allocation was refused
+pub record FailsToPutInRuns (w : World) (d first : ℕ) (bytes : List ℕ) (error : RequestError) (w' : World) : Type 0 where
+  pub fails : FailsToZero w d first bytes error w'
+  pub runs : WritesInRuns d first (length bytes) w bytes (Err error) w'

@@ -1,8 +1,8 @@
 //! Writes bytes that were read as chunks of data and holes.
-ghost use Rattle.std.specs.Prelude.{◌≡◌, ◌≤◌, ◌<◌, ◌+◌, ◌-◌, ◌^◌, drop, length, replicate, take};
+ghost use Rattle.std.specs.Prelude.{◌≡◌, ◌≤◌, ◌<◌, ◌+◌, ◌^◌, length, replicate, take};
 ghost use Rattle.std.specs.Str.{bytes_eq};
 ghost use Rattle.program_io.specs.Counted.{WritesSome};
-ghost use Rattle.nbd_server.specs.Content.{HaveData, TellsContent, TellsData};
+ghost use Rattle.nbd_server.specs.Content.{AreZerosBefore, AreZerosBehind, HaveData, TellsContent, TellsData, zero_block};
 
 use nbd_protocol::{say_data, say_hole};
 use program_io::{Counted, WriteFault};
@@ -23,9 +23,7 @@ pub(crate) fn are_zeros(block: &[u8]) -> bool
 
 // How many zeros the bytes begin with, by whole blocks unless all bytes are zeros.
 fn zeros_before(bytes: &[u8]) -> usize
-    ensures inside { result ≤ length bytes.now }
-    ensures zeros { take result bytes.now ≡ replicate result 0 }
-    ensures rest { result < length bytes.now → HaveData (drop result bytes.now) }
+    ensures { AreZerosBefore bytes.now result }
 {
     let mut done = 0;
     'zeros: while done < bytes.len() {
@@ -40,8 +38,7 @@ fn zeros_before(bytes: &[u8]) -> usize
 
 // How many zeros the bytes end with, by whole blocks.
 fn zeros_behind(bytes: &[u8]) -> usize
-    ensures inside { result ≤ length bytes.now }
-    ensures zeros { drop (length bytes.now - result) bytes.now ≡ replicate result 0 }
+    ensures { AreZerosBehind bytes.now result }
 {
     let mut rest = bytes.len();
     'zeros: while rest >= BLOCK {
@@ -53,7 +50,7 @@ fn zeros_behind(bytes: &[u8]) -> usize
     bytes.len() - rest
 }
 
-// Writes bytes that begin with data: a data chunk, then a hole for the zeros at the end.
+// Writes bytes whose first block isn't zeros: a data chunk, then a hole for the zeros at the end.
 fn say_from_data<W: Write>(
     writer: &mut Counted<W>,
     last: bool,
@@ -61,7 +58,7 @@ fn say_from_data<W: Write>(
     at: u64,
     bytes: &[u8],
 ) -> Result<(), WriteFault>
-    requires some { HaveData bytes.now }
+    requires some { HaveData (take zero_block bytes.now) }
     requires few { 8 + length bytes.now < 2 ^ 32 }
     requires place { at + length bytes.now < 2 ^ 64 }
     ensures { WritesSome W.contents writer.old writer.new (TellsData cookie last at bytes.now) result }

@@ -7,7 +7,7 @@ ghost use Rattle.nbd_server.specs.Content.{TellsContent};
 ghost use Rattle.nbd_server.specs.Premises.{AreBytesOf, IsDeliveryRest, ReadsTo};
 ghost use Rattle.nbd_server.specs.Status.{touched};
 ghost use Rattle.nbd_server.specs.Transmission.{FailsToReadBytes};
-ghost use Rattle.nbd_server.specs.Delivery.{AreNextBytes, IsDeliveryPiece, IsStuck, SendsPiece, WritesDelivery, WritesPiece, delivery_of, has_df};
+ghost use Rattle.nbd_server.specs.Delivery.{AreNextBytes, IsDeliveryPiece, IsReadPiece, IsStuck, SendsPiece, WritesDelivery, WritesPiece, delivery_of, has_df};
 
 use crate::byte_range::touched;
 use crate::content::say_content;
@@ -192,7 +192,7 @@ fn deliver_piece<D: BlockDev, W: Write>(
     writer: &mut Counted<W>,
 ) -> Result<Option<Progress>, WriteFault>
     requires bytes { AreBytesOf queue.old.stack.config (export_record export.now) delivery.offset delivery.count }
-    requires piece { IsDeliveryPiece queue.old.stack.config export.now.device.0 delivery piece.progress piece.size }
+    requires piece { IsReadPiece queue.old.stack.config (export_record export.now) delivery piece.progress piece.size }
     ensures ok { IfOk result (WritesPiece W.contents writer.old writer.new export.now delivery piece.progress queue.old queue.new) }
     ensures err { OnErr result (SendsPiece (export_record export.now) delivery piece.progress queue.old queue.new) }
     ensures kept { IfOk result (λ _. writer.new.failed ≡ writer.old.failed) }

@@ -5,7 +5,7 @@ ghost use Rattle.stack_rules.specs.Rules.{IsLoaded};
 ghost use Rattle.stack_meaning.specs.Meaning.{said_at};
 ghost use Rattle.stack_lines.specs.Sources.{SourceHolds, source_said};
 ghost use Rattle.stack_lines.specs.declared.source.Source.TheVariants.{Block};
-ghost use Rattle.nbd_server.specs.Extents.{IgnoresZeros, IsToldExtent, SourceIgnores, is_same_kind};
+ghost use Rattle.nbd_server.specs.Extents.{HasKind, IsToldExtent, IsWholeExtent, SourceHas, is_same_kind};
 
 use stack_config::{Config, DevId, Lower};
 use stack_lines::{Source, VerityPart, run_at};
@@ -33,7 +33,7 @@ pub struct Extent {
 }
 
 /// Whether the two kinds are equal.
-fn is_same_kind(a: ExtentKind, b: ExtentKind) -> bool
+pub(crate) fn is_same_kind(a: ExtentKind, b: ExtentKind) -> bool
     ensures { result ≡ is_same_kind a b }
 {
     match (a, b) {
@@ -47,7 +47,7 @@ fn is_same_kind(a: ExtentKind, b: ExtentKind) -> bool
 /// Returns the extent of at most `most` sectors of a `verity` line.
 fn verity_extent(config: &Config, part: VerityPart<'_>, most: u64) -> Extent
     requires { 0 < most }
-    ensures { IsToldExtent (source_said config.now (Block part.entry)) (SourceIgnores config.now (Block part.entry)) 0 most result }
+    ensures { IsToldExtent (source_said config.now (Block part.entry)) (SourceHas config.now (Block part.entry)) 0 most result }
 {
     let _config = config;
     if part.verity.ignore_zero_blocks {
@@ -68,7 +68,7 @@ fn source_extent(config: &Config, source: Source<'_>, most: u64) -> Extent
     requires loaded { IsLoaded config.now }
     requires some { 0 < most }
     requires inside { SourceHolds config.now source most }
-    ensures { IsToldExtent (source_said config.now source.entry) (SourceIgnores config.now source.entry) 0 most result }
+    ensures { IsToldExtent (source_said config.now source.entry) (SourceHas config.now source.entry) 0 most result }
 {
     match source {
         Source::Zeros => Extent {
@@ -91,7 +91,7 @@ fn lower_extent(config: &Config, lower: Lower, first: u64, most: u64) -> Extent
     requires loaded { IsLoaded config.now }
     requires some { 0 < most }
     requires inside { first + most ≤ size config.now lower }
-    ensures { IsToldExtent (said_at config.now lower) (IgnoresZeros config.now lower) first most result }
+    ensures { IsToldExtent (said_at config.now lower) (HasKind config.now lower) first most result }
 {
     match lower {
         Lower::Leaf(_) => Extent {
@@ -108,7 +108,7 @@ fn device_extent(config: &Config, d: DevId, first: u64, most: u64) -> Extent
     requires loaded { IsLoaded config.now }
     requires some { 0 < most }
     requires inside { first + most ≤ size config.now (mapped d.0) }
-    ensures { IsToldExtent (said_at config.now (mapped d.0)) (IgnoresZeros config.now (mapped d.0)) first most result }
+    ensures { IsToldExtent (said_at config.now (mapped d.0)) (HasKind config.now (mapped d.0)) first most result }
 {
     let run = run_at(config, d, first, most);
     source_extent(config, run.source, run.count)
@@ -120,7 +120,7 @@ pub fn extent_at(config: &Config, d: DevId, first: u64, most: u64) -> Extent
     requires loaded { IsLoaded config.now }
     requires some { 0 < most }
     requires inside { first + most ≤ size config.now (mapped d.0) }
-    ensures { IsToldExtent (said_at config.now (mapped d.0)) (IgnoresZeros config.now (mapped d.0)) first most result }
+    ensures { IsWholeExtent (said_at config.now (mapped d.0)) (HasKind config.now (mapped d.0)) first most result }
 {
     let mut extent = device_extent(config, d, first, most);
     for _run in 0..MOST_RUNS {

@@ -1,10 +1,10 @@
 //! Block status of bytes that must be read for it: `verity` lines that ignore blocks of zeros.
-ghost use Rattle.std.specs.Prelude.{◌≡◌, ◌<◌, ◌≤◌, ◌+◌, ◌^◌, length, replicate, take, IfOk, IsTrue, OnErr};
+ghost use Rattle.std.specs.Prelude.{◌≡◌, ◌<◌, ◌≤◌, ◌+◌, ◌^◌, length, IfOk, OnErr};
 ghost use Rattle.allocation.specs.Refusal.{IsOutOfMemory};
 ghost use Rattle.nbd_protocol.specs.Exports.{export_record};
 ghost use Rattle.nbd_server.specs.Premises.{AreBytesOf};
-ghost use Rattle.nbd_server.specs.Status.{IsStatusOfBytes, TouchIgnoring};
-ghost use Rattle.nbd_server.specs.Transmission.{IsStatusRead, StaysOrReads};
+ghost use Rattle.nbd_server.specs.Status.{IsRun, IsStatusOfBytes, TouchIgnoring};
+ghost use Rattle.nbd_server.specs.Transmission.{IsStatusRead, StaysOrReads, most_look};
 
 use crate::byte_range::read_bytes;
 use crate::content::{BLOCK, are_zeros};
@@ -23,8 +23,7 @@ const SMALL: u64 = 65_536;
 
 // How many bytes from `at` on one read covers at most.
 fn room_at(at: u64, one: bool) -> u64
-    ensures some { 0 < result }
-    ensures few { result ≤ 262144 }
+    ensures { result ≡ most_look at one }
 {
     if one {
         return SMALL - at % SMALL;
@@ -36,9 +35,7 @@ fn room_at(at: u64, one: bool) -> u64
 fn first_run(at: u64, bytes: &[u8]) -> BlockStatus
     requires some { 0 < length bytes.now }
     requires few { length bytes.now ≤ 262144 }
-    ensures some { 0 < result.count }
-    ensures few { result.count ≤ length bytes.now }
-    ensures zeros { IsTrue result.zeros → take result.count bytes.now ≡ replicate result.count 0 }
+    ensures { IsRun at bytes.now result }
 {
     let mut done = bytes.len().min(BLOCK - (at % 4096) as usize);
     let zeros = are_zeros(&bytes[..done]);
@@ -103,7 +100,7 @@ pub(crate) fn read_status<D: BlockDev>(
     requires some { 0 < count }
     requires ignoring { TouchIgnoring queue.old.stack.config (export_record export.now) offset count }
     ensures ok { IfOk result (IsStatusRead (export_record export.now) queue.old offset count one queue.new) }
-    ensures err { OnErr result (StaysOrReads (export_record export.now) queue.old offset count queue.new) }
+    ensures err { OnErr result (StaysOrReads (export_record export.now) queue.old offset count one queue.new) }
     ensures memory { OnErr result (IsOutOfMemory 4) }
 {
     let room = room_at(offset, one).min(u64::from(count));

@@ -1,15 +1,16 @@
 //! Block status: which bytes of the export the lines make zeros, and which must be read for it.
-ghost use Rattle.std.specs.Prelude.{◌≡◌, ◌<◌, ◌≤◌, ◌++◌, length, IfOk, IsTrue, OnErr, OnOk};
+ghost use Rattle.std.specs.Prelude.{◌≡◌, ◌<◌, ◌≤◌, ◌++◌, length, IfOk, OnErr, OnOk};
 ghost use Rattle.allocation.specs.Refusal.{IsOutOfMemory};
 ghost use Rattle.nbd_protocol.specs.Exports.{export_record};
 ghost use Rattle.nbd_protocol.specs.Numbers.{bytes32};
 ghost use Rattle.stack_rules.specs.Rules.{IsLoaded};
 ghost use Rattle.nbd_server.specs.declared.extent.ExtentKind.TheVariants as known;
 ghost use Rattle.nbd_server.specs.Premises.{AreBytesOf};
-ghost use Rattle.nbd_server.specs.Status.{IsByteExtent, IsStatus, IsStatusOfLines, TouchZeros, descriptor, status_flags};
+ghost use Rattle.nbd_server.specs.Extents.{is_same_kind};
+ghost use Rattle.nbd_server.specs.Status.{IsByteExtent, IsLineStatus, IsStatus, IsStatusOfLines, descriptor, status_flags};
 
 use crate::byte_range::touched;
-use crate::extent::{ExtentKind, extent_at};
+use crate::extent::{ExtentKind, extent_at, is_same_kind};
 use allocation::{OutOfMemory, append};
 use nbd_protocol::Export;
 use stack_config::Config;
@@ -49,15 +50,11 @@ impl ByteExtent {
     // The status of the bytes: only zeros of the lines are reported as zeros.
     fn status(self) -> BlockStatus
         ensures count { result.count ≡ self.count }
-        ensures zeros { IsTrue result.zeros → self.kind ≡ known.Zeros }
+        ensures zeros { result.zeros ≡ is_same_kind self.kind known.Zeros }
     {
-        let zeros = match self.kind {
-            ExtentKind::Zeros => true,
-            ExtentKind::IgnoresZeros | ExtentKind::Unknown => false,
-        };
         BlockStatus {
             count: self.count,
-            zeros,
+            zeros: is_same_kind(self.kind, ExtentKind::Zeros),
         }
     }
 }
@@ -83,7 +80,7 @@ pub(crate) fn status_at(config: &Config, export: &Export<'_>, at: u64, left: u32
     requires loaded { IsLoaded config.now }
     requires bytes { AreBytesOf config.now (export_record export.now) at left }
     requires some { 0 < left }
-    ensures { IsStatus (TouchZeros config.now (export_record export.now)) at left result }
+    ensures { IsStatus (IsLineStatus config.now (export_record export.now) at) at left result }
 {
     bytes_at(config, export, at, left).status()
 }
@@ -156,7 +153,7 @@ pub(crate) fn status_of(
             return Ok(told);
         }
         let extent = bytes_at(config, export, offset + u64::from(done), len - done);
-        if extent.kind == ExtentKind::IgnoresZeros {
+        if is_same_kind(extent.kind, ExtentKind::IgnoresZeros) {
             return Ok(told);
         }
         let status = extent.status();

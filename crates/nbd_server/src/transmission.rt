@@ -13,7 +13,7 @@ ghost use Rattle.nbd_protocol.specs.declared.phase.Phase.TheVariants.{Serving};
 
 use crate::byte_range::{read_bytes, touched, write_bytes, write_zeros};
 use crate::delivery::{Delivery, deliver};
-use crate::extent::ExtentKind;
+use crate::extent::{ExtentKind, is_same_kind};
 use crate::read_status::read_status;
 use crate::reply::{Data, say_reply};
 use crate::room::Room;
@@ -127,14 +127,14 @@ fn told_of<D: BlockDev>(
     requires bytes { AreBytesOf queue.old.stack.config (export_record export.now) offset len }
     requires some { 0 < len }
     ensures ok { IfOk result (AreExtentsTold (export_record export.now) queue.old offset len one queue.new) }
-    ensures err { OnErr result (StaysOrReads (export_record export.now) queue.old offset len queue.new) }
+    ensures err { OnErr result (StaysOrReads (export_record export.now) queue.old offset len one queue.new) }
     ensures memory { OnErr result (IsOutOfMemory 4) }
 {
     let extent = bytes_at(queue.stack().config(), export, offset, len);
-    match extent.kind {
-        ExtentKind::IgnoresZeros => read_status(alloc, queue, export, offset, extent.count, one),
-        _ => status_of(alloc, queue.stack().config(), export, offset, len, one),
+    if is_same_kind(extent.kind, ExtentKind::IgnoresZeros) {
+        return read_status(alloc, queue, export, offset, extent.count, one);
     }
+    status_of(alloc, queue.stack().config(), export, offset, len, one)
 }
 
 // Serves a BLOCK_STATUS.

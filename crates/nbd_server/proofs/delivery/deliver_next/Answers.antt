@@ -1,8 +1,11 @@
-use Rattle.std.proofs.Common.{◌≤◌, arith, refl}
+use Rattle.std.proofs.Common.{◌≤◌, ℕ, arith, refl, subst}
+use Rattle.nbd_server.specs.Status.{IsOtherKind}
+use Rattle.nbd_server.specs.declared.extent.ExtentKind.TheVariants as known
 use Rattle.std.proofs.lemmas.Result.{err_from_is_err_and}
 use Rattle.nbd_protocol.specs.Exports.{export_record}
 use Rattle.nbd_server.specs.Delivery.{next_size}
-use Rattle.nbd_server.proofs.DeliveryLemmas.{hole-stuck, piece-bytes, piece-hole, piece-part, rest-left}
+use Rattle.nbd_server.proofs.DeliveryLemmas.{hole-stuck, piece-bytes, piece-hole, piece-part, rest-left, zeros-told}
+use Rattle.nbd_server.proofs.StatusLemmas.{status-other, status-zeros}
 use Rattle.nbd_server.proofs.delivery.deliver_next.Goals as goal
 
 pub piece_len-size-requires-clause-bytes : goal.piece_len-size-requires-clause-bytes
@@ -35,11 +38,14 @@ returns-in_err-say_zeros-clause-err g c =
     let part = piece-part c.args.delivery c.args.progress c.piece_len-size.result count c.piece_len-size.ensures.bytes s.some s.few in
     let is = rw (c.config-config.ensures.value, c.stack.ensures) at c.piece_len-size.ensures.value in
     let front : count ≤ next_size w.stack.config c.args.export.now.device.0 c.args.delivery c.args.progress = omega (arith, s.few, is) in
-    let zeros = rw (c.config-config.ensures.value, c.stack.ensures) at (s.zeros c.if-status.true) in
+    let told = rw (c.config-config.ensures.value, c.stack.ensures) at s.is in
+    let e = export_record c.args.export.now in
+    let zeros = status-zeros w.stack.config e c.at-at.result c.at-at.result c.piece_len-size.result c.status_at-status.result told c.if-status.true in
+    let status = zeros-told w.stack.config e c.at-at.result c.piece_len-size.result (next_size w.stack.config c.args.export.now.device.0 c.args.delivery c.args.progress) c.status_at-status.result is told c.if-status.true in
     let old = g.W.Write.contents c.args.writer.now.inner in
     let new = g.W.Write.contents c.say_zeros.new.writer.inner in
     let p = err_from_is_err_and c.from_residual.result c.from_residual.ensures.1 in
-    rw p.1 (hole-stuck (export_record c.args.export.now) c.args.delivery c.args.progress w w count c.at-at.result c.at-at.ensures part old new front zeros refl)
+    rw p.1 (hole-stuck (export_record c.args.export.now) c.args.delivery c.args.progress w w count c.at-at.result c.at-at.ensures part old new front zeros status refl)
 
 pub returns-in_err-say_zeros-clause-failed : goal.returns-in_err-say_zeros-clause-failed
 returns-in_err-say_zeros-clause-failed g c =
@@ -54,10 +60,13 @@ returns-then-status-clause-ok g c =
     let part = piece-part c.args.delivery c.args.progress c.piece_len-size.result count c.piece_len-size.ensures.bytes s.some s.few in
     let is = rw (c.config-config.ensures.value, c.stack.ensures) at c.piece_len-size.ensures.value in
     let front : count ≤ next_size w.stack.config c.args.export.now.device.0 c.args.delivery c.args.progress = omega (arith, s.few, is) in
-    let zeros = rw (c.config-config.ensures.value, c.stack.ensures) at (s.zeros c.if-status.true) in
+    let told = rw (c.config-config.ensures.value, c.stack.ensures) at s.is in
+    let e = export_record c.args.export.now in
+    let zeros = status-zeros w.stack.config e c.at-at.result c.at-at.result c.piece_len-size.result c.status_at-status.result told c.if-status.true in
+    let status = zeros-told w.stack.config e c.at-at.result c.piece_len-size.result (next_size w.stack.config c.args.export.now.device.0 c.args.delivery c.args.progress) c.status_at-status.result is told c.if-status.true in
     let old = g.W.Write.contents c.args.writer.now.inner in
     let new = g.W.Write.contents c.say_zeros.new.writer.inner in
-    piece-hole (export_record c.args.export.now) c.args.delivery c.args.progress w w count c.at-at.result c.at-at.ensures part old new front zeros refl c.in_ok-say_zeros.ensures.ok
+    piece-hole (export_record c.args.export.now) c.args.delivery c.args.progress w w count c.at-at.result c.at-at.ensures part old new front zeros status refl c.in_ok-say_zeros.ensures.ok
 
 pub returns-then-status-clause-kept : goal.returns-then-status-clause-kept
 returns-then-status-clause-kept g c = c.in_ok-say_zeros.ensures.kept
@@ -65,4 +74,12 @@ returns-then-status-clause-kept g c = c.in_ok-say_zeros.ensures.kept
 -- ---- it is read
 
 pub deliver_piece-requires-clause-piece : goal.deliver_piece-requires-clause-piece
-deliver_piece-requires-clause-piece g c = rw (c.config-config.ensures.value, c.stack.ensures) at c.piece_len-size.ensures
+deliver_piece-requires-clause-piece g c =
+    let w = c.args.queue.now in
+    let e = export_record c.args.export.now in
+    let told = rw (c.config-config.ensures.value, c.stack.ensures) at c.status_at-status.ensures.is in
+    record {
+      next = rw (c.config-config.ensures.value, c.stack.ensures) at c.piece_len-size.ensures;
+      other = subst (λ (k : ℕ). IsOtherKind w.stack.config e known.Zeros k) c.at-at.ensures
+          (status-other w.stack.config e c.at-at.result c.at-at.result c.piece_len-size.result c.status_at-status.result told c.if-status.false);
+    }

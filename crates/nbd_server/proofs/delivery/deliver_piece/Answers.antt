@@ -9,23 +9,23 @@ use Rattle.nbd_server.proofs.DeliveryLemmas.{lost-stuck, part-size, piece-bytes,
 use Rattle.nbd_server.proofs.delivery.deliver_piece.Goals as goal
 
 pub at-at-requires : goal.at-at-requires
-at-at-requires g c = rest-left c.args.queue.now.stack.config (export_record c.args.export.now) c.args.delivery c.args.piece.progress c.requires.bytes (omega (arith, c.requires.piece.bytes.inside))
+at-at-requires g c = rest-left c.args.queue.now.stack.config (export_record c.args.export.now) c.args.delivery c.args.piece.progress c.requires.bytes (omega (arith, c.requires.piece.next.bytes.inside))
 
 pub read_piece-requires : goal.read_piece-requires
 read_piece-requires g c =
     let w = c.args.queue.now in
-    piece-bytes (export_record c.args.export.now) c.args.delivery c.args.piece.progress w w c.args.piece.size c.at-at.result c.at-at.ensures c.requires.piece.bytes w.stack.config c.requires.bytes
+    piece-bytes (export_record c.args.export.now) c.args.delivery c.args.piece.progress w w c.args.piece.size c.at-at.result c.at-at.ensures c.requires.piece.next.bytes w.stack.config c.requires.bytes
 
 -- ---- it was read
 
 pub say_piece-requires-clause-rest : goal.say_piece-requires-clause-rest
-say_piece-requires-clause-rest g c = rest-left c.args.queue.now.stack.config (export_record c.args.export.now) c.args.delivery c.args.piece.progress c.requires.bytes (omega (arith, c.requires.piece.bytes.inside))
+say_piece-requires-clause-rest g c = rest-left c.args.queue.now.stack.config (export_record c.args.export.now) c.args.delivery c.args.piece.progress c.requires.bytes (omega (arith, c.requires.piece.next.bytes.inside))
 
 pub say_piece-requires-clause-piece : goal.say_piece-requires-clause-piece
 say_piece-requires-clause-piece g c =
     let size = part-size c.read_piece.new.room.bytes.items (c.at-at.result % 512) c.args.piece.size c.in-Ok.ensures.inside in
     let held : length c.part-content.result.now ≡ c.args.piece.size = ap (λ (l : List ℕ). length l) c.part-content.ensures ∙ size in
-    subst (λ (n : ℕ). AreNextBytes c.args.delivery c.args.piece.progress n) (sym held) c.requires.piece.bytes
+    subst (λ (n : ℕ). AreNextBytes c.args.delivery c.args.piece.progress n) (sym held) c.requires.piece.next.bytes
 
 pub returns-in_err-say_piece-in-Ok-clause-err : goal.returns-in_err-say_piece-in-Ok-clause-err
 returns-in_err-say_piece-in-Ok-clause-err g c =
@@ -35,7 +35,7 @@ returns-in_err-say_piece-in-Ok-clause-err g c =
     let size = part-size items (c.at-at.result % 512) c.args.piece.size c.in-Ok.ensures.inside in
     let p = err_from_is_err_and c.from_residual.result c.from_residual.ensures.1 in
     rw p.1 (sent-stuck (export_record c.args.export.now) c.args.delivery c.args.piece.progress c.args.queue.now c.read_piece.new.queue c.args.piece.size c.at-at.result c.at-at.ensures c.requires.piece old new
-    (take c.args.piece.size (drop (c.at-at.result % 512) items)) (omega (arith, size, c.requires.piece.bytes.some)) c.in-Ok.ensures.ok)
+    (take c.args.piece.size (drop (c.at-at.result % 512) items)) (omega (arith, size, c.requires.piece.next.bytes.some)) c.in-Ok.ensures.ok)
 
 pub returns-in_err-say_piece-in-Ok-clause-failed : goal.returns-in_err-say_piece-in-Ok-clause-failed
 returns-in_err-say_piece-in-Ok-clause-failed g c =

@@ -1,9 +1,6 @@
 use Rattle.std.proofs.Common.{arith}
-use Rattle.stack_meaning.specs.Meaning.{said_at}
-use Rattle.stack_lines.specs.Sources.{source_said}
-use Rattle.nbd_server.specs.Extents.{IgnoresZeros, SourceIgnores}
 use Rattle.stack_lines.proofs.lemmas.SourceLemmas.{served-depth, served-holds}
-use Rattle.nbd_server.proofs.ExtentLemmas.{zeros-extent, unknown-extent, below-extent, device-extent}
+use Rattle.nbd_server.proofs.ExtentLemmas.{zeros-extent, source-other, below-extent, device-extent, leaf-extent}
 use Rattle.nbd_server.proofs.extent.+extent.Goals as goal
 
 pub device_extent-source_extent-requires : goal.device_extent-source_extent-requires
@@ -37,7 +34,8 @@ pub source_extent-returns-in-Blocks : goal.source_extent-returns-in-Blocks
 source_extent-returns-in-Blocks t c = rw c.in-Blocks.is c.verity_extent-in-Blocks.ensures
 
 pub source_extent-returns-in_default : goal.source_extent-returns-in_default
-source_extent-returns-in_default t c = unknown-extent (source_said c.args.config.now c.args.source) (SourceIgnores c.args.config.now c.args.source) 0 c.args.most c.requires.some
+source_extent-returns-in_default t c =
+    source-other c.args.config.now c.args.source c.args.most c.requires.some c.in_default.not-Zeros c.in_default.not-Below c.in_default.not-Block c.in_default.not-Blocks
 
 pub lower_extent-returns-in-Leaf : goal.lower_extent-returns-in-Leaf
-lower_extent-returns-in-Leaf t c = unknown-extent (said_at c.args.config.now c.args.lower) (IgnoresZeros c.args.config.now c.args.lower) c.args.first c.args.most c.requires.some
+lower_extent-returns-in-Leaf t c = leaf-extent c.args.config.now c.args.lower _ c.args.first c.args.most c.in-Leaf.is c.requires.some

@@ -1,20 +1,20 @@
-use Rattle.std.proofs.Common.{◌≡◌, ◌≤◌, ◌-◌, ℕ, List, arith, drop, length, replicate, take, Ok, subst, sym}
-use Rattle.std.specs.Prelude.{Bool, IsTrue}
+use Rattle.std.proofs.Common.{ℕ, ◌+◌, ◌-◌, List, arith, drop, length, Ok, subst, sym}
+use Rattle.std.specs.Prelude.{Bool}
 use Rattle.std.proofs.lemmas.List.{length-drop}
-use Rattle.nbd_server.specs.Status.{AreReadAsZeros, HasStatus}
+use Rattle.nbd_server.specs.Status.{HasReadStatus, IsReadStatus, IsRun}
 use Rattle.nbd_server.proofs.ContentLemmas.{rest-is}
-use Rattle.nbd_server.proofs.StatusLemmas.{told-first, told-next, told-all, told-one}
+use Rattle.nbd_server.proofs.StatusLemmas.{told-first, told-full, told-next, told-all, told-one}
 use Rattle.nbd_server.proofs.ReadStatusLemmas.{first-status, run-status}
 use Rattle.nbd_server.proofs.read_status.tell_runs.Goals as goal
 
 pub returns-then-one : goal.returns-then-one
 returns-then-one c =
     let bytes = c.args.bytes.now in
-    let null = AreReadAsZeros c.args.at (Ok bytes) in
+    let rule = IsReadStatus c.args.at (Ok bytes) in
     let first = c.first_run-first in
-    let status = first-status c.args.at bytes first.result first.ensures.some first.ensures.few first.ensures.zeros in
+    let status = first-status c.args.at bytes first.result first.ensures in
     record {
-      ok = rw c.in_ok-told.ensures.ok (told-one null c.args.at (length bytes) first.result.count _ c.args.one (told-first null c.args.at (length bytes) first.result status));
+      ok = rw c.in_ok-told.ensures.ok (told-one rule c.args.at (length bytes) (λ at. ⊥) first.result.count _ c.args.one c.if-one.true (told-first rule c.args.at (length bytes) first.result status));
       err = tt;
     }
 
@@ -22,17 +22,17 @@ pub loop-extent-init : goal.loop-extent-init
 loop-extent-init c =
     let bytes = c.args.bytes.now in
     let first = c.first_run-first in
-    let status = first-status c.args.at bytes first.result first.ensures.some first.ensures.few first.ensures.zeros in
-    record { told = rw c.in_ok-told.ensures.ok (told-first (AreReadAsZeros c.args.at (Ok bytes)) c.args.at (length bytes) first.result status) }
+    let status = first-status c.args.at bytes first.result first.ensures in
+    record { told = rw c.in_ok-told.ensures.ok (told-first (IsReadStatus c.args.at (Ok bytes)) c.args.at (length bytes) first.result status) }
 
 pub returns-then-done-bytes : goal.returns-then-done-bytes
 returns-then-done-bytes c =
     let bytes = c.args.bytes.now in
-    let null = AreReadAsZeros c.args.at (Ok bytes) in
+    let rule = IsReadStatus c.args.at (Ok bytes) in
     let told = c.loop-extent.told.items in
     record {
-      ok = subst (λ (b : Bool). HasStatus null c.args.at (length bytes) b told) (sym c.if-one.false)
-          (told-all null c.args.at (length bytes) c.loop-extent._extent c.loop-extent.done told (omega (arith, c.loop-extent-test.true)) c.loop-extent.invariant.told);
+      ok = subst (λ (b : Bool). HasReadStatus (Ok bytes) c.args.at (length bytes) b told) (sym c.if-one.false)
+          (told-all rule c.args.at (length bytes) (λ at. ⊥) c.loop-extent._extent c.loop-extent.done told (omega (arith, c.loop-extent-test.true)) c.loop-extent.invariant.told (omega (arith, c.if-done-bytes.true)));
       err = tt;
     }
 
@@ -48,23 +48,20 @@ first_run-run-requires-clause-few c = omega (arith, c.requires.few, length-drop 
 pub loop-extent-preserved : goal.loop-extent-preserved
 loop-extent-preserved c =
     let bytes = c.args.bytes.now in
-    let null = AreReadAsZeros c.args.at (Ok bytes) in
+    let rule = IsReadStatus c.args.at (Ok bytes) in
     let done = c.loop-extent.done in
     let run = c.first_run-run in
-    let count = run.result.count in
-    let few : count ≤ length (drop done bytes) = subst (λ (l : List ℕ). count ≤ length l) (rest-is bytes done) run.ensures.few in
-    let zeros : IsTrue run.result.zeros → take count (drop done bytes) ≡ replicate count 0 =
-    subst (λ (l : List ℕ). IsTrue run.result.zeros → take count l ≡ replicate count 0) (rest-is bytes done) run.ensures.zeros in
-    let status = run-status c.args.at done bytes run.result run.ensures.some (omega (arith, few, length-drop done bytes)) zeros in
-    record { told = rw c.in_ok-push_status.ensures.ok (told-next null c.args.at (length bytes) c.loop-extent._extent done c.loop-extent.told.items run.result c.loop-extent.invariant.told status) }
+    let is : IsRun (c.args.at + done) (drop done bytes) run.result = subst (λ (l : List ℕ). IsRun (c.args.at + done) l run.result) (rest-is bytes done) run.ensures in
+    let status = run-status c.args.at done bytes run.result is (omega (arith, is.few, length-drop done bytes)) in
+    record { told = rw c.in_ok-push_status.ensures.ok (told-next rule c.args.at (length bytes) c.loop-extent._extent done c.loop-extent.told.items run.result c.loop-extent.invariant.told status) }
 
 pub returns : goal.returns
 returns c =
     let bytes = c.args.bytes.now in
-    let null = AreReadAsZeros c.args.at (Ok bytes) in
+    let rule = IsReadStatus c.args.at (Ok bytes) in
     let told = c.loop-extent.told.items in
     record {
-      ok = subst (λ (b : Bool). HasStatus null c.args.at (length bytes) b told) (sym c.if-one.false)
-          (told-all null c.args.at (length bytes) _ c.loop-extent.done told (omega arith) c.loop-extent.invariant.told);
+      ok = subst (λ (b : Bool). HasReadStatus (Ok bytes) c.args.at (length bytes) b told) (sym c.if-one.false)
+          (told-full rule c.args.at (length bytes) (λ at. ⊥) _ c.loop-extent.done told (omega arith) c.loop-extent.invariant.told);
       err = tt;
     }

@@ -14,4 +14,4 @@ pub returns : goal.returns
 returns c =
     let extent = c.extent_at-extent.result in
     let count : c.min-count.result ≡ min (512 * extent.count - c.args.at % 512) c.args.left = omega (arith, c.min-count.ensures, c.from.ensures) in
-    extent-is c.args.config.now (export_record c.args.export.now) c.args.at c.args.left c.min-count.result extent c.requires.some (rw c.touched-sectors.ensures at c.extent_at-extent.ensures) count
+    extent-is c.args.config.now (export_record c.args.export.now) c.args.at c.args.left c.min-count.result extent c.requires.some count (rw c.touched-sectors.ensures at c.extent_at-extent.ensures.told) (rw c.touched-sectors.ensures at c.extent_at-extent.ensures.ends)
