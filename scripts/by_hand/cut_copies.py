@@ -93,10 +93,10 @@ class Copies:
                 raise Unlike(f"ddrescuelog lists other sectors of the mark {mark}")
 
     def check_end(self, name):
-        """It ended as the copy that wasn't cut, but for the map's state, which is `?` where a turn wasn't the device's last."""
+        """It ended as the copy that wasn't cut."""
         if subprocess.run(["cmp", "-s", name, "whole"]).returncode:
             raise Unlike(f"{name} is another one")
-        if blocks_of(name + ".map")[1] != blocks_of("whole.map")[1]:
+        if blocks_of(name + ".map") != blocks_of("whole.map"):
             raise Unlike(f"{name}.map is another one")
 
     def cut(self, delay):

@@ -2,8 +2,8 @@
 # Compares verity images with those of veritysetup, where it is installed. Not a part of the gate.
 #
 # interoperation.sh [STEP]: every pair of block sizes, every STEP-th number of data blocks from 1 to 300 (7 if none is
-# given), and salts of 0, 1, 32 and 256 bytes in turn. Each image is formatted by both: roots and hash images must be equal,
-# each must verify the other's, `dump` must tell the same fields, and `table` the line that a kernel takes. The same is
+# given), and salts of 0, 1, 32 and 256 bytes in turn. Each image is formatted by both: roots, their files and hash images must be
+# equal, each must verify the other's, `dump` must tell the same fields, and `table` the line that a kernel takes. The same is
 # compared of trees without a superblock, and, where data and hash blocks have one size, the parity with 2 to 24 bytes in a
 # codeword over a hash image that goes on after its tree.
 set -eu
@@ -39,11 +39,12 @@ compare() {
     local root line
     truncate -s 0 theirs ours
     truncate -s $((302 * 4096)) theirs ours
-    root=$(veritysetup format --data-block-size="$1" --hash-block-size="$2" --data-blocks="$3" --salt="$4" --uuid=$uuid data theirs |
+    root=$(veritysetup format --data-block-size="$1" --hash-block-size="$2" --data-blocks="$3" --salt="$4" --uuid=$uuid --root-hash-file=theirs.root data theirs |
         sed -n 's/^Root hash: *\t*//p')
-    [ "$("$program" format --data-block "$1" --hash-block "$2" --blocks "$3" --salt="$4" --uuid $uuid data ours | head -n 1)" = "root $root" ] ||
+    [ "$("$program" format --data-block "$1" --hash-block "$2" --blocks "$3" --salt="$4" --uuid $uuid --root-hash-file=ours.root data ours | head -n 1)" = "root $root" ] ||
         fail "$@" 'another root'
     cmp -s theirs ours || fail "$@" 'another hash image'
+    cmp -s theirs.root ours.root || fail "$@" 'another file of the root hash'
     [ "$("$program" verify data theirs "$root")" = matches ] || fail "$@" 'theirs is not verified'
     veritysetup verify data ours "$root" > /dev/null || fail "$@" 'ours is not verified'
     [ "$("$program" dump theirs | sort)" = "$(veritysetup dump ours | fields)" ] || fail "$@" 'other fields'

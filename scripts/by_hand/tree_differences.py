@@ -1,5 +1,5 @@
 #!/usr/bin/env python3
-"""tree_differences.py COUNT SEED COMMAND ..: random pairs of hash images, compared by `COMMAND .. [--blocks N] HASH1 ROOT1 HASH2 ROOT2`,
+"""tree_differences.py COUNT SEED COMMAND ..: random pairs of hash images, compared by `COMMAND .. [--runs N] HASH1 ROOT1 HASH2 ROOT2`,
 as `dmstack diff`.
 
 The images are made by the model (scripts/model/verity.py) over data of one block to three levels of hash blocks, of all block
@@ -83,7 +83,7 @@ class Trial:
         for path, image in zip(paths, images):
             with open(path, "wb") as out:
                 out.write(image)
-        options = [] if most is None else ["--blocks", str(most)]
+        options = [] if most is None else ["--runs", str(most)]
         words = [*options, paths[0], roots[0].hex(), paths[1], roots[1].hex()]
         ran = subprocess.run(self.command + words, capture_output=True, text=True)
         self.runs += 1

@@ -58,7 +58,7 @@ TRUSTED = {
 # These answer an `OutOfMemory`.
 OWN = {
     ("hash_tree", "push_next"): (1, "`LevelBuilder::push`"),
-    ("stack_recovery", "note"): (1, "`Map::push`"),
+    ("stack_recovery", "mark"): (1, "`Map::push`"),
     ("dm_table", "try_clone"): (13, "`try_clone` of a name's owners, `Options::push` and `Bases::push`"),
     ("rescue_map", "filled"): (1, "`Map::push`"),
     ("rescue_map", "move_marks"): (1, "`Map::push`"),

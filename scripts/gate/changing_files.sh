@@ -39,7 +39,9 @@ end() {
     done
     wait "$process" || status=$?
     check "status $wanted, where it is $status" test "$status" = "$wanted"
-    check 'standard error stays empty' test ! -s errors
+    printf '%s\n' "$@" > ends
+    check 'standard error has the sentence on the end' "$top/scripts/model/sentences.py" "$status" ends errors session
+    check 'standard error stays empty otherwise' test ! -s errors
 }
 
 # An image is cut short: sectors that are gone are the device's fault, the others and the other device are served, and a
@@ -164,6 +166,7 @@ ran() {
     local wanted=$1 output=$2 status=0
     shift 2
     timeout 60 "$@" > out 2> errors < lines || status=$?
+    "$top/scripts/model/sentences.py" "$status" out errors || status="$status, with another sentence"
     check "$*: status $wanted, $output, where it is $status, $(head -c 200 out errors)" test "$status $(cat out errors)" = "$wanted $output"
 }
 
@@ -358,11 +361,12 @@ for source in copy\ 1 parity; do
         rm -f met
         status=0
         LD_PRELOAD=$room/fail.so FAIL_KIND=changed FAIL=$number FAIL_MET=met FAIL_CHANGED=changed/hash FAIL_TO=changed/head \
-            "$program" repair --pin changed/pin "${words[@]}" > out 2>&1 || status=$?
+            "$program" repair --pin changed/pin "${words[@]}" > out 2> errors || status=$?
         [ -e met ] || break
         wanted="0 repaired data 5 $source"$'\ngood 8 changed 0 unknown 0' left=changed/whole
         [ "$number" != 1 ] || { wanted='1 refused 22 OtherSalt' left=changed/damaged; }
-        check "$source, changed before read $number: $wanted, where it is $status $(cat out)" test "$status $(cat out)" = "$wanted"
+        check "$source, changed before read $number: the sentence" "$top/scripts/model/sentences.py" "$status" out errors
+        check "$source, changed before read $number: $wanted, where it is $status $(cat out errors)" test "$status $(cat out errors)" = "$wanted"
         check "$source, changed before read $number: the data" cmp changed/data $left
         check "$source, changed before read $number: the tree" cmp -i 512 changed/hash changed/tree
     done
@@ -445,7 +449,7 @@ if mount -t tmpfs -o size=32k,mode=777 tmpfs full 2> mount_errors; then
     filled 5 128 > whole
     cp whole kept
     printf 'a,,,ro,0 128 linear A 0' > stack
-    ran 1 $'refused 2 Device\ndmstack: OUT failed' "$program" copy stack a full/image A=ro:whole
+    ran 1 'refused 2 Device' "$program" copy stack a full/image A=ro:whole
     check 'what is copied is as it was' cmp whole kept
     mount -o remount,size=128k full
     ran 0 'read 128 lost 0' "$program" copy stack a full/image A=ro:whole

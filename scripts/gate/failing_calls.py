@@ -35,6 +35,7 @@ from command_line import Files, binding, bound, cut_words, features_without  # n
 from configuration import Refused  # noqa: E402
 from failing_recovery import Recovery, Unlike as Wrong  # noqa: E402
 from failing_repair import Repair  # noqa: E402
+from sentences import without_sentence  # noqa: E402
 from session import Session  # noqa: E402
 from stack import Fault  # noqa: E402
 
@@ -45,7 +46,6 @@ REFUSED_DEVICE = {b"format": (1, b"refused 5 Device"), b"verify": (1, b"refused 
                   b"table": (1, b"refused 10 Device"), b"read": (3, b"fault 3 Device %d"), b"write": (3, b"fault 3 Device %d")}
 RECOVERIES = (b"scan", b"copy")
 UNWRITTEN = b"dmstack: standard output failed\n"
-OUT_FAILED = b"dmstack: OUT failed\n"
 
 
 def lines_of(text):
@@ -117,10 +117,8 @@ class Case:
         if kind == "output" and os.path.exists(met):
             # The last line, that sectors are lost, is repeated there.
             told = (self.recovery.lines[-1] + b"\n" if self.recovery else b"") + UNWRITTEN
-        if self.words[0] == b"copy" and done.stdout.endswith(b"refused 2 Device\n"):
-            told = OUT_FAILED
-        if done.stderr != told:
-            raise Wrong(f"an error output: {done.stderr[:200]}, in place of {told}")
+        if without_sentence(done.stdout, done.stderr, done.returncode, self.words) != told:
+            raise Wrong(f"an error output: {done.stderr[:200]}, in place of {told} and the sentence on what ended the command")
         what = read_file(met).rstrip(b"\n").split(b" ", 3) if os.path.exists(met) else None
         if what and kind != "memory":
             what = what[0], what[3], int(what[1]), int(what[2])

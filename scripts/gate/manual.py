@@ -1,7 +1,7 @@
 #!/usr/bin/env python3
 """Checks the manual page, and the completion for bash, against the command line that clap gets, and the page's own form.
 
-manual.py [PAGE [GRAMMAR]]: the commands of the page are the headings of its section COMMANDS. Their names and options,
+manual.py [PAGE [GRAMMAR..]]: the commands of the page are the headings of its section COMMANDS. Their names and options,
 and the options that its section OPTIONS explains, must be those of the grammar's source; so must those that
 scripts/lib/completion.py completes, and which of them have a value. Where man or mandoc is installed, it must read the page
 without a warning.
@@ -23,7 +23,7 @@ TOP = Path(__file__).resolve().parents[2]
 
 def grammar_of(source):
     """The commands of the table, each with its options; other names of an option aren't counted."""
-    names = {row: name for row, name in re.findall(r'^const (\w+): OptionRow = OptionRow \{\n\s*name: "([^"]+)"', source, re.M)}
+    names = {row: name for row, name in re.findall(r'^(?:pub\(crate\) )?const (\w+): OptionRow = OptionRow \{\n\s*name: "([^"]+)"', source, re.M)}
     commands = {}
     for name, options in re.findall(r'CommandRow \{\s*name: "([^"]+)",\s*options: &\[([^\]]*)\]', source):
         commands[name] = {names[it] for it in re.findall(r"\w+", options)}
@@ -78,18 +78,20 @@ def warnings_of(page):
 
 def main():
     page = Path(sys.argv[1]) if len(sys.argv) > 1 else TOP / "man/dmstack.1"
-    grammar = Path(sys.argv[2]) if len(sys.argv) > 2 else TOP / "crates/command_parser/src/rows.rt"
+    sources = sys.argv[2:] or [TOP / f"crates/command_parser/src/{it}.rt" for it in ("option_rows", "rows")]
+    grammar = "".join(Path(it).read_text() for it in sources)
     text = page.read_text()
-    wanted, told = grammar_of(grammar.read_text()), commands_of(text)
+    wanted, told = grammar_of(grammar), commands_of(text)
     wrong = []
+    common = {name.removeprefix("--") for name, _ in completion.COMMON}
     for name in sorted(wanted.keys() | told.keys()):
-        if wanted.get(name) != told.get(name):
+        if name not in wanted or name not in told or wanted[name] != told[name] | common:
             wrong.append(f"{name}: the grammar has {wanted.get(name)}, the page {told.get(name)}")
     explained = set(re.findall(r"^\.TP\n\.BI? (?:\\-){2}(\S+)", section_of(text, "OPTIONS"), re.M))
     explained = {name.replace("\\-", "-") for name in explained}
     if explained != set().union(*wanted.values()):
         wrong.append(f"OPTIONS explains {sorted(explained)}")
-    wrong += completed_wrong(wanted, valued_of(grammar.read_text()), text)
+    wrong += completed_wrong(wanted, valued_of(grammar), text)
     wrong += warnings_of(str(page))
     for line in wrong:
         print(f"manual: {line}")

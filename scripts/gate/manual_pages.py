@@ -6,10 +6,15 @@ manual_pages.py writes both, pages.rt and commands.rt of crates/manual_pages/src
 A page has a command's words, what it does, its options, its statuses, and the document that says more.
 """
 
+import os
 import re
 import sys
 import textwrap
 from pathlib import Path
+
+sys.dont_write_bytecode = True
+sys.path.insert(0, os.path.join(os.path.dirname(os.path.realpath(__file__)), "../lib"))
+from completion import COMMON
 
 TOP = Path(__file__).resolve().parents[2]
 PAGES = TOP / "crates/manual_pages/src/pages.rt"
@@ -99,7 +104,8 @@ def pages_of(page, readme):
     usages = [f"  dmstack {plain(head)}" for head, _ in commands]
     about = paragraphs_of(section_of(page, "NAME"))[0]
     bindings = list_of(entries_of(section_of(page, "BINDINGS")))
-    yield "", "dmstack COMMAND [OPTION..] WORD..", [about, "", *[textwrap.fill(it, WIDTH, subsequent_indent="      ", break_on_hyphens=False) for it in usages], "", "A BINDING gives a leaf, a device at the bottom of the stack, its name:", *bindings, "", "Statuses:", *statuses, "", "`dmstack manual COMMAND` says more of a command."]
+    common = list_of(it for it in options if it[0] in dict(COMMON))
+    yield "", "dmstack COMMAND [OPTION..] WORD..", [about, "", *[textwrap.fill(it, WIDTH, subsequent_indent="      ", break_on_hyphens=False) for it in usages], "", "A BINDING gives a leaf, a device at the bottom of the stack, its name:", *bindings, "", "An option of every command:", *common, "", "Statuses:", *statuses, "", "`dmstack manual COMMAND` says more of a command."]
     for head, said in commands:
         words = plain(head)
         name = words.split()[0]

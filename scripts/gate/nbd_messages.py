@@ -4,6 +4,7 @@ import struct
 import subprocess
 
 from checks import Checks
+from sentences import without_sentence
 
 MAGIC, OPTION_MAGIC, REPLY_MAGIC = b"NBDMAGIC", b"IHAVEOPT", 0x3E889045565A9
 REQUEST, SIMPLE_REPLY, CHUNK = 0x25609513, 0x67446698, 0x668E33EF
@@ -267,7 +268,7 @@ class Runner(Checks):
             problems.append(f"output differs at {at}: {done.stdout[at:at+32].hex()} and not {wanted[at:at+32].hex()}")
         if done.returncode != status:
             problems.append(f"status {done.returncode} and not {status}")
-        if done.stderr != told:
+        if without_sentence(b"", done.stderr, done.returncode) != told:
             problems.append(f"standard error: {done.stderr[:200]!r}")
         if after is not None and open("F", "rb").read() != after:
             problems.append("the image differs")

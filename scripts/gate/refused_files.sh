@@ -32,6 +32,7 @@ expect() {
     "${as[@]}" ./dmstack "$@" > out 2> errors < "$input" || got=$?
     # of wrong words standard error says more, in three lines at most
     [ "$got" != 2 ] || [ "$(wc -l < errors)" -gt 3 ] || : > errors
+    "$top/scripts/model/sentences.py" "$got" out errors "$@" || got="another sentence, $got"
     if [ "$got $(cat out errors)" = "$status $output" ]; then
         passed=$((passed + 1))
     else
@@ -115,10 +116,10 @@ input=/dev/null
 printf 'a,,,ro,0 4 linear D 0\n' > readable_stack
 chmod 644 readable_stack
 ulimit -S -f 1
-expect 1 $'refused 2 Device\ndmstack: OUT failed' copy readable_stack a image D=ramp:4
+expect 1 'refused 2 Device' copy readable_stack a image D=ramp:4
 ulimit -S -f "$limit"
 export LD_PRELOAD=$room/sync.so
-expect 1 $'refused 2 Device\ndmstack: OUT failed' copy readable_stack a image D=ramp:4
+expect 1 'refused 2 Device' copy readable_stack a image D=ramp:4
 unset LD_PRELOAD
 expect 0 'read 4 lost 0' copy readable_stack a image D=ramp:4
 
@@ -126,13 +127,13 @@ expect 0 'read 4 lost 0' copy readable_stack a image D=ramp:4
 mkdir maps
 chmod 777 maps
 export LD_PRELOAD=$room/sync.so
-expect 1 $'refused 2 Device\ndmstack: OUT failed' copy --map maps/map readable_stack a image D=ramp:4
+expect 1 'refused 2 Device' copy --map maps/map readable_stack a image D=ramp:4
 unset LD_PRELOAD
 same 'a map was made of what is not synced' test ! -e maps/map
 expect 0 'read 4 lost 0' copy --map maps/map readable_stack a image D=ramp:4
 cp maps/map maps/kept
 export LD_PRELOAD=$room/sync.so
-expect 1 $'refused 2 Device\ndmstack: OUT failed' copy --map maps/map readable_stack a image D=ramp:4
+expect 1 'refused 2 Device' copy --map maps/map readable_stack a image D=ramp:4
 unset LD_PRELOAD
 same 'a complete map was changed' cmp maps/map maps/kept
 

@@ -3,7 +3,7 @@
 #
 # rows.sh [--program FILE] [NAME..]: all rows, or those of these names, on both programs or on that file alone. A row is a case
 # as scripts/lib/case.sh says, with the file `stdout`, what is printed and what `after` prints after it, and `status`, where that
-# isn't 0. Standard error stays empty, but for at most three lines where the words are no command.
+# isn't 0. Standard error has the sentence on a refusal or fault, or at most three lines if the words are no command.
 #
 # A row of several steps has `steps` in place of `args`, `stdin`, `stdout` and `status`: a transcript as scripts/lib/transcript.sh says.
 # `dmstack` is the program there; a step prints what it writes on standard output and standard error together, and where it

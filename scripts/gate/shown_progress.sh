@@ -52,6 +52,7 @@ progress verify --all data hash "$root"
 progress format --grow "${bare[@]}" data tree
 root=$(awk '$1 == "root" { print $2 }' plain)
 progress verify "${bare[@]}" data tree "$root"
+progress verify --all "${bare[@]}" data tree "$root"
 
 # Half of the data, by their number of blocks.
 mib=$((mib / 2))

@@ -19,8 +19,8 @@ prints() {
     rm -f met
     truncate -s 0 disk
     truncate -s 128K disk
-    FAIL=$call FAIL_KIND=device FAIL_MET=met LD_PRELOAD=$PWD/fail.so "$program" "$@" < input > out 2>&1 || status=$?
-    [ "$status" = "$wanted" ] && [ "$(cat out)" = "$text" ]
+    FAIL=$call FAIL_KIND=device FAIL_MET=met LD_PRELOAD=$PWD/fail.so "$program" "$@" < input > out 2> errors || status=$?
+    "$top/scripts/model/sentences.py" "$status" out errors && [ "$status" = "$wanted" ] && [ "$(cat out errors)" = "$text" ]
 }
 
 # met CALL: the call that failed, and how many sectors were read and written until then; or that none did
@@ -57,7 +57,7 @@ ends 'write up to an error line' 2 8 3 'fault 1 ErrorTarget' write short a 0 few
 # Nothing was written, so nothing is synced.
 for words in 'write whole a 250 few D=rw:disk' 'write whole a 0 few D=ro:disk' 'store whole b - D=rw:disk'; do
     # shellcheck disable=SC2086 # words
-    prints 1 1 "$("$program" $words < input 2>&1)" $words || true
+    prints 1 1 "$("$program" $words < input 2> /dev/null)" $words || true
     check "$words: no call, and not $(cat met 2>&1)" met none
 done
 
@@ -75,7 +75,7 @@ repairs() {
     rm -f met
     cp bad data
     cp tree hash
-    (trap '' XFSZ; ulimit -f 100; env "$@" "$program" repair data hash "$(cat root)" good tree > out 2>&1) || echo "status $?" >> out
+    (trap '' XFSZ; ulimit -f 100; env "$@" "$program" repair data hash "$(cat root)" good tree > out 2> errors) || echo "status $?" >> out
 }
 
 # The calls of both devices, in their order.

@@ -21,6 +21,7 @@ sys.path[:0] = [f"{TOP}/scripts/model", f"{TOP}/scripts/lib"]
 from checks import Checks, add_cases, random_cases  # noqa: E402
 from images import told_survey  # noqa: E402
 from parity import covered, parity_of, rounds_of  # noqa: E402
+from sentences import without_sentence  # noqa: E402
 from verity import format_images, read_superblock, survey  # noqa: E402
 
 SECTOR = 512
@@ -126,7 +127,7 @@ class Case:
         listed = [f"{name} {it}" for name, bad in zip(("data", "hash"), self.bad) for it in bad]
         given = {**os.environ, "LD_PRELOAD": self.library, "UNREADABLE": " ".join(listed)}
         done = subprocess.run([PROGRAM, *words], cwd=self.room, env=given, capture_output=True, timeout=60, check=False)
-        if done.stderr:
+        if without_sentence(done.stdout, done.stderr, done.returncode) != b"":
             raise Wrong(f"{words[0]}: an error output: {done.stderr[:200]}")
         return done.stdout.split(b"\n")[:-1], done.returncode
 

@@ -11,6 +11,8 @@ from pathlib import Path
 
 TOP = Path(__file__).resolve().parents[2]
 BINDINGS = "ro: rw: zero: ramp:"
+# The options of every command, which the headings don't repeat.
+COMMON = [("--quiet", "")]
 
 SCRIPT = """\
 # Completion of dmstack's words for bash; scripts/lib/completion.py makes it of the manual page.
@@ -56,7 +58,7 @@ def commands_of(page):
     for heading in re.findall(r'^\.SS "(.*)"$', section.group(1), re.M):
         heading = heading.replace("\\-", "-")
         options = re.findall(r"(--[a-z-]+)(?: ([A-Z0-9|]+))?", heading)
-        commands.setdefault(heading.split()[0], []).extend(options)
+        commands.setdefault(heading.split()[0], [*COMMON]).extend(options)
     return commands
 
 

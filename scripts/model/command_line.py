@@ -1,6 +1,7 @@
 """The commands: what their words invoke, what is opened in which order, what is printed, with which status."""
 
 from configuration import Configuration, Leaf, Refused, check_leaves
+from device_tree import Tree
 from files import WHOLE, Files, Noted, Stop
 from images import Drawn, run_diff, run_dump, run_format, run_partitions, run_table, run_verify
 from nbd import Service
@@ -78,9 +79,13 @@ def loaded(text, bound_words, files, features):
 
 def run_load(options, words, files, _given, features):
     (path,), rest = at_least(words, 1)
+    if b"json" in options and b"tree" in options:
+        raise Usage
     rest = bindings(rest)
     stack = loaded(stack_text(path, files), rest, files, features)
     configuration = stack.configuration
+    if b"tree" in options:
+        return Tree(configuration, rest).text(), DONE
     if b"json" in options:
         return [Json({"devices": [facts_of(configuration, it) for it in configuration.devices.values()]})], DONE
     lines = []

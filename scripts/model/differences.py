@@ -1,19 +1,26 @@
 """Two hash trees compared from their roots down."""
 
 from files import Stop
+from protection import check_aligned
 from verity import ImageFault, digest, read_superblock, SUPERBLOCK_FAULTS
 
 
 class Stored:
-    """A hash image: its superblock, its tree as it stands there, and the root digest that is known of it, by itself or in a pin."""
+    """A hash image at a place of its file: its superblock, its tree as it stands there, and the root digest that is known of it, by
+    itself or in a pin."""
 
-    def __init__(self, image, root, pin, which):
+    def __init__(self, image, first, root, pin, which):
+        image = image[first * 512:]
         self.image, self.root, self.which = image, pin.root if pin else root, which
+        rest = b" " + which.encode()
+        if pin:
+            check_aligned(first, pin.hash_block, rest)
         try:
             self.superblock = read_superblock(image)
             mismatch = pin and pin.mismatch(self.superblock)
             if mismatch:
                 raise Stop(b"refused %s %s" % (mismatch.encode(), which.encode()))
+            check_aligned(first, self.superblock.hash_block, rest)
             self.tree = self.superblock.tree()
             if max(self.tree.end_sectors(), 1) > len(image) // 512:
                 raise ImageFault("TooSmall", SUPERBLOCK_FAULTS)

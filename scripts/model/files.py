@@ -5,6 +5,8 @@ from stack import SECTOR
 REFUSED = 1
 OPENING_FAULTS = ["NotFound", "NotAllowed", "TooLarge", "OtherFault", "NoMemory", "SameFile", "InUse"]
 LONGEST_NAME = 255
+# A new text is written under this name beside the file that it replaces.
+BESIDE = b".dmstack-new"
 WHOLE = (0, 2**64)
 OUTSIDE = b"refused 23 OutsideFile "
 
@@ -71,6 +73,28 @@ class Files:
         if slash:
             raise not_opened("OtherFault", path)
         return node
+
+    def known(self, path):
+        """The bytes of the file at a path, or None."""
+        try:
+            node = self.find(path)
+        except Stop:
+            return None
+        return node if isinstance(node, bytearray) else None
+
+    @staticmethod
+    def same_name(path, other):
+        return path.removeprefix(b"./") == other.removeprefix(b"./")
+
+    @staticmethod
+    def can_replace(path):
+        """Whether a file can be made beside the one at a path."""
+        name = path.removeprefix(b"./")
+        return b"/" not in name and len(name + BESIDE) <= LONGEST_NAME
+
+    def replace(self, path, text):
+        """Replaces what the file at a path holds; another name of the file keeps what it held."""
+        self.nodes[path.removeprefix(b"./")] = bytearray(text)
 
     def is_used(self, node, writable, part=WHOLE):
         """Whether these sectors of a file are in use, one of the two uses for writing."""

@@ -4,9 +4,9 @@ from uuid import UUID
 
 from charts import chart_lines
 from differences import Stored, compared, longest_runs, run_lines, unlike
-from files import WHOLE, Noted, Stop
+from files import WHOLE, Noted, Stop, not_opened
 from partitions import lines_of, root_lines, stack_lines, table_facts, table_of, warning_lines
-from pins import read_pin
+from pins import Pin, read_pin
 from protection import check_aligned, check_one_size, check_parity_of, compared_parity, found, measured, protect
 from replies import Json, ending_object
 from stack import SECTOR
@@ -44,9 +44,21 @@ def two_images(files, paths, first, writable):
     return seen, image
 
 
+def check_kept(files, paths, path):
+    """The file of a pin or a root hash is neither image, nor is it to be made where HASH is, and another can be made beside it."""
+    one = files.known(path)
+    if files.same_name(path, paths[1]) or one is not None and any(one is files.known(it) for it in paths):
+        raise not_opened("SameFile", path)
+    if not files.can_replace(path):
+        raise Stop(b"refused 43 PinWrite")
+
+
 def run_format(options, words, files, _given, _features):
     *paths, (*sizes, blocks, salt), uuid, first = read_format(options, words)
     is_bare, fec = b"no-superblock" in options, read_fec(options)
+    kept = options.get(b"pin", options.get(b"root-hash-file"))
+    if kept is not None:
+        check_kept(files, paths, kept)
     if fec:
         check_one_size(*sizes)
         if b"grow" in options:
@@ -74,6 +86,9 @@ def run_format(options, words, files, _given, _features):
         image.extend(part)
     if fec:
         protect(files, paths, fec, first, b"grow" in options)
+    if kept is not None:
+        pin = Pin(root, salt, *sizes, count)
+        files.replace(kept, pin.text() if b"pin" in options else root.hex().encode())
     lines = ["root " + root.hex(), "salt " + (salt.hex() or "-")]
     lines += [] if is_bare else ["uuid " + spelled_uuid(uuid)]
     return [line.encode() for line in [*lines, "blocks %d" % count]], DONE
@@ -153,14 +168,17 @@ def run_table(options, words, files, _given, _features):
 
 
 def run_diff(options, words, files, _given, _features):
-    paths, roots, most = read_diff(options, words)
-    pins = [read_pin(files, options[name]) if name in options else None for name in (b"old-pin", b"pin")]
+    paths, firsts, roots, most = read_diff(options, words)
+    known = [read_pin(files, options[name]) if name in options else told_root(root, files)
+             for root, name in zip(roots, (b"old-pin", b"pin"))]
+    pins = [it if isinstance(it, Pin) else None for it in known]
+    roots = [it.root if isinstance(it, Pin) else it for it in known]
     images = [files.image(path, False) for path in paths]
     # both superblocks are read and compared before a hash block is read
-    first, second = (Stored(*it) for it in zip(images, roots, pins, ("first", "second")))
+    first, second = (Stored(*it) for it in zip(images, firsts, roots, pins, ("first", "second")))
     refusal = unlike(first, second)
     if refusal:
-        return [refusal.encode()], REFUSED
+        return [ending_object(refusal.encode()) if b"json" in options else refusal.encode()], REFUSED
     # with --all the second tree is checked before both are compared
     bad = second.bad_hash_blocks() if b"all" in options else []
     ahead = [] if b"json" in options else [b"hash %d %d" % it for it in bad]

@@ -234,7 +234,7 @@ LATER = [
     ("diff-command", "the second tree checked first", "differences.py",
      '            for it in (first, second):\n                it.check', '            for it in (second, first):\n                it.check'),
     ("diff-command", "the pin of the first tree compared with both", "images.py",
-     'zip(images, roots, pins, ("first", "second"))', 'zip(images, roots, pins[:1] * 2, ("first", "second"))'),
+     'zip(images, firsts, roots, pins, ("first", "second"))', 'zip(images, firsts, roots, pins[:1] * 2, ("first", "second"))'),
     ("diff-command", "a run counted over a block that is the same", "differences.py",
      'found[-1][0] == kind and found[-1][1] + found[-1][2] == at', 'found[-1][0] == kind'),
     ("partitions-command", "the entries before the usable sectors alone", "partitions.py",

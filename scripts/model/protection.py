@@ -16,10 +16,10 @@ def check_parity(tree, area, parity, roots):
         raise Stop(b"refused 48 FecTooSmall needed %d" % needed)
 
 
-def check_aligned(first, hash_block):
+def check_aligned(first, hash_block, rest=b""):
     """A tree begins where a hash block of its file does."""
     if hash_block >= SECTOR and first % (hash_block // SECTOR):
-        raise Stop(b"refused 18 Unaligned")
+        raise Stop(b"refused 18 Unaligned" + rest)
 
 
 def check_one_size(data_block, hash_block):

@@ -44,7 +44,7 @@ class Maker(Services, Images, Disks):
         for _ in range(self.pick([1, 2, 3])):
             draw = self.random.random()
             if draw < 0.3:
-                form = [b"--json"] if self.has("forms", "json") and self.chance(0.3) else []
+                form = [self.pick([b"--json", b"--json", b"--tree"])] if self.has("forms", "json") and self.chance(0.4) else []
                 runs.append(Run([b"load"] + form + [stack] + words))
             elif draw < 0.65 or not self.has("commands", "write"):
                 _, rest = self.request(session)

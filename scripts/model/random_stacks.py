@@ -367,7 +367,8 @@ class Stacks(Dice):
         line = b"%s,0 %d verity 1 %s %s %d %d %d %d sha256 %s %s" % (
             flag, length, device, hashes, tree.data_block, tree.hash_block, blocks, start,
             root.hex().encode(), salt.hex().encode() or b"-")
-        options = [b"", b"", b" 0", b" 1 ignore_zero_blocks", b" 1 ignore_zero_blocks"]
+        options = [b"", b"", b" 0", b" 1 ignore_zero_blocks", b" 1 ignore_zero_blocks", b" 1 panic_on_corruption",
+                   b" 3 try_verify_in_tasklet ignore_zero_blocks restart_on_corruption"]
         if self.chance(0.04):
             line = line.rpartition(b" ")[0] + b" " + b"5a" * self.pick([255, 256, 257])
         return line + self.pick(options)

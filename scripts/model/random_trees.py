@@ -48,12 +48,12 @@ class Trees(Dice):
         first = -(-least // 512 // unit) * unit + unit * self.pick([0, 0, 1, 2, 3])
         return first * 512
 
-    def offset_words(self, offset):
+    def offset_words(self, offset, option=b"--hash-offset"):
         if offset == 0 and self.chance(0.7):
             return []
         if self.chance(0.04):
             offset += self.pick([1, 511, 512, -512 if offset else 512])
-        return [b"--hash-offset", b"%d" % offset]
+        return [option, b"%d" % offset]
 
     def tree_case(self):
         cases = [self.made_tree, self.checked_tree, self.checked_tree, self.compared_trees]
@@ -95,7 +95,7 @@ class Trees(Dice):
             if not is_one and self.chance(0.3):
                 del self.files[b"hash"]
         self.files[b"root"] = root.hex().encode()
-        runs = [Run([b"format"] + words + names)]
+        runs = [Run([b"format"] + self.written_root() + words + names)]
         if self.has("forms", "fec") and self.chance(0.3):
             fec = [b"--fec", self.pick([b"parity"] * 9 + names), b"--fec-roots=%d" % self.pick([2, 2, 8, 23, 24, 25, 1])]
             self.files[b"parity"] = bytes(self.pick([0, 512, 4096, 40000]))
@@ -208,8 +208,7 @@ class Trees(Dice):
             words = [b"--all"] + ([b"--json"] if self.has("forms", "json") and self.chance(0.3) else [])
             if not self.has("forms", "all"):
                 words = []
-            is_bare = it.is_bare and (not words or self.chance(0.05))
-            words = self.shuffled(words, self.bare_words(it) if is_bare else [], place, said)
+            words = self.shuffled(words, self.bare_words(it), place, said)
             return Run([b"verify"] + words + names + rest)
         if draw < 0.82:
             words = [b"--json"] if self.has("forms", "json") and self.chance(0.4) else []
@@ -240,6 +239,12 @@ class Trees(Dice):
         for unit in units:
             words += unit
         return words
+
+    def written_root(self):
+        """In some cases the file to which `format` writes a pin or the root hash."""
+        if self.chance(0.8):
+            return []
+        return [self.pick([b"--pin", b"--root-hash-file"]), self.pick([b"kept"] * 8 + [b"data", b"hash", b"none/kept", b"-"])]
 
     def drawn_pin(self, it, root):
         """The text of a tree's pin, in some cases with another value, or no pin."""
@@ -273,22 +278,28 @@ class Trees(Dice):
             new = Planted(self)
             new.is_bare = False
         pair = [old, new] if self.chance(0.5) else [new, old]
-        words, pins = [], []
+        words, pins, places = [], [], []
         for it, name, option in zip(pair, (b"first", b"second"), (b"--old-pin", b"--pin")):
+            offset = self.offset(it.hash_block) if self.chance(0.3) else 0
+            places += self.offset_words(offset, option.replace(b"pin", b"hash-offset"))
             _, area, root = it.made()
             pin = self.drawn_pin(it, root) if self.chance(0.25) else None
+            digits = root.hex().encode() if pin is None and self.chance(0.25) else None
             if self.chance(0.15):
                 area[self.random.randrange(len(area))] ^= 1 << self.random.randrange(8)
             if self.chance(0.05):
                 del area[-self.pick([1, 512, 513]):]
-            self.files[name] = bytes(area)
+            self.files[name] = self.random.randbytes(offset) + bytes(area)
             words.append(name)
-            if pin is None:
+            if digits is not None:
+                self.files[name + b".root"] = self.pick([digits] * 5 + [digits + b"\n", digits[1:]])
+                pins += [option.replace(b"pin", b"root-hash-file"), name + self.pick([b".root"] * 20 + [b".none"])]
+            elif pin is None:
                 words.append(self.pick([root.hex().encode()] * 20 + [b"0" * 64]))
             else:
                 self.files[name + b".pin"] = pin
                 pins += [option, name + self.pick([b".pin"] * 20 + [b".none"])]
-        options = pins + ([b"--blocks", self.pick([b"1", b"2", b"5", b"0", *STRANGE_NUMBERS])] if self.chance(0.3) else [])
+        options = pins + places + ([b"--runs", self.pick([b"1", b"2", b"5", b"0", *STRANGE_NUMBERS])] if self.chance(0.3) else [])
         if self.has("forms", "json") and self.chance(0.2):
             options.append(b"--json")
         if self.has("forms", "all") and self.chance(0.3):

@@ -2,12 +2,11 @@
 
 from charts import chart_lines
 from configuration import Refused
-from files import LONGEST_NAME, Stop
+from files import Stop
 from rescue_map import FAULTS, MapFault, is_of_scan, marks_of, text_of
 from session import SUBMISSION_RULES
 from stack import SECTOR, Fault
 
-BESIDE = b".dmstack-new"
 OUT_RULES = ["TooSmall", "Device"]
 LEAST_TURN = 131072
 MOST_TURNS = 256
@@ -93,10 +92,9 @@ def with_map(stack, device, out, path, files):
     turn = max(LEAST_TURN, device.sectors // MOST_TURNS)
     runs, had = recovered(stack, device, out, marks, turn)
     if not marks or not all(marks):
-        name = path.removeprefix(b"./")
-        if b"/" in name or len(name + BESIDE) > LONGEST_NAME:
+        if not files.can_replace(path):
             return runs, had, b"refused 31 MapWrite"
-        files.nodes[name] = bytearray(text_of(had, of_scan))
+        files.replace(path, text_of(had, of_scan))
     return runs, had, None
 
 

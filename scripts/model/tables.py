@@ -25,6 +25,11 @@ CRYPT_OPTIONS = (
 UNIT_OPTIONS = tuple(b"sector_size:%d" % size for size in BLOCK_SIZES)
 LARGE_UNITS = b"iv_large_sectors"
 ZERO_BLOCKS = b"ignore_zero_blocks"
+# What the kernel does on corruption: one of them at most. They change no byte, nor does the last one.
+ON_CORRUPTION = (b"restart_on_corruption", b"panic_on_corruption")
+TASKLET = b"try_verify_in_tasklet"
+# The order in which the kernel prints them.
+PRINTED_OPTIONS = (*ON_CORRUPTION, ZERO_BLOCKS, TASKLET)
 
 
 class TextFault(Exception):
@@ -313,10 +318,12 @@ def read_verity(words, features):
     digest = need(digits_of(words[8], 64, 64), "Digest")
     salt = need(salt_of(words[9]), "Salt")
 
-    def is_known(word, _before):
-        return word == ZERO_BLOCKS and "zero_blocks" in features
+    def is_known(word, before):
+        if word in ON_CORRUPTION:
+            return not set(ON_CORRUPTION) & set(before)
+        return word == TASKLET or word == ZERO_BLOCKS and "zero_blocks" in features
 
-    options = read_options(words[10:], is_known)
+    options = sorted(read_options(words[10:], is_known), key=PRINTED_OPTIONS.index)
     return Verity(device, hash_device, data_block, hash_block, blocks, start, digest, salt, options)
 
 

@@ -12,21 +12,23 @@ END_OF_PARTS = 2**55
 TREE = (b"data-block", b"hash-block", b"blocks", b"salt")
 # The options of each command, and those of them without a value.
 OPTIONS = {
-    "format": (*TREE, b"uuid", b"hash-offset", b"no-superblock", b"grow", b"progress", b"fec", b"fec-roots",
-               b"pin"),
+    "format": (*TREE, b"uuid", b"hash-offset", b"root-hash-file", b"no-superblock", b"grow", b"progress", b"fec",
+               b"fec-roots", b"pin"),
     "verify": (*TREE, b"hash-offset", b"root-hash-file", b"no-superblock", b"all", b"json", b"chart", b"progress",
                b"fec", b"fec-roots", b"pin"),
     "dump": (b"hash-offset", b"json", b"pin"),
     "table": (*TREE, b"hash-offset", b"root-hash-file", b"name", b"no-superblock", b"pin"),
     "repair": (b"hash-offset", b"root-hash-file", b"check", b"fec", b"fec-roots", b"pin"),
-    "load": (b"json",), "read": (b"cache",), "write": (b"cache",), "session": (b"cache",), "nbd": (b"cache", b"all"),
+    "load": (b"json", b"tree"), "read": (b"cache",), "write": (b"cache",), "session": (b"cache",), "nbd": (b"cache", b"all"),
     "scan": (b"cache", b"map", b"progress", b"json", b"chart"), "copy": (b"cache", b"map", b"differing", b"progress"),
     "cat": (b"cache", b"first", b"count", b"progress"), "store": (b"cache", b"first", b"progress"),
-    "partitions": (b"sector-size", b"stack", b"root", b"json", b"pin"), "diff": (b"all", b"blocks", b"json", b"old-pin", b"pin"),
+    "partitions": (b"sector-size", b"stack", b"root", b"json", b"pin"),
+    "diff": (b"all", b"runs", b"json", b"old-hash-offset", b"hash-offset", b"old-root-hash-file", b"root-hash-file", b"old-pin", b"pin"),
     "manual": (), "version": (),
 }
-FLAGS = (b"all", b"stack", b"no-superblock", b"grow", b"json", b"differing", b"progress", b"check", b"chart")
-# veritysetup's names of options that have another here; `diff` counts runs by its --blocks, and has none.
+OPTIONS = {name: (b"quiet", *options) for name, options in OPTIONS.items()}
+FLAGS = (b"quiet", b"all", b"stack", b"no-superblock", b"grow", b"json", b"differing", b"progress", b"check", b"chart", b"tree")
+# veritysetup's names of options that have another here.
 OTHER_NAMES = {b"data-block-size": b"data-block", b"hash-block-size": b"hash-block",
                b"data-blocks": b"blocks", b"fec-device": b"fec"}
 UUID = re.compile(rb"[0-9a-f]{8}(-[0-9a-f]{4}){3}-[0-9a-f]{12}", re.IGNORECASE)
@@ -46,8 +48,7 @@ def cut_words(words, command):
             behind_dashes = True
             break
         name, equals, value = word[2:].partition(b"=")
-        if command != "diff":
-            name = OTHER_NAMES.get(name, name)
+        name = OTHER_NAMES.get(name, name)
         if not word.startswith(b"--") or name not in OPTIONS[command] or name in options:
             raise Usage
         if name in FLAGS:
@@ -145,9 +146,9 @@ def read_cache(options):
     the_number(options.get(b"cache", b"64"), 65537)
 
 
-def read_offset(options):
+def read_offset(options, name=b"hash-offset"):
     """The sector at which superblock or tree begin."""
-    offset = the_number(options.get(b"hash-offset", b"0"))
+    offset = the_number(options.get(name, b"0"))
     if offset % SECTOR:
         raise Usage
     return offset // SECTOR
@@ -211,7 +212,7 @@ def read_repair(options, words):
 
 
 def check_pin(options, name=b"pin"):
-    """A pin's path isn't empty and no `-`, and pinned are images with a superblock."""
+    """The path of a pin, or of a root hash that is written, isn't empty and no `-`, and the image has a superblock."""
     if name in options and (options[name] in (b"", b"-") or b"no-superblock" in options):
         raise Usage
 
@@ -222,7 +223,9 @@ def read_format(options, words):
         raise Usage
     uuid = uuid_of(options[b"uuid"]) if b"uuid" in options else None
     check_pin(options)
-    if b"pin" in options and (b"fec" in options or b"fec-roots" in options):
+    check_pin(options, b"root-hash-file")
+    written = [name for name in (b"pin", b"root-hash-file") if name in options]
+    if written and (len(written) == 2 or b"fec" in options or b"fec-roots" in options):
         raise Usage
     read_fec(options)
     return *exactly(words, 2), read_sizes(options), uuid, read_offset(options)
@@ -231,7 +234,7 @@ def read_format(options, words):
 def read_verify(options, words):
     """DATA, HASH, the root, the sizes, and the place."""
     check_tree_values(options, (b"salt",))
-    if b"json" in options and b"all" not in options or b"no-superblock" in options and b"all" in options:
+    if b"json" in options and b"all" not in options:
         raise Usage
     if b"chart" in options and (b"all" not in options or b"json" in options):
         raise Usage
@@ -276,22 +279,26 @@ def read_partitions(options, words):
     return *exactly(words, 1), size, root
 
 
-def read_tree(options, words, pin):
-    """A tree's path and its root, which is None if its pin is given, and the words behind them."""
+def read_tree(options, words, pin, file):
+    """A tree's path and its root, which is None if its pin is given, or the path of its file as `(path,)`, and the words behind
+    them."""
     (path,), words = at_least(words, 1)
     check_pin(options, pin)
-    if pin in options:
-        return path, None, words
+    if pin in options and file in options:
+        raise Usage
+    if pin in options or file in options:
+        return path, (options[file],) if file in options else None, words
     (root,), words = at_least(words, 1)
     return path, the_root(root), words
 
 
 def read_diff(options, words):
-    """Both paths, both roots, and how many runs are printed at most, or None."""
-    old_path, old_root, words = read_tree(options, words, b"old-pin")
-    new_path, new_root, words = read_tree(options, words, b"pin")
+    """Both paths, both places, both roots, and how many runs are printed at most, or None."""
+    old_path, old_root, words = read_tree(options, words, b"old-pin", b"old-root-hash-file")
+    new_path, new_root, words = read_tree(options, words, b"pin", b"root-hash-file")
     exactly(words, 0)
-    most = the_number(options[b"blocks"]) if b"blocks" in options else None
+    most = the_number(options[b"runs"]) if b"runs" in options else None
     if most == 0:
         raise Usage
-    return (old_path, new_path), (old_root, new_root), most
+    firsts = read_offset(options, b"old-hash-offset"), read_offset(options)
+    return (old_path, new_path), firsts, (old_root, new_root), most

@@ -32,6 +32,7 @@ pub record OptionTexts : Type 0 where
   pub first : Option (List ℕ)
   pub count : Option (List ℕ)
   pub hash_offset : Option (List ℕ)
+  pub old_hash_offset : Option (List ℕ)
   pub root_hash_file : Option (List ℕ)
   pub name : Option (List ℕ)
   pub sector_size : Option (List ℕ)
@@ -41,6 +42,8 @@ pub record OptionTexts : Type 0 where
   pub fec_roots : Option (List ℕ)
   pub pin : Option (List ℕ)
   pub old_pin : Option (List ℕ)
+  pub old_root_hash_file : Option (List ℕ)
+  pub runs : Option (List ℕ)
   pub all : Bool
   pub stack : Bool
   pub no_superblock : Bool
@@ -51,6 +54,8 @@ pub record OptionTexts : Type 0 where
   pub check : Bool
   pub linux : Bool
   pub chart : Bool
+  pub tree : Bool
+  pub quiet : Bool
 
 -- what the program's own value says
 abbrev pub text_of : Option (Bor (List ℕ)) → Option (List ℕ)
@@ -70,6 +75,7 @@ option_texts words = record {
   first = text_of words.first;
   count = text_of words.count;
   hash_offset = text_of words.hash_offset;
+  old_hash_offset = text_of words.old_hash_offset;
   root_hash_file = text_of words.root_hash_file;
   name = text_of words.name;
   sector_size = text_of words.sector_size;
@@ -79,6 +85,8 @@ option_texts words = record {
   fec_roots = text_of words.fec_roots;
   pin = text_of words.pin;
   old_pin = text_of words.old_pin;
+  old_root_hash_file = text_of words.old_root_hash_file;
+  runs = text_of words.runs;
   all = words.all;
   stack = words.stack;
   no_superblock = words.no_superblock;
@@ -89,6 +97,8 @@ option_texts words = record {
   check = words.check;
   linux = words.linux;
   chart = words.chart;
+  tree = words.tree;
+  quiet = words.quiet;
 }
 
 -- each value is the one that its text says; where there is no text, it is 4,096 for a block size, and none for the others

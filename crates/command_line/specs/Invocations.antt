@@ -1,5 +1,5 @@
 -- The commands of a command line.
-use Rattle.std.specs.Prelude.{ℕ, List, codes, Ok, Option, is_some, if◌then◌else◌}
+use Rattle.std.specs.Prelude.{◌&&◌, ◌||◌, ℕ, List, codes, Ok, Option, is_some, if◌then◌else◌}
 use Rattle.std.specs.Str.{bytes_eq}
 use Rattle.command_line.specs.FormatOptions.{OptionTexts, text_of}
 use Rattle.command_line.specs.words.Cat.{CatRecord, cat_record, cat_said}
@@ -17,7 +17,7 @@ use Rattle.command_line.specs.words.Write.{WriteRecord, write_record, write_said
 use Rattle.command_line.specs.Misuses.{Reading, misused, refuse_if, said_as, when}
 use Rattle.command_line.specs.OptionGroups.{has_fec_value}
 use Rattle.command_line.specs.Positional.{no_more}
-use Rattle.command_line.specs.declared.misuse.Cause.TheVariants.{Unknown, WithFec, WithPin}
+use Rattle.command_line.specs.declared.misuse.Cause.TheVariants.{Unknown, WithFec, WithNoSuperblock, WithPin}
 use Rattle.command_line.specs.words.FecFormat.{FecFormatRecord, fec_format_record, fec_format_said}
 use Rattle.command_line.specs.words.FecVerify.{FecVerifyRecord, fec_verify_record, fec_verify_said}
 use Rattle.command_line.specs.words.PinFormat.{PinFormatRecord, pin_format_record, pin_format_said}
@@ -59,7 +59,7 @@ pub data InvocationRecord : Type 0 where
   -- `format --fec`
   format_fec : FecFormatRecord → InvocationRecord
   verify_fec : FecVerifyRecord → InvocationRecord
-  -- `format --pin`
+  -- `format --pin` and `format --root-hash-file`
   format_pin : PinFormatRecord → InvocationRecord
   -- the name of the command whose page is printed, if there is one
   manual : Option (List ℕ) → InvocationRecord
@@ -91,9 +91,19 @@ pin_conflicts name texts =
 unfoldable pub pin_allowed : List ℕ → OptionTexts → Reading (Unit {0})
 pin_allowed name texts = if is_some texts.pin then pin_conflicts name texts else Ok tt
 
--- an image is made, and with `--pin` its pin written
+-- a format writes the file of the root hash only of an image with a superblock and without parity
+unfoldable pub root_file_allowed : List ℕ → OptionTexts → Reading (Unit {0})
+root_file_allowed name texts =
+    if bytes_eq name (codes "format") && is_some texts.root_hash_file
+    then when (refuse_if (has_fec_value texts) (codes "--root-hash-file") WithFec) (λ a.
+    refuse_if texts.no_superblock (codes "--root-hash-file") WithNoSuperblock)
+    else Ok tt
+
+-- an image is made, and with `--pin` or `--root-hash-file` its pin or its root hash written
 unfoldable pub formatted_said : OptionTexts → List (List ℕ) → Reading InvocationRecord
-formatted_said texts words = if is_some texts.pin then said_as format_pin (pin_format_said texts words) else said_as format (format_said texts words)
+formatted_said texts words =
+    if is_some texts.pin || is_some texts.root_hash_file
+    then said_as format_pin (pin_format_said texts words) else said_as format (format_said texts words)
 
 -- no argument is after `version`
 abbrev pub version_said : List (List ℕ) → Reading InvocationRecord
@@ -135,13 +145,14 @@ command_said name texts words =
     else if bytes_eq name (codes "nbd") then served_said texts words
     else device_said name texts words
 
--- by the same, with `--fec` or `--no-superblock`, or without them, if nothing conflicts with `--pin`
+-- by the same, with `--fec` or `--no-superblock`, or without them, if nothing conflicts with the file of a pin or a root hash
 unfoldable pub invocation_said : List ℕ → OptionTexts → List (List ℕ) → Reading InvocationRecord
 invocation_said name texts words =
     when (pin_allowed name texts) (λ a.
+    when (root_file_allowed name texts) (λ b.
     if bytes_eq name (codes "repair") then said_as repair (repair_said texts words)
     else if has_fec_value texts then fec_said name texts words
-    else if texts.no_superblock then tree_said name texts words else command_said name texts words)
+    else if texts.no_superblock then tree_said name texts words else command_said name texts words))
 
 -- what the program's own value says
 abbrev pub invocation_record : Invocation → InvocationRecord

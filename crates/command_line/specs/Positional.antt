@@ -46,10 +46,11 @@ root_or_pin_first (Some word) file words =
 unfoldable pub root_or_pin_alone : Option (List ℕ) → Option (List ℕ) → List (List ℕ) → Reading RootOrPinRecord
 root_or_pin_alone pin file words = when (root_or_pin_first pin file words) (λ found. when (no_more found.1) (λ none. Ok found.0))
 
--- the next one, whose name in the usage is the second argument, unless a pin is named in its place; and those after it
-unfoldable pub word_or_pin : Option (List ℕ) → List ℕ → List (List ℕ) → Reading (List ℕ × List (List ℕ))
-word_or_pin None name words = positional name words
-word_or_pin (Some path) name words = Ok (path, words)
+-- the next one, which has that name in the usage, unless the file of a pin or of a root hash is named in its place; and those after it
+unfoldable pub word_or_file : Option (List ℕ) → Option (List ℕ) → List ℕ → List (List ℕ) → Reading (List ℕ × List (List ℕ))
+word_or_file None None name words = positional name words
+word_or_file None (Some path) name words = Ok (path, words)
+word_or_file (Some path) file name words = Ok (path, words)
 
 -- the device arguments of data and hashes, and none after them
 unfoldable pub device_names : List (List ℕ) → Reading (List ℕ × List ℕ)

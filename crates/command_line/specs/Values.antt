@@ -10,7 +10,9 @@ use Rattle.dm_table.specs.Names.{is_mapped_name}
 use Rattle.dm_table.specs.Numbers.{number, number_if}
 use Rattle.command_line.specs.FormatOptions.{texts_of}
 use Rattle.command_line.specs.Misuses.{Reading, misused, refuse_if, wanted, when}
-use Rattle.command_line.specs.declared.misuse.Cause.TheVariants.{CacheBlocks, FilePath, MappedName, Missing, Number, Offset, RootHash, RunCount, SectorSize, WithChart, WithPin, WithRoot, WithStack}
+use Rattle.command_line.specs.declared.list_form.ListForm.{ListForm}
+use Rattle.command_line.specs.declared.list_form.ListForm.TheVariants as list_forms
+use Rattle.command_line.specs.declared.misuse.Cause.TheVariants.{CacheBlocks, FilePath, MappedName, Missing, Number, Offset, RootHash, RunCount, SectorSize, WithChart, WithPin, WithRoot, WithStack, WithTree}
 use Rattle.command_line.specs.declared.values.PartitionForm.{PartitionForm}
 use Rattle.command_line.specs.declared.values.PartitionForm.TheVariants.{Lines, Object, Stack, Root, Pin as PinForm}
 use Rattle.command_line.specs.declared.values.RootOrPin.{RootOrPin}
@@ -36,12 +38,12 @@ count_said (Some word) = wanted (codes "--count") Number (option_map (λ n. Some
 -- how many runs at most, which is at least one, or no word
 unfoldable pub runs_said : Option (List ℕ) → Reading (Option ℕ)
 runs_said None = Ok None
-runs_said (Some word) = wanted (codes "--blocks") RunCount (option_map (λ n. Some n) (number_if (λ n. nat_le 1 n) (number word)))
+runs_said (Some word) = wanted (codes "--runs") RunCount (option_map (λ n. Some n) (number_if (λ n. nat_le 1 n) (number word)))
 
--- the hash area begins at byte 0, or at a multiple of 512
-unfoldable pub offset_of : Option (List ℕ) → Reading ℕ
-offset_of None = Ok 0
-offset_of (Some word) = wanted (codes "--hash-offset") Offset (number_if (λ n. n % 512 == 0) (number word))
+-- a hash image begins at byte 0 of its file, or at a multiple of 512, by the option of that name
+unfoldable pub offset_of : List ℕ → Option (List ℕ) → Reading ℕ
+offset_of option None = Ok 0
+offset_of option (Some word) = wanted option Offset (number_if (λ n. n % 512 == 0) (number word))
 
 -- sectors of 512 bytes, or of 4,096
 unfoldable pub sector_size_of : Option (List ℕ) → Reading ℕ
@@ -85,10 +87,11 @@ pub data RootOrPinRecord : Type 0 where
   root_word : RootRecord → RootOrPinRecord
   pin_file : List ℕ → RootOrPinRecord
 
--- the pin of that option if it is there, or else the root digest of the argument of that name
-unfoldable pub root_or_pin_said : List ℕ → Option (List ℕ) → List ℕ → List ℕ → Reading RootOrPinRecord
-root_or_pin_said option None name word = when (root_said name word) (λ bytes. Ok (root_word (digest bytes)))
-root_or_pin_said option (Some file) name word = when (path_said option file) (λ path. Ok (pin_file path))
+-- the pin of that option or the file of a root digest, if one is given, or else the root digest of the argument of that name
+unfoldable pub root_or_pin_said : List ℕ → Option (List ℕ) → Option (List ℕ) → List ℕ → List ℕ → Reading RootOrPinRecord
+root_or_pin_said option None None name word = when (root_said name word) (λ bytes. Ok (root_word (digest bytes)))
+root_or_pin_said option None (Some path) name word = Ok (root_word (root_file path))
+root_or_pin_said option (Some pin) file name word = when (path_said option pin) (λ path. Ok (pin_file path))
 
 -- how partitions are printed: a line each, as a JSON object, as a stack text, or as the stack text of the partitions of a root, or of
 -- the root of a pin's file
@@ -105,6 +108,13 @@ report_form false false = Ok form.Lines
 report_form false true = Ok form.Chart
 report_form true false = Ok form.Object
 report_form true true = misused (codes "--json") WithChart
+
+-- how the devices of a stack are printed; at most one of `--json` and `--tree` is given
+abbrev pub list_form : Bool → Bool → Reading ListForm
+list_form false false = Ok list_forms.Lines
+list_form false true = Ok list_forms.Tree
+list_form true false = Ok list_forms.Object
+list_form true true = misused (codes "--json") WithTree
 
 -- at most one of `--root ROOT`, `--stack` and `--json` is given
 unfoldable pub form_without_pin : Option (List ℕ) → Bool → Bool → Reading FormRecord

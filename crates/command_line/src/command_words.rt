@@ -3,7 +3,7 @@ ghost use Rattle.std.specs.Prelude.{◌≡◌, drop, find, option_copied};
 ghost use Rattle.command_line.specs.FormatOptions.{option_texts, text_of, texts_of};
 ghost use Rattle.command_line.specs.CommandWords.{invoked_by, is_option, late_option};
 ghost use Rattle.command_line.specs.Misuses.{ReadsValue};
-ghost use Rattle.command_line.specs.Invocations.{command_said, device_said, fec_said, formatted_said, image_said, invocation_said, pin_allowed, pin_conflicts, served_said, tree_said};
+ghost use Rattle.command_line.specs.Invocations.{command_said, device_said, fec_said, formatted_said, image_said, invocation_said, pin_allowed, pin_conflicts, root_file_allowed, served_said, tree_said};
 ghost use Rattle.command_line.specs.Reading.{ReadsCommand};
 
 use crate::fault::WordsFault;
@@ -65,6 +65,7 @@ fn said_by<'a>(
     ensures { ReadsCommand (invocation_said name.now (option_texts options.now) (texts_of words.now)) result }
 {
     allow_pin(name, options)?;
+    allow_root_file(name, options)?;
     if name == b"repair".as_slice() {
         repair_of(alloc, options, words)
     } else if has_fec_value(options) {
@@ -96,6 +97,24 @@ fn check_pin<'a>(name: &[u8], options: &OptionWords<'a>) -> Result<(), Misuse<'a
     refuse_if(options.no_superblock, "--no-superblock", Cause::WithPin)?;
     if name == b"format".as_slice() {
         refuse_if(has_fec_value(options), "--pin", Cause::WithFec)
+    } else {
+        Ok(())
+    }
+}
+
+// A format writes the file of the root hash only of an image with a superblock and without parity.
+#[tactic(auto, unfolding(crate::specs::Invocations::root_file_allowed))]
+fn allow_root_file<'a>(name: &[u8], options: &OptionWords<'a>) -> Result<(), Misuse<'a>>
+    ensures { ReadsValue (λ none. none) (root_file_allowed name.now (option_texts options.now)) result }
+{
+    if name == b"format".as_slice() && options.root_hash_file.is_some() {
+        let fec = has_fec_value(options);
+        refuse_if(fec, "--root-hash-file", Cause::WithFec)?;
+        refuse_if(
+            options.no_superblock,
+            "--root-hash-file",
+            Cause::WithNoSuperblock,
+        )
     } else {
         Ok(())
     }
@@ -234,7 +253,7 @@ fn image_of<'a>(
     }
 }
 
-// An image is made, and with `--pin` its pin written.
+// An image is made, and with `--pin` or `--root-hash-file` its pin or its root hash written.
 #[tactic(auto, unfolding(crate::specs::Invocations::formatted_said))]
 fn formatted_of<'a>(
     options: &OptionWords<'a>,
@@ -242,7 +261,7 @@ fn formatted_of<'a>(
 ) -> Result<Invocation<'a>, WordsFault<'a>>
     ensures { ReadsCommand (formatted_said (option_texts options.now) (texts_of words.now)) result }
 {
-    if options.pin.is_some() {
+    if options.pin.is_some() || options.root_hash_file.is_some() {
         pin_format_of(options, words)
     } else {
         format_of(options, words)

@@ -75,7 +75,7 @@ pub enum Invocation<'a> {
     /// `format --fec`
     FormatFec(FecFormatWords<'a>),
     VerifyFec(FecVerifyWords<'a>),
-    /// `format --pin`
+    /// `format --pin` and `format --root-hash-file`
     FormatPin(PinFormatWords<'a>),
     /// The name of the command whose page is printed, if there is one.
     Manual(Option<&'a str>),

@@ -59,12 +59,16 @@ pub enum Cause {
     WithFec,
     /// It conflicts with `--pin`.
     WithPin,
+    /// It conflicts with `--old-pin`.
+    WithOldPin,
     /// It conflicts with `--stack`.
     WithStack,
     /// It conflicts with `--root`.
     WithRoot,
     /// It conflicts with `--chart`.
     WithChart,
+    /// It conflicts with `--tree`.
+    WithTree,
     /// It is a device's name beside `--all`.
     NameWithAll,
     /// It needs `--all`.

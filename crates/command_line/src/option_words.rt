@@ -18,6 +18,7 @@ pub struct OptionWords<'a> {
     pub first: Option<&'a str>,
     pub count: Option<&'a str>,
     pub hash_offset: Option<&'a str>,
+    pub old_hash_offset: Option<&'a str>,
     pub root_hash_file: Option<&'a str>,
     pub name: Option<&'a str>,
     pub sector_size: Option<&'a str>,
@@ -27,6 +28,8 @@ pub struct OptionWords<'a> {
     pub fec_roots: Option<&'a str>,
     pub pin: Option<&'a str>,
     pub old_pin: Option<&'a str>,
+    pub old_root_hash_file: Option<&'a str>,
+    pub runs: Option<&'a str>,
     pub all: bool,
     pub stack: bool,
     pub no_superblock: bool,
@@ -37,6 +40,8 @@ pub struct OptionWords<'a> {
     pub check: bool,
     pub linux: bool,
     pub chart: bool,
+    pub tree: bool,
+    pub quiet: bool,
 }
 
 /// Whether an option of parity is there.

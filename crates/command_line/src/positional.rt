@@ -1,7 +1,7 @@
 //! The positional arguments, one after the other.
 ghost use Rattle.command_line.specs.FormatOptions.{text_of, texts_of};
 ghost use Rattle.command_line.specs.Misuses.{ReadsValue};
-ghost use Rattle.command_line.specs.Positional.{device_at, device_names, next_number, next_word, no_more, number_at, positional, root_alone, root_first, root_or_pin_alone, root_or_pin_first, word_or_pin};
+ghost use Rattle.command_line.specs.Positional.{device_at, device_names, next_number, next_word, no_more, number_at, positional, root_alone, root_first, root_or_pin_alone, root_or_pin_first, word_or_file};
 ghost use Rattle.command_line.specs.Values.{root_first_record, root_or_pin_first_record, root_or_pin_record, root_record};
 
 use crate::misuse::{Cause, Misuse, refuse_if};
@@ -132,18 +132,21 @@ pub fn root_or_pin_alone<'a>(
     }
 }
 
-/// The next positional argument, whose name in the usage is `name`, unless a pin is given in its place, and the arguments after it.
-#[tactic(auto, unfolding(crate::specs::Positional::word_or_pin))]
-pub fn word_or_pin<'a, 'b>(
+/// The next positional argument, whose name in the usage is `name`, unless the file of a pin or of a root hash is given in its place,
+/// and the arguments after it.
+#[tactic(auto, unfolding(crate::specs::Positional::word_or_file))]
+pub fn word_or_file<'a, 'b>(
     pin: Option<&'a str>,
+    file: Option<&'a str>,
     name: &'a str,
     words: &'b [&'a str],
 ) -> Result<(&'a str, &'b [&'a str]), Misuse<'a>>
-    ensures { ReadsValue next_word (word_or_pin (text_of pin.entry) name.now (texts_of words.now)) result }
+    ensures { ReadsValue next_word (word_or_file (text_of pin.entry) (text_of file.entry) name.now (texts_of words.now)) result }
 {
-    match pin {
-        Some(path) => Ok((path, words)),
-        None => positional(name, words),
+    match (pin, file) {
+        (None, None) => positional(name, words),
+        (None, Some(path)) => Ok((path, words)),
+        (Some(path), _) => Ok((path, words)),
     }
 }
 

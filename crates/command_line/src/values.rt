@@ -2,8 +2,9 @@
 ghost use Rattle.std.specs.Prelude.{◌≡◌};
 ghost use Rattle.command_line.specs.FormatOptions.{text_of};
 ghost use Rattle.command_line.specs.Misuses.{ReadsValue};
-ghost use Rattle.command_line.specs.Values.{cache_said, count_said, first_said, form_of, form_record, form_with_pin, form_without_pin, map_said, name_said, offset_of, path_said, pin_of, report_form, root_of, root_or_pin_record, root_or_pin_said, root_said, runs_said, sector_size_of};
+ghost use Rattle.command_line.specs.Values.{cache_said, count_said, first_said, form_of, form_record, form_with_pin, form_without_pin, list_form, map_said, name_said, offset_of, path_said, pin_of, report_form, root_of, root_or_pin_record, root_or_pin_said, root_said, runs_said, sector_size_of};
 
+use crate::list_form::ListForm;
 use crate::misuse::{Cause, Misuse, refuse_if};
 use charts::ReportForm;
 use dm_table::is_mapped_name;
@@ -32,8 +33,7 @@ pub enum RootOrPin<'a> {
     Pin(&'a str),
 }
 
-/// How partitions are printed: a line each, as a JSON object, as a stack text, or as the stack text of the partitions that belong to a
-/// root, or to the root of a pin's file.
+/// How partitions are printed: as lines, a JSON object, a stack of all, or the stack of those of a root or of a pin's root.
 #[derive(Clone, Copy)]
 pub enum PartitionForm<'a> {
     Lines,
@@ -95,21 +95,21 @@ pub fn runs_of<'a>(word: Option<&'a str>) -> Result<Option<u64>, Misuse<'a>>
     };
     match number(word.as_bytes()) {
         Some(count) if count >= 1 => Ok(Some(count)),
-        _ => Err(Misuse::new("--blocks", Cause::RunCount)),
+        _ => Err(Misuse::new("--runs", Cause::RunCount)),
     }
 }
 
-/// Where the hash area begins: at byte 0, or at a multiple of 512.
+/// Where a hash image begins in its file, by the option of that name: at byte 0, or at a multiple of 512.
 #[tactic(auto, unfolding(crate::specs::Values::offset_of))]
-pub fn offset_of<'a>(word: Option<&'a str>) -> Result<u64, Misuse<'a>>
-    ensures { ReadsValue (λ n. n) (offset_of (text_of word.entry)) result }
+pub fn offset_of<'a>(option: &'a str, word: Option<&'a str>) -> Result<u64, Misuse<'a>>
+    ensures { ReadsValue (λ n. n) (offset_of option.now (text_of word.entry)) result }
 {
     let Some(word) = word else {
         return Ok(0);
     };
     match number(word.as_bytes()) {
         Some(offset) if offset % SECTOR == 0 => Ok(offset),
-        _ => Err(Misuse::new("--hash-offset", Cause::Offset)),
+        _ => Err(Misuse::new(option, Cause::Offset)),
     }
 }
 
@@ -196,22 +196,28 @@ pub fn root_said<'a>(name: &'a str, word: &str) -> Result<Digest, Misuse<'a>>
     }
 }
 
-/// The pin of that option if it is given, or else the root hash of the argument of that name.
+/// The pin of that option or the file of a root hash, if one is given, or else the root hash of the argument of that name.
 #[tactic(auto, unfolding(crate::specs::Values::root_or_pin_said))]
 pub fn root_or_pin_said<'a>(
     option: &'a str,
     pin: Option<&'a str>,
+    file: Option<&'a str>,
     name: &'a str,
     word: &'a str,
 ) -> Result<RootOrPin<'a>, Misuse<'a>>
-    ensures { ReadsValue root_or_pin_record (root_or_pin_said option.now (text_of pin.entry) name.now word.now) result }
+    ensures { ReadsValue root_or_pin_record (root_or_pin_said option.now (text_of pin.entry) (text_of file.entry) name.now word.now) result }
 {
-    let Some(file) = pin else {
-        let root = root_said(name, word)?;
-        return Ok(RootOrPin::Root(RootWord::Digest(root)));
-    };
-    let path = path_of(option, file)?;
-    Ok(RootOrPin::Pin(path))
+    match (pin, file) {
+        (None, None) => {
+            let root = root_said(name, word)?;
+            Ok(RootOrPin::Root(RootWord::Digest(root)))
+        }
+        (None, Some(path)) => Ok(RootOrPin::Root(RootWord::File(path))),
+        (Some(pin), _) => {
+            let path = path_of(option, pin)?;
+            Ok(RootOrPin::Pin(path))
+        }
+    }
 }
 
 /// How a command reports, by `--json` and `--chart`, of which at most one is given.
@@ -223,6 +229,18 @@ pub fn report_form<'a>(json: bool, chart: bool) -> Result<ReportForm, Misuse<'a>
         (false, true) => Ok(ReportForm::Chart),
         (true, false) => Ok(ReportForm::Object),
         (true, true) => Err(Misuse::new("--json", Cause::WithChart)),
+    }
+}
+
+/// How the devices of a stack are printed, by `--json` and `--tree`, of which at most one is given.
+pub fn list_form<'a>(json: bool, tree: bool) -> Result<ListForm, Misuse<'a>>
+    ensures { ReadsValue (λ form. form) (list_form json tree) result }
+{
+    match (json, tree) {
+        (false, false) => Ok(ListForm::Lines),
+        (false, true) => Ok(ListForm::Tree),
+        (true, false) => Ok(ListForm::Object),
+        (true, true) => Err(Misuse::new("--json", Cause::WithTree)),
     }
 }
 

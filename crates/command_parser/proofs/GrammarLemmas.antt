@@ -12,7 +12,7 @@ use Rattle.clap.specs.declared.builder.action.ArgAction.TheVariants.{Append}
 use Rattle.clap.specs.declared.builder.arg.Arg.{Arg}
 use Rattle.clap.specs.declared.builder.range.ValueRange.{ValueRange}
 use Rattle.command_parser.specs.declared.rows.CommandRow.{CommandRow}
-use Rattle.command_parser.specs.declared.rows.OptionRow.{OptionRow}
+use Rattle.command_parser.specs.declared.option_rows.OptionRow.{OptionRow}
 use Rattle.command_parser.specs.Commands.{CommandText, OptionText, commands}
 use Rattle.command_parser.specs.Grammar.{command_app, command_text, grammar, option_rule, option_text, with_commands, with_options, word_rule}
 

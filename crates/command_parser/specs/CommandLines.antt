@@ -30,6 +30,7 @@ texts_in rows = record {
   first = first_of (codes "first") rows;
   count = first_of (codes "count") rows;
   hash_offset = first_of (codes "hash-offset") rows;
+  old_hash_offset = first_of (codes "old-hash-offset") rows;
   root_hash_file = first_of (codes "root-hash-file") rows;
   name = first_of (codes "name") rows;
   sector_size = first_of (codes "sector-size") rows;
@@ -39,6 +40,8 @@ texts_in rows = record {
   fec_roots = first_of (codes "fec-roots") rows;
   pin = first_of (codes "pin") rows;
   old_pin = first_of (codes "old-pin") rows;
+  old_root_hash_file = first_of (codes "old-root-hash-file") rows;
+  runs = first_of (codes "runs") rows;
   all = is_there (codes "all") rows;
   stack = is_there (codes "stack") rows;
   no_superblock = is_there (codes "no-superblock") rows;
@@ -49,6 +52,8 @@ texts_in rows = record {
   check = is_there (codes "check") rows;
   linux = is_there (codes "linux") rows;
   chart = is_there (codes "chart") rows;
+  tree = is_there (codes "tree") rows;
+  quiet = is_there (codes "quiet") rows;
 }
 
 -- the positional words

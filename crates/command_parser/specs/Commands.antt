@@ -44,6 +44,10 @@ root_file = value_option (codes "root-hash-file")
 abbrev pub pin : OptionText
 pin = value_option (codes "pin")
 
+-- the files of the root hashes of two trees
+abbrev pub root_options : List OptionText → List OptionText
+root_options more = value_option (codes "old-root-hash-file") ∷ root_file ∷ value_option (codes "old-pin") ∷ pin ∷ more
+
 -- parity: its file, and how many bytes of it a codeword has
 abbrev pub fec_options : List OptionText → List OptionText
 fec_options more = value_or (codes "fec") (codes "fec-device") ∷ value_option (codes "fec-roots") ∷ more
@@ -57,13 +61,17 @@ tree_options more =
     value_or (codes "data-block") (codes "data-block-size") ∷ value_or (codes "hash-block") (codes "hash-block-size")
     ∷ value_or (codes "blocks") (codes "data-blocks") ∷ value_option (codes "salt") ∷ more
 
+-- every command has it
+abbrev pub quiet : OptionText
+quiet = flag (codes "quiet")
+
 abbrev pub command : List ℕ → List OptionText → CommandText
-command name options = record { name = name; options = options }
+command name options = record { name = name; options = quiet ∷ options }
 
 -- the commands on images
 abbrev pub image_commands : List CommandText → List CommandText
 image_commands more =
-    command (codes "format") (tree_options (value_option (codes "uuid") ∷ offset ∷ bare_option ∷ flag (codes "grow") ∷ progress ∷ fec_options (pin ∷ [])))
+    command (codes "format") (tree_options (value_option (codes "uuid") ∷ offset ∷ root_file ∷ bare_option ∷ flag (codes "grow") ∷ progress ∷ fec_options (pin ∷ [])))
     ∷ command (codes "verify") (tree_options (offset ∷ root_file ∷ bare_option ∷ flag (codes "all") ∷ json ∷ chart ∷ progress ∷ fec_options (pin ∷ [])))
     ∷ command (codes "dump") (offset ∷ json ∷ pin ∷ [])
     ∷ command (codes "table") (tree_options (offset ∷ root_file ∷ value_option (codes "name") ∷ bare_option ∷ pin ∷ []))
@@ -73,7 +81,7 @@ image_commands more =
 -- the commands on stacks
 abbrev pub stack_commands : List CommandText → List CommandText
 stack_commands more =
-    command (codes "load") (json ∷ flag (codes "linux") ∷ [])
+    command (codes "load") (json ∷ flag (codes "tree") ∷ flag (codes "linux") ∷ [])
     ∷ command (codes "read") (cache ∷ [])
     ∷ command (codes "write") (cache ∷ [])
     ∷ command (codes "session") (cache ∷ [])
@@ -89,5 +97,5 @@ unfoldable pub commands : List CommandText
 commands =
     image_commands (stack_commands
     (command (codes "partitions") (value_option (codes "sector-size") ∷ flag (codes "stack") ∷ value_option (codes "root") ∷ json ∷ pin ∷ [])
-    ∷ command (codes "diff") (flag (codes "all") ∷ value_option (codes "blocks") ∷ json ∷ value_option (codes "old-pin") ∷ pin ∷ [])
+    ∷ command (codes "diff") (flag (codes "all") ∷ value_option (codes "runs") ∷ json ∷ value_option (codes "old-hash-offset") ∷ offset ∷ root_options [])
     ∷ command (codes "manual") [] ∷ command (codes "version") [] ∷ []))

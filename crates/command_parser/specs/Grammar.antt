@@ -5,7 +5,7 @@ use Rattle.clap.specs.Simple.{App, new_app, new_rule, on_top, with_rule, with_su
 use Rattle.clap.specs.Walk.{Rule, Text}
 use Rattle.clap.specs.declared.builder.action.ArgAction.TheVariants.{Append, Set, SetTrue}
 use Rattle.command_parser.specs.Commands.{CommandText, OptionText, commands}
-use Rattle.command_parser.specs.declared.rows.OptionRow.{OptionRow}
+use Rattle.command_parser.specs.declared.option_rows.OptionRow.{OptionRow}
 use Rattle.command_parser.specs.declared.rows.CommandRow.{CommandRow}
 
 -- `--NAME VALUE` or `--NAME`, at most once

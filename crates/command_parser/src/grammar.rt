@@ -7,7 +7,8 @@ ghost use Rattle.command_line.specs.CommandWords.{IsMisuse};
 ghost use Rattle.command_parser.specs.CommandLines.{IsUnread};
 ghost use Rattle.command_parser.specs.Grammar.{command_app, command_text, grammar, option_rule, option_text, positional, program, with_commands, with_options};
 
-use crate::rows::{COMMANDS, CommandRow, OptionRow};
+use crate::option_rows::OptionRow;
+use crate::rows::{COMMANDS, CommandRow};
 use crate::unread::unread_argument;
 use clap::error::ErrorKind;
 use clap::{Arg, ArgAction, ArgMatches, Command};

@@ -3,6 +3,7 @@
 
 mod grammar;
 mod option_names;
+mod option_rows;
 mod option_words;
 mod parser;
 mod rows;

@@ -5,7 +5,7 @@ ghost use Rattle.std.specs.Str.{bytes_eq};
 ghost use Rattle.command_parser.specs.Grammar.{option_text};
 ghost use Rattle.command_parser.specs.OptionNames.{gives_value, is_named, option_of};
 
-use crate::rows::OptionRow;
+use crate::option_rows::OptionRow;
 
 /// The option that the word names, as `--NAME` or `--NAME=VALUE`.
 #[tactic(auto, unfolding(crate::specs::OptionNames::option_of))]

@@ -22,6 +22,7 @@ pub fn option_words<'a>(found: &ArgMatches<'a>) -> OptionWords<'a>
         first: value(found, "first"),
         count: value(found, "count"),
         hash_offset: value(found, "hash-offset"),
+        old_hash_offset: value(found, "old-hash-offset"),
         root_hash_file: value(found, "root-hash-file"),
         name: value(found, "name"),
         sector_size: value(found, "sector-size"),
@@ -31,6 +32,8 @@ pub fn option_words<'a>(found: &ArgMatches<'a>) -> OptionWords<'a>
         fec_roots: value(found, "fec-roots"),
         pin: value(found, "pin"),
         old_pin: value(found, "old-pin"),
+        old_root_hash_file: value(found, "old-root-hash-file"),
+        runs: value(found, "runs"),
         all: is_there(found, "all"),
         stack: is_there(found, "stack"),
         no_superblock: is_there(found, "no-superblock"),
@@ -41,6 +44,8 @@ pub fn option_words<'a>(found: &ArgMatches<'a>) -> OptionWords<'a>
         check: is_there(found, "check"),
         linux: is_there(found, "linux"),
         chart: is_there(found, "chart"),
+        tree: is_there(found, "tree"),
+        quiet: is_there(found, "quiet"),
     }
 }
 

@@ -1,12 +1,10 @@
 //! The commands with their options, a row each.
-
-/// An option: its name, other names of it, and whether a value stands behind it.
-#[derive(Clone, Copy)]
-pub struct OptionRow {
-    pub name: &'static str,
-    pub others: &'static [&'static str],
-    pub has_value: bool,
-}
+use crate::option_rows::{
+    ALL, BLOCKS, CACHE, CHART, CHECK, COUNT, DATA_BLOCK, DIFFERING, FEC, FEC_ROOTS, FIRST, GROW,
+    HASH_BLOCK, HASH_OFFSET, JSON, LINUX, MAP, NAME, NO_SUPERBLOCK, OLD_HASH_OFFSET, OLD_PIN,
+    OLD_ROOT_HASH_FILE, OptionRow, PIN, PROGRESS, QUIET, ROOT, ROOT_HASH_FILE, RUNS, SALT,
+    SECTOR_SIZE, STACK, TREE, UUID,
+};
 
 /// A command: its name, and the options that may stand in front of its positional words.
 #[derive(Clone, Copy)]
@@ -15,192 +13,19 @@ pub struct CommandRow {
     pub options: &'static [OptionRow],
 }
 
-const CACHE: OptionRow = OptionRow {
-    name: "cache",
-    others: &[],
-    has_value: true,
-};
-
-const FIRST: OptionRow = OptionRow {
-    name: "first",
-    others: &[],
-    has_value: true,
-};
-
-const COUNT: OptionRow = OptionRow {
-    name: "count",
-    others: &[],
-    has_value: true,
-};
-
-const DATA_BLOCK: OptionRow = OptionRow {
-    name: "data-block",
-    others: &["data-block-size"],
-    has_value: true,
-};
-
-const HASH_BLOCK: OptionRow = OptionRow {
-    name: "hash-block",
-    others: &["hash-block-size"],
-    has_value: true,
-};
-
-const BLOCKS: OptionRow = OptionRow {
-    name: "blocks",
-    others: &["data-blocks"],
-    has_value: true,
-};
-
-const SALT: OptionRow = OptionRow {
-    name: "salt",
-    others: &[],
-    has_value: true,
-};
-
-const UUID: OptionRow = OptionRow {
-    name: "uuid",
-    others: &[],
-    has_value: true,
-};
-
-const HASH_OFFSET: OptionRow = OptionRow {
-    name: "hash-offset",
-    others: &[],
-    has_value: true,
-};
-
-const ROOT_HASH_FILE: OptionRow = OptionRow {
-    name: "root-hash-file",
-    others: &[],
-    has_value: true,
-};
-
-const NAME: OptionRow = OptionRow {
-    name: "name",
-    others: &[],
-    has_value: true,
-};
-
-const SECTOR_SIZE: OptionRow = OptionRow {
-    name: "sector-size",
-    others: &[],
-    has_value: true,
-};
-
-const ROOT: OptionRow = OptionRow {
-    name: "root",
-    others: &[],
-    has_value: true,
-};
-
-const MAP: OptionRow = OptionRow {
-    name: "map",
-    others: &[],
-    has_value: true,
-};
-
-const FEC: OptionRow = OptionRow {
-    name: "fec",
-    others: &["fec-device"],
-    has_value: true,
-};
-
-const FEC_ROOTS: OptionRow = OptionRow {
-    name: "fec-roots",
-    others: &[],
-    has_value: true,
-};
-
-const PIN: OptionRow = OptionRow {
-    name: "pin",
-    others: &[],
-    has_value: true,
-};
-
-const OLD_PIN: OptionRow = OptionRow {
-    name: "old-pin",
-    others: &[],
-    has_value: true,
-};
-
-// of `diff`, where it says how many runs are printed
-const RUNS: OptionRow = OptionRow {
-    name: "blocks",
-    others: &[],
-    has_value: true,
-};
-
-const STACK: OptionRow = OptionRow {
-    name: "stack",
-    others: &[],
-    has_value: false,
-};
-
-const NO_SUPERBLOCK: OptionRow = OptionRow {
-    name: "no-superblock",
-    others: &[],
-    has_value: false,
-};
-
-const ALL: OptionRow = OptionRow {
-    name: "all",
-    others: &[],
-    has_value: false,
-};
-
-const GROW: OptionRow = OptionRow {
-    name: "grow",
-    others: &[],
-    has_value: false,
-};
-
-const DIFFERING: OptionRow = OptionRow {
-    name: "differing",
-    others: &[],
-    has_value: false,
-};
-
-const PROGRESS: OptionRow = OptionRow {
-    name: "progress",
-    others: &[],
-    has_value: false,
-};
-
-const JSON: OptionRow = OptionRow {
-    name: "json",
-    others: &[],
-    has_value: false,
-};
-
-const CHECK: OptionRow = OptionRow {
-    name: "check",
-    others: &[],
-    has_value: false,
-};
-
-const LINUX: OptionRow = OptionRow {
-    name: "linux",
-    others: &[],
-    has_value: false,
-};
-
-const CHART: OptionRow = OptionRow {
-    name: "chart",
-    others: &[],
-    has_value: false,
-};
-
 /// All commands.
 pub static COMMANDS: [CommandRow; 18] = [
     CommandRow {
         name: "format",
         options: &[
+            QUIET,
             DATA_BLOCK,
             HASH_BLOCK,
             BLOCKS,
             SALT,
             UUID,
             HASH_OFFSET,
+            ROOT_HASH_FILE,
             NO_SUPERBLOCK,
             GROW,
             PROGRESS,
@@ -212,6 +37,7 @@ pub static COMMANDS: [CommandRow; 18] = [
     CommandRow {
         name: "verify",
         options: &[
+            QUIET,
             DATA_BLOCK,
             HASH_BLOCK,
             BLOCKS,
@@ -230,11 +56,12 @@ pub static COMMANDS: [CommandRow; 18] = [
     },
     CommandRow {
         name: "dump",
-        options: &[HASH_OFFSET, JSON, PIN],
+        options: &[QUIET, HASH_OFFSET, JSON, PIN],
     },
     CommandRow {
         name: "table",
         options: &[
+            QUIET,
             DATA_BLOCK,
             HASH_BLOCK,
             BLOCKS,
@@ -248,58 +75,77 @@ pub static COMMANDS: [CommandRow; 18] = [
     },
     CommandRow {
         name: "repair",
-        options: &[HASH_OFFSET, ROOT_HASH_FILE, CHECK, FEC, FEC_ROOTS, PIN],
+        options: &[
+            QUIET,
+            HASH_OFFSET,
+            ROOT_HASH_FILE,
+            CHECK,
+            FEC,
+            FEC_ROOTS,
+            PIN,
+        ],
     },
     CommandRow {
         name: "load",
-        options: &[JSON, LINUX],
+        options: &[QUIET, JSON, TREE, LINUX],
     },
     CommandRow {
         name: "read",
-        options: &[CACHE],
+        options: &[QUIET, CACHE],
     },
     CommandRow {
         name: "write",
-        options: &[CACHE],
+        options: &[QUIET, CACHE],
     },
     CommandRow {
         name: "session",
-        options: &[CACHE],
+        options: &[QUIET, CACHE],
     },
     CommandRow {
         name: "nbd",
-        options: &[CACHE, ALL],
+        options: &[QUIET, CACHE, ALL],
     },
     CommandRow {
         name: "scan",
-        options: &[CACHE, MAP, PROGRESS, JSON, CHART],
+        options: &[QUIET, CACHE, MAP, PROGRESS, JSON, CHART],
     },
     CommandRow {
         name: "copy",
-        options: &[CACHE, DIFFERING, MAP, PROGRESS],
+        options: &[QUIET, CACHE, DIFFERING, MAP, PROGRESS],
     },
     CommandRow {
         name: "cat",
-        options: &[CACHE, FIRST, COUNT, PROGRESS],
+        options: &[QUIET, CACHE, FIRST, COUNT, PROGRESS],
     },
     CommandRow {
         name: "store",
-        options: &[CACHE, FIRST, PROGRESS],
+        options: &[QUIET, CACHE, FIRST, PROGRESS],
     },
     CommandRow {
         name: "partitions",
-        options: &[SECTOR_SIZE, STACK, ROOT, JSON, PIN],
+        options: &[QUIET, SECTOR_SIZE, STACK, ROOT, JSON, PIN],
     },
     CommandRow {
         name: "diff",
-        options: &[ALL, RUNS, JSON, OLD_PIN, PIN],
+        options: &[
+            QUIET,
+            ALL,
+            RUNS,
+            JSON,
+            OLD_HASH_OFFSET,
+            HASH_OFFSET,
+            OLD_ROOT_HASH_FILE,
+            ROOT_HASH_FILE,
+            OLD_PIN,
+            PIN,
+        ],
     },
     CommandRow {
         name: "manual",
-        options: &[],
+        options: &[QUIET],
     },
     CommandRow {
         name: "version",
-        options: &[],
+        options: &[QUIET],
     },
 ];

@@ -7,7 +7,8 @@ ghost use Rattle.command_parser.specs.Grammar.{command_text, option_text};
 ghost use Rattle.command_parser.specs.Unread.{command_named, ends_options, is_repeated, lacks_value, names_option, option_fault, option_misuse, repeated_option, takes_next, unread_argument, wrong_option};
 
 use crate::option_names::{gives_value, option_of};
-use crate::rows::{COMMANDS, CommandRow, OptionRow};
+use crate::option_rows::OptionRow;
+use crate::rows::{COMMANDS, CommandRow};
 use command_line::{Cause, Misuse, is_option};
 
 /// The first option that the command doesn't have, whose value is missing or that takes none, or one that is given twice. No

@@ -1,6 +1,8 @@
 -- Worked texts: what they say, or their first fault.
 use Rattle.std.proofs.Common.{◌≡◌, ℕ, Bool, List, [], ◌∷◌, ◌++◌, replicate, refl, codes, true, false, Ok, Err, Result}
 use Rattle.hex.specs.Hex.{decode_pairs}
+use Rattle.dm_table.specs.declared.verity.CorruptionMode.{CorruptionMode}
+use Rattle.dm_table.specs.declared.verity.CorruptionMode.TheVariants.{Fail, Panic, Restart}
 use Rattle.dm_table.specs.declared.crypt.Crypt.{Crypt}
 use Rattle.dm_table.specs.declared.table.Base.{Base}
 use Rattle.dm_table.specs.declared.table.Line.{Line}
@@ -109,13 +111,26 @@ crypt_faults = (refl, refl, refl, refl, refl, refl, refl, refl, refl, refl, refl
 -- a `verity` line
 abbrev verity_line : List ℕ → Bool → Line
 verity_line salt ignores =
-    line 0 8 (verity_target (record { «data» = codes "D"; hash = codes "/dev/mapper/t"; data_block = 4096; hash_block = 512; blocks = 1; start = 3; root = replicate 32 171; salt = salt; ignore_zero_blocks = ignores }))
+    line 0 8 (verity_target (record { «data» = codes "D"; hash = codes "/dev/mapper/t"; data_block = 4096; hash_block = 512; blocks = 1; start = 3; root = replicate 32 171; salt = salt; ignore_zero_blocks = ignores; corruption = Fail; in_tasklet = false }))
+
+abbrev verity_line_in : CorruptionMode → Bool → Line
+verity_line_in mode tasklet =
+    line 0 8 (verity_target (record { «data» = codes "D"; hash = codes "/dev/mapper/t"; data_block = 4096; hash_block = 512; blocks = 1; start = 3; root = replicate 32 171; salt = []; ignore_zero_blocks = false; corruption = mode; in_tasklet = tasklet }))
 
 verity_tables : (table_of (codes "0 8 verity 01 D /dev/mapper/t 4096 0512 1 03 sha256 abABabABabABabABabABabABabABabABabABabABabABabABabABabABabABabAB -") ≡ Ok (verity_line [] false ∷ []))
     × (table_of (codes "0 8 verity 1 D /dev/mapper/t 4096 512 1 3 sha256 abABabABabABabABabABabABabABabABabABabABabABabABabABabABabABabAB 0a0B 0") ≡ Ok (verity_line (10 ∷ 11 ∷ []) false ∷ []))
     × (table_of (codes "0 8 verity 1 D /dev/mapper/t 4096 512 1 3 sha256 abABabABabABabABabABabABabABabABabABabABabABabABabABabABabABabAB - 01 ignore_zero_blocks") ≡ Ok (verity_line [] true ∷ []))
 unfolding table_of text_lines words number is_mapped_name is_device line_of target_at verity_at salt_at bytes_at decode_pairs options_at known_at
 verity_tables = (refl, refl, refl)
+
+-- the words that are for the kernel alone; at most one of them for corruption
+verity_words : (table_of (codes "0 8 verity 1 D /dev/mapper/t 4096 512 1 3 sha256 abABabABabABabABabABabABabABabABabABabABabABabABabABabABabABabAB - 1 panic_on_corruption") ≡ Ok (verity_line_in Panic false ∷ []))
+    × (table_of (codes "0 8 verity 1 D /dev/mapper/t 4096 512 1 3 sha256 abABabABabABabABabABabABabABabABabABabABabABabABabABabABabABabAB - 2 try_verify_in_tasklet restart_on_corruption") ≡ Ok (verity_line_in Restart true ∷ []))
+    × (table_of (codes "0 8 verity 1 D /dev/mapper/t 4096 512 1 3 sha256 abABabABabABabABabABabABabABabABabABabABabABabABabABabABabABabAB - 2 restart_on_corruption panic_on_corruption") ≡ first_fault kinds.Option)
+    × (table_of (codes "0 8 verity 1 D /dev/mapper/t 4096 512 1 3 sha256 abABabABabABabABabABabABabABabABabABabABabABabABabABabABabABabAB - 1 ignore_corruption") ≡ first_fault kinds.Option)
+    × (table_of (codes "0 8 verity 1 D /dev/mapper/t 4096 512 1 3 sha256 abABabABabABabABabABabABabABabABabABabABabABabABabABabABabABabAB - 1 check_at_most_once") ≡ first_fault kinds.Option)
+unfolding table_of text_lines words number is_mapped_name is_device line_of target_at verity_at salt_at bytes_at decode_pairs options_at known_at option_name
+verity_words = (refl, refl, refl, refl, refl)
 
 -- a `verity` line at each fault, with faults behind it
 verity_faults : (table_of (codes "0 8 verity 2 a,b a,b x x x x x x") ≡ first_fault kinds.ArgCount)

@@ -1,10 +1,12 @@
 -- The arguments of a `verity` line, as documented on the kernel's dm-verity page.
-use Rattle.std.specs.Prelude.{◌≡◌, ℕ, ◌/◌, ◌^◌, ◌<◌, ◌≤◌, Bool, true, false, ◌&&◌, ◌==◌, nat_le, IsTrue, if◌then◌else◌, List, [], ◌∷◌, length, codes, Ok, Err, ok_or}
+use Rattle.std.specs.Prelude.{◌≡◌, ℕ, ◌/◌, ◌^◌, ◌<◌, ◌≤◌, Bool, true, false, ◌&&◌, ◌==◌, nat_le, IsTrue, if◌then◌else◌, List, [], ◌∷◌, ◌++◌, length, codes, Ok, Err, ok_or}
 use Rattle.std.specs.Str.{bytes_eq}
 use Rattle.hex.specs.Hex.{IsBytes}
 use Rattle.tree_shape.specs.declared.algorithm.Algorithm.{Algorithm}
 use Rattle.tree_shape.specs.Algorithms.{algorithm_named}
 use Rattle.tree_shape.specs.Shape.{is_block_size}
+use Rattle.dm_table.specs.declared.verity.CorruptionMode.{CorruptionMode}
+use Rattle.dm_table.specs.declared.verity.CorruptionMode.TheVariants.{Fail, Panic, Restart}
 use Rattle.dm_table.specs.declared.verity.Verity.{Verity}
 use Rattle.dm_table.specs.declared.fault.TextKind.TheVariants as kinds
 use Rattle.dm_table.specs.Words.{Word}
@@ -40,10 +42,40 @@ salt_at word =
 abbrev pub ignore_zero_blocks : Word
 ignore_zero_blocks = codes "ignore_zero_blocks"
 
--- the options known with and without `ignore_zero_blocks`
-abbrev pub verity_options : Bool → List Word
-verity_options true = ignore_zero_blocks ∷ []
-verity_options false = []
+-- words for the kernel alone: what it does after corruption, and where it verifies
+abbrev pub restart_on_corruption : Word
+restart_on_corruption = codes "restart_on_corruption"
+
+abbrev pub panic_on_corruption : Word
+panic_on_corruption = codes "panic_on_corruption"
+
+abbrev pub try_verify_in_tasklet : Word
+try_verify_in_tasklet = codes "try_verify_in_tasklet"
+
+abbrev pub known_verity_options : List Word
+known_verity_options = ignore_zero_blocks ∷ restart_on_corruption ∷ panic_on_corruption ∷ try_verify_in_tasklet ∷ []
+
+-- at most one of the words for corruption
+abbrev pub corruption_at : List Word → Read CorruptionMode
+corruption_at options =
+    if is_one_of restart_on_corruption options
+    then (if is_one_of panic_on_corruption options then Err kinds.Option else Ok Restart)
+    else (if is_one_of panic_on_corruption options then Ok Panic else Ok Fail)
+
+-- the option for a mode, if it has one
+abbrev pub corruption_words : CorruptionMode → List Word
+corruption_words Fail = []
+corruption_words Restart = restart_on_corruption ∷ []
+corruption_words Panic = panic_on_corruption ∷ []
+
+-- the word if the flag is set
+abbrev pub word_if : Bool → Word → List Word
+word_if true word = word ∷ []
+word_if false word = []
+
+-- the options of a line, in the order in which the kernel prints them
+abbrev pub verity_options : Verity → List Word
+verity_options verity = corruption_words verity.corruption ++ word_if verity.ignore_zero_blocks ignore_zero_blocks ++ word_if verity.in_tasklet try_verify_in_tasklet
 
 -- `<version> <dev> <hash_dev> <data_block_size> <hash_block_size> <num_data_blocks> <hash_start_block> <algorithm> <digest> <salt> [<#opt_params> <opt_params>]`
 unfoldable pub verity_at : List Word → Read Verity
@@ -58,8 +90,9 @@ verity_at (version ∷ dev ∷ hash_dev ∷ data_size ∷ hash_size ∷ count �
   known ← algorithm_at algorithm
   root ← digest_at digest
   salt ← salt_at digits
-  options ← options_at (verity_options true) params
-  Ok (record { «data» = below; hash = hash; data_block = data_block; hash_block = hash_block; blocks = blocks; start = start; root = root; salt = salt; ignore_zero_blocks = is_one_of ignore_zero_blocks options })
+  options ← options_at known_verity_options params
+  corruption ← corruption_at options
+  Ok (record { «data» = below; hash = hash; data_block = data_block; hash_block = hash_block; blocks = blocks; start = start; root = root; salt = salt; ignore_zero_blocks = is_one_of ignore_zero_blocks options; corruption = corruption; in_tasklet = is_one_of try_verify_in_tasklet options })
 verity_at words = Err kinds.ArgCount
 
 -- two device arguments

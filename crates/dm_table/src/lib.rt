@@ -19,4 +19,4 @@ pub use crate::stack::{Entry, StackText};
 pub use crate::table::{Base, Bases, Line, Name, Table, Target};
 pub use crate::target_type::TargetType;
 pub use crate::unstriped::Unstriped;
-pub use crate::verity::Verity;
+pub use crate::verity::{CorruptionMode, Verity};

@@ -8,6 +8,18 @@ use allocation::OutOfMemory;
 use std::alloc::Global;
 use tree_shape::{Digest, Salt};
 
+/// What the kernel does when a block fails verification, in addition to failing the read. No option changes a byte that is
+/// read.
+#[derive(Clone, Copy, Debug, PartialEq, Eq)]
+pub enum CorruptionMode {
+    /// Without an option: nothing more.
+    Fail,
+    /// `restart_on_corruption`: it restarts the system.
+    Restart,
+    /// `panic_on_corruption`: it panics.
+    Panic,
+}
+
 /// Blocks of one device, verified with a hash tree on another.
 #[derive(Drop)]
 pub struct Verity {
@@ -29,6 +41,9 @@ pub struct Verity {
     /// `ignore_zero_blocks`: a data block whose digest is that of a block of zeros is returned as zeros without being
     /// read.
     pub ignore_zero_blocks: bool,
+    pub corruption: CorruptionMode,
+    /// `try_verify_in_tasklet`: the kernel verifies kept hash blocks in a tasklet. It changes no byte that is read.
+    pub in_tasklet: bool,
 }
 
 impl Verity {
@@ -51,6 +66,8 @@ impl Verity {
             root: self.root,
             salt: self.salt,
             ignore_zero_blocks: self.ignore_zero_blocks,
+            corruption: self.corruption,
+            in_tasklet: self.in_tasklet,
         })
     }
 }

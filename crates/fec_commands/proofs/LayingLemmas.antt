@@ -10,9 +10,9 @@ use Rattle.tree_shape.specs.Shape.{ShapeRecord}
 use Rattle.verity_format.specs.Image.{data_sectors}
 use Rattle.fec_commands.specs.declared.fault.FecFault.{FecFault}
 use Rattle.fec_commands.specs.declared.image.LaidTree.{LaidTree}
-use Rattle.image_commands.specs.declared.finding.NoTree.{NoTree}
-use Rattle.image_commands.specs.declared.finding.NoTree.TheVariants.{Unaligned, Unpinned, Unread}
-use Rattle.image_commands.specs.Finding.{IsNoTree}
+use Rattle.image_pin.specs.declared.finding.NoTree.{NoTree}
+use Rattle.image_pin.specs.declared.finding.NoTree.TheVariants.{Unaligned, Unpinned, Unread}
+use Rattle.image_pin.specs.Finding.{IsNoTree}
 use Rattle.image_pin.specs.declared.pin.Pin.{Pin}
 use Rattle.fec_commands.specs.FecFaults.{no_tree}
 use Rattle.fec_commands.specs.Layings.{IsLayoutEnd, LaysOut}

@@ -1,15 +1,19 @@
 -- The parts of an image in files that are open, and parity across them once they were read.
-use Rattle.std.proofs.Common.{◌≡◌, ◌+◌, ◌*◌, ◌/◌, ◌≤◌, ℕ, Option, ap, ◌∙◌, arith}
+use Rattle.std.proofs.Common.{◌≡◌, ◌+◌, ◌*◌, ◌/◌, ◌≤◌, ℕ, Bool, List, Option, ap, ◌∙◌, arith, inl, inr}
 use Rattle.block_device.specs.Device.{Device}
 use Rattle.command_line.specs.words.FecVerify.{FecVerifyRecord}
+use Rattle.device_adapters.specs.declared.part.Part.{Part}
+use Rattle.device_adapters.specs.Windows.{windowed}
 use Rattle.fec_area.specs.declared.layout.Layout.{Layout}
 use Rattle.fec_area.specs.Layouts.{IsLaidOn}
-use Rattle.image_commands.specs.Places.{before, behind}
+use Rattle.image_commands.specs.Places.{IsPartState, before, behind}
 use Rattle.image_pin.specs.declared.pin.Pin.{Pin}
 use Rattle.verity_format.specs.Blocks.{IsOnlyRead}
+use Rattle.fec_commands.specs.declared.fault.FecFault.{FecFault}
+use Rattle.fec_commands.specs.declared.fault.FecFault.TheVariants.{BlockSizes, Differs, Parity, Verity}
 use Rattle.fec_commands.specs.declared.image.ThreeImages.{ThreeImages}
 use Rattle.fec_commands.specs.Images.{three_data_end}
-use Rattle.fec_commands.specs.Verifying.{Parts, parts_of}
+use Rattle.fec_commands.specs.Verifying.{IsParityEnd, IsStateOf, IsUnmeasured, Parts, parts_of}
 
 pub parts-are : {D : Type 0} (state : D → Device) (three : ThreeImages D) (v : FecVerifyRecord) (pin : Option Pin) (d h : Device) (first end : ℕ) → d ≡ before (state three.«data».device) end → h ≡ behind (state three.hash.device) first
     → end ≡ three_data_end three first → first ≡ v.verify.hash_offset / 512
@@ -28,3 +32,30 @@ laid-after l d h d' h' data_read hash_read laid = record {
   data_room = omega (arith, data_read.same.size, laid.data_room);
   hash_room = omega (arith, hash_read.same.size, laid.hash_room);
 }
+
+-- states of windows of devices, of the type of `window`, are parts of these devices
+module _ {D W : Type 0} (window : W) (inner : W → D) (part : W → Part) (state : D → Device) where
+  part-inner : (device : Device) → IsStateOf (λ w. windowed (state (inner w)) (part w)) device → IsPartState state device
+  part-inner device left = (inner left.0, (part left.0, left.1))
+
+  pub unmeasured-inner : (p : Parts) (fault : FecFault) → IsUnmeasured (IsStateOf (λ w. windowed (state (inner w)) (part w))) p fault → IsUnmeasured (IsPartState state) p fault
+  unmeasured-inner p fault (inl none) = inl (none.0, part-inner none.0 none.1, none.2)
+  unmeasured-inner p fault (inr short) =
+      inr (record { laid = short.laid; read_dev = short.read_dev; left = part-inner short.read_dev short.left; lays = short.lays; short = short.short; is = short.is })
+
+  pub parity_end-inner : (Parity' : Device → Type 0) (l : Layout) (d h parity : Device) (old new : Option (List ℕ)) (failed : Bool) (fault : FecFault)
+      → IsParityEnd (IsStateOf (λ w. windowed (state (inner w)) (part w))) (IsStateOf (λ w. windowed (state (inner w)) (part w))) Parity' l d h parity old new failed fault
+      → IsParityEnd (IsPartState state) (IsPartState state) Parity' l d h parity old new failed fault
+  parity_end-inner Parity' l d h parity old new failed (Parity cause) end = (
+    record {
+      data_dev' = end.0.data_dev';
+      hash_dev' = end.0.hash_dev';
+      parity_dev' = end.0.parity_dev';
+      left = (part-inner end.0.data_dev' end.0.left.0, part-inner end.0.hash_dev' end.0.left.1, end.0.left.2);
+      fails = end.0.fails;
+    },
+    end.1,
+  )
+  parity_end-inner Parity' l d h parity old new failed (Differs round) end = end
+  parity_end-inner Parity' l d h parity old new failed BlockSizes end = end
+  parity_end-inner Parity' l d h parity old new failed (Verity fault) end = end

@@ -1,7 +1,7 @@
 -- Faults of the commands on images with parity that are those of images.
 use Rattle.image_commands.specs.declared.fault.ImageFault.{ImageFault}
 use Rattle.image_commands.specs.declared.fault.ImageFault.TheVariants as image
-use Rattle.image_commands.specs.declared.finding.NoTree.{NoTree}
+use Rattle.image_pin.specs.declared.finding.NoTree.{NoTree}
 use Rattle.image_commands.specs.Finding.{no_tree_fault}
 use Rattle.image_files.specs.declared.opening.UnopenedFile.{UnopenedFile}
 use Rattle.verity_commands.specs.declared.verity_fault.VerityFault.{VerityFault}

@@ -4,8 +4,8 @@ use Rattle.block_device.specs.Device.{Device}
 use Rattle.fec_area.specs.Layouts.{IsLaidOn, IsLayoutOf}
 use Rattle.image_commands.specs.declared.fault.ImageFault.{ImageFault}
 use Rattle.image_commands.specs.declared.fault.ImageFault.TheVariants.{Unaligned, Unpinned, Verify}
-use Rattle.image_commands.specs.Finding.{IsTreeUnaligned, ReadsSuper}
-use Rattle.image_pin.specs.PinnedReads.{ReadsUnpinned}
+use Rattle.image_pin.specs.declared.finding.NoTree.TheVariants as no_tree
+use Rattle.image_pin.specs.Finding.{IsNoTree, ReadsSuper}
 use Rattle.image_pin.specs.declared.pin.Pin.{Pin}
 use Rattle.verity_commands.specs.Endings.{IsImageEnd}
 use Rattle.verity_format.specs.declared.verifying.VerifyFault.{VerifyFault}
@@ -14,7 +14,6 @@ use Rattle.verity_format.specs.Blocks.{IsFullRead}
 use Rattle.verity_format.specs.Image.{data_sectors}
 use Rattle.verity_format.specs.Superblock.{SuperRecord, shape_of}
 use Rattle.verity_format.specs.Trees.{superblock_tree}
-use Rattle.verity_format.specs.Verifying.{IsReadCause}
 use Rattle.fec_commands.specs.declared.fault.FecFault.{FecFault}
 use Rattle.fec_commands.specs.declared.fault.FecFault.TheVariants.{BlockSizes, Differs, Parity, Verity}
 use Rattle.fec_commands.specs.declared.image.LaidTree.{LaidTree}
@@ -52,9 +51,9 @@ pub record HasOtherSizes (hash_dev : Device) (first : ℕ) (pin : Option Pin) : 
 -- the superblock couldn't be read, is invalid, has more data than there are, differs from the pin, or no hash block can begin
 -- there
 abbrev pub IsSuperUnread : Device → Device → ℕ → Option Pin → Device → ImageFault → Type 0
-IsSuperUnread data_dev hash_dev first pin hash_dev' (Verify fault) = IsReadCause hash_dev hash_dev' fault ⊎ AreDataShort data_dev hash_dev first pin fault
-IsSuperUnread data_dev hash_dev first pin hash_dev' Unaligned = IsTreeUnaligned hash_dev first pin
-IsSuperUnread data_dev hash_dev first pin hash_dev' (Unpinned mismatch) = ReadsUnpinned hash_dev pin hash_dev' mismatch
+IsSuperUnread data_dev hash_dev first pin hash_dev' (Verify fault) = IsNoTree hash_dev first pin hash_dev' (no_tree.Unread fault) ⊎ AreDataShort data_dev hash_dev first pin fault
+IsSuperUnread data_dev hash_dev first pin hash_dev' Unaligned = IsNoTree hash_dev first pin hash_dev' no_tree.Unaligned
+IsSuperUnread data_dev hash_dev first pin hash_dev' (Unpinned mismatch) = IsNoTree hash_dev first pin hash_dev' (no_tree.Unpinned mismatch)
 IsSuperUnread data_dev hash_dev first pin hash_dev' fault = ⊥
 
 -- why there is no layout

@@ -6,6 +6,7 @@ use Rattle.command_line.specs.declared.words.fec_verify.FecVerifyWords.{FecVerif
 use Rattle.command_line.specs.words.FecVerify.{FecVerifyRecord, fec_verify_record}
 use Rattle.program_io.specs.Counted.{CountedRecord}
 use Rattle.fec_area.specs.declared.layout.Layout.{Layout}
+use Rattle.fec_area.specs.declared.writing.ParityFault.{ParityFault}
 use Rattle.fec_area.specs.declared.writing.ParityFault.TheVariants.{TooSmall}
 use Rattle.fec_area.specs.Checking.{IsCheckCause, IsChecked}
 use Rattle.fec_area.specs.Layouts.{parity_sectors}
@@ -15,7 +16,7 @@ use Rattle.image_commands.specs.declared.fault.ImageFault.{ImageFault}
 use Rattle.image_pin.specs.declared.trusted.TrustedRoot.{TrustedRoot}
 use Rattle.image_commands.specs.Comparing.{IsComparedEnd}
 use Rattle.image_commands.specs.Endings.{IsQuiet}
-use Rattle.image_commands.specs.Places.{before, behind, tree_start}
+use Rattle.image_commands.specs.Places.{IsPartState, before, behind, tree_start}
 use Rattle.image_pin.specs.declared.pin.Pin.{Pin}
 use Rattle.verity_commands.specs.declared.verity_fault.VerityFault.TheVariants.{Image}
 use Rattle.verity_commands.specs.Endings.{IsVerityQuiet}
@@ -30,7 +31,12 @@ use Rattle.fec_commands.specs.FecFaults.{unwritten}
 use Rattle.fec_commands.specs.Images.{three_data_end}
 use Rattle.fec_commands.specs.Layings.{IsLayoutEnd, LaysOut}
 
--- ---- the parts of an image, the device of its parity, and the pin
+-- ---- The parts of an image, the device of its parity, and the pin. `Data`, `Hash` and `ParityDev` hold of what calls left: states of devices
+-- of their types, or parts of them.
+
+-- a state of a device of this type
+abbrev pub IsStateOf : {D : Type 0} → (D → Device) → Device → Type 0
+IsStateOf {D} state device = (d : D) × (device ≡ state d)
 
 pub record Parts : Type 0 where
   pub data_dev : Device
@@ -46,61 +52,71 @@ pub record Measures (p : Parts) (read_dev : Device) (laid : LaidTree) : Type 0 w
   pub room : parity_sectors laid.layout ≤ p.parity_dev.size
 
 -- the parity device has too few sectors
-pub record IsParityShort (p : Parts) (fault : FecFault) : Type 0 where
+pub record IsParityShort (Hash : Device → Type 0) (p : Parts) (fault : FecFault) : Type 0 where
   pub laid : LaidTree
   pub read_dev : Device
+  pub left : Hash read_dev
   pub lays : LaysOut p.data_dev p.hash_dev p.first p.pin p.roots read_dev laid
   pub short : p.parity_dev.size < parity_sectors laid.layout
   pub is : fault ≡ Parity (TooSmall (parity_sectors laid.layout))
 
 -- the parity device is too small, or there is no layout
-abbrev pub IsUnmeasured : Parts → FecFault → Type 0
-IsUnmeasured p fault = ((read_dev : Device) × IsLayoutEnd p.data_dev p.hash_dev p.first p.pin read_dev fault) ⊎ IsParityShort p fault
+abbrev pub IsUnmeasured : (Device → Type 0) → Parts → FecFault → Type 0
+IsUnmeasured Hash p fault = ((read_dev : Device) × Hash read_dev × IsLayoutEnd p.data_dev p.hash_dev p.first p.pin read_dev fault) ⊎ IsParityShort Hash p fault
 
 -- the parity is that of the image, and this is printed
 pub record ChecksParity (l : Layout) (data_dev hash_dev parity_dev : Device) (old new : Option (List ℕ)) : Type 0 where
   pub checked : IsChecked l data_dev hash_dev parity_dev None
   pub printed : Appends old new (codes "parity ok\n")
 
+-- the parity couldn't be compared
+pub record FailsToCheck (Data Hash ParityDev : Device → Type 0) (l : Layout) (data_dev hash_dev parity_dev : Device) (cause : ParityFault) : Type 0 where
+  pub data_dev' : Device
+  pub hash_dev' : Device
+  pub parity_dev' : Device
+  pub left : Data data_dev' × Hash hash_dev' × ParityDev parity_dev'
+  pub fails : IsCheckCause l data_dev hash_dev parity_dev data_dev' hash_dev' parity_dev' cause
+
 -- the parity couldn't be compared, or differs from that round on, and nothing was printed; or the line can't be written
-abbrev pub IsParityEnd : Layout → Device → Device → Device → Option (List ℕ) → Option (List ℕ) → Bool → FecFault → Type 0
-IsParityEnd l data_dev hash_dev parity_dev old new failed (Parity cause) =
-    ((data_dev' : Device) × ((hash_dev' : Device) × ((parity_dev' : Device) × IsCheckCause l data_dev hash_dev parity_dev data_dev' hash_dev' parity_dev' cause))) × (new ≡ old)
-IsParityEnd l data_dev hash_dev parity_dev old new failed (Differs round) = IsChecked l data_dev hash_dev parity_dev (Some round) × (new ≡ old)
-IsParityEnd l data_dev hash_dev parity_dev old new failed fault = IsChecked l data_dev hash_dev parity_dev None × ((failed ≡ true) × (fault ≡ unwritten))
+abbrev pub IsParityEnd : (Data Hash ParityDev : Device → Type 0) → Layout → Device → Device → Device → Option (List ℕ) → Option (List ℕ) → Bool → FecFault → Type 0
+IsParityEnd Data Hash ParityDev l data_dev hash_dev parity_dev old new failed (Parity cause) = FailsToCheck Data Hash ParityDev l data_dev hash_dev parity_dev cause × (new ≡ old)
+IsParityEnd Data Hash ParityDev l data_dev hash_dev parity_dev old new failed (Differs round) = IsChecked l data_dev hash_dev parity_dev (Some round) × (new ≡ old)
+IsParityEnd Data Hash ParityDev l data_dev hash_dev parity_dev old new failed fault = IsChecked l data_dev hash_dev parity_dev None × ((failed ≡ true) × (fault ≡ unwritten))
 
 -- the superblock's tree with that root hash matches the data, and this is printed
-pub record MatchesLaid (p : Parts) (root : List ℕ) (old new : Option (List ℕ)) : Type 0 where
+pub record MatchesLaid (Data Hash : Device → Type 0) (p : Parts) (root : List ℕ) (old new : Option (List ℕ)) : Type 0 where
   pub laid : LaidTree
   pub read_dev : Device
   pub data_dev' : Device
   pub hash_dev' : Device
+  pub left : Hash read_dev × Data data_dev' × Hash hash_dev'
   pub measures : Measures p read_dev laid
   pub found : IsTreeFound laid.tree.shape laid.tree.salt p.data_dev read_dev data_dev' hash_dev' root Matches
   pub printed : Appends old new (codes "matches\n")
 
 -- the tree doesn't match, or this isn't known or printed
-pub record EndsComparing (p : Parts) (root : List ℕ) (old new : Option (List ℕ)) (failed : Bool) (fault : FecFault) : Type 0 where
+pub record EndsComparing (Data Hash : Device → Type 0) (p : Parts) (root : List ℕ) (old new : Option (List ℕ)) (failed : Bool) (fault : FecFault) : Type 0 where
   pub cause : ImageFault
   pub laid : LaidTree
   pub read_dev : Device
   pub data_dev' : Device
   pub hash_dev' : Device
+  pub left : Hash read_dev × Data data_dev' × Hash hash_dev'
   pub measures : Measures p read_dev laid
   pub ends : IsComparedEnd laid.tree (tree_start p.first laid.tree.shape.hash_block 0) p.data_dev read_dev data_dev' hash_dev' root failed cause
   pub is : fault ≡ Verity (Image cause)
   pub quiet : IsQuiet cause old new
 
 -- the tree matches, and the parity isn't that of the image, or couldn't be compared
-pub record EndsChecking (p : Parts) (root : List ℕ) (old new : Option (List ℕ)) (failed : Bool) (fault : FecFault) : Type 0 where
+pub record EndsChecking (Data Hash ParityDev : Device → Type 0) (p : Parts) (root : List ℕ) (old new : Option (List ℕ)) (failed : Bool) (fault : FecFault) : Type 0 where
   pub between : Option (List ℕ)
-  pub matches : MatchesLaid p root old between
-  pub ends : IsParityEnd matches.laid.layout matches.data_dev' matches.hash_dev' p.parity_dev between new failed fault
+  pub matches : MatchesLaid Data Hash p root old between
+  pub ends : IsParityEnd Data Hash ParityDev matches.laid.layout matches.data_dev' matches.hash_dev' p.parity_dev between new failed fault
 
 -- the tree and the parity match
-pub record VerifiesParts (p : Parts) (root : List ℕ) (old new : Option (List ℕ)) : Type 0 where
+pub record VerifiesParts (Data Hash : Device → Type 0) (p : Parts) (root : List ℕ) (old new : Option (List ℕ)) : Type 0 where
   pub told : Option (List ℕ)
-  pub matches : MatchesLaid p root old told
+  pub matches : MatchesLaid Data Hash p root old told
   pub checks : ChecksParity matches.laid.layout matches.data_dev' matches.hash_dev' p.parity_dev told new
 
 -- ---- open files; the arguments, a file or a pin give the root hash, which is read before the superblock
@@ -120,7 +136,7 @@ parts_of state three v pin =
 pub record VerifiesThree {S D : Type 0} (w : Calls S D) (three : ThreeImages D) (v : FecVerifyRecord) (old new : Option (List ℕ)) : Type 0 where
   pub trusted : TrustedRoot
   pub told : TellsTrusted w v.verify.root trusted
-  pub verifies : VerifiesParts (parts_of w.state three v trusted.pin) trusted.root old new
+  pub verifies : VerifiesParts (IsPartState w.state) (IsPartState w.state) (parts_of w.state three v trusted.pin) trusted.root old new
 
 -- there is no root hash, or no pin
 pub record EndsUnrooted {S D : Type 0} (w : Calls S D) (v : FecVerifyRecord) (fault : FecFault) : Type 0 where
@@ -130,13 +146,14 @@ pub record EndsUnrooted {S D : Type 0} (w : Calls S D) (v : FecVerifyRecord) (fa
 
 -- There is no layout, or no room for the parity, and nothing was printed; or the image isn't the one with this root hash, or
 -- couldn't be compared; or it is, which is printed, and its parity isn't, or couldn't be compared.
-abbrev pub IsPartsEnd : Parts → List ℕ → Option (List ℕ) → Option (List ℕ) → Bool → FecFault → Type 0
-IsPartsEnd p root old new failed fault = (IsUnmeasured p fault × (new ≡ old)) ⊎ (EndsComparing p root old new failed fault ⊎ EndsChecking p root old new failed fault)
+abbrev pub IsPartsEnd : (Data Hash ParityDev : Device → Type 0) → Parts → List ℕ → Option (List ℕ) → Option (List ℕ) → Bool → FecFault → Type 0
+IsPartsEnd Data Hash ParityDev p root old new failed fault =
+    (IsUnmeasured Hash p fault × (new ≡ old)) ⊎ (EndsComparing Data Hash p root old new failed fault ⊎ EndsChecking Data Hash ParityDev p root old new failed fault)
 
 pub record EndsRooted {S D : Type 0} (w : Calls S D) (three : ThreeImages D) (v : FecVerifyRecord) (old new : Option (List ℕ)) (failed : Bool) (fault : FecFault) : Type 0 where
   pub trusted : TrustedRoot
   pub told : TellsTrusted w v.verify.root trusted
-  pub ends : IsPartsEnd (parts_of w.state three v trusted.pin) trusted.root old new failed fault
+  pub ends : IsPartsEnd (IsPartState w.state) (IsPartState w.state) (IsStateOf w.state) (parts_of w.state three v trusted.pin) trusted.root old new failed fault
 
 -- there is no root hash, and nothing was printed; or the command ended later
 abbrev pub IsVerifyThreeEnd : {S D : Type 0} → Calls S D → ThreeImages D → FecVerifyRecord → Option (List ℕ) → Option (List ℕ) → Bool → FecFault → Type 0
@@ -158,7 +175,7 @@ abbrev pub MeasuresBy : {D H P : Type 0} → (D → Device) → (H → Device) �
 MeasuresBy data_state hash_state parity_state d h p first pin roots h' = Measures (parts_by data_state hash_state parity_state d h p first pin roots) (hash_state h')
 
 abbrev pub IsUnmeasuredBy : {D H P : Type 0} → (D → Device) → (H → Device) → (P → Device) → D → H → P → ℕ → Option Pin → ℕ → FecFault → Type 0
-IsUnmeasuredBy data_state hash_state parity_state d h p first pin roots = IsUnmeasured (parts_by data_state hash_state parity_state d h p first pin roots)
+IsUnmeasuredBy data_state hash_state parity_state d h p first pin roots = IsUnmeasured (IsStateOf hash_state) (parts_by data_state hash_state parity_state d h p first pin roots)
 
 abbrev pub PrintsParity : {D H P W : Type 0} → Layout → (D → Device) → (H → Device) → (P → Device) → ImagePair D H → P → (W → Option (List ℕ)) → CountedRecord W → CountedRecord W → Type 0
 PrintsParity l data_state hash_state parity_state two parity contents writer writer' =
@@ -166,7 +183,7 @@ PrintsParity l data_state hash_state parity_state two parity contents writer wri
 
 abbrev pub FailsToCheckParity : {D H P W : Type 0} → Layout → (D → Device) → (H → Device) → (P → Device) → ImagePair D H → P → (W → Option (List ℕ)) → CountedRecord W → CountedRecord W → FecFault → Type 0
 FailsToCheckParity l data_state hash_state parity_state two parity contents writer writer' =
-    IsParityEnd l (data_state two.«data») (hash_state two.hash) (parity_state parity) (contents writer.inner) (contents writer'.inner) writer'.failed
+    IsParityEnd (IsStateOf data_state) (IsStateOf hash_state) (IsStateOf parity_state) l (data_state two.«data») (hash_state two.hash) (parity_state parity) (contents writer.inner) (contents writer'.inner) writer'.failed
 
 abbrev pub VerifiesOpen : {S D W : Type 0} → Opener S D → (D → Device) → S → S → ThreeImages D → FecVerifyWords → (W → Option (List ℕ)) → CountedRecord W → CountedRecord W → Type 0
 VerifiesOpen relations state old new three words contents writer writer' =

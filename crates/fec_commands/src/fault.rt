@@ -3,8 +3,9 @@ ghost use Rattle.std.specs.Prelude.{◌≡◌};
 ghost use Rattle.fec_commands.specs.declared.fault.FecFault.TheVariants as fec_fault;
 
 use fec_area::ParityFault;
-use image_commands::{ImageFault, NoTree};
+use image_commands::ImageFault;
 use image_files::UnopenedFile;
+use image_pin::NoTree;
 use program_io::WriteFault;
 use verity_commands::VerityFault;
 

@@ -9,9 +9,9 @@ use crate::fault::FecFault;
 use block_device::{BlockDev, FileId};
 use command_line::FecFile;
 use fec_area::Layout;
-use image_commands::{ImageFault, ImagePlaces, find_tree};
+use image_commands::{ImageFault, ImagePlaces};
 use image_files::{FileUse, Images, OpenImage, UnopenedFile, is_one_file, open_apart, open_image};
-use image_pin::Pin;
+use image_pin::{Pin, find_tree};
 use verity_commands::VerityFault;
 use verity_format::{VerifyFault, VerityTree, data_sectors};
 

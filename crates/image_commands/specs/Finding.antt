@@ -1,56 +1,8 @@
--- The superblock of a hash image that begins at a sector of its file, and the tree after it.
-use Rattle.std.specs.Prelude.{◌≡◌, ◌⊎◌, ℕ, Bool, true, false, List, Option, Some, None}
-use Rattle.block_device.specs.Device.{Device}
-use Rattle.image_pin.specs.declared.mismatch.Mismatch.{Mismatch}
-use Rattle.image_pin.specs.declared.pin.Pin.{Pin}
-use Rattle.image_pin.specs.declared.pinned.PinnedFault.{PinnedFault}
-use Rattle.image_pin.specs.declared.pinned.PinnedFault.TheVariants as pinned
-use Rattle.image_pin.specs.PinnedReads.{ReadsUnpinned, mismatch_of}
-use Rattle.verity_format.specs.Superblock.{SuperRecord}
-use Rattle.verity_format.specs.Verifying.{IsReadCause, IsReadFrom}
+-- How a command ends that finds no tree.
+use Rattle.image_pin.specs.declared.finding.NoTree.{NoTree}
+use Rattle.image_pin.specs.declared.finding.NoTree.TheVariants.{Unaligned, Unpinned, Unread}
 use Rattle.image_commands.specs.declared.fault.ImageFault.{ImageFault}
 use Rattle.image_commands.specs.declared.fault.ImageFault.TheVariants as image_fault
-use Rattle.image_commands.specs.declared.finding.NoTree.{NoTree}
-use Rattle.image_commands.specs.declared.finding.NoTree.TheVariants.{Unaligned, Unpinned, Unread}
-use Rattle.image_commands.specs.Places.{is_aligned}
-
--- a tree of the pin may begin at that sector
-abbrev pub may_begin : Option Pin → ℕ → Bool
-may_begin None first = true
-may_begin (Some pin) first = is_aligned first pin.hash_block
-
--- the superblock was read, it has the values of the pin, if there is one, and a hash block begins at its sector
-pub record ReadsSuper (hash_dev : Device) (first : ℕ) (pin : Option Pin) (super : SuperRecord) : Type 0 where
-  pub sector : List ℕ
-  pub read : IsReadFrom hash_dev sector super
-  pub pinned : mismatch_of pin super ≡ None
-  pub aligned : is_aligned first super.hash_block ≡ true
-
--- it was read, and no hash block begins there
-pub record IsSuperUnaligned (hash_dev : Device) (first : ℕ) : Type 0 where
-  pub super : SuperRecord
-  pub sector : List ℕ
-  pub read : IsReadFrom hash_dev sector super
-  pub unaligned : is_aligned first super.hash_block ≡ false
-
--- by the pin or by the superblock no hash block begins there
-abbrev pub IsTreeUnaligned : Device → ℕ → Option Pin → Type 0
-IsTreeUnaligned hash_dev first pin = (may_begin pin first ≡ false) ⊎ IsSuperUnaligned hash_dev first
-
--- it was read, and differs from the pin in that value; of a device that isn't seen afterwards
-abbrev pub IsTreeUnpinned : Device → Option Pin → Mismatch → Type 0
-IsTreeUnpinned hash_dev pin mismatch = (hash_dev' : Device) × ReadsUnpinned hash_dev pin hash_dev' mismatch
-
--- why there is no tree
-abbrev pub IsNoTree : Device → ℕ → Option Pin → Device → NoTree → Type 0
-IsNoTree hash_dev first pin hash_dev' (Unread fault) = IsReadCause hash_dev hash_dev' fault
-IsNoTree hash_dev first pin hash_dev' Unaligned = IsTreeUnaligned hash_dev first pin
-IsNoTree hash_dev first pin hash_dev' (Unpinned mismatch) = ReadsUnpinned hash_dev pin hash_dev' mismatch
-
--- with which of these causes, if there is no superblock of the pin
-abbrev pub unpinned_tree : PinnedFault → NoTree
-unpinned_tree (pinned.Unread fault) = Unread fault
-unpinned_tree (pinned.Unpinned mismatch) = Unpinned mismatch
 
 -- with which fault a command ends then
 abbrev pub no_tree_fault : NoTree → ImageFault

@@ -18,5 +18,6 @@ pub mod SuperblockTexts
 pub mod SuperblockJson
 pub mod TreePlaces
 pub mod ClearedTrees
+pub mod TreeSources
 pub mod TreeFormats
 pub mod TreeImages

@@ -1,4 +1,4 @@
--- Pins in files.
+-- Pins and root hashes in files.
 use Rattle.std.specs.Borrow.{Bor}
 use Rattle.std.specs.Prelude.{◌≡◌, ◌⊎◌, ◌||◌, ℕ, Bool, true, false, List, Option, None, Ok, Err}
 use Rattle.allocation.specs.Refusal.{IsOutOfMemory}
@@ -6,6 +6,10 @@ use Rattle.block_device.specs.declared.file_id.FileId.{FileId}
 use Rattle.block_device.specs.declared.open_fault.OpenFault.{OpenFault}
 use Rattle.block_device.specs.declared.open_fault.OpenFault.TheVariants.{SameFile}
 use Rattle.command_line.specs.declared.image_options.ImageOptions.{ImageOptions}
+use Rattle.command_line.specs.declared.words.pin_format.RootForm.{RootForm}
+use Rattle.command_line.specs.declared.words.pin_format.RootForm.TheVariants.{Digits, Pin as PinForm}
+use Rattle.command_line.specs.words.PinFormat.{RootFileRecord}
+use Rattle.hex.specs.Hex.{encode_lower}
 use Rattle.image_files.specs.declared.images.FileText.{FileText}
 use Rattle.image_files.specs.declared.opening.UnopenedFile.{UnopenedFile}
 use Rattle.image_files.specs.OneFile.{is_one_file}
@@ -49,6 +53,11 @@ pin_of_image options made = record { root = made.root; salt = made.salt; data_bl
 -- the pin of a root hash with the values of a superblock
 abbrev pub pin_in : List ℕ → SuperRecord → Pin
 pin_in root s = record { root = root; salt = s.salt; data_block = s.data_block; hash_block = s.hash_block; blocks = s.blocks }
+
+-- what is written to a file: the digits of the root hash, or the pin
+abbrev pub root_file_text : RootForm → Pin → List ℕ
+root_file_text Digits pin = encode_lower pin.root
+root_file_text PinForm pin = pin_text pin
 
 -- which file stands under a path, where one does and that is known
 abbrev pub TellsId : {S D : Type 0} → Calls S D → List ℕ → Option FileId → Type 0
@@ -98,24 +107,24 @@ pub record HasNoPinFile {S D : Type 0} (w : Calls S D) (data_path hash_path path
 abbrev pub IsNoPinPath : {S D : Type 0} → Calls S D → List ℕ → List ℕ → List ℕ → ImageFault → Type 0
 IsNoPinPath w data_path hash_path path fault = AreOne w data_path hash_path path fault ⊎ HasNoPinFile w data_path hash_path path fault
 
--- the file is neither of two images, and then the text of the pin replaced what it held
-pub record WritesPin {S D : Type 0} (w : Calls S D) (data_path hash_path path : List ℕ) (pin : Pin) : Type 0 where
+-- the file is neither of two images, and then the pin or its root hash replaced what it held
+pub record WritesPin {S D : Type 0} (w : Calls S D) (data_path hash_path : List ℕ) (file : RootFileRecord) (pin : Pin) : Type 0 where
   pub told : S
-  pub apart : AreApart (record w { new = told }) data_path hash_path path
-  pub replaced : w.relations.replaces told path (pin_text pin) (Ok tt) w.new
+  pub apart : AreApart (record w { new = told }) data_path hash_path file.path
+  pub replaced : w.relations.replaces told file.path (root_file_text file.form pin) (Ok tt) w.new
 
 -- it didn't, or an allocation for the text was refused and nothing was called
-abbrev pub IsUnreplaced : {S D : Type 0} → Calls S D → List ℕ → Pin → ImageFault → Type 0
-IsUnreplaced w path pin (image.PinUnwritten fault) = w.relations.replaces w.old path (pin_text pin) (Err fault) w.new
-IsUnreplaced w path pin image.NoMemory = (w.new ≡ w.old) × IsOutOfMemory 512
-IsUnreplaced w path pin fault = ⊥
+abbrev pub IsUnreplaced : {S D : Type 0} → Calls S D → RootFileRecord → Pin → ImageFault → Type 0
+IsUnreplaced w file pin (image.PinUnwritten fault) = w.relations.replaces w.old file.path (root_file_text file.form pin) (Err fault) w.new
+IsUnreplaced w file pin image.NoMemory = (w.new ≡ w.old) × IsOutOfMemory 512
+IsUnreplaced w file pin fault = ⊥
 
 -- it is neither of them, but wasn't replaced
-pub record FailsToReplace {S D : Type 0} (w : Calls S D) (data_path hash_path path : List ℕ) (pin : Pin) (fault : ImageFault) : Type 0 where
+pub record FailsToReplace {S D : Type 0} (w : Calls S D) (data_path hash_path : List ℕ) (file : RootFileRecord) (pin : Pin) (fault : ImageFault) : Type 0 where
   pub told : S
-  pub apart : AreApart (record w { new = told }) data_path hash_path path
-  pub unreplaced : IsUnreplaced (record w { old = told }) path pin fault
+  pub apart : AreApart (record w { new = told }) data_path hash_path file.path
+  pub unreplaced : IsUnreplaced (record w { old = told }) file pin fault
 
 -- it is one of them, or wasn't replaced
-abbrev pub IsPinUnwritten : {S D : Type 0} → Calls S D → List ℕ → List ℕ → List ℕ → Pin → ImageFault → Type 0
-IsPinUnwritten w data_path hash_path path pin fault = AreOne w data_path hash_path path fault ⊎ FailsToReplace w data_path hash_path path pin fault
+abbrev pub IsPinUnwritten : {S D : Type 0} → Calls S D → List ℕ → List ℕ → RootFileRecord → Pin → ImageFault → Type 0
+IsPinUnwritten w data_path hash_path file pin fault = AreOne w data_path hash_path file.path fault ⊎ FailsToReplace w data_path hash_path file pin fault

@@ -18,7 +18,8 @@ use Rattle.image_commands.specs.Drawing.{AreGiven, Drawing, Gives, IsUndrawn, dr
 use Rattle.image_commands.specs.Endings.{IsUnopened}
 use Rattle.image_commands.specs.Formats.{IsFormatEnd, IsMade}
 use Rattle.image_commands.specs.Offsets.{format_fault_from}
-use Rattle.image_commands.specs.Places.{FailsToOpenPlaced, OpensPlaced, TwoPlaces, before, behind, data_end, is_aligned, overlaps, two_places}
+use Rattle.image_pin.specs.Finding.{is_aligned}
+use Rattle.image_commands.specs.Places.{FailsToOpenPlaced, OpensPlaced, TwoPlaces, before, behind, data_end, overlaps, two_places}
 
 -- the two devices before and behind a formatting, the sector where the data end, and the one where the hash image begins
 pub record Placing : Type 0 where

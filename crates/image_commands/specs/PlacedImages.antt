@@ -16,7 +16,7 @@ use Rattle.verity_format.specs.Superblock.{SuperRecord, shape_of}
 use Rattle.verity_format.specs.Trees.{superblock_tree}
 use Rattle.verity_format.specs.Verifying.{IsReadCause, IsReadFrom, IsTreeFound}
 use Rattle.image_commands.specs.declared.fault.ImageFault.{ImageFault}
-use Rattle.image_commands.specs.declared.fault.ImageFault.TheVariants.{Unaligned, Unpinned}
+use Rattle.image_pin.specs.declared.finding.NoTree.{NoTree}
 use Rattle.image_commands.specs.declared.paths.TwoImages.{TwoImages}
 use Rattle.image_commands.specs.declared.places.Bounds.{Bounds}
 use Rattle.image_commands.specs.declared.places.HashPlace.{HashPlace}
@@ -26,10 +26,11 @@ use Rattle.image_commands.specs.declared.watching.WatchedPlaces.{WatchedPlaces}
 use Rattle.image_pin.specs.declared.pin.Pin.{Pin}
 use Rattle.image_pin.specs.PinnedReads.{mismatch_of}
 use Rattle.image_commands.specs.Comparing.{IsComparedEnd}
-use Rattle.image_commands.specs.Endings.{IsUnopened, IsVerifyEnd}
-use Rattle.image_commands.specs.Finding.{IsTreeUnaligned, IsTreeUnpinned, ReadsSuper}
+use Rattle.image_commands.specs.Endings.{IsCommonEnd, IsUnopened, IsVerifyEnd}
+use Rattle.image_pin.specs.Finding.{IsNoTree, ReadsSuper, is_aligned}
+use Rattle.image_commands.specs.Finding.{no_tree_fault}
 use Rattle.image_commands.specs.Openings.{FailsToOpenTwo, OpensTwo}
-use Rattle.image_commands.specs.Places.{TwoPlaces, before, behind, data_end, is_aligned, tree_start, two_places}
+use Rattle.image_commands.specs.Places.{IsPartState, TwoPlaces, before, behind, data_end, tree_start, two_places}
 use Rattle.image_commands.specs.SuperblockJson.{dump_text}
 use Rattle.image_commands.specs.TableLines.{placed_line}
 
@@ -49,16 +50,23 @@ pub record PrintsPlacedSuper {S D : Type 0} (w : Calls S D) (path : List ℕ) (f
   pub opened : Opens w path false image
   pub says : SaysPlaced (w.state image.device) first pin may text old new
 
--- no hash block begins there, or the superblock was read and differs from the pin
-abbrev pub IsNoPlacedTree : Device → ℕ → Option Pin → ImageFault → Type 0
-IsNoPlacedTree device first pin Unaligned = IsTreeUnaligned (behind device first) first pin
-IsNoPlacedTree device first pin (Unpinned mismatch) = IsTreeUnpinned (behind device first) pin mismatch
-IsNoPlacedTree device first pin fault = ⊥
+-- ---- `Left` is what holds of a device that calls left: it is a part of one of its type (`IsPartState`)
 
--- it isn't read, no tree may begin there, it doesn't have the pin's values, memory ran out for that cause, or the text can't be written
-abbrev pub IsPlacedSuperEnd : Type 0 → Device → ℕ → Option Pin → Bool → ImageFault → Type 0
-IsPlacedSuperEnd memory device first pin failed fault =
-    ((device' : Device) × IsVerifyEnd memory (IsReadCause (behind device first) device') failed fault) ⊎ IsNoPlacedTree device first pin fault
+-- there is no tree at that sector
+pub record LacksPlacedTree (Left : Device → Type 0) (device : Device) (first : ℕ) (pin : Option Pin) (fault : ImageFault) : Type 0 where
+  pub cause : NoTree
+  pub device' : Device
+  pub left : Left device'
+  pub none : IsNoTree (behind device first) first pin device' cause
+  pub is : fault ≡ no_tree_fault cause
+
+-- `table`: there is no tree, memory ran out for that cause, or the text can't be written
+abbrev pub IsPlacedSuperEnd : (Device → Type 0) → Type 0 → Device → ℕ → Option Pin → Bool → ImageFault → Type 0
+IsPlacedSuperEnd Left memory device first pin failed fault = LacksPlacedTree Left device first pin fault ⊎ IsCommonEnd memory failed fault
+
+-- `dump`: the superblock isn't read, memory ran out for that cause, or the text can't be written
+abbrev pub IsPlacedDumpEnd : (Device → Type 0) → Type 0 → Device → ℕ → Bool → ImageFault → Type 0
+IsPlacedDumpEnd Left memory device first failed fault = (device' : Device) × (Left device' × IsVerifyEnd memory (IsReadCause (behind device first) device') failed fault)
 
 -- the superblock was read and has the values of the pin, if there is one, and room for its table line was refused
 pub record RefusesLine (first : ℕ) (data_name hash_name : List ℕ) (trusted : TrustedRoot) (device : Device) : Type 0 where
@@ -69,18 +77,27 @@ pub record RefusesLine (first : ℕ) (data_name hash_name : List ℕ) (trusted :
 pub record EndsPlacedSuper {S D : Type 0} (w : Calls S D) (path : List ℕ) (first : ℕ) (pin : Option Pin) (memory : Device → Type 0) (failed : Bool) (fault : ImageFault) : Type 0 where
   pub image : OpenImage D
   pub opened : Opens w path false image
-  pub ends : IsPlacedSuperEnd (memory (w.state image.device)) (w.state image.device) first pin failed fault
+  pub ends : IsPlacedSuperEnd (IsPartState w.state) (memory (w.state image.device)) (w.state image.device) first pin failed fault
+
+pub record EndsPlacedDump {S D : Type 0} (w : Calls S D) (path : List ℕ) (first : ℕ) (memory : Type 0) (failed : Bool) (fault : ImageFault) : Type 0 where
+  pub image : OpenImage D
+  pub opened : Opens w path false image
+  pub ends : IsPlacedDumpEnd (IsPartState w.state) memory (w.state image.device) first failed fault
+
+abbrev pub IsDumpImageEnd : {S D : Type 0} → Calls S D → List ℕ → ℕ → Type 0 → Bool → ImageFault → Type 0
+IsDumpImageEnd w path first memory failed fault = IsUnopened (Refuses w path false) fault ⊎ EndsPlacedDump w path first memory failed fault
 
 abbrev pub IsPlacedImageEnd : {S D : Type 0} → Calls S D → List ℕ → ℕ → Option Pin → (Device → Type 0) → Bool → ImageFault → Type 0
 IsPlacedImageEnd w path first pin memory failed fault = IsUnopened (Refuses w path false) fault ⊎ EndsPlacedSuper w path first pin memory failed fault
 
 -- `verify`: the superblock at that sector was read once and has the values of the pin, if there is one; its tree is valid for what lies
 -- before the data's end, under the root
-pub record MatchesPlaced (data_dev hash_dev : Device) (end first : ℕ) (trusted : TrustedRoot) (old new : Option (List ℕ)) : Type 0 where
+pub record MatchesPlaced (Data Hash : Device → Type 0) (data_dev hash_dev : Device) (end first : ℕ) (trusted : TrustedRoot) (old new : Option (List ℕ)) : Type 0 where
   pub super : SuperRecord
   pub read_dev : Device
   pub data_dev' : Device
   pub hash_dev' : Device
+  pub left : Hash read_dev × Data data_dev' × Hash hash_dev'
   pub super_read : ReadsSuper (behind hash_dev first) first trusted.pin super
   pub one : IsFullRead (behind hash_dev first) 1 read_dev
   pub found : IsTreeFound (shape_of super) super.salt (before data_dev end) read_dev data_dev' hash_dev' trusted.root Matches
@@ -89,26 +106,27 @@ pub record MatchesPlaced (data_dev hash_dev : Device) (end first : ℕ) (trusted
 pub record PrintsPlacedMatches {S D : Type 0} (w : Calls S D) (places : TwoPlaces) (trusted : TrustedRoot) (old new : Option (List ℕ)) : Type 0 where
   pub two : TwoImages D
   pub opened : OpensTwo w places.paths false two
-  pub matches : MatchesPlaced (w.state two.data.device) (w.state two.hash.device) (data_end two places.first) places.first trusted old new
+  pub matches : MatchesPlaced (IsPartState w.state) (IsPartState w.state) (w.state two.data.device) (w.state two.hash.device) (data_end two places.first) places.first trusted old new
 
 -- the superblock was read once, and the comparison with its tree ends early
-pub record EndsMatching (data_dev hash_dev : Device) (end first : ℕ) (trusted : TrustedRoot) (failed : Bool) (fault : ImageFault) : Type 0 where
+pub record EndsMatching (Data Hash : Device → Type 0) (data_dev hash_dev : Device) (end first : ℕ) (trusted : TrustedRoot) (failed : Bool) (fault : ImageFault) : Type 0 where
   pub super : SuperRecord
   pub read_dev : Device
   pub data_dev' : Device
   pub hash_dev' : Device
+  pub left : Hash read_dev × Data data_dev' × Hash hash_dev'
   pub super_read : ReadsSuper (behind hash_dev first) first trusted.pin super
   pub one : IsFullRead (behind hash_dev first) 1 read_dev
   pub ends : IsComparedEnd (superblock_tree super) (tree_start first super.hash_block 0) (before data_dev end) read_dev data_dev' hash_dev' trusted.root failed fault
 
-abbrev pub IsMatchingEnd : Device → Device → ℕ → ℕ → TrustedRoot → Bool → ImageFault → Type 0
-IsMatchingEnd data_dev hash_dev end first trusted failed fault =
-    IsPlacedSuperEnd ⊥ hash_dev first trusted.pin failed fault ⊎ EndsMatching data_dev hash_dev end first trusted failed fault
+abbrev pub IsMatchingEnd : (Device → Type 0) → (Device → Type 0) → Device → Device → ℕ → ℕ → TrustedRoot → Bool → ImageFault → Type 0
+IsMatchingEnd Data Hash data_dev hash_dev end first trusted failed fault =
+    LacksPlacedTree Hash hash_dev first trusted.pin fault ⊎ EndsMatching Data Hash data_dev hash_dev end first trusted failed fault
 
 pub record EndsPlacedMatches {S D : Type 0} (w : Calls S D) (places : TwoPlaces) (trusted : TrustedRoot) (failed : Bool) (fault : ImageFault) : Type 0 where
   pub two : TwoImages D
   pub opened : OpensTwo w places.paths false two
-  pub ends : IsMatchingEnd (w.state two.data.device) (w.state two.hash.device) (data_end two places.first) places.first trusted failed fault
+  pub ends : IsMatchingEnd (IsPartState w.state) (IsPartState w.state) (w.state two.data.device) (w.state two.hash.device) (data_end two places.first) places.first trusted failed fault
 
 abbrev pub IsPlacedMatchesEnd : {S D : Type 0} → Calls S D → TwoPlaces → TrustedRoot → Bool → ImageFault → Type 0
 IsPlacedMatchesEnd w places trusted failed fault = IsUnopened (FailsToOpenTwo w places.paths false) fault ⊎ EndsPlacedMatches w places trusted failed fault
@@ -127,11 +145,14 @@ PrintsLineAt relations state images images' contents writer writer' place name w
 abbrev pub FailsToPrintAt : {S D W : Type 0} → Opener S D → (D → Device) → S → S → CountedRecord W → HashPlace → Option Pin → (Device → Type 0) → ImageFault → Type 0
 FailsToPrintAt relations state images images' writer' place pin memory = IsPlacedImageEnd (calls relations state images images') place.path.now place.first pin memory writer'.failed
 
+abbrev pub FailsToDumpAt : {S D W : Type 0} → Opener S D → (D → Device) → S → S → CountedRecord W → HashPlace → Type 0 → ImageFault → Type 0
+FailsToDumpAt relations state images images' writer' place memory = IsDumpImageEnd (calls relations state images images') place.path.now place.first memory writer'.failed
+
 -- room for the line of these words was refused
 abbrev pub RefusesLineOf : ℕ → LineWords → Device → Type 0
 RefusesLineOf first words device = RefusesLine first words.data_name.now words.hash_name.now words.root.now device
 
--- the same of a device that is open
+-- what `dump` prints of an open device
 abbrev pub SaysFieldsAt : {H W : Type 0} → (H → Device) → H → (W → Option (List ℕ)) → CountedRecord W → CountedRecord W → ℕ → DumpForm → Type 0
 SaysFieldsAt state hash_dev contents writer writer' first form =
     SaysPlaced (state hash_dev) first None (λ s. true) (dump_text form) (contents writer.inner) (contents writer'.inner)
@@ -149,8 +170,8 @@ FailsToVerifyAt relations state images images' writer' watched trusted = IsPlace
 
 abbrev pub MatchesAt : {D H W : Type 0} → (D → Device) → (H → Device) → D × H → (W → Option (List ℕ)) → CountedRecord W → CountedRecord W → Bounds → TrustedRoot → Type 0
 MatchesAt data_state hash_state devices contents writer writer' bounds trusted =
-    MatchesPlaced (data_state devices.0) (hash_state devices.1) bounds.end bounds.first trusted (contents writer.inner) (contents writer'.inner)
+    MatchesPlaced (IsPartState data_state) (IsPartState hash_state) (data_state devices.0) (hash_state devices.1) bounds.end bounds.first trusted (contents writer.inner) (contents writer'.inner)
 
 abbrev pub FailsToMatchAt : {D H W : Type 0} → (D → Device) → (H → Device) → D × H → CountedRecord W → Bounds → TrustedRoot → ImageFault → Type 0
 FailsToMatchAt data_state hash_state devices writer' bounds trusted =
-    IsMatchingEnd (data_state devices.0) (hash_state devices.1) bounds.end bounds.first trusted writer'.failed
+    IsMatchingEnd (IsPartState data_state) (IsPartState hash_state) (data_state devices.0) (hash_state devices.1) bounds.end bounds.first trusted writer'.failed

@@ -1,7 +1,8 @@
 -- Hash images that begin behind a sector of a file: superblock and tree stand there, and the data may be what lies before.
-use Rattle.std.specs.Prelude.{◌≡◌, ◌⊎◌, ℕ, ◌+◌, ◌-◌, ◌/◌, ◌%◌, ◌^◌, ◌==◌, ◌&&◌, nat_lt, Bool, true, false, Option, is_none, if◌then◌else◌}
+use Rattle.std.specs.Prelude.{◌≡◌, ◌⊎◌, ℕ, ◌+◌, ◌-◌, ◌/◌, ◌^◌, ◌==◌, ◌&&◌, nat_lt, Bool, true, false, Option, is_none, if◌then◌else◌}
 use Rattle.block_device.specs.Device.{Device}
 use Rattle.block_device.specs.declared.open_fault.OpenFault.TheVariants.{SameFile}
+use Rattle.device_adapters.specs.declared.part.Part.{Part}
 use Rattle.device_adapters.specs.Parts.{part_before, part_behind}
 use Rattle.device_adapters.specs.Windows.{windowed}
 use Rattle.image_files.specs.declared.opening.UnopenedFile.{UnopenedFile}
@@ -19,10 +20,6 @@ pub record TwoPlaces : Type 0 where
 abbrev pub two_places : ImagePlaces → TwoPlaces
 two_places places = record { paths = record { data_path = places.data.now; hash_path = places.hash.now }; first = places.hash_first }
 
--- a tree of such blocks may stand behind that sector: it is the first one of such a block
-abbrev pub is_aligned : ℕ → ℕ → Bool
-is_aligned first size = if nat_lt size 512 then true else first % (size / 512) == 0
-
 -- the hash block of the file at which a tree begins, so many blocks after that sector: 1 if its superblock is stored there, else 0
 abbrev pub tree_start : ℕ → ℕ → ℕ → ℕ
 tree_start first size ahead = if nat_lt size 512 then ahead else first / (size / 512) + ahead
@@ -33,6 +30,11 @@ behind device first = windowed device (part_behind device first)
 
 abbrev pub before : Device → ℕ → Device
 before device end = windowed device (part_before device end)
+
+-- a part of a device of this type. Only an opener and calls give devices of a type that isn't known, so that a proof can't make one up
+-- whose counters show a failure.
+abbrev pub IsPartState : {D : Type 0} → (D → Device) → Device → Type 0
+IsPartState {D} state device = (d : D) × ((part : Part) × (device ≡ windowed (state d) part))
 
 -- where the data end: in one file before the hash image, else at the end of theirs
 abbrev pub data_end : {D : Type 0} → TwoImages D → ℕ → ℕ

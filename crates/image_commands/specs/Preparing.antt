@@ -19,9 +19,10 @@ use Rattle.image_commands.specs.declared.places.ImagePlaces.{ImagePlaces}
 use Rattle.image_commands.specs.Drawing.{AreGiven, Drawing, Gives, IsUndrawn, drawing}
 use Rattle.image_commands.specs.Endings.{IsUnopened}
 use Rattle.image_commands.specs.PlacedFormats.{EndsUnaligned}
-use Rattle.image_commands.specs.Places.{TwoPlaces, is_aligned, two_places}
+use Rattle.image_pin.specs.Finding.{is_aligned}
+use Rattle.image_commands.specs.Places.{TwoPlaces, two_places}
 
--- the same options, of which none is left to be drawn
+-- the given options, with none left to be drawn
 abbrev pub said_options : FormatOptions → ImageOptions
 said_options o = record { data_block = o.data_block; hash_block = o.hash_block; blocks = o.blocks; salt = Some o.salt; uuid = Some o.uuid }
 

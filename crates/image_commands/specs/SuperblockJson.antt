@@ -27,7 +27,7 @@ fields_json data_block blocks hash_block salt uuid =
     (member (codes "uuid") uuid
     no_members)))))))
 
--- the same fields as the lines say
+-- the fields that the lines print, as an object
 abbrev pub superblock_json : SuperRecord → Data
 superblock_json s = fields_json s.data_block s.blocks s.hash_block (string (salt_word s.salt)) (string (hyphenated_text lower s.uuid))
 

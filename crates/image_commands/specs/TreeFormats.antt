@@ -27,7 +27,8 @@ use Rattle.image_commands.specs.Drawing.{AreGiven, Drawing, Gives, drawing}
 use Rattle.image_commands.specs.Endings.{IsLineUnwritten}
 use Rattle.image_commands.specs.Offsets.{format_fault_from}
 use Rattle.image_commands.specs.PlacedFormats.{EndsOverlapping, EndsUnaligned, EndsUndrawnPlaced, EndsUnopenedPlaced}
-use Rattle.image_commands.specs.Places.{OpensPlaced, TwoPlaces, before, behind, data_end, is_aligned, overlaps, two_places}
+use Rattle.image_pin.specs.Finding.{is_aligned}
+use Rattle.image_commands.specs.Places.{OpensPlaced, TwoPlaces, before, behind, data_end, overlaps, two_places}
 use Rattle.image_commands.specs.SuperblockTexts.{blocks_text, root_text, salt_text}
 use Rattle.image_commands.specs.TreePlaces.{HasNoShape, unnamed}
 

@@ -24,33 +24,35 @@ use Rattle.image_commands.specs.declared.watching.WatchedPlaces.{WatchedPlaces}
 use Rattle.image_commands.specs.Comparing.{IsCountedDifference}
 use Rattle.image_commands.specs.Endings.{IsCommonEnd, IsLineUnwritten, IsUnopened}
 use Rattle.image_commands.specs.Openings.{FailsToOpenTwo, OpensTwo}
-use Rattle.image_commands.specs.Places.{TwoPlaces, before, behind, is_aligned, tree_start, two_places}
+use Rattle.image_pin.specs.Finding.{is_aligned}
+use Rattle.image_commands.specs.Places.{IsPartState, TwoPlaces, before, behind, tree_start, two_places}
 use Rattle.image_commands.specs.TableLines.{tree_line}
 use Rattle.image_commands.specs.TreeFormats.{data_of, tree_with}
 use Rattle.image_commands.specs.TreePlaces.{HasNoShape}
 
--- the tree over the data stands at that sector of the hash device, and that is its root
-pub record MatchesTree (s : SuperRecord) (data_dev hash_dev : Device) (first : ℕ) (root : List ℕ) (old new : Option (List ℕ)) : Type 0 where
+-- the tree over the data stands at that sector of the hash device, and that is its root; `Data` and `Hash` hold of what calls left
+pub record MatchesTree (Data Hash : Device → Type 0) (s : SuperRecord) (data_dev hash_dev : Device) (first : ℕ) (root : List ℕ) (old new : Option (List ℕ)) : Type 0 where
   pub data_dev' : Device
   pub hash_dev' : Device
+  pub left : Data data_dev' × Hash hash_dev'
   pub found : IsTreeFound (shape_alone s) s.salt data_dev (behind hash_dev first) data_dev' hash_dev' root Matches
   pub printed : Appends old new (codes "matches\n")
 
 -- no tree has that shape, the two weren't compared, they differ, or the line can't be written
-abbrev pub IsTreeComparisonEnd : SuperRecord → Device → Device → ℕ → List ℕ → Bool → ImageFault → Type 0
-IsTreeComparisonEnd s data_dev hash_dev first root failed (Format fault) = HasNoShape s fault
-IsTreeComparisonEnd s data_dev hash_dev first root failed (Verify fault) =
-    (data_dev' : Device) × ((hash_dev' : Device) × IsTreeVerifyCause (shape_alone s) data_dev (behind hash_dev first) data_dev' hash_dev' fault)
-IsTreeComparisonEnd s data_dev hash_dev first root failed (Differs verdict) =
-    (data_dev' : Device) × ((hash_dev' : Device) × IsCountedDifference (tree_alone s) (tree_start first s.hash_block 0) data_dev (behind hash_dev first) data_dev' hash_dev' root verdict)
-IsTreeComparisonEnd s data_dev hash_dev first root failed fault = IsLineUnwritten failed fault
+abbrev pub IsTreeComparisonEnd : (Device → Type 0) → (Device → Type 0) → SuperRecord → Device → Device → ℕ → List ℕ → Bool → ImageFault → Type 0
+IsTreeComparisonEnd Data Hash s data_dev hash_dev first root failed (Format fault) = HasNoShape s fault
+IsTreeComparisonEnd Data Hash s data_dev hash_dev first root failed (Verify fault) =
+    (data_dev' : Device) × ((hash_dev' : Device) × (Data data_dev' × Hash hash_dev') × IsTreeVerifyCause (shape_alone s) data_dev (behind hash_dev first) data_dev' hash_dev' fault)
+IsTreeComparisonEnd Data Hash s data_dev hash_dev first root failed (Differs verdict) =
+    (data_dev' : Device) × ((hash_dev' : Device) × (Data data_dev' × Hash hash_dev') × IsCountedDifference (tree_alone s) (tree_start first s.hash_block 0) data_dev (behind hash_dev first) data_dev' hash_dev' root verdict)
+IsTreeComparisonEnd Data Hash s data_dev hash_dev first root failed fault = IsLineUnwritten failed fault
 
 -- `verify --no-superblock`
 pub record PrintsTreeMatches {S D : Type 0} (w : Calls S D) (places : TwoPlaces) (options : FormatOptions) (root : List ℕ) (old new : Option (List ℕ)) : Type 0 where
   pub two : TwoImages D
   pub aligned : is_aligned places.first options.hash_block ≡ true
   pub opened : OpensTwo w places.paths false two
-  pub matches : MatchesTree (superblock_with options (data_of w two places.first).size) (data_of w two places.first) (w.state two.hash.device) places.first root old new
+  pub matches : MatchesTree (IsPartState w.state) (IsPartState w.state) (superblock_with options (data_of w two places.first).size) (data_of w two places.first) (w.state two.hash.device) places.first root old new
 
 -- no hash block begins there, and nothing was opened
 pub record EndsUnplaced {S D : Type 0} (w : Calls S D) (places : TwoPlaces) (options : FormatOptions) (fault : ImageFault) : Type 0 where
@@ -61,7 +63,7 @@ pub record EndsUnplaced {S D : Type 0} (w : Calls S D) (places : TwoPlaces) (opt
 pub record EndsTreeMatches {S D : Type 0} (w : Calls S D) (places : TwoPlaces) (options : FormatOptions) (root : List ℕ) (failed : Bool) (fault : ImageFault) : Type 0 where
   pub two : TwoImages D
   pub opened : OpensTwo w places.paths false two
-  pub ends : IsTreeComparisonEnd (superblock_with options (data_of w two places.first).size) (data_of w two places.first) (w.state two.hash.device) places.first root failed fault
+  pub ends : IsTreeComparisonEnd (IsPartState w.state) (IsPartState w.state) (superblock_with options (data_of w two places.first).size) (data_of w two places.first) (w.state two.hash.device) places.first root failed fault
 
 abbrev pub IsTreeMatchesEnd : {S D : Type 0} → Calls S D → TwoPlaces → FormatOptions → List ℕ → Bool → ImageFault → Type 0
 IsTreeMatchesEnd w places options root failed fault =
@@ -98,12 +100,12 @@ FailsToVerifyTree relations state images images' writer' watched expected =
 abbrev pub MatchesTreeAt : {D H W : Type 0} → (D → Device) → (H → Device) → D × H → (W → Option (List ℕ)) → CountedRecord W → CountedRecord W → Bounds → FormatOptions → List ℕ → Type 0
 MatchesTreeAt data_state hash_state devices contents writer writer' bounds options root =
     let data_part = before (data_state devices.0) bounds.end in
-    MatchesTree (tree_with options data_part) data_part (hash_state devices.1) bounds.first root (contents writer.inner) (contents writer'.inner)
+    MatchesTree (IsPartState data_state) (IsPartState hash_state) (tree_with options data_part) data_part (hash_state devices.1) bounds.first root (contents writer.inner) (contents writer'.inner)
 
 abbrev pub FailsAtTree : {D H W : Type 0} → (D → Device) → (H → Device) → D × H → CountedRecord W → Bounds → FormatOptions → List ℕ → ImageFault → Type 0
 FailsAtTree data_state hash_state devices writer' bounds options root =
     let data_part = before (data_state devices.0) bounds.end in
-    IsTreeComparisonEnd (tree_with options data_part) data_part (hash_state devices.1) bounds.first root writer'.failed
+    IsTreeComparisonEnd (IsPartState data_state) (IsPartState hash_state) (tree_with options data_part) data_part (hash_state devices.1) bounds.first root writer'.failed
 
 -- the line that the words give
 abbrev pub SaysTreeLine : {W : Type 0} → (W → Option (List ℕ)) → CountedRecord W → CountedRecord W → ℕ → Option (Bor (List ℕ)) → LineWords → FormatOptions → Type 0

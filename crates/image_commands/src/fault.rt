@@ -2,10 +2,9 @@
 ghost use Rattle.std.specs.Prelude.{◌≡◌};
 ghost use Rattle.image_commands.specs.declared.fault.ImageFault.TheVariants as image_fault;
 
-use crate::finding::NoTree;
 use allocation::OutOfMemory;
 use image_files::{ReplaceFault, UnopenedFile};
-use image_pin::{Mismatch, PinFault};
+use image_pin::{Mismatch, NoTree, PinFault};
 use program_io::WriteFault;
 use std::alloc::AllocError;
 use verity_format::{FormatFault, Verdict, VerifyFault};

@@ -1,13 +1,17 @@
-//! Pins in files.
-ghost use Rattle.std.specs.Prelude.{◌≡◌, IfErr, IfOk, OnOk};
+//! Pins and root hashes in files.
+ghost use Rattle.std.specs.Prelude.{◌≡◌, ◌≤◌, IfErr, IfOk, OnOk};
+ghost use Rattle.allocation.specs.Asked.{asked};
+ghost use Rattle.command_line.specs.words.PinFormat.{root_file_record};
+ghost use Rattle.hex.specs.Hex.{encode_lower};
 ghost use Rattle.image_files.specs.Opener.{calls};
-ghost use Rattle.image_commands.specs.PinFiles.{AreApart, AreOne, IsNoPinPath, IsPinFileEnd, IsPinPath, IsPinUnwritten, ReadsPin, TellsId, WritesPin, pin_in, pin_of_image};
+ghost use Rattle.image_commands.specs.PinFiles.{AreApart, AreOne, IsNoPinPath, IsPinFileEnd, IsPinPath, IsPinUnwritten, ReadsPin, TellsId, WritesPin, pin_in, pin_of_image, root_file_text};
 
 use crate::fault::ImageFault;
 use crate::format::MadeImage;
 use crate::places::ImagePlaces;
+use allocation::{OutOfMemory, copied};
 use block_device::{FileId, OpenFault};
-use command_line::ImageOptions;
+use command_line::{ImageOptions, RootFile, RootForm};
 use image_files::{Images, UnopenedFile, is_one_file, is_one_place};
 use image_pin::{MOST_BYTES, Pin, parse_pin, print_pin};
 use std::alloc::Global;
@@ -55,8 +59,8 @@ pub(crate) fn pin_in(root: Digest, superblock: &Superblock) -> Pin
     }
 }
 
-/// Replaces what a file holds by the text of a pin. Another process may have made the file one of the two images since
-/// `check_pin_path`, so that is checked again.
+/// Replaces what a file holds by a pin, or by the digits of its root hash. Another process may have made the file one of the two
+/// images since `check_pin_path`, so that is checked again.
 ///
 /// # Errors
 ///
@@ -65,22 +69,45 @@ pub fn write_pin<'a, I: Images>(
     alloc: Global,
     images: &mut I,
     places: ImagePlaces<'a>,
-    path: &'a str,
+    file: RootFile<'a>,
     pin: &Pin,
 ) -> Result<(), ImageFault<'a>>
-    ensures ok { OnOk result (WritesPin (calls I.relations I.Dev.state images.old images.new) places.entry.data.now places.entry.hash.now path.now pin.now) }
-    ensures err { IfErr result (IsPinUnwritten (calls I.relations I.Dev.state images.old images.new) places.entry.data.now places.entry.hash.now path.now pin.now) }
+    ensures ok { OnOk result (WritesPin (calls I.relations I.Dev.state images.old images.new) places.entry.data.now places.entry.hash.now (root_file_record file.entry) pin.now) }
+    ensures err { IfErr result (IsPinUnwritten (calls I.relations I.Dev.state images.old images.new) places.entry.data.now places.entry.hash.now (root_file_record file.entry) pin.now) }
 {
+    let RootFile { path, form } = file;
     check_apart(images, places, path)?;
-    let text = print_pin(alloc, pin)?;
+    let text = root_file_text(alloc, form, pin)?;
     match images.replace(path, text.as_slice()) {
         Ok(()) => Ok(()),
         Err(fault) => Err(ImageFault::PinUnwritten(fault)),
     }
 }
 
-/// Checks that a pin can be written to a file, before an image is made: the file isn't one of the two images, which the pin would
-/// replace, also if neither is there yet, and another one can be created in its folder.
+// What is written: the pin, or the digits of its root hash as veritysetup writes them, without a newline.
+fn root_file_text(alloc: Global, form: RootForm, pin: &Pin) -> Result<Vec<u8>, OutOfMemory>
+    ensures text { IfOk result (λ text. text.items ≡ root_file_text form pin.now) }
+    ensures err { IfErr result (λ e. asked e ≤ 512) }
+{
+    match form {
+        RootForm::Pin => print_pin(alloc, pin),
+        RootForm::Digits => root_digits(alloc, pin.root),
+    }
+}
+
+// The 64 hexadecimal digits of a root hash.
+fn root_digits(alloc: Global, root: Digest) -> Result<Vec<u8>, OutOfMemory>
+    ensures text { IfOk result (λ text. text.items ≡ encode_lower root) }
+    ensures err { IfErr result (λ e. asked e ≤ 512) }
+{
+    let mut digits = [0u8; 2 * Digest::SIZE];
+    hex::encode_to_slice(root.as_bytes(), &mut digits).unwrap();
+    let text = copied(alloc, &digits)?;
+    Ok(text)
+}
+
+/// Checks that a pin or a root hash can be written to a file, before an image is made: the file isn't one of the two images, which
+/// would be replaced, also if neither is there yet, and another one can be created in its folder.
 ///
 /// # Errors
 ///

@@ -1,12 +1,12 @@
 //! The commands `dump`, `table` and `verify`.
-ghost use Rattle.std.specs.Prelude.{IfErr, None, OnOk};
+ghost use Rattle.std.specs.Prelude.{IfErr, OnOk};
 ghost use Rattle.image_commands.specs.Endings.{IsQuiet};
-ghost use Rattle.image_commands.specs.PlacedImages.{DumpsImageAt, FailsToMatchAt, FailsToPrintAt, FailsToVerifyAt, IsPlacedSuperEnd, MatchesAt, PrintsLineAt, RefusesLineOf, SaysFieldsAt, SaysLineAt, VerifiesImagesAt};
+ghost use Rattle.image_commands.specs.PlacedImages.{DumpsImageAt, FailsToDumpAt, FailsToMatchAt, FailsToPrintAt, FailsToVerifyAt, IsPlacedDumpEnd, IsPlacedSuperEnd, MatchesAt, PrintsLineAt, RefusesLineOf, SaysFieldsAt, SaysLineAt, VerifiesImagesAt};
+ghost use Rattle.image_commands.specs.Places.{IsPartState};
 ghost use Rattle.image_commands.specs.SuperblockJson.{RefusesDump};
 
 use crate::comparing::{compare, place_parts};
 use crate::fault::ImageFault;
-use crate::finding::find_tree;
 use crate::line::say_line;
 use crate::paths::{ImagePaths, open_two};
 use crate::places::{Bounds, HashPlace, ImagePlaces, data_end, tree_start};
@@ -17,7 +17,7 @@ use block_device::BlockDev;
 use command_line::DumpForm;
 use device_adapters::{Watchers, Window, bytes_before};
 use image_files::{Images, open_image};
-use image_pin::TrustedRoot;
+use image_pin::{TrustedRoot, find_tree};
 use program_io::Counted;
 use std::alloc::Global;
 use std::io::Write;
@@ -35,7 +35,7 @@ pub fn dump_placed<'a, I: Images, W: Write>(
     writer: &mut Counted<W>,
 ) -> Result<(), ImageFault<'a>>
     ensures ok { OnOk result (DumpsImageAt I.relations I.Dev.state images.old images.new W.contents writer.old writer.new place.entry form) }
-    ensures err { IfErr result (FailsToPrintAt I.relations I.Dev.state images.old images.new writer.new place.entry None (λ device. RefusesDump form)) }
+    ensures err { IfErr result (FailsToDumpAt I.relations I.Dev.state images.old images.new writer.new place.entry (RefusesDump form)) }
     ensures quiet { IfErr result (λ fault. IsQuiet fault (W.contents writer.old.inner) (W.contents writer.new.inner)) }
 {
     let HashPlace { path, first } = place;
@@ -52,7 +52,7 @@ fn dump_behind<'a, H: BlockDev + Drop, W: Write>(
     writer: &mut Counted<W>,
 ) -> Result<(), ImageFault<'a>>
     ensures ok { OnOk result (SaysFieldsAt H.state hash_dev W.contents writer.old writer.new first form) }
-    ensures err { IfErr result (IsPlacedSuperEnd (RefusesDump form) (H.state hash_dev) first None writer.new.failed) }
+    ensures err { IfErr result (IsPlacedDumpEnd (IsPartState H.state) (RefusesDump form) (H.state hash_dev) first writer.new.failed) }
     ensures quiet { IfErr result (λ fault. IsQuiet fault (W.contents writer.old.inner) (W.contents writer.new.inner)) }
 {
     let mut window = Window::<H, Brand>::behind(hash_dev, first);
@@ -89,7 +89,7 @@ fn table_behind<'a, H: BlockDev + Drop, W: Write>(
     writer: &mut Counted<W>,
 ) -> Result<(), ImageFault<'a>>
     ensures ok { OnOk result (SaysLineAt H.state placed W.contents writer.old writer.new name.entry words.entry) }
-    ensures err { IfErr result (IsPlacedSuperEnd (RefusesLineOf placed.1 words.entry (H.state placed.0)) (H.state placed.0) placed.1 words.entry.root.now.pin writer.new.failed) }
+    ensures err { IfErr result (IsPlacedSuperEnd (IsPartState H.state) (RefusesLineOf placed.1 words.entry (H.state placed.0)) (H.state placed.0) placed.1 words.entry.root.now.pin writer.new.failed) }
     ensures quiet { IfErr result (λ fault. IsQuiet fault (W.contents writer.old.inner) (W.contents writer.new.inner)) }
 {
     let (hash_dev, first) = placed;

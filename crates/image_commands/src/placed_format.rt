@@ -7,13 +7,14 @@ ghost use Rattle.image_commands.specs.PlacedFormats.{FailsToMakeAt, IsUnmadeAt, 
 use crate::fault::ImageFault;
 use crate::format::{MadeImage, given_or_drawn, make};
 use crate::offsets::format_fault_from;
-use crate::places::{Bounds, data_end, is_aligned, open_placed, overlaps};
+use crate::places::{Bounds, data_end, open_placed, overlaps};
 use crate::random::Generators;
 use crate::watching::{WatchedPlaces, bytes_of_blocks, watch};
 use block_device::{BlockDev, SyncDev};
 use command_line::ImageOptions;
 use device_adapters::{Beside, Watchers, Window, bytes_before};
 use image_files::Images;
+use image_pin::is_aligned;
 use std::alloc::Global;
 use std::marker::Brand;
 use verity_format::{FormatFault, FormatOptions};
@@ -69,7 +70,7 @@ fn make_behind<D: BlockDev + Drop, H: SyncDev + Drop>(
     make_beside::<D, H, Brand>(alloc, data_dev, hash_dev, bounds, options)
 }
 
-// The same. What stands before the hash image is known by the type parameter.
+// Makes the image. The type parameter states what is stored before the hash image.
 fn make_beside<D: BlockDev + Drop, H: SyncDev + Drop, K: Beside>(
     alloc: Global,
     data_dev: D,

@@ -1,7 +1,7 @@
 //! Hash images that begin behind a sector of a file.
 ghost use Rattle.std.specs.Prelude.{◌≡◌, ◌+◌, ◌^◌, ◌<◌, ◌&&◌, nat_lt, true, false, IfOk, IfErr};
 ghost use Rattle.image_files.specs.Opener.{IsFresh};
-ghost use Rattle.image_commands.specs.Places.{FailsToOpenPlaces, OpensPlaces, data_end, is_aligned, overlaps, tree_start};
+ghost use Rattle.image_commands.specs.Places.{FailsToOpenPlaces, OpensPlaces, data_end, overlaps, tree_start};
 
 use crate::paths::{ImagePaths, TwoImages, open_two};
 use block_device::OpenFault;
@@ -28,17 +28,6 @@ pub struct HashPlace<'a> {
 pub struct Bounds {
     pub end: u64,
     pub first: u64,
-}
-
-/// Whether a tree of hash blocks of that size may stand behind that sector: one begins there. A size below 512 bytes,
-/// of which no hash block is, is refused elsewhere.
-pub fn is_aligned(first: u64, size: u32) -> bool
-    ensures { result ≡ is_aligned first size }
-{
-    if size < 512 {
-        return true;
-    }
-    first % u64::from(size / 512) == 0
 }
 
 /// The hash block of the file at which a tree begins, `ahead` blocks after that sector.

@@ -4,12 +4,13 @@ ghost use Rattle.image_commands.specs.Preparing.{FailsToPrepare, HasRoom, IsNoPl
 
 use crate::fault::ImageFault;
 use crate::format::given_or_drawn;
-use crate::places::{ImagePlaces, is_aligned};
+use crate::places::ImagePlaces;
 use crate::random::Generators;
 use crate::tree_place::tree_of;
 use block_device::BlockDev;
 use command_line::ImageOptions;
 use image_files::{Images, open_image};
+use image_pin::is_aligned;
 use verity_format::{FormatFault, FormatOptions, data_sectors};
 
 /// The options with a salt and an identifier, given or drawn, of an image that no place, no shape and no missing data refuse. So
@@ -45,7 +46,7 @@ fn check_data<D: BlockDev>(data_dev: &D, options: &FormatOptions) -> Result<(), 
     Ok(())
 }
 
-// The same options, of which none is left to be drawn.
+// The given options, with none left to be drawn.
 fn said_options(given: &FormatOptions) -> ImageOptions
     ensures { result ≡ said_options given.now }
 {

@@ -9,7 +9,7 @@ use crate::cleared_tree::make_cleared;
 use crate::fault::ImageFault;
 use crate::format::{MadeImage, given_or_drawn};
 use crate::offsets::format_fault_from;
-use crate::places::{Bounds, data_end, is_aligned, open_placed, overlaps};
+use crate::places::{Bounds, data_end, open_placed, overlaps};
 use crate::random::Generators;
 use crate::superblock_text::{say_blocks, say_root, say_salt};
 use crate::tree_place::{tree_of, unnamed};
@@ -18,6 +18,7 @@ use block_device::{BlockDev, SyncDev};
 use command_line::ImageOptions;
 use device_adapters::{Beside, Part, Watchers, Window, bytes_before};
 use image_files::Images;
+use image_pin::is_aligned;
 use program_io::{Counted, WriteFault};
 use std::alloc::Global;
 use std::io::Write;
@@ -84,7 +85,7 @@ fn make_at<D: BlockDev + Drop, H: SyncDev + Drop>(
     }
 }
 
-// The same of a tree that has a shape, over a whole device.
+// Makes a tree whose shape is known, on a whole device.
 fn make_behind<D: BlockDev, H: SyncDev + Drop>(
     alloc: Global,
     data_dev: &mut D,
@@ -98,7 +99,7 @@ fn make_behind<D: BlockDev, H: SyncDev + Drop>(
     make_beside::<D, H, Brand>(alloc, data_dev, hash_dev, first, params)
 }
 
-// The same. What stands outside of the tree's part is known by the type parameter.
+// Makes the tree. The type parameter states what is stored outside of the tree's part.
 fn make_beside<D: BlockDev, H: SyncDev + Drop, K: Beside>(
     alloc: Global,
     data_dev: &mut D,

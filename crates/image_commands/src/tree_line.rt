@@ -5,9 +5,10 @@ ghost use Rattle.image_commands.specs.TreeImages.{IsTreeLineEnd, SaysTreeLine, t
 
 use crate::fault::ImageFault;
 use crate::line::say_line;
-use crate::places::{is_aligned, tree_start};
+use crate::places::tree_start;
 use crate::table::LineWords;
 use crate::tree_place::tree_of;
+use image_pin::is_aligned;
 use program_io::Counted;
 use std::alloc::Global;
 use std::io::Write;

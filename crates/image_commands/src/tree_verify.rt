@@ -6,12 +6,13 @@ ghost use Rattle.image_commands.specs.TreeImages.{FailsAtTree, FailsToVerifyTree
 use crate::comparing::{compare, place_parts};
 use crate::fault::ImageFault;
 use crate::paths::{ImagePaths, open_two};
-use crate::places::{Bounds, ImagePlaces, data_end, is_aligned, tree_start};
+use crate::places::{Bounds, ImagePlaces, data_end, tree_start};
 use crate::tree_place::tree_of;
 use crate::watching::{WatchedPlaces, bytes_of_blocks, watch};
 use block_device::BlockDev;
 use device_adapters::{Watchers, bytes_before};
 use image_files::Images;
+use image_pin::is_aligned;
 use program_io::Counted;
 use std::alloc::Global;
 use std::io::Write;

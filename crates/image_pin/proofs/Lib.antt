@@ -1,3 +1,4 @@
 mod CutLemmas
+mod FindingLemmas
 mod PinnedLemmas
 mod PrintedLemmas

@@ -4,4 +4,5 @@ pub mod Fields
 pub mod PinTexts
 pub mod Mismatches
 pub mod PinnedReads
+pub mod Finding
 pub mod Laws

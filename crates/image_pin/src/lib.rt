@@ -3,6 +3,7 @@
 
 mod fault;
 mod fields;
+mod finding;
 pub mod laws;
 mod mismatch;
 mod name;
@@ -13,6 +14,7 @@ mod read;
 mod trusted;
 
 pub use fault::PinFault;
+pub use finding::{NoTree, find_tree, is_aligned};
 pub use mismatch::{Mismatch, check_superblock};
 pub use name::PinName;
 pub use pin::Pin;

@@ -4,3 +4,5 @@ pub mod Pages
 pub mod Versions
 pub mod Help
 pub mod UsageErrors
+pub mod MessageLines
+pub mod messages

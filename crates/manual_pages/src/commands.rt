@@ -2,7 +2,7 @@
 
 use crate::command::Command;
 
-const LOAD_USAGE: &str = "dmstack load [--json] [--linux] STACK BINDING...";
+const LOAD_USAGE: &str = "dmstack load [--json] [--tree] [--linux] STACK BINDING...";
 
 const READ_USAGE: &str = "dmstack read [--cache N] STACK NAME FIRST COUNT BINDING...";
 
@@ -25,7 +25,7 @@ const STORE_USAGE: &str =
     "dmstack store [--cache N] [--first N] [--progress] STACK NAME SOURCE BINDING...";
 
 const FORMAT_USAGE: &str =
-    "dmstack format [--data-block N] [--hash-block N] [--blocks N] [--salt HEX] [--uuid U] [--hash-offset BYTES] [--no-superblock] [--grow] [--progress] [--fec FILE] [--fec-roots N] [--pin FILE] DATA HASH";
+    "dmstack format [--data-block N] [--hash-block N] [--blocks N] [--salt HEX] [--uuid U] [--hash-offset BYTES] [--root-hash-file FILE] [--no-superblock] [--grow] [--progress] [--fec FILE] [--fec-roots N] [--pin FILE] DATA HASH";
 
 const VERIFY_USAGE: &str =
     "dmstack verify [--data-block N] [--hash-block N] [--blocks N] [--salt HEX] [--hash-offset BYTES] [--root-hash-file FILE] [--no-superblock] [--all] [--json] [--chart] [--progress] [--fec FILE] [--fec-roots N] [--pin FILE] DATA HASH ROOT";
@@ -42,7 +42,7 @@ const PARTITIONS_USAGE: &str =
     "dmstack partitions [--sector-size 512|4096] [--json] [--stack] [--root ROOT] [--pin FILE] IMAGE";
 
 const DIFF_USAGE: &str =
-    "dmstack diff [--all] [--blocks N] [--json] [--old-pin FILE] [--pin FILE] HASH1 [ROOT1] HASH2 [ROOT2]";
+    "dmstack diff [--all] [--runs N] [--json] [--old-hash-offset BYTES] [--hash-offset BYTES] [--old-root-hash-file FILE] [--root-hash-file FILE] [--old-pin FILE] [--pin FILE] HASH1 [ROOT1] HASH2 [ROOT2]";
 
 const MANUAL_USAGE: &str = "dmstack manual [COMMAND]";
 

@@ -36,7 +36,7 @@ pub record PrintsEntries (old new : Device) (size : SectorSize) (written now_wri
   pub printed : Appends written now_written (entries_text table)
   pub noted : IsNoted notes (warning_text new table)
 
--- the same of the image under the path, which is only read
+-- this text of the partition table of the image under the path, which is only read, was printed
 pub record PrintsOfImage {S D : Type 0} (w : Calls S D) (path : List ℕ) (size : SectorSize) (text : PartitionTable → List ℕ) (old new : Option (List ℕ)) (notes : Notes) : Type 0 where
   pub image : OpenImage D
   pub device' : D
@@ -77,7 +77,7 @@ pub record EndsUnloadable (old new : Device) (size : SectorSize) : Type 0 where
   pub within : are_within new table.size table.partitions.items ≡ true
   pub unloadable : IsStackUnloadable new.size table.size table.partitions.items
 
--- the same of a stack text: there is no table, a partition ends past the end, the text doesn't load, room was refused, or the
+-- why no stack text is printed: there is no table, a partition ends past the end, the text doesn't load, room was refused, or the
 -- text can't be written
 abbrev pub IsEntriesEnd : Device → Device → SectorSize → Bool → PartitionsFault → Type 0
 IsEntriesEnd old new size failed NoMemory = IsOutOfMemory stack_room
@@ -113,7 +113,7 @@ EndsTableless fault = ⊥
 abbrev pub EndsNoted : Device → SectorSize → Notes → PartitionsFault → Type 0
 EndsNoted device size notes fault = AreNotes (EndsTableless fault) device size notes
 
--- the same of the image under the path: if it isn't opened, nothing
+-- what was printed among the errors, of the image under the path: if it isn't opened, nothing
 pub record NotesOfImage {S D : Type 0} (w : Calls S D) (path : List ℕ) (size : SectorSize) (notes : Notes) (fault : PartitionsFault) : Type 0 where
   pub image : OpenImage D
   pub opened : Opens w path false image

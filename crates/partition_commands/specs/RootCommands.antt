@@ -12,7 +12,7 @@ use Rattle.image_files.specs.Opened.{Opens, Refuses}
 use Rattle.image_files.specs.Opener.{Calls, Opener, calls}
 use Rattle.image_commands.specs.declared.fault.ImageFault.{ImageFault}
 use Rattle.image_pin.specs.declared.trusted.TrustedRoot.{TrustedRoot}
-use Rattle.image_commands.specs.Finding.{IsTreeUnpinned}
+use Rattle.image_pin.specs.Finding.{IsTreeUnpinned}
 use Rattle.image_commands.specs.PinFiles.{IsPinFileEnd}
 use Rattle.image_pin.specs.PinnedReads.{mismatch_of}
 use Rattle.image_pin.specs.declared.pin.Pin.{Pin as ImagePin}
@@ -102,21 +102,21 @@ pub record IsUnfitting (device : Device) (size : SectorSize) (both : ImagePartit
   pub pinned : mismatch_of pin super ≡ None
   pub unfit : is_unfit size both super ≡ true
 
--- why the two partitions don't hold an image: that of the data ends past the end of the device, there is no superblock of the pin
--- in that of the tree, or one of both is too small
+-- why the two partitions don't hold an image: first, that of the data ends past the end of the device; else there is no superblock of
+-- the pin in that of the tree, or one of both is too small
 abbrev pub IsPairEnd : Device → Device → SectorSize → ImagePartitions → Option ImagePin → PartitionRefusal → Type 0
 IsPairEnd old new size both pin refusal =
     ((refusal ≡ OutsideDevice) × (is_within old (part_of size both.data) ≡ false))
-    ⊎ (IsPartSuperEnd old new (part_of size both.verity) pin refusal ⊎ ((refusal ≡ Superblock TooSmall) × IsUnfitting old size both pin))
+    ⊎ ((is_within old (part_of size both.data) ≡ true) × (IsPartSuperEnd old new (part_of size both.verity) pin refusal ⊎ ((refusal ≡ Superblock TooSmall) × IsUnfitting old size both pin)))
 
--- both were found, but don't hold an image
-pub record LacksSuperblock (device device' : Device) (size : SectorSize) (trusted : TrustedRoot) (refusal : PartitionRefusal) : Type 0 where
+-- Both were found, but don't hold an image. The devices are those that calls left, so that a failed call came after the table was read.
+pub record LacksSuperblock {D : Type 0} (state : D → Device) (device device' : D) (size : SectorSize) (trusted : TrustedRoot) (refusal : PartitionRefusal) : Type 0 where
   pub table : PartitionTable
-  pub read_device : Device
-  pub found : IsSizedTable device read_device size table
+  pub read_device : D
+  pub found : IsSizedTable (state device) (state read_device) size table
   pub both : ImagePartitions
   pub both_is : image_partitions table.partitions.items trusted.root ≡ Ok both
-  pub ends : IsPairEnd read_device device' table.size both trusted.pin refusal
+  pub ends : IsPairEnd (state read_device) (state device') table.size both trusted.pin refusal
 
 -- there is no table
 pub record LacksTable {D : Type 0} (state : D → Device) (device : D) (size : SectorSize) (refusal : PartitionRefusal) : Type 0 where
@@ -144,7 +144,7 @@ IsRootTextEnd state size trusted failed device (Open file) = ⊥
 IsRootTextEnd state size trusted failed device (Pin fault) = ⊥
 IsRootTextEnd {D} state size trusted failed device (Refused refusal) =
     LacksTable state device size refusal
-    ⊎ (LacksPartitions (state device) size trusted.root refusal ⊎ ((device' : D) × LacksSuperblock (state device) (state device') size trusted refusal))
+    ⊎ (LacksPartitions (state device) size trusted.root refusal ⊎ ((device' : D) × LacksSuperblock state device device' size trusted refusal))
 
 pub record EndsRoot {S D : Type 0} (w : Calls S D) (path : List ℕ) (size : SectorSize) (trusted : TrustedRoot) (failed : Bool) (fault : PartitionsFault) : Type 0 where
   pub image : OpenImage D

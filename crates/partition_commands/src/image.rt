@@ -21,11 +21,9 @@ use block_device::BlockDev;
 use image_files::{Images, open_image};
 use partition_table::{Partition, SectorSize};
 use program_io::Counted;
+use stack_loader::MOST_DEVICES;
 use std::alloc::Global;
 use std::io::Write;
-
-// More devices no stack has.
-const MOST_DEVICES: usize = 64;
 
 /// `partitions IMAGE`: which copies of the image's table are good, and a line for each partition.
 pub fn partitions_of_image<'a, I: Images, W: Write, E: Write>(
@@ -44,7 +42,7 @@ pub fn partitions_of_image<'a, I: Images, W: Write, E: Write>(
     list_partitions(alloc, &mut image.device, size, writer, errors)
 }
 
-// The same of a device.
+// Prints the partitions of an open device.
 fn list_partitions<'a, D: BlockDev, W: Write, E: Write>(
     alloc: Global,
     device: &mut D,
@@ -82,7 +80,7 @@ pub fn object_of_image<'a, I: Images, W: Write, E: Write>(
     list_object(alloc, &mut image.device, size, writer, errors)
 }
 
-// The same of a device.
+// Prints the partition table of an open device as an object.
 fn list_object<'a, D: BlockDev, W: Write, E: Write>(
     alloc: Global,
     device: &mut D,
@@ -120,7 +118,7 @@ pub fn stack_of_image<'a, I: Images, W: Write, E: Write>(
     list_entries(alloc, &mut image.device, size, writer, errors)
 }
 
-// The same of a device.
+// Prints the stack of all partitions of an open device.
 fn list_entries<'a, D: BlockDev, W: Write, E: Write>(
     alloc: Global,
     device: &mut D,
@@ -153,7 +151,7 @@ fn say_stack<'a, W: Write>(
     ensures err { IfErr result (IsStackEnd sectors size partitions.now writer.new.failed) }
     ensures quiet { IfErr result (EndsQuiet W.contents writer.old writer.new) }
 {
-    if partitions.len() > MOST_DEVICES {
+    if partitions.len() > MOST_DEVICES as usize {
         return Err(PartitionsFault::NotLoadable);
     }
     let text = stack_text(alloc, size, partitions)?;

@@ -7,11 +7,9 @@ use crate::PartitionsFault;
 use allocation::{OutOfMemory, copied, push};
 use program_io::Counted;
 use stack_config::Leaf;
-use stack_files::{StackFault, configuration_of};
+use stack_files::{MOST_TEXT, StackFault, configuration_of};
 use std::alloc::Global;
 use std::io::Write;
-
-const MOST_TEXT: usize = 1 << 20;
 
 /// Prints a stack text, unless `load` would refuse it over a disk of so many sectors; then nothing is printed.
 ///

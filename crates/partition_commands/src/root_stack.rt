@@ -82,7 +82,7 @@ pub fn root_stack_of_image<'a, I: Images, W: Write, E: Write>(
     print_root_stack(alloc, image.device, size, trusted, writer, errors)
 }
 
-// The same of a device.
+// Prints the stack of a root's partitions on an open device.
 fn print_root_stack<'a, D: BlockDev + Drop, W: Write, E: Write>(
     alloc: Global,
     device: D,

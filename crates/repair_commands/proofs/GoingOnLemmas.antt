@@ -7,6 +7,8 @@ use Rattle.tree_repair.specs.declared.fault.RepairFault.{RepairFault}
 use Rattle.tree_repair.specs.declared.fault.RepairFault.TheVariants.{Image, Write}
 use Rattle.tree_repair.specs.declared.outcome.Outcome.{Outcome}
 use Rattle.tree_repair.specs.declared.repair.Plan.{Plan}
+use Rattle.program_io.specs.Counted.{CountedRecord}
+use Rattle.tree_repair.specs.Runs.{IsWriterCause}
 use Rattle.tree_repair.specs.Repairs.{IsAllowed, IsUnrepairedBy, Repairs}
 use Rattle.tree_repair.specs.Worlds.{RepairWorld}
 use Rattle.tree_repair.proofs.lemmas.SameLemmas.{unrepaired-same}
@@ -27,10 +29,10 @@ laid-then l plan parity w w' old new fault run laid =
     record { layout = laid.layout; data_room = omega (arith, laid.data_room, same.0.size); hash_room = omega (arith, laid.hash_room, same.1.size) }
 
 -- a run that a fault ended, and what came behind
-pub cut-then : (plan : Plan) (parity : Bool) (w a w' : RepairWorld) (old new : Option (List ℕ)) (fault end : RepairFault) → IsUnrepairedBy plan parity w a old new fault → IsEndBehind plan parity fault a w' end
-    → IsCutBy plan parity w w' old new end
-cut-then plan parity w a w' old new (Image cause) end run (is, stays) = inl (cause, (is, subst (λ (x : RepairWorld). IsUnrepairedBy plan parity w x old new (Image cause)) (sym stays) run))
-cut-then plan parity w a w' old new Write end run unheard = inr (record { between = a; cut = run; unheard = unheard })
+pub cut-then : {W : Type 0} (writer : CountedRecord W) (plan : Plan) (parity : Bool) (w a w' : RepairWorld) (old new : Option (List ℕ)) (fault end : RepairFault) → IsWriterCause writer fault → IsUnrepairedBy plan parity w a old new fault → IsEndBehind plan parity fault a w' end
+    → IsCutBy plan parity w w' old new writer.failed end
+cut-then writer plan parity w a w' old new (Image cause) end told run (is, stays) = inl (cause, (is, subst (λ (x : RepairWorld). IsUnrepairedBy plan parity w x old new (Image cause)) (sym stays) run))
+cut-then writer plan parity w a w' old new Write end told run unheard = inr (record { told = told; between = a; cut = run; unheard = unheard })
 
 -- a run that came to its end, and was synced
 pub end-ok : {Whole Mends : Outcome → Type 0} {Synced : Type 0} (r : Result Outcome RepairFault) (s : Result (Unit {0}) RepairFault) → IfOk r Whole → OnOk s Synced → ((t : Outcome) → Whole t → Synced → Mends t)
@@ -42,11 +44,11 @@ end-ok (Err Write) (Err unsynced) whole synced mends = tt
 end-ok (Err (Image cause)) (Err unsynced) whole synced mends = tt
 
 -- or one that didn't, or wasn't
-pub end-err : {Whole : Outcome → Type 0} (plan : Plan) (parity : Bool) (w a w' : RepairWorld) (old new : Option (List ℕ)) (r : Result Outcome RepairFault) (s : Result (Unit {0}) RepairFault)
-    → ((t : Outcome) → Whole t → Repairs plan parity w a old new None) → IfOk r Whole → IfErr r (IsCutBy plan parity w a old new) → KeepsBothImages a w'
-    → OnOk s (IsOnMedium plan.write w'.data_dev w'.hash_dev) → IfErr s (IsUnsyncedCause plan.write a w') → IfErr (end_of r s) (HalfMends plan parity w w' old new)
-end-err plan parity w a w' old new (Ok t) (Ok done) repairs whole cut kept synced un = tt
-end-err plan parity w a w' old new (Err fault) (Ok done) repairs whole cut kept synced un = record { mid = a; ended = Some fault; run = cut; kept = kept; synced = inl (refl, synced) }
-end-err plan parity w a w' old new (Ok t) (Err fault) repairs whole cut kept synced un = record { mid = a; ended = None; run = repairs t whole; kept = kept; synced = inr un }
-end-err plan parity w a w' old new (Err Write) (Err fault) repairs whole cut kept synced un = record { mid = a; ended = Some Write; run = cut; kept = kept; synced = inr un }
-end-err plan parity w a w' old new (Err (Image cause)) (Err fault) repairs whole cut kept synced un = record { mid = a; ended = Some (Image cause); run = cut; kept = kept; synced = inr (refl, un.1) }
+pub end-err : {Whole : Outcome → Type 0} (plan : Plan) (parity : Bool) (w a w' : RepairWorld) (old new : Option (List ℕ)) (failed : Bool) (r : Result Outcome RepairFault) (s : Result (Unit {0}) RepairFault)
+    → ((t : Outcome) → Whole t → Repairs plan parity w a old new None) → IfOk r Whole → IfErr r (IsCutBy plan parity w a old new failed) → KeepsBothImages a w'
+    → OnOk s (IsOnMedium plan.write w'.data_dev w'.hash_dev) → IfErr s (IsUnsyncedCause plan.write a w') → IfErr (end_of r s) (HalfMends plan parity w w' old new failed)
+end-err plan parity w a w' old new failed (Ok t) (Ok done) repairs whole cut kept synced un = tt
+end-err plan parity w a w' old new failed (Err fault) (Ok done) repairs whole cut kept synced un = record { mid = a; ended = Some fault; run = cut; kept = kept; synced = inl (refl, synced) }
+end-err plan parity w a w' old new failed (Ok t) (Err fault) repairs whole cut kept synced un = record { mid = a; ended = None; run = repairs t whole; kept = kept; synced = inr un }
+end-err plan parity w a w' old new failed (Err Write) (Err fault) repairs whole cut kept synced un = record { mid = a; ended = Some Write; run = cut; kept = kept; synced = inr un }
+end-err plan parity w a w' old new failed (Err (Image cause)) (Err fault) repairs whole cut kept synced un = record { mid = a; ended = Some (Image cause); run = cut; kept = kept; synced = inr (refl, un.1) }

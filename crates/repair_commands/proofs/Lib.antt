@@ -1,6 +1,5 @@
 mod CopyLemmas
 mod EndingLemmas
-mod FoundTreeLemmas
 mod GoingOnLemmas
 mod MendLemmas
 mod ScanLemmas

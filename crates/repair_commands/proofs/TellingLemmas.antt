@@ -1,5 +1,5 @@
 -- What was printed after a repair, by how the repair ended.
-use Rattle.std.proofs.Common.{ℕ, Bool, List, Option, Result, Ok, Err, inl, inr, subst, sym}
+use Rattle.std.proofs.Common.{◌≡◌, ℕ, Bool, List, Option, Result, Ok, Err, inl, inr, subst, sym}
 use Rattle.std.specs.Prelude.{IfErr, IfOk, OnOk}
 use Rattle.verity_commands.specs.declared.tree_fault.TreeFault.{TreeFault}
 use Rattle.verity_commands.specs.Surveyed.{SurveyedDevices}
@@ -12,7 +12,7 @@ use Rattle.repair_commands.specs.Mends.{IsOnMedium}
 use Rattle.repair_commands.specs.Rest.{IsUntold, Tells, known_by}
 use Rattle.repair_commands.proofs.ScanLemmas.{medium-ended, medium-told}
 
-module _ (Mends : Mending Outcome) (Half : Mending RepairFault) (whole : Bool) (plan : Plan) (mid : RepairWorld) (between new : Option (List ℕ)) (t' : SurveyedDevices)
+module _ (Mends : Mending Outcome) (Half : Bool → Mending RepairFault) (whole : Bool) (plan : Plan) (mid : RepairWorld) (between new : Option (List ℕ)) (t' : SurveyedDevices)
     (synced : (found : Outcome) → Mends mid between found → IsOnMedium plan.write mid.data_dev mid.hash_dev) where
   pub told-ok : (r : Result Outcome RepairFault) (s : Result (Unit {0}) TreeFault) → IfOk r (Mends mid between) → OnOk s (Tells r whole plan (devices_in mid) t' between new) → OnOk s (MendsAndTells Mends whole plan new t')
   told-ok (Ok found) (Ok done) mends tells = record {
@@ -27,11 +27,11 @@ module _ (Mends : Mending Outcome) (Half : Mending RepairFault) (whole : Bool) (
   told-ok (Ok found) (Err fault) mends tells = tt
   told-ok (Err cause) (Err fault) mends tells = tt
 
-  pub told-err : (failed : Bool) (r : Result Outcome RepairFault) (s : Result (Unit {0}) TreeFault) → IfOk r (Mends mid between) → IfErr r (Half mid between)
-      → IfErr s (IsUntold r whole plan (devices_in mid) t' between new failed) → IfErr s (λ fault. EndsEarly Mends Half whole plan new failed fault t')
-  told-err failed (Ok found) (Ok done) mends half ends = tt
-  told-err failed (Err cause) (Ok done) mends half ends = tt
-  told-err failed (Ok found) (Err fault) mends half ends = inr (record {
+  pub told-err : (was failed : Bool) (r : Result Outcome RepairFault) (s : Result (Unit {0}) TreeFault) → IfOk r (Mends mid between) → IfErr r (Half was mid between) → IfErr r (λ cause. failed ≡ was)
+      → IfErr s (IsUntold r whole plan (devices_in mid) t' between new failed) → IfErr s (λ fault. EndsEarly Mends (Half failed) whole plan new failed fault t')
+  told-err was failed (Ok found) (Ok done) mends half kept ends = tt
+  told-err was failed (Err cause) (Ok done) mends half kept ends = tt
+  told-err was failed (Ok found) (Err fault) mends half kept ends = inr (record {
     mended = mid;
     between = between;
     found = found;
@@ -39,5 +39,11 @@ module _ (Mends : Mending Outcome) (Half : Mending RepairFault) (whole : Bool) (
     ends = ends;
     on_medium = medium-ended (known_by whole found) plan (devices_in mid) t' between new failed fault ends (synced found mends);
   })
-  told-err failed (Err cause) (Err fault) mends half (is, (same, quiet)) =
-      inl (record { mid = mid; cause = cause; half = subst (λ (text : Option (List ℕ)). Half mid text cause) (sym quiet) half; is = is; same = same })
+  told-err was failed (Err cause) (Err fault) mends half kept (is, (same, quiet)) =
+      inl (record {
+        mid = mid;
+        cause = cause;
+        half = subst (λ (flag : Bool). Half flag mid new cause) (sym kept) (subst (λ (text : Option (List ℕ)). Half was mid text cause) (sym quiet) half);
+        is = is;
+        same = same;
+      })

@@ -39,7 +39,7 @@ MendsOpenedByParity w p o found laid old new =
 -- this ended early, and both parts were closed
 abbrev pub EndsOpenedByParity : {S D : Type 0} → Calls S D → Places → Opened D → FoundTree → LaidParity D → Option (List ℕ) → Option (List ℕ) → Bool → TreeFault → Type 0
 EndsOpenedByParity w p o found laid old new failed fault =
-    GivesBack w p o.parts (EndsEarly (MendsByParity (plan_of p found) laid.layout (w.state laid.device) (opened_world w.state o) old) (MendsHalf (plan_of p found) true (opened_world w.state o) old) found.whole (plan_of p found) new failed fault)
+    GivesBack w p o.parts (EndsEarly (MendsByParity (plan_of p found) laid.layout (w.state laid.device) (opened_world w.state o) old) (MendsHalf (plan_of p found) true (opened_world w.state o) old failed) found.whole (plan_of p found) new failed fault)
 
 -- the images and the copies were opened, and then the parity file; the tree was found
 pub record IsReadyByParity {S D : Type 0} (w : Calls S D) (p : Places) (fec : FecRecord) (copies : List ImageCopy) (trusted : TrustedRoot) (o : Opened D) (parity : Parity D) (found : FoundTree) : Type 0 where

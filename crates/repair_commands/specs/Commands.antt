@@ -85,9 +85,9 @@ EndsEarly Mends Half whole plan new failed fault t' = EndsMending Half new fault
 abbrev pub MendsOnce : Plan → RepairWorld → Option (List ℕ) → Mending Outcome
 MendsOnce plan w old = λ mid between outcome. MendsInOnePass plan w mid old between outcome
 
--- a repair that ended early, of which only verified blocks were written
-abbrev pub MendsHalf : Plan → Bool → RepairWorld → Option (List ℕ) → Mending RepairFault
-MendsHalf plan parity w old = λ mid between cause. HalfMends plan parity w mid old between cause
+-- a repair that ended early, of which only verified blocks were written; `failed` is whether the writer failed
+abbrev pub MendsHalf : Plan → Bool → RepairWorld → Option (List ℕ) → Bool → Mending RepairFault
+MendsHalf plan parity w old failed = λ mid between cause. HalfMends plan parity w mid old between failed cause
 
 -- ---- on files
 
@@ -105,7 +105,7 @@ MendsOpened w p o found old new = GivesBack w p o.parts (MendsAndTells (MendsOnc
 -- this ended early, and both parts were closed
 abbrev pub EndsOpened : {S D : Type 0} → Calls S D → Places → Opened D → FoundTree → Option (List ℕ) → Option (List ℕ) → Bool → TreeFault → Type 0
 EndsOpened w p o found old new failed fault =
-    GivesBack w p o.parts (EndsEarly (MendsOnce (plan_of p found) (opened_world w.state o) old) (MendsHalf (plan_of p found) false (opened_world w.state o) old) found.whole (plan_of p found) new failed fault)
+    GivesBack w p o.parts (EndsEarly (MendsOnce (plan_of p found) (opened_world w.state o) old) (MendsHalf (plan_of p found) false (opened_world w.state o) old failed) found.whole (plan_of p found) new failed fault)
 
 -- ---- what is read before anything is written
 

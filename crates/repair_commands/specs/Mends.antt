@@ -95,28 +95,29 @@ abbrev pub IsEndBehind : Plan → Bool → RepairFault → RepairWorld → Repai
 IsEndBehind plan parity (Image cause) w w' fault = (fault ≡ Image cause) × (w' ≡ w)
 IsEndBehind plan parity Write w w' fault = IsUnheard plan parity w w' fault
 
--- the writer failed, and the image was repaired again without a writer
-pub record GoesOnUnheard (plan : Plan) (parity : Bool) (w w' : RepairWorld) (old new : Option (List ℕ)) (fault : RepairFault) : Type 0 where
+-- the writer failed, which it records, and the image was repaired again without a writer
+pub record GoesOnUnheard (plan : Plan) (parity : Bool) (w w' : RepairWorld) (old new : Option (List ℕ)) (failed : Bool) (fault : RepairFault) : Type 0 where
+  pub told : failed ≡ true
   pub between : RepairWorld
   pub cut : IsUnrepairedBy plan parity w between old new Write
   pub unheard : IsUnheard plan parity between w' fault
 
 -- The fault `Write` therefore means that the image was repaired to its end nevertheless.
-abbrev pub IsCutBy : Plan → Bool → RepairWorld → RepairWorld → Option (List ℕ) → Option (List ℕ) → RepairFault → Type 0
-IsCutBy plan parity w w' old new fault =
-    ((cause : VerifyFault) × ((fault ≡ Image cause) × IsUnrepairedBy plan parity w w' old new (Image cause))) ⊎ GoesOnUnheard plan parity w w' old new fault
+abbrev pub IsCutBy : Plan → Bool → RepairWorld → RepairWorld → Option (List ℕ) → Option (List ℕ) → Bool → RepairFault → Type 0
+IsCutBy plan parity w w' old new failed fault =
+    ((cause : VerifyFault) × ((fault ≡ Image cause) × IsUnrepairedBy plan parity w w' old new (Image cause))) ⊎ GoesOnUnheard plan parity w w' old new failed fault
 
 -- a run to its end, or up to a fault, with the writer or after its failure
-abbrev pub IsWholeOrCut : Plan → Bool → RepairWorld → RepairWorld → Option (List ℕ) → Option (List ℕ) → Option RepairFault → Type 0
-IsWholeOrCut plan parity w w' old new None = Repairs plan parity w w' old new None
-IsWholeOrCut plan parity w w' old new (Some fault) = IsCutBy plan parity w w' old new fault
+abbrev pub IsWholeOrCut : Plan → Bool → RepairWorld → RepairWorld → Option (List ℕ) → Option (List ℕ) → Bool → Option RepairFault → Type 0
+IsWholeOrCut plan parity w w' old new failed None = Repairs plan parity w w' old new None
+IsWholeOrCut plan parity w w' old new failed (Some fault) = IsCutBy plan parity w w' old new failed fault
 
 -- The repair ended in that fault, and both devices were synced; or a device failed in the sync. Only verified blocks were
 -- written.
-pub record HalfMends (plan : Plan) (parity : Bool) (w w' : RepairWorld) (old new : Option (List ℕ)) (fault : RepairFault) : Type 0 where
+pub record HalfMends (plan : Plan) (parity : Bool) (w w' : RepairWorld) (old new : Option (List ℕ)) (failed : Bool) (fault : RepairFault) : Type 0 where
   pub mid : RepairWorld
   pub ended : Option RepairFault
-  pub run : IsWholeOrCut plan parity w mid old new ended
+  pub run : IsWholeOrCut plan parity w mid old new failed ended
   pub kept : KeepsBothImages mid w'
   pub synced : ((ended ≡ Some fault) × IsOnMedium plan.write w'.data_dev w'.hash_dev) ⊎ IsUnsyncedEnd plan.write mid w' ended fault
 
@@ -129,10 +130,10 @@ abbrev pub IsMendedInPasses : {P W : Type 0} → (P → Device) → (W → Optio
 IsMendedInPasses state contents plan l p p' w w' old new outcome = MendsInPasses plan l (state p) (state p') w w' (contents old.inner) (contents new.inner) outcome
 
 abbrev pub IsMendingCut : {W : Type 0} → (W → Option (List ℕ)) → Plan → Bool → RepairWorld → RepairWorld → CountedRecord W → CountedRecord W → RepairFault → Type 0
-IsMendingCut contents plan parity w w' old new fault = HalfMends plan parity w w' (contents old.inner) (contents new.inner) fault
+IsMendingCut contents plan parity w w' old new fault = HalfMends plan parity w w' (contents old.inner) (contents new.inner) new.failed fault
 
 abbrev pub IsRunCut : {W : Type 0} → (W → Option (List ℕ)) → Plan → Bool → RepairWorld → RepairWorld → CountedRecord W → CountedRecord W → RepairFault → Type 0
-IsRunCut contents plan parity w w' old new fault = IsCutBy plan parity w w' (contents old.inner) (contents new.inner) fault
+IsRunCut contents plan parity w w' old new fault = IsCutBy plan parity w w' (contents old.inner) (contents new.inner) new.failed fault
 
 -- each block was visited, in one pass, and this is known of the image
 pub record RunsInOnePass (plan : Plan) (w w' : RepairWorld) (old new : Option (List ℕ)) (outcome : Outcome) : Type 0 where

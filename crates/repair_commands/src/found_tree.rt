@@ -5,8 +5,7 @@ ghost use Rattle.repair_commands.specs.FoundTrees.{FindsNoTree, FindsTree};
 
 use crate::unused::check_unused;
 use block_device::BlockDev;
-use image_commands::{NoTree, is_aligned};
-use image_pin::{TrustedRoot, read_pinned};
+use image_pin::{TrustedRoot, find_tree};
 use std::alloc::Global;
 use tree_shape::Digest;
 use verity_commands::TreeFault;
@@ -26,10 +25,7 @@ pub(crate) struct FoundTree {
 ///
 /// # Errors
 ///
-/// - The superblock's fault if there is none.
-/// - `Unpinned` if the superblock differs from the pin.
-/// - Those of `check_unused`.
-/// - `Unaligned` if the hash image doesn't begin at a multiple of its hash block size.
+/// Those of `find_tree`, and then those of `check_unused`.
 pub(crate) fn find_repaired_tree<'a, H: BlockDev>(
     alloc: Global,
     hash_dev: &mut H,
@@ -40,14 +36,8 @@ pub(crate) fn find_repaired_tree<'a, H: BlockDev>(
     ensures ok { IfOk result (FindsTree (H.state hash_dev.old) first trusted.now (H.state hash_dev.new)) }
     ensures err { IfErr result (FindsNoTree (H.state hash_dev.old) first trusted.now (H.state hash_dev.new)) }
 {
-    let superblock = match read_pinned(hash_dev, &trusted.pin) {
-        Ok(superblock) => superblock,
-        Err(fault) => return Err(TreeFault::from(NoTree::from(fault))),
-    };
+    let superblock = find_tree(hash_dev, first, &trusted.pin)?;
     let whole = check_unused(alloc, hash_dev, &superblock, &trusted.root)?;
-    if !is_aligned(first, superblock.hash_block()) {
-        return Err(TreeFault::Unaligned);
-    }
     Ok(FoundTree {
         tree: superblock.tree(),
         root: trusted.root,

@@ -29,6 +29,7 @@ pub(crate) fn tell<'a, D: BlockDev + Drop, H: BlockDev + Drop, W: Write>(
 ) -> (D, H, Result<(), TreeFault<'a>>)
     ensures ok { OnOk result.2 (TellsOf D.state H.state devices result.0 result.1 ended whole plan.now W.contents writer.old writer.new) }
     ensures err { IfErr result.2 (IsUntoldOf D.state H.state devices result.0 result.1 ended whole plan.now W.contents writer.old writer.new) }
+    ensures same { IfErr ended (λ cause. writer.new.failed ≡ writer.old.failed) }
 {
     match ended {
         Ok(outcome) => say_rest(alloc, devices, known_by(whole, outcome), plan, writer),
@@ -75,7 +76,7 @@ fn say_scanned<'a, D: BlockDev + Drop, H: BlockDev + Drop, W: Write>(
     scan_known::<D, H, Brand, Brand, W>(alloc, devices, plan, writer)
 }
 
-// The same. What the devices were before is known by the type parameters.
+// Scans the image. The type parameters state what the devices held before.
 fn scan_known<'a, D: BlockDev + Drop, H: BlockDev + Drop, K: Former, L: Former, W: Write>(
     alloc: Global,
     devices: (D, H),

@@ -1,6 +1,6 @@
 -- A part of a write that was written.
-use Rattle.std.proofs.Common.{◌≡◌, inr, ℕ, ◌+◌, ◌-◌, ◌*◌, List, take, drop, refl, ap, ◌∙◌, subst, arith, Result, Ok, Err}
-use Rattle.std.specs.Prelude.{IfErr, OnOk}
+use Rattle.std.proofs.Common.{◌≡◌, inr, ℕ, ◌+◌, ◌-◌, ◌*◌, List, take, drop, refl, sym, ap, ◌∙◌, subst, arith, Result, Ok, Err}
+use Rattle.std.specs.Prelude.{IfErr, IsErrAnd, OnOk}
 use Rattle.block_device.specs.Call.{Call}
 use Rattle.block_device.specs.Device.{Device}
 use Rattle.stack_meaning.specs.declared.fault.IoFault.{IoFault}
@@ -17,6 +17,11 @@ use Rattle.request_queue.specs.Flights.{reads, writes, nothing}
 use Rattle.request_queue.specs.Parts.{EachPart}
 use Rattle.request_queue.specs.PieceCalls.{CalledPart}
 use Rattle.request_queue.specs.Serving.{PartDone, PartFailed}
+
+-- what holds of a fault holds of the result that hands it on
+pub err-from : {T E : Type 0} (r : Result T E) (P : E → Type 0) (fault : E) → IsErrAnd r (λ e. e ≡ fault) → P fault → IfErr r P
+err-from (Ok done) P fault is holds = tt
+err-from (Err e) P fault is holds = subst P (sym is) holds
 
 -- the bytes of a part, as the code cuts them out
 pub part-bytes : (now items : List ℕ) (done count : ℕ) → now ≡ items → take (done * 512 + count * 512 - done * 512) (drop (done * 512) now) ≡ take (512 * count) (drop (512 * done) items)

@@ -1,5 +1,5 @@
 -- Which sectors of a device were recovered.
-use Rattle.std.specs.Prelude.{◌+◌, ◌^◌, ◌≤◌, Bool, List, [], ◌∷◌, ◌++◌, length, replicate, take, drop, All, if◌then◌else◌}
+use Rattle.std.specs.Prelude.{ℕ, ◌+◌, ◌^◌, ◌≤◌, ◌&&◌, ◌||◌, nat_le, Bool, true, List, [], ◌∷◌, ◌++◌, length, replicate, take, drop, All, if◌then◌else◌}
 use Rattle.std.specs.List.{flat_map}
 use Rattle.rescue_map.specs.declared.map.Run.{Run}
 use Rattle.rescue_map.specs.declared.splicing.Span.{Span}
@@ -29,3 +29,8 @@ totals_from t (r ∷ more) = totals_from (with_run t r) more
 
 abbrev pub map_totals : List Run → Totals
 map_totals runs = totals_from (record { had = 0; lost = 0 }) runs
+
+-- each run that ends after sector `from` was recovered; the first run begins at sector `at`
+abbrev pub is_had_from : ℕ → ℕ → List Run → Bool
+is_had_from from at [] = true
+is_had_from from at (r ∷ more) = (r.had || nat_le (at + r.count) from) && is_had_from from (at + r.count) more

@@ -1,7 +1,7 @@
 //! The numbers of recovered and other sectors of a map.
-ghost use Rattle.std.specs.Prelude.{◌≡◌, ◌+◌, ◌<◌, ◌^◌};
+ghost use Rattle.std.specs.Prelude.{◌≡◌, ◌+◌, ◌<◌, ◌^◌, ◌||◌, nat_le};
 ghost use Rattle.std.specs.List.{list_all};
-ghost use Rattle.rescue_map.specs.Maps.{map_totals, with_run};
+ghost use Rattle.rescue_map.specs.Maps.{is_had_from, map_totals, with_run};
 
 use crate::map::{Map, Run};
 
@@ -17,6 +17,28 @@ pub fn is_had(map: &Map) -> bool
     ensures { result ≡ list_all (λ run. run.had) map.now }
 {
     map.runs().iter().all(|run| run.had)
+}
+
+/// Returns whether each run of a map that ends after sector `from` was recovered, so that none is left to be read there.
+pub fn is_had_from(map: &Map, from: u64) -> bool
+    ensures { result ≡ is_had_from from 0 map.now }
+{
+    let mut at = 0;
+    for run in map.runs() {
+        let end = at + run.count;
+        if !is_done(*run, end, from) {
+            return false;
+        }
+        at = end;
+    }
+    true
+}
+
+// Whether a run that ends before sector `end` was recovered or ends before sector `from`.
+fn is_done(run: Run, end: u64, from: u64) -> bool
+    ensures { result ≡ (run.had || nat_le end from) }
+{
+    run.had || end <= from
 }
 
 fn with_run(totals: Totals, run: Run) -> Totals

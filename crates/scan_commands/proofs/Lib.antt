@@ -6,3 +6,4 @@ mod MapFileLemmas
 mod TurnLemmas
 pub mod NameLemmas
 pub mod PlainLemmas
+mod TreeLemmas

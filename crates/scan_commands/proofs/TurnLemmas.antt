@@ -1,33 +1,32 @@
 -- A turn over a device.
-use Rattle.std.proofs.Common.{◌≡◌, ◌⊎◌, ℕ, suc, ◌+◌, ◌-◌, ◌<◌, ◌^◌, Bool, IsTrue, List, [], ◌∷◌, length, map, Result, Ok, Err, IfErr, IsErrAnd, arith, inl, inr, true, refl, sym, ap, ◌∙◌, subst}
+use Rattle.std.proofs.Common.{◌≡◌, ◌⊎◌, ℕ, suc, ◌+◌, ◌-◌, ◌<◌, ◌^◌, Bool, IsTrue, List, [], ◌∷◌, length, map, Result, Ok, Err, IfErr, IfOk, IsErrAnd, arith, inl, inr, true, refl, sym, ap, ◌∙◌, subst}
 use Rattle.allocation.specs.Refusal.{IsOutOfMemory}
 use Rattle.block_device.specs.Device.{Device, HasFailed, IsSameDevice}
 use Rattle.rescue_map.specs.declared.map.Run.{Run}
-use Rattle.rescue_map.specs.Maps.{marks, map_totals}
+use Rattle.rescue_map.specs.Maps.{marks}
 use Rattle.stack_rules.specs.Names.{mapped, size}
 use Rattle.stack_rules.proofs.lemmas.PassingLemmas.{out_of_memory-more}
 use Rattle.stack_meaning.specs.Memory.{largest_allocation}
 use Rattle.stack_engine.specs.Stacks.{StackRecord}
-use Rattle.stack_recovery.specs.declared.rescued.Rescued.{Rescued}
 use Rattle.scan_commands.specs.declared.rescue_fault.PassFault.{PassFault}
 use Rattle.scan_commands.specs.declared.rescue_fault.PassFault.TheVariants.{NoMap, NoMemory, Output, TooLong, Unread, Unwritten}
 use Rattle.scan_commands.specs.MapFiles.{MapPathRecord, recovery_ending}
 use Rattle.image_files.specs.declared.texts.ReplaceFault.{ReplaceFault}
-use Rattle.rescue_map.specs.declared.totals.Totals.{Totals}
 use Rattle.rescue_map.specs.declared.splicing.Span.{Span}
-use Rattle.scan_commands.specs.Turns.{IsSpan, asked_marks, IsTurnsEnd, IsMapUnwritten, IsUnfailed, Kept, Progressed, RescuesInTurns, StopsIn, IsTurn, Turns, kept as kept_by, largest_print_allocation, progressed}
+use Rattle.scan_commands.specs.Turns.{EndsSectors, IsSpan, asked_marks, IsPassTurnsEnd, IsMapUnwritten, IsUnfailed, Kept, Progressed, ReadsInTurns, ReadsSectors, StopsIn, IsTurn, Turns, kept as kept_by, largest_print_allocation, progressed}
 use Rattle.stack_recovery.specs.declared.fault.RecoveryFault.{RecoveryFault}
 use Rattle.stack_recovery.specs.declared.fault.RecoveryFault.TheVariants as recovery
-use Rattle.stack_recovery.specs.Recoveries.{FailsOutput, FindsNoMemory, IsMapRefused, IsRescueEnd, Rescues, RunsShort, Sides, is_had}
+use Rattle.scan_commands.specs.declared.phase.Phase.{Phase}
+use Rattle.scan_commands.specs.declared.phase.Phase.TheVariants.{Rescue, Skim}
+use Rattle.stack_recovery.specs.FirstPasses.{FailsSkimOutput, Skims, SkimsShort, Transfer}
+use Rattle.stack_recovery.specs.Skims.{IsSkimOver, Skim as Skimmed, marks_of, skim_marks}
+use Rattle.stack_recovery.specs.TwoPasses.{transfer_of}
+use Rattle.stack_recovery.specs.Recoveries.{FailsOutput, FindsNoMemory, IsMapRefused, RunsShort, Sides, is_had}
 use Rattle.stack_recovery.specs.Surveys.{AnswersFinding, Finding, IsSurveyOver, PieceRead, SectorState, again, all_states, had, kept, lost, states_of}
 
 length-map : (states : List SectorState) → length (map is_had states) ≡ length states
 length-map [] = refl
 length-map (x ∷ states) = ap suc (length-map states)
-
--- the map that was made is of all sectors
-pub rescued-sectors : (before : List Bool) (d : ℕ) (old : Sides) (rescued : Rescued) (new : Sides) → Rescues before d old rescued new → length (marks rescued.map) ≡ size old.stack.config (mapped d)
-rescued-sectors before d old rescued new r = ap length r.noted ∙ length-map _ ∙ r.whole
 
 answers-config : (w : StackRecord) (d first n : ℕ) (found : Finding) (w' : StackRecord) → AnswersFinding w d first n found w' → w'.config ≡ w.config
 answers-config w d first n (had bytes) w' a = a.any.config
@@ -40,9 +39,36 @@ survey-config before d first w [] w' s = ap (λ (t : StackRecord). t.config) s
 survey-config before d first w (r ∷ more) w' s =
     survey-config before d (first + length (states_of r)) r.after more w' s.1 ∙ answers-config w d first r.count r.found r.after s.0.answered
 
+skim-config : (before : List Bool) (d first : ℕ) (w : StackRecord) (skims : List Skimmed) (w' : StackRecord) → IsSkimOver before d first w skims w' → w'.config ≡ w.config
+skim-config before d first w [] w' s = ap (λ (t : StackRecord). t.config) s
+skim-config before d first w (x ∷ more) w' s =
+    skim-config before d (first + length (marks_of x)) x.piece.after more w' s.1 ∙ answers-config w d first x.piece.count x.piece.found x.piece.after s.0.answered
+
+-- the map that was made is of all sectors
+pub reads-sectors : (phase : Phase) (before : List Bool) (d : ℕ) (old : Sides) (made : List Run) (new : Sides) → ReadsSectors phase before d old made new → length (marks made) ≡ size old.stack.config (mapped d)
+reads-sectors Skim before d old made new r = ap length r.0.noted ∙ r.0.whole
+reads-sectors Rescue before d old made new r = ap length r.1.noted ∙ length-map _ ∙ r.1.whole
+
 -- the configuration stays
-pub rescued-config : (before : List Bool) (d : ℕ) (old : Sides) (rescued : Rescued) (new : Sides) → Rescues before d old rescued new → new.stack.config ≡ old.stack.config
-rescued-config before d old rescued new r = survey-config before d 0 old.stack r.reads new.stack r.survey
+pub reads-config : (phase : Phase) (before : List Bool) (d : ℕ) (old : Sides) (made : List Run) (new : Sides) → ReadsSectors phase before d old made new → new.stack.config ≡ old.stack.config
+reads-config Skim before d old made new r = skim-config before d 0 old.stack r.0.skims new.stack r.0.survey
+reads-config Rescue before d old made new r = survey-config before d 0 old.stack r.1.reads new.stack r.1.survey
+
+-- the device stays one, of that size, which may be written
+pub reads-out : (phase : Phase) (before : List Bool) (d : ℕ) (old : Sides) (made : List Run) (new : Sides) → ReadsSectors phase before d old made new → IsSameDevice old.out new.out
+reads-out Skim before d old made new r = r.0.copied.same
+reads-out Rescue before d old made new r = r.1.copied.same
+
+pub reads-unfailed : (phase : Phase) (before : List Bool) (d : ℕ) (old : Sides) (made : List Run) (new : Sides) → ReadsSectors phase before d old made new → new.out.failures ≡ old.out.failures
+reads-unfailed Skim before d old made new r = r.0.unfailed
+reads-unfailed Rescue before d old made new r = r.1.unfailed
+
+-- ---- one pass over the sectors of a turn
+
+pub skim-reads : (r : Result (List Run) RecoveryFault) (before : List Bool) (d : ℕ) (old new : Sides) → new.printed ≡ old.printed → IfOk r (λ made. Skims true before d (transfer_of old) made (transfer_of new))
+    → IfOk r (λ made. ReadsSectors Skim before d old made new)
+skim-reads (Ok made) before d old new told p = (p, told)
+skim-reads (Err fault) before d old new told p = tt
 
 -- a failure behind a copy that had none
 pub failed-behind : (old left new : Device) → left.failures ≡ old.failures → HasFailed left new → HasFailed old new
@@ -63,50 +89,57 @@ refused-short makes_map before d old new short = refused short.refused
     refused (inl read) = read.answered.any.may
     refused (inr map) = out_of_memory-more 1 largest_allocation (omega arith) map.1
 
-pub stops-rescue : {S : Type 0} (k : Kept S) (now : Progressed S) (span : Span) (end : ℕ) (before : List Bool) (new : Sides) (fault : RecoveryFault)
-    → IsSpan k.sectors now.at span end → before ≡ asked_marks span k.sectors now.runs → IsRescueEnd before k.d now.sides new fault → StopsIn k now now.images new (recovery_ending fault)
-stops-rescue k now span end before new recovery.NoMemory next wanted e = (refl, e.unfailed, refused-short true before k.d now.sides new e)
-stops-rescue k now span end before new recovery.Output next wanted e = (
+refused-skim : (by_map : Bool) (before : List Bool) (d : ℕ) (old new : Transfer Device) → SkimsShort by_map before d old new → IsOutOfMemory largest_allocation
+refused-skim by_map before d old new short = refused short.refused
+  where
+    refused : FindsNoMemory d (length (skim_marks short.begun.skims)) short.begun.left new.stack ⊎ IsOutOfMemory 1 → IsOutOfMemory largest_allocation
+    refused (inl read) = read.answered.any.may
+    refused (inr map) = out_of_memory-more 1 largest_allocation (omega arith) map
+
+pub stops-reading : {S : Type 0} (k : Kept S) (phase : Phase) (now : Progressed S) (span : Span) (end : ℕ) (before : List Bool) (new : Sides) (fault : RecoveryFault)
+    → IsSpan k.sectors now.at span end → before ≡ asked_marks span k.sectors now.runs → EndsSectors phase before k.d now.sides new fault → StopsIn k phase now now.images new (recovery_ending fault)
+stops-reading k Skim now span end before new recovery.NoMemory next wanted e = (refl, e.unfailed, refused-skim true before k.d (transfer_of now.sides) (transfer_of new) e)
+stops-reading k Rescue now span end before new recovery.NoMemory next wanted e = (refl, e.unfailed, refused-short true before k.d now.sides new e)
+stops-reading k Skim now span end before new recovery.Output next wanted e = (
+  refl,
+  e.failed,
+  e.sure,
+  record { span = span; end = end; next = next; fails = inl (subst (λ (l : List Bool). FailsSkimOutput true l k.d (transfer_of now.sides) (transfer_of new)) wanted e) },
+)
+stops-reading k Rescue now span end before new recovery.Output next wanted e = (
   refl,
   e.failed,
   e.sure,
   record { span = span; end = end; next = next; fails = inl (subst (λ (l : List Bool). FailsOutput true l k.d now.sides new) wanted e) },
 )
 
-pub stops-unwritten : {S : Type 0} (k : Kept S) (now : Progressed S) (text : List ℕ) (images : S) (new : Sides) (fault : PassFault)
-    → IsUnfailed now.sides new → IsMapUnwritten k.replaces k.file.path now.images text images fault → StopsIn k now images new fault
-stops-unwritten k now text images new NoMemory u e = (e.0, u, out_of_memory-more largest_print_allocation largest_allocation (omega arith) e.1)
-stops-unwritten k now text images new (Unread cause) u e = absurd e
-stops-unwritten k now text images new TooLong u e = absurd e
-stops-unwritten k now text images new (NoMap cause) u e = absurd e
-stops-unwritten k now text images new Output u e = absurd e
-stops-unwritten k now text images new (Unwritten cause) u e = (text, e, u)
-
--- the device stays one, of that size, which may be written
-pub rescued-out : (before : List Bool) (d : ℕ) (old : Sides) (rescued : Rescued) (new : Sides) → Rescues before d old rescued new → IsSameDevice old.out new.out
-rescued-out before d old rescued new r = r.copied.same
+pub stops-unwritten : {S : Type 0} (k : Kept S) (phase : Phase) (now : Progressed S) (text : List ℕ) (images : S) (new : Sides) (fault : PassFault)
+    → IsUnfailed now.sides new → IsMapUnwritten k.replaces k.file.path now.images text images fault → StopsIn k phase now images new fault
+stops-unwritten k phase now text images new NoMemory u e = (e.0, u, out_of_memory-more largest_print_allocation largest_allocation (omega arith) e.1)
+stops-unwritten k phase now text images new (Unread cause) u e = absurd e
+stops-unwritten k phase now text images new TooLong u e = absurd e
+stops-unwritten k phase now text images new (NoMap cause) u e = absurd e
+stops-unwritten k phase now text images new Output u e = absurd e
+stops-unwritten k phase now text images new (Unwritten cause) u e = (text, e, u)
 
 -- ---- turns one after another
 
-pub turn-config : {S : Type 0} (k : Kept S) (old new : Progressed S) → IsTurn k old new → new.sides.stack.config ≡ old.sides.stack.config
-turn-config k old new t = ap (λ (s : Sides). s.stack.config) t.on_medium ∙ rescued-config _ k.d old.sides t.rescued t.left t.rescues
+pub turn-config : {S : Type 0} (k : Kept S) (phase : Phase) (old new : Progressed S) → IsTurn k phase old new → new.sides.stack.config ≡ old.sides.stack.config
+turn-config k phase old new t = ap (λ (s : Sides). s.stack.config) t.on_medium ∙ reads-config phase _ k.d old.sides t.made t.left t.reads
 
-pub turn-out : {S : Type 0} (k : Kept S) (old new : Progressed S) → IsTurn k old new → (new.sides.out.size ≡ old.sides.out.size) × (IsTrue old.sides.out.may_write → IsTrue new.sides.out.may_write)
-turn-out k old new t =
-    let same = rescued-out _ k.d old.sides t.rescued t.left t.rescues in
+pub turn-out : {S : Type 0} (k : Kept S) (phase : Phase) (old new : Progressed S) → IsTurn k phase old new → (new.sides.out.size ≡ old.sides.out.size) × (IsTrue old.sides.out.may_write → IsTrue new.sides.out.may_write)
+turn-out k phase old new t =
+    let same = reads-out phase _ k.d old.sides t.made t.left t.reads in
     (ap (λ (s : Sides). s.out.size) t.on_medium ∙ same.size, λ h. subst IsTrue (sym (ap (λ (s : Sides). s.out.may_write) t.on_medium ∙ same.may_write)) h)
 
 -- the size of the device as it was told
-pub ends-as : {S : Type 0} (replaces : S → List ℕ → List ℕ → Result (Unit {0}) ReplaceFault → S → Type 0) (file : MapPathRecord) (d m n : ℕ) (first now : Progressed S) (images : S) (new : Sides) (fault : PassFault)
-    → m ≡ n → Turns (kept_by replaces file d m) first now → StopsIn (kept_by replaces file d m) now images new fault → IsTurnsEnd (kept_by replaces file d n) first images new fault
-ends-as replaces file d m n first now images new fault e t s =
-    subst (λ (k : ℕ). IsTurnsEnd (kept_by replaces file d k) first images new fault) e (record { now = now; turns = t; stops = s })
+pub ends-as : {S : Type 0} (replaces : S → List ℕ → List ℕ → Result (Unit {0}) ReplaceFault → S → Type 0) (file : MapPathRecord) (phase : Phase) (d m n : ℕ) (first now : Progressed S) (images : S) (new : Sides) (fault : PassFault)
+    → m ≡ n → Turns (kept_by replaces file d m) phase first now → StopsIn (kept_by replaces file d m) phase now images new fault → IsPassTurnsEnd (kept_by replaces file d n) phase first images new fault
+ends-as replaces file phase d m n first now images new fault e t s =
+    subst (λ (k : ℕ). IsPassTurnsEnd (kept_by replaces file d k) phase first images new fault) e (record { now = now; turns = t; stops = s })
 
-pub whole-as : {S : Type 0} (replaces : S → List ℕ → List ℕ → Result (Unit {0}) ReplaceFault → S → Type 0) (file : MapPathRecord) (d m n at : ℕ) (first : Progressed S) (images : S) (new : Sides) (runs : List Run) (totals : Totals)
-    → m ≡ n → at ≡ m → Turns (kept_by replaces file d m) first (progressed images new runs at) → totals ≡ map_totals runs → RescuesInTurns (kept_by replaces file d n) first images new totals
-whole-as replaces file d m n at first images new runs totals e here t counted =
-    subst (λ (k : ℕ). RescuesInTurns (kept_by replaces file d k) first images new totals) e (record {
-      runs = runs;
-      turns = subst (λ (k : ℕ). Turns (kept_by replaces file d m) first (progressed images new runs k)) here t;
-      counted = counted;
-    })
+pub whole-as : {S : Type 0} (replaces : S → List ℕ → List ℕ → Result (Unit {0}) ReplaceFault → S → Type 0) (file : MapPathRecord) (phase : Phase) (d m n at : ℕ) (first : Progressed S) (images : S) (new : Sides) (runs : List Run)
+    → m ≡ n → at ≡ m → Turns (kept_by replaces file d m) phase first (progressed images new runs at) → ReadsInTurns (kept_by replaces file d n) phase first images new runs
+whole-as replaces file phase d m n at first images new runs e here t =
+    subst (λ (k : ℕ). ReadsInTurns (kept_by replaces file d k) phase first images new runs) e
+    (subst (λ (k : ℕ). Turns (kept_by replaces file d m) phase first (progressed images new runs k)) here t)

@@ -1,10 +1,14 @@
--- The devices of a configuration as lines, or as an object on one.
-use Rattle.std.specs.Prelude.{ℕ, zero, suc, Bool, true, false, List, [], ◌++◌, length, codes, decimal, if◌then◌else◌}
+-- The devices of a configuration as lines, as a tree, or as an object on one line.
+use Rattle.std.specs.Prelude.{ℕ, zero, suc, List, [], ◌++◌, length, codes, decimal, if◌then◌else◌}
 use Rattle.stack_rules.specs.Records.{Configuration}
 use Rattle.stack_rules.specs.Names.{mapped, name_of, size, may_write}
 use Rattle.stack_rules.specs.Descend.{depth, read_cost, write_cost}
 use Rattle.program_io.specs.JsonLines.{json_line}
+use Rattle.command_line.specs.Bindings.{BindingRecord}
+use Rattle.command_line.specs.declared.list_form.ListForm.{ListForm}
+use Rattle.command_line.specs.declared.list_form.ListForm.TheVariants.{Lines, Tree, Object}
 use Rattle.scan_commands.specs.Devices.{load_json}
+use Rattle.scan_commands.specs.Trees.{tree_text}
 
 -- ` sectors S depth D read R write W rw`, or `ro`
 abbrev pub device_facts : Configuration → ℕ → List ℕ
@@ -26,7 +30,8 @@ device_lines c (suc n) = device_lines c n ++ device_line c n
 abbrev pub devices_text : Configuration → List ℕ
 devices_text c = device_lines c (length c.devices)
 
--- the JSON object, or a line for each device
-abbrev pub load_text : Bool → Configuration → List ℕ
-load_text true c = json_line (load_json c)
-load_text false c = devices_text c
+-- a line for each device, a tree, or the JSON object
+abbrev pub load_text : ListForm → Configuration → List BindingRecord → List ℕ
+load_text Lines c bindings = devices_text c
+load_text Tree c bindings = tree_text (record { config = c; bindings = bindings })
+load_text Object c bindings = json_line (load_json c)

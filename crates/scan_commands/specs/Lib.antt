@@ -10,3 +10,6 @@ pub mod Devices
 pub mod DeviceLines
 pub mod LostJson
 pub mod Charts
+pub mod TreeRows
+pub mod Trees
+pub mod TreeViews

@@ -14,7 +14,8 @@ use Rattle.stack_rules.specs.Names.{mapped, size}
 use Rattle.stack_recovery.specs.declared.fault.RecoveryFault.TheVariants as recovery
 use Rattle.stack_recovery.specs.declared.recovery.Counts.{Counts}
 use Rattle.stack_recovery.specs.Listings.{Listed}
-use Rattle.stack_recovery.specs.Recoveries.{IsRecoveryEnd, Recovers, Sides, sides}
+use Rattle.stack_recovery.specs.Recoveries.{Sides, sides}
+use Rattle.stack_recovery.specs.TwoPasses.{IsRecoveryEnd, Recovers}
 
 -- the stack, the output device and the reported lines, before and after
 pub record Moving : Type 0 where
@@ -30,8 +31,8 @@ counts_of totals = record { read = totals.had; lost = totals.lost }
 
 -- ---- with a map file
 
--- A map file was read; or there is none, and no sector was read before. Then the other sectors were read in turns, and the map
--- was replaced after each turn.
+-- A map file was read; or there is none, and no sector was read before. Then the other sectors were read in two passes, each in
+-- turns, and the map was replaced after each turn.
 pub record IsRescued {S D : Type 0} (w : Calls S D) (file : MapPathRecord) (d : ℕ) (m : Moving) (counts : Counts) : Type 0 where
   pub totals : Totals
   pub runs : List Run

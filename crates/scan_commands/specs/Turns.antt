@@ -1,22 +1,27 @@
--- A device that is read in turns, with its map file replaced after each turn.
-use Rattle.std.specs.Prelude.{◌≡◌, ◌⊎◌, ℕ, ◌+◌, ◌*◌, ◌/◌, ◌≤◌, ◌==◌, max, Bool, true, IsTrue, List, replicate, Option, Some, None, Result, Ok, Err, if◌then◌else◌}
+-- A device that is read by a pass in turns, with its map file replaced after each turn.
+use Rattle.std.specs.Prelude.{◌≡◌, ◌⊎◌, ℕ, ◌+◌, ◌*◌, ◌/◌, ◌≤◌, max, Bool, true, IsTrue, List, length, replicate, Option, Some, None, Result, Ok, Err, if◌then◌else◌}
 use Rattle.std.specs.List.{list_all}
 use Rattle.allocation.specs.Refusal.{IsOutOfMemory}
 use Rattle.block_device.specs.Device.{Device, HasFailed, IsUnsynced, synced}
 use Rattle.rescue_map.specs.declared.map.Run.{Run}
 use Rattle.rescue_map.specs.declared.splicing.Span.{Span}
-use Rattle.rescue_map.specs.Maps.{marks, spliced_marks, map_totals}
+use Rattle.rescue_map.specs.Maps.{is_had_from, marks, spliced_marks, map_totals}
 use Rattle.rescue_map.specs.MapText.{map_text}
 use Rattle.rescue_map.specs.declared.totals.Totals.{Totals}
-use Rattle.stack_recovery.specs.declared.rescued.Rescued.{Rescued}
+use Rattle.stack_recovery.specs.declared.fault.RecoveryFault.{RecoveryFault}
+use Rattle.stack_recovery.specs.declared.recovery.Counts.{Counts}
+use Rattle.stack_recovery.specs.FirstPasses.{EndsSkim, FailsSkimOutput, Skims}
 use Rattle.stack_rules.specs.Names.{mapped, size}
 use Rattle.stack_meaning.specs.Memory.{largest_allocation}
 use Rattle.stack_recovery.specs.Listings.{Listed}
-use Rattle.stack_recovery.specs.Recoveries.{FailsOutput, Parties, Rescues, Sides, seen_sides, sides}
+use Rattle.stack_recovery.specs.Recoveries.{FailsOutput, GoesOver, IsRescueEnd, Parties, Sides, seen_sides, sides}
+use Rattle.stack_recovery.specs.TwoPasses.{transfer_of}
 use Rattle.image_files.specs.declared.texts.ReplaceFault.{ReplaceFault}
 use Rattle.scan_commands.specs.MapFiles.{MapPathRecord, map_path_of}
 use Rattle.scan_commands.specs.declared.map_file.MapFile.{MapFile}
 use Rattle.scan_commands.specs.declared.map_file.MapPath.{MapPath}
+use Rattle.scan_commands.specs.declared.phase.Phase.{Phase}
+use Rattle.scan_commands.specs.declared.phase.Phase.TheVariants.{Rescue, Skim}
 use Rattle.scan_commands.specs.declared.turns.NextTurn.{NextTurn}
 use Rattle.scan_commands.specs.declared.rescue_fault.PassFault.{PassFault}
 use Rattle.scan_commands.specs.declared.rescue_fault.PassFault.TheVariants.{NoMemory, Output, Unwritten}
@@ -45,18 +50,23 @@ pub record Progressed (S : Type 0) : Type 0 where
 abbrev pub progressed : {S : Type 0} → S → Sides → List Run → ℕ → Progressed S
 progressed images sides runs at = record { images = images; sides = sides; runs = runs; at = at }
 
--- the sectors of a turn: 64 MiB, or about a 256th of a larger device, in whole groups of eight sectors
+-- the most sectors of a turn: 64 MiB, or of a device above 4 TiB about a 65,536th, in whole groups of eight sectors
 unfoldable pub turn_len : ℕ → ℕ
-turn_len sectors = max 131072 ((sectors / 2048 + 1) * 8)
+turn_len sectors = max 131072 ((sectors / 524288 + 1) * 8)
 
 -- the marks that a turn reads by: those of the map in the span; all other sectors count as read before, so that they aren't
 -- read
 abbrev pub asked_marks : Span → ℕ → List Run → List Bool
 asked_marks span sectors runs = spliced_marks span (replicate sectors true) (marks runs)
 
--- the status of a map file: the sectors before that one were tried, or all
-abbrev pub tried_before : ℕ → ℕ → Option ℕ
-tried_before sectors at = if at == sectors then None else Some at
+-- the status of a map file after the sectors before `end` were read in a pass: those before some sector were tried, or all, if
+-- none is left to be read from there on
+abbrev pub tried_from : ℕ → List Run → Option ℕ
+tried_from from runs = if is_had_from from 0 runs then None else Some from
+
+abbrev pub tried_before : Phase → List Run → ℕ → Option ℕ
+tried_before Skim runs end = tried_from 0 runs
+tried_before Rescue runs end = tried_from end runs
 
 -- the next sectors
 pub record IsSpan (sectors at : ℕ) (span : Span) (at' : ℕ) : Type 0 where
@@ -66,17 +76,22 @@ pub record IsSpan (sectors at : ℕ) (span : Span) (at' : ℕ) : Type 0 where
   pub end : at' ≡ at + span.count
   pub inside : at' ≤ sectors
 
+-- sectors were read in a pass by the marks before it, which made a map; the first pass reports nothing
+abbrev pub ReadsSectors : Phase → List Bool → ℕ → Sides → List Run → Sides → Type 0
+ReadsSectors Skim before d old made new = Skims true before d (transfer_of old) made (transfer_of new) × (new.printed ≡ old.printed)
+ReadsSectors Rescue before d old made new = (counts : Counts) × GoesOver before d old counts (Some made) new
+
 -- A turn. Those of the next sectors that weren't read before were read, and the readable ones were copied to the other device,
 -- which was synced. Then the map file was replaced by the new map.
-pub record IsTurn {S : Type 0} (k : Kept S) (old new : Progressed S) : Type 0 where
+pub record IsTurn {S : Type 0} (k : Kept S) (phase : Phase) (old new : Progressed S) : Type 0 where
   pub span : Span
   pub next : IsSpan k.sectors old.at span new.at
   pub left : Sides
-  pub rescued : Rescued
-  pub rescues : Rescues (asked_marks span k.sectors old.runs) k.d old.sides rescued left
+  pub made : List Run
+  pub reads : ReadsSectors phase (asked_marks span k.sectors old.runs) k.d old.sides made left
   pub on_medium : new.sides ≡ sides left.stack (synced left.out) left.printed
-  pub map : marks new.runs ≡ spliced_marks span (marks old.runs) (marks rescued.map)
-  pub written : k.replaces old.images k.file.path (map_text k.file.kind (tried_before k.sectors new.at) new.runs) (Ok tt) new.images
+  pub map : marks new.runs ≡ spliced_marks span (marks old.runs) (marks made)
+  pub written : k.replaces old.images k.file.path (map_text k.file.kind (tried_before phase new.runs new.at) new.runs) (Ok tt) new.images
 
 -- all of the next sectors were read before, so that nothing is done
 pub record IsSkipped {S : Type 0} (k : Kept S) (old new : Progressed S) : Type 0 where
@@ -87,15 +102,21 @@ pub record IsSkipped {S : Type 0} (k : Kept S) (old new : Progressed S) : Type 0
   pub none : list_all (λ run. run.had) runs ≡ true
   pub same : new ≡ record old { at = new.at }
 
-pub data Turns {S : Type 0} (k : Kept S) (first : Progressed S) : Progressed S → Type 0 where
-  begins : Turns k first first
-  goes_on : {now next : Progressed S} → Turns k first now → IsTurn k now next → Turns k first next
-  passes : {now next : Progressed S} → Turns k first now → IsSkipped k now next → Turns k first next
+pub data Turns {S : Type 0} (k : Kept S) (phase : Phase) (first : Progressed S) : Progressed S → Type 0 where
+  begins : Turns k phase first first
+  goes_on : {now next : Progressed S} → Turns k phase first now → IsTurn k phase now next → Turns k phase first next
+  passes : {now next : Progressed S} → Turns k phase first now → IsSkipped k now next → Turns k phase first next
 
--- all sectors are done, and the totals are those of the last map
+-- the turns of a whole pass, which result in this map
+abbrev pub ReadsInTurns : {S : Type 0} → Kept S → Phase → Progressed S → S → Sides → List Run → Type 0
+ReadsInTurns k phase first images sides runs = Turns k phase first (progressed images sides runs k.sectors)
+
+-- both passes, with a map between them; the totals are those of the last map
 pub record RescuesInTurns {S : Type 0} (k : Kept S) (first : Progressed S) (images : S) (sides : Sides) (totals : Totals) : Type 0 where
+  pub between : Progressed S
   pub runs : List Run
-  pub turns : Turns k first (progressed images sides runs k.sectors)
+  pub skims : ReadsInTurns k Skim first between.images between.sides between.runs
+  pub rescues : ReadsInTurns k Rescue (record between { at = 0 }) images sides runs
   pub counted : totals ≡ map_totals runs
 
 -- the most elements that one allocation requests when a map is printed
@@ -113,53 +134,85 @@ abbrev pub IsUnfailed : Sides → Sides → Type 0
 IsUnfailed old new = new.out.failures ≡ old.out.failures
 
 -- The output device was not synced after all sectors of a turn were done.
-pub record FailsToSyncTurn {S : Type 0} (k : Kept S) (span : Span) (now : Progressed S) (new : Sides) : Type 0 where
+pub record FailsToSyncTurn {S : Type 0} (k : Kept S) (phase : Phase) (span : Span) (now : Progressed S) (new : Sides) : Type 0 where
   pub left : Sides
-  pub rescued : Rescued
-  pub rescues : Rescues (asked_marks span k.sectors now.runs) k.d now.sides rescued left
+  pub made : List Run
+  pub reads : ReadsSectors phase (asked_marks span k.sectors now.runs) k.d now.sides made left
   pub unsynced : IsUnsynced left.out new.out
   pub stack : new.stack ≡ left.stack
 
+-- a write of the pass failed
+abbrev pub FailsToWrite : Phase → List Bool → ℕ → Sides → Sides → Type 0
+FailsToWrite Skim before d old new = FailsSkimOutput true before d (transfer_of old) (transfer_of new)
+FailsToWrite Rescue before d old new = FailsOutput true before d old new
+
 -- The output device failed in the next turn: a write of the turn failed, or the sync after it.
-pub record FailsInTurn {S : Type 0} (k : Kept S) (now : Progressed S) (new : Sides) : Type 0 where
+pub record FailsInTurn {S : Type 0} (k : Kept S) (phase : Phase) (now : Progressed S) (new : Sides) : Type 0 where
   pub span : Span
   pub end : ℕ
   pub next : IsSpan k.sectors now.at span end
-  pub fails : FailsOutput true (asked_marks span k.sectors now.runs) k.d now.sides new ⊎ FailsToSyncTurn k span now new
+  pub fails : FailsToWrite phase (asked_marks span k.sectors now.runs) k.d now.sides new ⊎ FailsToSyncTurn k phase span now new
 
 -- Why a turn ended early. The map file is that of the completed turns. If memory ran out, an allocation of at most so many
 -- elements was refused: for a read, for a map or for its text.
-abbrev pub StopsIn : {S : Type 0} → Kept S → Progressed S → S → Sides → PassFault → Type 0
-StopsIn k now images new NoMemory = (images ≡ now.images) × IsUnfailed now.sides new × IsOutOfMemory largest_allocation
-StopsIn k now images new Output = (images ≡ now.images) × HasFailed now.sides.out new.out × (IsTrue now.sides.out.never_fails → ⊥) × FailsInTurn k now new
-StopsIn k now images new (Unwritten fault) = (text : List ℕ) × k.replaces now.images k.file.path text (Err fault) images × IsUnfailed now.sides new
-StopsIn k now images new other = ⊥
+abbrev pub StopsIn : {S : Type 0} → Kept S → Phase → Progressed S → S → Sides → PassFault → Type 0
+StopsIn k phase now images new NoMemory = (images ≡ now.images) × IsUnfailed now.sides new × IsOutOfMemory largest_allocation
+StopsIn k phase now images new Output = (images ≡ now.images) × HasFailed now.sides.out new.out × (IsTrue now.sides.out.never_fails → ⊥) × FailsInTurn k phase now new
+StopsIn k phase now images new (Unwritten fault) = (text : List ℕ) × k.replaces now.images k.file.path text (Err fault) images × IsUnfailed now.sides new
+StopsIn k phase now images new other = ⊥
 
--- some turns were completed, and the next one wasn't
-pub record IsTurnsEnd {S : Type 0} (k : Kept S) (first : Progressed S) (images : S) (new : Sides) (fault : PassFault) : Type 0 where
+-- some turns of a pass were completed, and the next one wasn't
+pub record IsPassTurnsEnd {S : Type 0} (k : Kept S) (phase : Phase) (first : Progressed S) (images : S) (new : Sides) (fault : PassFault) : Type 0 where
   pub now : Progressed S
-  pub turns : Turns k first now
-  pub stops : StopsIn k now images new fault
+  pub turns : Turns k phase first now
+  pub stops : StopsIn k phase now images new fault
+
+-- the first pass was completed, and the second one wasn't
+pub record IsRescueTurnsEnd {S : Type 0} (k : Kept S) (first : Progressed S) (images : S) (new : Sides) (fault : PassFault) : Type 0 where
+  pub between : Progressed S
+  pub skims : ReadsInTurns k Skim first between.images between.sides between.runs
+  pub ends : IsPassTurnsEnd k Rescue (record between { at = 0 }) images new fault
+
+abbrev pub IsTurnsEnd : {S : Type 0} → Kept S → Progressed S → S → Sides → PassFault → Type 0
+IsTurnsEnd k first images new fault = IsPassTurnsEnd k Skim first images new fault ⊎ IsRescueTurnsEnd k first images new fault
 
 -- ---- in terms of the arguments of a call
+
+-- the sectors of a turn were read, or the pass ended early
+abbrev pub ReadsTurnBy : {O L : Type 0} → (O → Device) → (L → Listed) → ℕ → NextTurn → Parties O L → Parties O L → List Run → Type 0
+ReadsTurnBy state told d turn old new made = ReadsSectors turn.phase (marks turn.wanted.now) d (seen_sides state told old) made (seen_sides state told new)
+
+abbrev pub EndsSectors : Phase → List Bool → ℕ → Sides → Sides → RecoveryFault → Type 0
+EndsSectors Skim before d old new fault = EndsSkim true before d (transfer_of old) (transfer_of new) fault
+EndsSectors Rescue before d old new fault = IsRescueEnd before d old new fault
+
+abbrev pub EndsTurnRead : {O L : Type 0} → (O → Device) → (L → Listed) → ℕ → NextTurn → Parties O L → Parties O L → RecoveryFault → Type 0
+EndsTurnRead state told d turn old new fault = EndsSectors turn.phase (marks turn.wanted.now) d (seen_sides state told old) (seen_sides state told new) fault
 
 -- a turn, which results in this map
 abbrev pub TakesTurn : {S O L : Type 0} → Replaces S → (O → Device) → (L → Listed) → ℕ → NextTurn → S → Parties O L → S → Parties O L → List Run → Type 0
 TakesTurn replaces state told d turn images old images' new map =
-    IsTurn (kept replaces (map_path_of turn.file) d turn.sectors) (progressed images (seen_sides state told old) turn.map.now turn.span.first) (progressed images' (seen_sides state told new) map (turn.span.first + turn.span.count))
+    IsTurn (kept replaces (map_path_of turn.file) d turn.sectors) turn.phase (progressed images (seen_sides state told old) turn.map.now turn.span.first) (progressed images' (seen_sides state told new) map (turn.span.first + turn.span.count))
 
 abbrev pub StopsTurn : {S O L : Type 0} → Replaces S → (O → Device) → (L → Listed) → ℕ → NextTurn → S → Parties O L → S → Parties O L → PassFault → Type 0
 StopsTurn replaces state told d turn images old images' new fault =
-    StopsIn (kept replaces (map_path_of turn.file) d turn.sectors) (progressed images (seen_sides state told old) turn.map.now turn.span.first) images' (seen_sides state told new) fault
+    StopsIn (kept replaces (map_path_of turn.file) d turn.sectors) turn.phase (progressed images (seen_sides state told old) turn.map.now turn.span.first) images' (seen_sides state told new) fault
 
--- all turns of a device with the map of a file
-abbrev pub RescuesByFile : {S O L : Type 0} → Replaces S → (O → Device) → (L → Listed) → ℕ → MapFile → S → Parties O L → S → Parties O L → Totals → Type 0
-RescuesByFile replaces state told d kept_map images old images' new totals =
-    RescuesInTurns (kept replaces (map_path_of kept_map.file) d (size old.stack.config (mapped d))) (progressed images (seen_sides state told old) kept_map.map 0) images' (seen_sides state told new) totals
+-- all turns of a pass over a device with the map of a file
+abbrev pub ReadsByFile : {S O L : Type 0} → Replaces S → (O → Device) → (L → Listed) → ℕ → MapFile → S → Parties O L → S → Parties O L → List Run → Type 0
+ReadsByFile replaces state told d kept_map images old images' new runs =
+    ReadsInTurns (kept replaces (map_path_of kept_map.file) d (size old.stack.config (mapped d))) kept_map.phase (progressed images (seen_sides state told old) kept_map.map 0) images' (seen_sides state told new) runs
 
 abbrev pub StopsByFile : {S O L : Type 0} → Replaces S → (O → Device) → (L → Listed) → ℕ → MapFile → S → Parties O L → S → Parties O L → PassFault → Type 0
 StopsByFile replaces state told d kept_map images old images' new fault =
-    IsTurnsEnd (kept replaces (map_path_of kept_map.file) d (size old.stack.config (mapped d))) (progressed images (seen_sides state told old) kept_map.map 0) images' (seen_sides state told new) fault
+    IsPassTurnsEnd (kept replaces (map_path_of kept_map.file) d (size old.stack.config (mapped d))) kept_map.phase (progressed images (seen_sides state told old) kept_map.map 0) images' (seen_sides state told new) fault
+
+-- what the next pass needs: the map is of all sectors, the configuration stays, and so does the output device
+pub record GoesOn {O L : Type 0} (state : O → Device) (d : ℕ) (old new : Parties O L) (runs : List Run) : Type 0 where
+  pub map : length (marks runs) ≡ size old.stack.config (mapped d)
+  pub config : new.stack.config ≡ old.stack.config
+  pub same_size : (state new.out).size ≡ (state old.out).size
+  pub allowed : IsTrue (state new.out).may_write
 
 -- the map of a file isn't replaced by this one
 abbrev pub LeavesMap : {S : Type 0} → Replaces S → MapPath → S → Option ℕ → List Run → S → PassFault → Type 0

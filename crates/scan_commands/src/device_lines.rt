@@ -54,7 +54,7 @@ fn say_device_facts<W: Write>(
     ))
 }
 
-fn flag_text(writable: bool) -> &'static str
+pub(crate) fn flag_text(writable: bool) -> &'static str
     ensures { result.now ≡ (if writable then codes "rw" else codes "ro") }
 {
     if writable { "rw" } else { "ro" }

@@ -1,5 +1,5 @@
-//! Scans and copies a stack file's device, with or without a map file. It also formats devices and lost sectors as lines of
-//! JSON.
+//! Scans and copies a stack file's device, with or without a map file. It also formats devices and lost sectors as
+//! lines of JSON, and devices as a tree.
 #![tactic(auto)]
 
 mod chart;
@@ -11,10 +11,14 @@ mod map_file;
 mod map_texts;
 mod output;
 mod passing;
+mod phase;
 mod recovering_fault;
 mod report;
 mod rescue_fault;
 mod scan;
+mod tree;
+mod tree_place;
+mod tree_rows;
 mod turns;
 
 pub use copy::{CopyPlan, copy_device};
@@ -23,8 +27,10 @@ pub use devices::devices_line;
 pub use map_file::{MapFile, MapPath, read_map};
 pub use map_texts::say_pass_fault;
 pub use passing::Passing;
+pub use phase::Phase;
 pub use recovering_fault::RecoveringFault;
 pub use report::say_counts;
 pub use rescue_fault::PassFault;
 pub use scan::{ScanPlan, scan_device};
-pub use turns::rescue_in_turns;
+pub use tree::say_tree;
+pub use turns::read_in_turns;

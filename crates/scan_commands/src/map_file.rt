@@ -6,6 +6,7 @@ ghost use Rattle.rescue_map.specs.Maps.{marks};
 ghost use Rattle.scan_commands.specs.MapFiles.{IsMapOfText, IsMapUnread, IsTextUnread, ReadsMap, continues, is_missing, map_at, map_path_of};
 ghost use Rattle.scan_commands.specs.declared.rescue_fault.PassFault.TheVariants as pass_fault;
 
+use crate::phase::Phase;
 use crate::rescue_fault::PassFault;
 use block_device::OpenFault;
 use image_files::{Images, UnopenedFile};
@@ -29,11 +30,12 @@ pub fn map_at<'a>(path: Option<&'a str>, kind: MapKind) -> Option<MapPath<'a>>
     Some(MapPath { path, kind })
 }
 
-/// A map of a device, and the file that it is kept in.
+/// A map of a device, the file that it is kept in, and the pass that goes by it.
 #[derive(Drop)]
 pub struct MapFile<'a> {
     pub file: MapPath<'a>,
     pub map: Map,
+    pub phase: Phase,
 }
 
 /// Returns the map of a device of `sectors` sectors that a file holds. The map marks no sector as read if there is no file, or

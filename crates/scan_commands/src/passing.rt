@@ -3,12 +3,13 @@ ghost use Rattle.std.specs.Prelude.{◌≡◌, IfOk, IfErr};
 ghost use Rattle.scan_commands.specs.Passes.{CanPass, PassesBy, PassesMapBy, StopsBy, StopsMapBy, counts_of};
 
 use crate::map_file::{MapFile, MapPath, read_map};
+use crate::phase::Phase;
 use crate::rescue_fault::PassFault;
-use crate::turns::rescue_in_turns;
+use crate::turns::read_in_turns;
 use block_device::{BlockDev, SyncDev};
 use device_adapters::Progress;
 use image_files::Images;
-use rescue_map::Totals;
+use rescue_map::{Totals, totals_of};
 use stack_config::DevId;
 use stack_engine::Stack;
 use stack_recovery::{Counts, Listing, recover_with};
@@ -23,11 +24,11 @@ pub struct Passing<D: BlockDev, O> {
 }
 
 /// Reads each sector of a mapped device, copies the readable sectors to the same offset of another device, and reports the
-/// longest runs of sectors that are lost by one fault.
+/// longest runs of sectors that are lost by one fault. The first pass skips ahead after failed reads, and the second one reads
+/// what the first one left.
 ///
-/// With a map file, only sectors that the map doesn't mark as read are read. They are read in turns; after each turn the other
-/// device is synced and the map file replaced. Without a map file no map is made, the opener isn't called, and nothing is
-/// synced.
+/// With a map file, only sectors that the map doesn't mark as read are read. Each pass goes in turns; after each turn the other
+/// device is synced and the map file replaced. Without a map file the opener isn't called, and nothing is synced.
 ///
 /// # Errors
 ///
@@ -49,6 +50,7 @@ pub fn run_pass<'a, I: Images, D: BlockDev, O: SyncDev, L: Listing, P: Progress>
 {
     match map {
         None => Ok(recover_with(
+            alloc,
             &mut passing.stack,
             passing.device,
             &mut passing.out,
@@ -76,18 +78,37 @@ fn pass_by_map<'a, I: Images, D: BlockDev, O: SyncDev, L: Listing, P: Progress>(
     let _most = passing.out.sectors();
     let sectors = passing.stack.config().sectors(passing.device);
     let map = read_map(alloc, images, file, sectors)?;
-    let kept = MapFile { file, map };
-    let totals = rescue_in_turns(
+    let first = MapFile {
+        file,
+        map,
+        phase: Phase::Skim,
+    };
+    let skimmed = read_in_turns(
         alloc,
         images,
         &mut passing.stack,
         passing.device,
         &mut passing.out,
-        kept,
+        first,
         listing,
         progress,
     )?;
-    Ok(counts_of(totals))
+    let second = MapFile {
+        file,
+        map: skimmed,
+        phase: Phase::Rescue,
+    };
+    let rescued = read_in_turns(
+        alloc,
+        images,
+        &mut passing.stack,
+        passing.device,
+        &mut passing.out,
+        second,
+        listing,
+        progress,
+    )?;
+    Ok(counts_of(totals_of(&rescued)))
 }
 
 fn counts_of(totals: Totals) -> Counts

@@ -5,18 +5,19 @@ ghost use Rattle.rescue_map.specs.Maps.{marks};
 ghost use Rattle.rescue_map.specs.MapText.{map_text};
 ghost use Rattle.stack_rules.specs.Names.{mapped, size};
 ghost use Rattle.stack_recovery.specs.Recoveries.{parties};
-ghost use Rattle.scan_commands.specs.Turns.{IsSpan, LeavesMap, RescuesByFile, StopsByFile, StopsTurn, TakesTurn, asked_marks, tried_before, turn_len};
+ghost use Rattle.scan_commands.specs.Turns.{EndsTurnRead, GoesOn, IsSpan, LeavesMap, ReadsByFile, ReadsTurnBy, StopsByFile, StopsTurn, TakesTurn, asked_marks, tried_before, turn_len};
 
 use crate::map_file::{MapFile, MapPath};
+use crate::phase::Phase;
 use crate::rescue_fault::PassFault;
 use allocation::OutOfMemory;
 use block_device::{BlockDev, SyncDev};
 use device_adapters::Progress;
 use image_files::Images;
-use rescue_map::{Map, Span, Totals, is_had, print_map, splice, totals_of};
+use rescue_map::{Map, Span, is_had, is_had_from, print_map, splice};
 use stack_config::DevId;
 use stack_engine::Stack;
-use stack_recovery::{Listing, rescue};
+use stack_recovery::{Listing, RecoveryFault, rescue, skim};
 use std::alloc::Global;
 
 const LEAST_TURN: u64 = 131_072;
@@ -24,7 +25,7 @@ const LEAST_TURN: u64 = 131_072;
 // A turn has whole groups of eight sectors, since units and data blocks have at most as many.
 const GROUP: u64 = 8;
 
-const MOST_TURNS: u64 = 256;
+const MOST_TURNS: u64 = 65_536;
 
 // How many sectors one turn covers, of a device of so many.
 #[tactic(auto, unfolding(crate::specs::Turns::turn_len))]
@@ -48,11 +49,20 @@ fn asked(alloc: Global, map: &Map, span: Span, sectors: u64) -> Result<Map, OutO
     splice(alloc, &all, map, span, sectors)
 }
 
-// The sector before which all were tried; `None` if all sectors were tried.
-fn tried_before(sectors: u64, at: u64) -> Option<u64>
-    ensures { result ≡ tried_before sectors at }
+// The sector before which all were tried, after the sectors before `end` were read in a pass; `None` if no sector from there on
+// is left to be read.
+fn tried_before(phase: Phase, map: &Map, end: u64) -> Option<u64>
+    ensures { result ≡ tried_before phase map.now end }
 {
-    if at == sectors { None } else { Some(at) }
+    let from = match phase {
+        Phase::Skim => 0,
+        Phase::Rescue => end,
+    };
+    if is_had_from(map, from) {
+        None
+    } else {
+        Some(from)
+    }
 }
 
 // Replaces the map file by a map that was tried up to a sector, or to its end.
@@ -70,14 +80,41 @@ fn write_map<'a, I: Images>(
     Ok(images.replace(file.path, text.as_slice())?)
 }
 
-/// A turn: its sectors, the map before it, and the map that it reads by.
+/// A turn of a pass: its sectors, the map before it, and the map that it reads by.
 #[derive(Clone, Copy)]
 struct NextTurn<'a> {
+    phase: Phase,
     span: Span,
     sectors: u64,
     file: MapPath<'a>,
     map: &'a Map,
     wanted: &'a Map,
+}
+
+// Reads the sectors of a turn, and returns the map of what was read.
+fn read_turn<D: BlockDev, O: SyncDev, L: Listing, P: Progress>(
+    alloc: Global,
+    stack: &mut Stack<D>,
+    d: DevId,
+    out: &mut O,
+    turn: NextTurn<'_>,
+    listing: &mut L,
+    progress: &mut P,
+) -> Result<Map, RecoveryFault>
+    requires device { d.0 < length stack.old.config.devices }
+    requires fits { length (marks turn.wanted.now) ≡ size stack.old.config (mapped d.0) }
+    requires room { size stack.old.config (mapped d.0) ≤ (O.state out.old).size }
+    requires allowed { IsTrue (O.state out.old).may_write }
+    ensures ok { IfOk result (ReadsTurnBy O.state L.told d.0 turn.entry (parties stack.old out.old listing.old) (parties stack.new out.new listing.new)) }
+    ensures err { IfErr result (EndsTurnRead O.state L.told d.0 turn.entry (parties stack.old out.old listing.old) (parties stack.new out.new listing.new)) }
+{
+    match turn.phase {
+        Phase::Skim => skim(alloc, stack, d, out, turn.wanted, progress),
+        Phase::Rescue => {
+            let rescued = rescue(alloc, stack, d, out, turn.wanted, listing, progress)?;
+            Ok(rescued.map)
+        }
+    }
 }
 
 // Reads the sectors of a turn, syncs the other device, and replaces the map file.
@@ -102,20 +139,20 @@ fn take_turn<'a, I: Images, D: BlockDev, O: SyncDev, L: Listing, P: Progress>(
     ensures sectors { IfOk result (λ map. length (marks map) ≡ turn.entry.sectors) }
     ensures err { IfErr result (StopsTurn I.relations.replaces O.state L.told d.0 turn.entry images.old (parties stack.old out.old listing.old) images.new (parties stack.new out.new listing.new)) }
 {
-    let rescued = rescue(alloc, stack, d, out, turn.wanted, listing, progress)?;
+    let read = read_turn(alloc, stack, d, out, turn, listing, progress)?;
     out.sync()?;
-    let map = splice(alloc, turn.map, &rescued.map, turn.span, turn.sectors)?;
-    let tried = tried_before(turn.sectors, turn.span.first + turn.span.count);
+    let map = splice(alloc, turn.map, &read, turn.span, turn.sectors)?;
+    let tried = tried_before(turn.phase, &map, turn.span.first + turn.span.count);
     write_map(alloc, images, turn.file, &map, tried)?;
     Ok(map)
 }
 
-/// Reads the sectors of a mapped device that a map doesn't mark as read, in turns of 64 MiB, or of about a 256th of a larger
-/// device.
+/// Reads the sectors of a mapped device that a map doesn't mark as read, by one pass in turns of 64 MiB, or of about a 65,536th
+/// of a device above 4 TiB, and returns the new map.
 ///
-/// Each turn reports the longest runs of sectors that are lost by one fault, copies the readable sectors to the same offset of
-/// another device, which has room for all, and syncs that device. Then it replaces the map file by the map of what was read and
-/// lost so far. An interruption therefore loses at most one turn.
+/// Each turn copies the readable sectors to the same offset of another device, which has room for all, and syncs that device.
+/// Then it replaces the map file by the map of what was read and lost so far. An interruption therefore loses at most one turn.
+/// The second pass reports the longest runs of sectors that are lost by one fault.
 ///
 /// # Errors
 ///
@@ -124,7 +161,7 @@ fn take_turn<'a, I: Images, D: BlockDev, O: SyncDev, L: Listing, P: Progress>(
 /// - `Unwritten` if the map file can't be replaced.
 ///
 /// After `NoMemory` and `Output` the map file is that of the completed turns.
-pub fn rescue_in_turns<'a, I: Images, D: BlockDev, O: SyncDev, L: Listing, P: Progress>(
+pub fn read_in_turns<'a, I: Images, D: BlockDev, O: SyncDev, L: Listing, P: Progress>(
     alloc: Global,
     images: &mut I,
     stack: &mut Stack<D>,
@@ -133,16 +170,21 @@ pub fn rescue_in_turns<'a, I: Images, D: BlockDev, O: SyncDev, L: Listing, P: Pr
     kept: MapFile<'_>,
     listing: &mut L,
     progress: &mut P,
-) -> Result<Totals, PassFault<'a>>
+) -> Result<Map, PassFault<'a>>
     requires device { d.0 < length stack.old.config.devices }
     requires fits { length (marks kept.map) ≡ size stack.old.config (mapped d.0) }
     requires room { size stack.old.config (mapped d.0) ≤ (O.state out.old).size }
     requires allowed { IsTrue (O.state out.old).may_write }
-    ensures ok { IfOk result (RescuesByFile I.relations.replaces O.state L.told d.0 kept.entry images.old (parties stack.old out.old listing.old) images.new (parties stack.new out.new listing.new)) }
+    ensures ok { IfOk result (ReadsByFile I.relations.replaces O.state L.told d.0 kept.entry images.old (parties stack.old out.old listing.old) images.new (parties stack.new out.new listing.new)) }
+    ensures goes_on { IfOk result (GoesOn O.state d.0 (parties stack.old out.old listing.old) (parties stack.new out.new listing.new)) }
     ensures err { IfErr result (StopsByFile I.relations.replaces O.state L.told d.0 kept.entry images.old (parties stack.old out.old listing.old) images.new (parties stack.new out.new listing.new)) }
 {
     let sectors = stack.config().sectors(d);
-    let MapFile { file, mut map } = kept;
+    let MapFile {
+        file,
+        mut map,
+        phase,
+    } = kept;
     let mut at = 0;
     'turns: while at < sectors {
         let count = turn_len(sectors).min(sectors - at);
@@ -152,6 +194,7 @@ pub fn rescue_in_turns<'a, I: Images, D: BlockDev, O: SyncDev, L: Listing, P: Pr
             at += count;
         } else {
             let turn = NextTurn {
+                phase,
                 span,
                 sectors,
                 file,
@@ -162,5 +205,5 @@ pub fn rescue_in_turns<'a, I: Images, D: BlockDev, O: SyncDev, L: Listing, P: Pr
             at += count;
         }
     }
-    Ok(totals_of(&map))
+    Ok(map)
 }

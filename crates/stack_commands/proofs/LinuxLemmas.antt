@@ -3,14 +3,13 @@ use Rattle.std.proofs.Common.{◌≡◌, ◌⊎◌, inl, inr, refl, Bool, true, 
 use Rattle.linux_rules.specs.declared.refusal.LinuxFault.{LinuxFault}
 use Rattle.linux_rules.specs.declared.refusal.LinuxFault.TheVariants.{Refused, NoMemory as refused_memory}
 use Rattle.stack_rules.specs.Records.{Configuration}
-use Rattle.stack_commands.specs.declared.fault.CommandFault.TheVariants.{NoMemory}
 use Rattle.stack_commands.specs.Endings.{linux_ending}
 use Rattle.stack_commands.specs.StackCommands.{IsCheckedIf, IsLinuxEnd, IsTaken}
 
 -- why the check ended the command
-pub linux-end : (linux : Bool) (config : Configuration) (fault : LinuxFault) → IsCheckedIf linux config (Err fault) → (linux_ending fault ≡ NoMemory) ⊎ IsLinuxEnd linux config (linux_ending fault)
-linux-end true config (Refused refusal) checked = inr (refl, checked)
-linux-end true config refused_memory checked = inl refl
+pub linux-end : (linux : Bool) (config : Configuration) (fault : LinuxFault) → IsCheckedIf linux config (Err fault) → IsLinuxEnd linux config (linux_ending fault)
+linux-end true config (Refused refusal) checked = (refl, checked)
+linux-end true config refused_memory checked = (refl, checked)
 linux-end false config fault checked = let clash : Err fault ≡ Ok tt = checked in cc
 
 -- it found nothing
@@ -18,11 +17,7 @@ pub linux-taken : (linux : Bool) (config : Configuration) (done : Unit {0}) → 
 linux-taken true config done checked = checked
 linux-taken false config done checked = tt
 
--- ends of the check, and of what follows it
-pub early-end : {A B C : Type 0} → A ⊎ B → A ⊎ (B ⊎ C)
-early-end (inl a) = inl a
-early-end (inr b) = inr (inl b)
-
+-- ends of what follows it
 pub late-end : {A B C : Type 0} → A ⊎ C → A ⊎ (B ⊎ C)
 late-end (inl a) = inl a
 late-end (inr c) = inr (inr c)

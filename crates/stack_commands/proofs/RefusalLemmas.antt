@@ -26,7 +26,7 @@ use Rattle.scan_commands.specs.MapTexts.{no_map_text, unreplaced_text}
 use Rattle.tree_difference.specs.declared.fault.Unlike.{Unlike}
 use Rattle.tree_difference.specs.declared.fault.Unlike.TheVariants as unlike
 use Rattle.verity_commands.specs.Texts.{pin_fault_text, unwritten_pin_text}
-use Rattle.verity_commands.specs.TreeFaultTexts.{unlike_text}
+use Rattle.verity_commands.specs.TreeFaultTexts.{unlike_text, which_name}
 use Rattle.stack_commands.specs.Refusals.{AreFileLines, AreImageLines, AreNumbered, IsListed}
 
 -- a line with a number and name of the list
@@ -118,6 +118,10 @@ outside-line : (rest : List ℕ) → IsNumbered (codes "refused 23 OutsideFile "
 unfolding refusals digits
 outside-line rest = record { number = 23; name = codes "OutsideFile"; rest = codes " " ++ rest; own = inr refl; is = refl }
 
+unaligned-line : (rest : List ℕ) → IsNumbered (codes "refused 18 Unaligned " ++ rest)
+unfolding refusals digits
+unaligned-line rest = record { number = 18; name = codes "Unaligned"; rest = codes " " ++ rest; own = inr refl; is = refl }
+
 file-lines : AreFileLines
 unfolding refusals digits
 file-lines = record {
@@ -138,6 +142,7 @@ image-lines = record {
   overlap = record { number = 34; name = codes "DataOverlapsTree"; rest = codes "\n"; own = inr refl; is = refl };
   root = record { number = 19; name = codes "RootText"; rest = codes "\n"; own = inr refl; is = refl };
   tree = record { number = 18; name = codes "Unaligned"; rest = codes "\n"; own = inr refl; is = refl };
+  compared = λ which. unaligned-line (which_name which ++ codes "\n");
   unused = record { number = 60; name = codes "UnusedEntries"; rest = codes "\n"; own = inr refl; is = refl };
   outside = λ path. outside-line (shown_path path ++ codes "\n");
 }

@@ -1,12 +1,10 @@
 -- What the program does with the words behind its name.
-use Rattle.std.specs.Prelude.{◌≡◌, ◌⊎◌, ◌&&◌, ◌||◌, ℕ, Bool, true, false, not, List, [], ◌∷◌, codes, Option, Some, IfSome}
+use Rattle.std.specs.Prelude.{◌≡◌, ◌⊎◌, ◌&&◌, ◌||◌, ℕ, Bool, true, false, not, List, [], ◌∷◌, codes, Option, None, Some, IfSome, if◌then◌else◌}
 use Rattle.std.specs.Io.KnownBytes.{Appends}
 use Rattle.std.specs.Str.{bytes_eq}
+use Rattle.stack_commands.specs.declared.command_end.CommandEnd.{CommandEnd}
 use Rattle.stack_commands.specs.declared.fault.CommandFault.{CommandFault}
-use Rattle.stack_commands.specs.declared.fault.CommandFault.TheVariants.{Fec, Recovering, Usage, Verity}
-use Rattle.scan_commands.specs.declared.recovering_fault.RecoveringFault.TheVariants.{Pass}
-use Rattle.scan_commands.specs.declared.rescue_fault.PassFault.{PassFault}
-use Rattle.scan_commands.specs.declared.rescue_fault.PassFault.TheVariants as pass
+use Rattle.stack_commands.specs.declared.fault.CommandFault.TheVariants.{Fec, Usage, Verity}
 use Rattle.stack_commands.specs.Endings.{IsEnd, IsEndAs, IsSilent, ending_text}
 use Rattle.fec_commands.specs.declared.fault.FecFault.TheVariants as fec_fault
 use Rattle.verity_commands.specs.declared.verity_fault.VerityFault.TheVariants as verity_fault
@@ -16,9 +14,11 @@ use Rattle.command_line.specs.Invocations.{InvocationRecord}
 use Rattle.command_line.specs.Misuses.{misuse_record}
 use Rattle.command_parser.specs.CommandLines.{IsMisusedText, IsNoCommand, invoked, options_said}
 use Rattle.command_line.specs.FormatOptions.{OptionTexts}
+use Rattle.manual_pages.specs.MessageLines.{message_line}
 use Rattle.manual_pages.specs.UsageErrors.{explanation}
 use Rattle.partition_commands.specs.Warnings.{Notes}
 use Rattle.stack_commands.specs.Invocations.{AreCommandNotes, FailsCommand, Succeeds}
+use Rattle.stack_commands.specs.messages.Commands.{ending_message}
 use Rattle.stack_commands.specs.Uses.{IsUsageEnd, Uses}
 
 -- the command of some words, and the values of its options
@@ -42,25 +42,17 @@ is_usage (Verity verity_fault.Usage) = true
 is_usage (Fec (fec_fault.Verity verity_fault.Usage)) = true
 is_usage fault = false
 
--- OUT failed, the image to which `copy` writes
-abbrev pub is_output : PassFault → Bool
-is_output pass.Output = true
-is_output fault = false
-
-abbrev pub is_output_failed : CommandFault → Bool
-is_output_failed (Recovering (Pass fault)) = is_output fault
-is_output_failed fault = false
-
 -- `--json` asks for an object of each end but a usage error
 abbrev pub object_asked : Bool → CommandFault → Bool
 object_asked json fault = json && not (is_usage fault)
 
--- The words are no command, or memory ran out while they were read, and nothing was opened; or their command ended early. The last
--- argument says whether an object of the end is asked for.
-abbrev pub IsRunEnd : {S D T G : Type 0} → List (List ℕ) → Uses S D T G → Bool → CommandFault → Bool → Type 0
-IsRunEnd words u failed fault json =
-    (IsUsageEnd fault (IsNoCommand words) × (u.new ≡ u.old) × (u.images.new ≡ u.images.old) × (u.notes.new ≡ u.notes.old) × (json ≡ false))
-    ⊎ ((invocation : InvocationRecord) × (texts : OptionTexts) × IsCommandOf words texts invocation × FailsCommand texts invocation u failed fault × AreCommandNotes invocation u.notes × (json ≡ object_asked texts.json fault))
+-- The words are no command, or memory ran out while they were read, and nothing was opened; or their command ended early, and its
+-- options ask for an object of the end, or for no sentence on it.
+abbrev pub IsRunEnd : {S D T G : Type 0} → List (List ℕ) → Uses S D T G → Bool → CommandEnd → Type 0
+IsRunEnd words u failed ended =
+    (IsUsageEnd ended.fault (IsNoCommand words) × (u.new ≡ u.old) × (u.images.new ≡ u.images.old) × (u.notes.new ≡ u.notes.old) × (ended.json ≡ false))
+    ⊎ ((invocation : InvocationRecord) × (texts : OptionTexts) × IsCommandOf words texts invocation × FailsCommand texts invocation u failed ended.fault × AreCommandNotes invocation u.notes
+    × (ended.json ≡ object_asked texts.json ended.fault) × (ended.quiet ≡ texts.quiet))
 
 -- the words; whether the writer failed; what was written to the errors' writer before and by now, and whether that failed
 pub record Told : Type 0 where
@@ -80,6 +72,19 @@ pub record ExplainsUsage (words : List (List ℕ)) (old new : Option (List ℕ))
   pub misused : IfSome misuse (λ m. IsMisusedText words (misuse_record m))
   pub printed : Appends old new (explanation words misuse) ⊎ (failed ≡ true)
 
+-- the sentence on an end, if there is one, unless none is asked for
+abbrev pub said_message : Bool → CommandFault → Option (List ℕ)
+said_message quiet fault = if quiet then None else ending_message fault
+
+-- the line of a sentence, if there is one
+abbrev pub reason_line : Option (List ℕ) → List ℕ
+reason_line (Some message) = message_line message
+reason_line None = []
+
+-- the sentence on an end is printed, unless the errors' writer failed
+abbrev pub ExplainsEnd : Bool → CommandFault → Option (List ℕ) → Option (List ℕ) → Bool → Type 0
+ExplainsEnd quiet fault old new failed = Appends old new (reason_line (said_message quiet fault)) ⊎ (failed ≡ true)
+
 -- its text was printed and its status answered, or the writer failed
 abbrev pub IsEndOr : Bool → CommandFault → Option (List ℕ) → Option (List ℕ) → ℕ → Type 0
 IsEndOr failed fault old new status = IsEnd fault old new status ⊎ ((status ≡ 1) × (failed ≡ true))
@@ -88,43 +93,42 @@ IsEndOr failed fault old new status = IsEnd fault old new status ⊎ ((status �
 abbrev pub IsEndAsOr : Bool → Bool → CommandFault → Option (List ℕ) → Option (List ℕ) → ℕ → Type 0
 IsEndAsOr json failed fault old new status = IsEndAs json fault old new status ⊎ ((status ≡ 1) × (failed ≡ true))
 
--- the text among the errors, after the explanation of a usage error
-pub record IsToldElsewhere (fault : CommandFault) (told : Told) (status : ℕ) : Type 0 where
+-- the text among the errors, after what explains it
+pub record IsToldElsewhere (ended : CommandEnd) (told : Told) (status : ℕ) : Type 0 where
   pub before : Option (List ℕ)
-  pub explained : is_usage fault ≡ true → ExplainsUsage told.words told.old before told.errors_failed
-  pub unsaid : is_usage fault ≡ false → before ≡ told.old
-  pub ends : IsEndOr told.errors_failed fault before told.new status
+  pub explained : is_usage ended.fault ≡ true → ExplainsUsage told.words told.old before told.errors_failed
+  pub reason : is_usage ended.fault ≡ false → ExplainsEnd ended.quiet ended.fault told.old before told.errors_failed
+  pub ends : IsEndOr told.errors_failed ended.fault before told.new status
 
--- if the writer failed, the reason is printed among the errors, unless these failed too; else the errors are as they were
+-- if the writer failed, the text is printed among the errors, unless these failed too; else the errors are as they were
 abbrev pub IsRepeated : Bool → CommandFault → Option (List ℕ) → Option (List ℕ) → Bool → Type 0
 IsRepeated false fault old new errors_failed = new ≡ old
 IsRepeated true fault old new errors_failed = Appends old new (ending_text fault) ⊎ (errors_failed ≡ true)
 
--- what is printed among the errors: of a usage error and of a failed OUT of `copy` an explanation, then the reason if the writer failed
-pub record TellsErrors (fault : CommandFault) (told : Told) : Type 0 where
+-- what is printed among the errors: what explains the end, then its text if the writer failed
+pub record TellsErrors (ended : CommandEnd) (told : Told) : Type 0 where
   pub before : Option (List ℕ)
-  pub explained : is_usage fault ≡ true → ExplainsUsage told.words told.old before told.errors_failed
-  pub unsaid : is_usage fault ≡ false → is_output_failed fault ≡ false → before ≡ told.old
-  pub repeated : IsRepeated told.failed fault before told.new told.errors_failed
+  pub explained : is_usage ended.fault ≡ true → ExplainsUsage told.words told.old before told.errors_failed
+  pub reason : is_usage ended.fault ≡ false → ExplainsEnd ended.quiet ended.fault told.old before told.errors_failed
+  pub repeated : IsRepeated told.failed ended.fault before told.new told.errors_failed
 
 -- how an end is told: printed; if the output is data, among the errors, and nothing is written
-abbrev pub IsTold : Bool → Bool → CommandFault → Option (List ℕ) → Option (List ℕ) → Told → ℕ → Type 0
-IsTold false json fault old new told status = IsEndAsOr json told.failed fault old new status × TellsErrors fault told
-IsTold true json fault old new told status = (new ≡ old) × IsToldElsewhere fault told status
+abbrev pub IsTold : Bool → CommandEnd → Option (List ℕ) → Option (List ℕ) → Told → ℕ → Type 0
+IsTold false ended old new told status = IsEndAsOr ended.json told.failed ended.fault old new status × TellsErrors ended told
+IsTold true ended old new told status = (new ≡ old) × IsToldElsewhere ended told status
 
 -- A command ended early: its text, or the object of its line, is printed and its status answered, or that can't be written. If the
 -- writer had failed before, that stays known. Among the errors the text follows what the command printed there.
 pub record EndsCommand {S D T G : Type 0} (u : Uses S D T G) (told : Told) (status : ℕ) : Type 0 where
-  pub fault : CommandFault
-  pub json : Bool
+  pub ended : CommandEnd
   pub before : Streams
   pub unwritten : Bool
   pub notes : Notes
   pub begun : notes.old ≡ told.old
-  pub noted : is_usage fault ≡ false → is_output_failed fault ≡ false → notes.failed ≡ true → told.errors_failed ≡ true
-  pub fails : IsRunEnd told.words (record u { new = before; notes = notes }) unwritten fault json
+  pub noted : notes.failed ≡ true → told.errors_failed ≡ true
+  pub fails : IsRunEnd told.words (record u { new = before; notes = notes }) unwritten ended
   pub kept : unwritten ≡ true → told.failed ≡ true
-  pub told_so : IsTold (output_is_data told.words) json fault before.output u.new.output (record told { old = notes.new }) status
+  pub told_so : IsTold (output_is_data told.words) ended before.output u.new.output (record told { old = notes.new }) status
 
 -- the command of some words succeeded
 abbrev pub IsCommandDone : {S D T G : Type 0} → List (List ℕ) → Uses S D T G → Type 0

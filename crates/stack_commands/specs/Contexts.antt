@@ -16,17 +16,22 @@ use Rattle.command_line.specs.declared.words.load.LoadWords.{LoadWords}
 use Rattle.command_line.specs.declared.words.read.ReadWords.{ReadWords}
 use Rattle.command_line.specs.declared.words.repair.RepairWords.{RepairWords}
 use Rattle.command_line.specs.declared.words.scan.ScanWords.{ScanWords}
+use Rattle.command_line.specs.declared.option_words.OptionWords.{OptionWords}
+use Rattle.command_line.specs.declared.words.tree_verify.TreeVerifyWords.{TreeVerifyWords}
 use Rattle.command_line.specs.declared.words.verify.VerifyWords.{VerifyWords}
 use Rattle.command_line.specs.declared.words.write.WriteWords.{WriteWords}
 use Rattle.command_line.specs.FecFiles.{fec_record}
-use Rattle.command_line.specs.FormatOptions.{text_of}
+use Rattle.command_line.specs.FormatOptions.{option_texts, text_of}
 use Rattle.command_line.specs.words.Cat.{cat_record}
 use Rattle.command_line.specs.words.Copy.{copy_record}
 use Rattle.command_line.specs.words.Diff.{diff_record}
+use Rattle.command_line.specs.Bindings.{BindingRecord}
 use Rattle.command_line.specs.words.Load.{load_record}
+use Rattle.command_line.specs.declared.list_form.ListForm.{ListForm}
 use Rattle.command_line.specs.words.Read.{read_record}
 use Rattle.command_line.specs.words.Repair.{repair_record}
 use Rattle.command_line.specs.words.Scan.{scan_record}
+use Rattle.command_line.specs.words.TreeVerify.{tree_verify_record}
 use Rattle.command_line.specs.words.Verify.{verify_record}
 use Rattle.command_line.specs.words.Write.{write_record}
 use Rattle.image_files.specs.Opener.{Calls, Opener, calls}
@@ -49,7 +54,7 @@ use Rattle.stack_commands.specs.Invocations.{CatsSectors, CopiesSectors, IsCatCo
 use Rattle.stack_commands.specs.Repairing.{IsParityWordsEnd, IsRepairWordsEnd, RepairsImage}
 use Rattle.stack_commands.specs.StackCommands.{IsListEnd, IsReadEnd, IsWriteEnd, PrintsDevices, PrintsReply, PrintsWritten}
 use Rattle.stack_commands.specs.Uses.{IsTreesEnd}
-use Rattle.stack_commands.specs.Verifying.{ChecksImage, GoesOverImage, IsCheckCommandEnd, IsGoingOverEnd}
+use Rattle.stack_commands.specs.Verifying.{ChecksImage, ChecksTree, GoesOverImage, GoesOverTree, IsCheckCommandEnd, IsCheckTreeEnd, IsGoingOverEnd, IsGoingOverTreeEnd}
 
 -- what a context's references lent when it was used
 abbrev pub ContextLeft : Type 0 → Type 0 → Type 0
@@ -124,6 +129,19 @@ module _ {S D T E : Type 0} (relations : Opener S D) (state : D → Device) (con
   abbrev pub EndsVerifyAll : VerifyWords → CommandFault → Type 0
   EndsVerifyAll words = IsGoingOverEnd desk_calls (verify_record words) desk_before desk_behind desk_failed
 
+  -- without a superblock
+  abbrev pub DoesTreeVerify : TreeVerifyWords → OptionWords → Type 0
+  DoesTreeVerify words options = ChecksTree (option_texts options) desk_calls (tree_verify_record words) desk_before desk_behind
+
+  abbrev pub EndsTreeVerify : TreeVerifyWords → OptionWords → CommandFault → Type 0
+  EndsTreeVerify words options = IsCheckTreeEnd (option_texts options) desk_calls (tree_verify_record words) desk_before desk_behind desk_failed
+
+  abbrev pub DoesTreeVerifyAll : TreeVerifyWords → OptionWords → Type 0
+  DoesTreeVerifyAll words options = GoesOverTree (option_texts options) desk_calls (tree_verify_record words) desk_before desk_behind
+
+  abbrev pub EndsTreeVerifyAll : TreeVerifyWords → OptionWords → CommandFault → Type 0
+  EndsTreeVerifyAll words options = IsGoingOverTreeEnd (option_texts options) desk_calls (tree_verify_record words) desk_before desk_behind desk_failed
+
   abbrev pub DoesDiff : DiffWords → Type 0
   DoesDiff words = ComparesImages desk_calls (diff_record words) desk_before desk_behind
 
@@ -150,11 +168,11 @@ module _ {S D T E : Type 0} (relations : Opener S D) (state : D → Device) (con
   EndsByParity places fec copies trusted = IsParityWordsEnd desk_calls (places_of places) (fec_record fec) copies trusted desk_before desk_behind desk_failed
 
   -- over a stack file
-  abbrev pub ListsFile : StackFile → Bool → Bool → Type 0
-  ListsFile file json linux = PrintsDevices json linux desk_calls (stack_words file) desk_before desk_behind
+  abbrev pub ListsFile : StackFile → ListForm → Bool → Type 0
+  ListsFile file form linux = PrintsDevices form linux desk_calls (stack_words file) desk_before desk_behind
 
-  abbrev pub EndsListing : StackFile → Bool → CommandFault → Type 0
-  EndsListing file linux = IsListEnd linux desk_calls (stack_words file) desk_failed
+  abbrev pub EndsListing : StackFile → ListForm → Bool → CommandFault → Type 0
+  EndsListing file form linux = IsListEnd form linux desk_calls (stack_words file) desk_failed
 
   abbrev pub ReadsFile : StackFile → ℕ → Sectors → Type 0
   ReadsFile file cache sectors = PrintsReply desk_calls (stack_words file) cache (read_request sectors) desk_before desk_behind
@@ -176,8 +194,8 @@ IsSilentOn contents old new fault = IsSilent fault (contents old.writer.now.inne
 
 module _ {T : Type 0} (contents : T → Option (List ℕ)) (old new : CountedRecord T) where
   -- the devices of a configuration, as `load` says them
-  abbrev pub PrintsConfiguration : Configuration → Bool → Type 0
-  PrintsConfiguration config json = Appends (contents old.inner) (contents new.inner) (load_text json config)
+  abbrev pub PrintsConfiguration : Configuration → List BindingRecord → ListForm → Type 0
+  PrintsConfiguration config bindings form = Appends (contents old.inner) (contents new.inner) (load_text form config bindings)
 
   -- the page of a command, or of the program
   abbrev pub ShowsPage : Option (Bor (List ℕ)) → Type 0
@@ -190,6 +208,6 @@ module _ {T : Type 0} (contents : T → Option (List ℕ)) (old new : CountedRec
   abbrev pub IsToldBy : CommandFault → ℕ → Type 0
   IsToldBy fault status = IsEnd fault (contents old.inner) (contents new.inner) status ⊎ ((status ≡ 1) × (new.failed ≡ true))
 
-  -- the same, and as an object if one is asked for
+  -- the text and the status of an end, as an object if one is asked for
   abbrev pub IsToldAs : Bool → CommandFault → ℕ → Type 0
   IsToldAs json fault status = IsEndAs json fault (contents old.inner) (contents new.inner) status ⊎ ((status ≡ 1) × (new.failed ≡ true))

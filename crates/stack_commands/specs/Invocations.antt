@@ -20,7 +20,7 @@ use Rattle.fec_commands.specs.Commands.{FormatsFec, IsFormatFecEnd, IsVerifyFecE
 use Rattle.manual_pages.specs.Pages.{PageRecord, page_of}
 use Rattle.manual_pages.specs.Versions.{version_text}
 use Rattle.partition_commands.specs.declared.fault.PartitionsFault.{PartitionsFault}
-use Rattle.partition_commands.specs.Invocations.{IsListingEnd, ListsPartitions}
+use Rattle.partition_commands.specs.Invocations.{IsFormQuiet, IsListingEnd, ListsPartitions}
 use Rattle.partition_commands.specs.Warnings.{Notes}
 use Rattle.stack_commands.specs.declared.fault.CommandFault.{CommandFault}
 use Rattle.stack_commands.specs.declared.fault.CommandFault.TheVariants.{Fec, Partitions, Usage}
@@ -37,10 +37,10 @@ use Rattle.stack_commands.specs.ManyExports.{IsExportsEnd, ServesExports}
 use Rattle.stack_commands.specs.StackCommands.{IsClientEnd, IsListEnd, IsReadEnd, IsServeEnd, IsWriteEnd, PrintsDevices, PrintsReply, PrintsWritten, ServesClient, ServesSession, device_on, on}
 use Rattle.verity_commands.specs.Pinned.{FormatsByPin, IsPinFormatEnd}
 use Rattle.verity_commands.specs.Placed.{DumpsAt, FormatsAt, IsDumpEnd, IsSaidFormatEnd, IsTableEnd, PrintsEntry}
-use Rattle.verity_commands.specs.Trees.{FormatsSaidTree, IsSaidFormatTreeEnd, IsTableTreeEnd, IsVerifyTreeEnd, PrintsTreeEntry, VerifiesSaidTree}
+use Rattle.verity_commands.specs.Trees.{FormatsSaidTree, IsSaidFormatTreeEnd, IsTableTreeEnd, PrintsTreeEntry}
 use Rattle.stack_commands.specs.Repairing.{IsRepairWordsEnd, RepairsImage}
 use Rattle.stack_commands.specs.Uses.{IsRecoveringEnd, IsStreamEnd, IsVerityEnd, Uses}
-use Rattle.stack_commands.specs.Verifying.{ChecksImage, IsCheckCommandEnd}
+use Rattle.stack_commands.specs.Verifying.{ChecksImage, ChecksTree, IsCheckCommandEnd, IsCheckTreeEnd}
 
 -- ---- partitions
 
@@ -57,10 +57,10 @@ IsFecEnd Ends fault = ⊥
 -- ---- the devices of a stack
 
 abbrev pub ListsDevices : {S D : Type 0} → Calls S D → LoadRecord → Option (List ℕ) → Option (List ℕ) → Type 0
-ListsDevices w l old new = PrintsDevices l.json l.linux w (on l.stack l.bindings) old new
+ListsDevices w l old new = PrintsDevices l.form l.linux w (on l.stack l.bindings) old new
 
 abbrev pub IsLoadWordsEnd : {S D : Type 0} → Calls S D → LoadRecord → Option (List ℕ) → Option (List ℕ) → Bool → CommandFault → Type 0
-IsLoadWordsEnd w l old new failed fault = IsListEnd l.linux w (on l.stack l.bindings) failed fault × IsSilent fault old new
+IsLoadWordsEnd w l old new failed fault = IsListEnd l.form l.linux w (on l.stack l.bindings) failed fault × IsSilent fault old new
 
 -- ---- requests
 
@@ -184,7 +184,7 @@ Succeeds texts (partitions p) u = ListsPartitions u.images p u.old.output u.new.
 Succeeds texts (diff d) u = ComparesImages u.images d u.old.output u.new.output
 Succeeds texts (repair r) u = RepairsImage u.images r u.old.output u.new.output
 Succeeds texts (format_tree f) u = FormatsSaidTree texts u.images u.drawing f u.old.output u.new.output
-Succeeds texts (verify_tree v) u = VerifiesSaidTree texts u.images v u.old.output u.new.output
+Succeeds texts (verify_tree v) u = ChecksTree texts u.images v u.old.output u.new.output
 Succeeds texts (table_tree t) u = PrintsTreeEntry texts u.images t u.old.output u.new.output
 Succeeds texts (format_fec f) u = FormatsFec texts u.images u.drawing f u.old.output u.new.output
 Succeeds texts (verify_fec v) u = VerifiesFec u.images v u.old.output u.new.output
@@ -208,11 +208,11 @@ FailsCommand texts (format f) u failed fault = IsVerityEnd (IsSaidFormatEnd text
 FailsCommand texts (verify v) u failed fault = IsCheckCommandEnd u.images v u.old.output u.new.output failed fault
 FailsCommand texts (dump d) u failed fault = IsVerityEnd (IsDumpEnd u.images d u.old.output u.new.output failed) fault
 FailsCommand texts (table t) u failed fault = IsVerityEnd (IsTableEnd u.images t u.old.output u.new.output failed) fault
-FailsCommand texts (partitions p) u failed fault = IsPartitionsEnd (IsListingEnd u.images p failed u.notes) fault
+FailsCommand texts (partitions p) u failed fault = IsPartitionsEnd (λ end. IsListingEnd u.images p failed u.notes end × IsFormQuiet p.form u.old.output u.new.output end) fault
 FailsCommand texts (diff d) u failed fault = IsComparingEnd u.images d u.old.output u.new.output failed fault
 FailsCommand texts (repair r) u failed fault = IsRepairWordsEnd u.images r u.old.output u.new.output failed fault
 FailsCommand texts (format_tree f) u failed fault = IsVerityEnd (IsSaidFormatTreeEnd texts u.images u.drawing f u.old.output u.new.output failed) fault
-FailsCommand texts (verify_tree v) u failed fault = IsVerityEnd (IsVerifyTreeEnd texts u.images v u.old.output u.new.output failed) fault
+FailsCommand texts (verify_tree v) u failed fault = IsCheckTreeEnd texts u.images v u.old.output u.new.output failed fault
 FailsCommand texts (table_tree t) u failed fault = IsVerityEnd (IsTableTreeEnd texts u.images t u.old.output u.new.output failed) fault
 FailsCommand texts (format_fec f) u failed fault = IsFecEnd (IsFormatFecEnd texts u.images u.drawing f u.old.output u.new.output failed) fault
 FailsCommand texts (verify_fec v) u failed fault = IsFecEnd (IsVerifyFecEnd u.images v u.old.output u.new.output failed) fault

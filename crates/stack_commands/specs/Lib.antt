@@ -15,3 +15,4 @@ pub mod Served
 pub mod StackCommands
 pub mod Uses
 pub mod Verifying
+pub mod messages

@@ -30,7 +30,7 @@ module _ {S D G F R T : Type 0} (relations : Opener S D) (state : D → Device) 
   DoesWords words = IsCommandDone words all_used
 
   abbrev pub EndsWords : List (List ℕ) → CommandEnd → Type 0
-  EndsWords words ended = IsRunEnd words all_used writer'.failed ended.fault ended.json
+  EndsWords words ended = IsRunEnd words all_used writer'.failed ended
 
   -- by what they say
   abbrev pub DoesLine : CommandLine → Type 0

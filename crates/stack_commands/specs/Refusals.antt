@@ -17,9 +17,10 @@ use Rattle.rescue_map.specs.declared.fault.MapFault.{MapFault}
 use Rattle.scan_commands.specs.declared.rescue_fault.PassFault.TheVariants as pass
 use Rattle.scan_commands.specs.MapTexts.{no_map_text, pass_text, unreplaced_text}
 use Rattle.tree_difference.specs.declared.fault.Unlike.{Unlike}
+use Rattle.tree_difference.specs.declared.fault.Which.{Which}
 use Rattle.verity_commands.specs.declared.tree_fault.TreeFault.TheVariants as trees
 use Rattle.verity_commands.specs.Texts.{image_text, pin_fault_text, unwritten_pin_text}
-use Rattle.verity_commands.specs.TreeFaultTexts.{tree_fault_text, unlike_text}
+use Rattle.verity_commands.specs.TreeFaultTexts.{tree_fault_text, unaligned_text, unlike_text}
 use Rattle.stack_commands.specs.FaultTexts.{outside_text}
 
 -- the line of a refusal of the list, or that of an allocation failure
@@ -43,6 +44,7 @@ pub record AreImageLines : Type 0 where
   pub overlap : IsNumbered (image_text image.DataOverlapsTree)
   pub root : IsNumbered (image_text image.RootText)
   pub tree : IsNumbered (tree_fault_text trees.Unaligned)
+  pub compared : (which : Which) → IsNumbered (unaligned_text which)
   pub unused : IsNumbered (tree_fault_text trees.UnusedEntries)
   pub outside : (path : List ℕ) → IsNumbered (outside_text path)
 

@@ -1,5 +1,5 @@
 -- What the commands on stacks print where they succeed, and how they end early.
-use Rattle.std.specs.Prelude.{◌≡◌, ◌⊎◌, ℕ, Bool, true, false, List, [], ◌∷◌, Option, Some, None, Result, Ok, Err}
+use Rattle.std.specs.Prelude.{◌≡◌, ◌⊎◌, ℕ, Bool, true, false, List, [], ◌∷◌, length, Option, Some, None, Result, Ok, Err}
 use Rattle.std.specs.Io.KnownBytes.{Appends}
 use Rattle.image_files.specs.Opener.{Calls}
 use Rattle.stack_rules.specs.Records.{Configuration}
@@ -23,10 +23,13 @@ use Rattle.stack_session.specs.Accesses.{first_of}
 use Rattle.stack_session.specs.QueueSessions.{IsQueueSession}
 use Rattle.program_io.specs.Streams.{Streams}
 use Rattle.scan_commands.specs.DeviceLines.{load_text}
+use Rattle.allocation.specs.Refusal.{IsOutOfMemory}
 use Rattle.stack_session.specs.Texts.{reply_text, written_text}
 use Rattle.stack_commands.specs.declared.fault.CommandFault.{CommandFault}
 use Rattle.stack_commands.specs.declared.fault.CommandFault.TheVariants.{Io, Linux, NoMemory, Service, Session, Stack}
 use Rattle.command_line.specs.Bindings.{BindingRecord}
+use Rattle.command_line.specs.declared.list_form.ListForm.{ListForm}
+use Rattle.command_line.specs.declared.list_form.ListForm.TheVariants.{Object}
 use Rattle.stack_files.specs.declared.stack_fault.StackFault.{StackFault}
 use Rattle.stack_files.specs.declared.stack_fault.StackFault.TheVariants.{NoSuchDevice}
 use Rattle.stack_files.specs.BareLeaves.{FailsToStand, StandsOnLeaves}
@@ -55,27 +58,34 @@ abbrev pub IsCheckedIf : Bool → Configuration → Result Unit LinuxFault → T
 IsCheckedIf true config result = IsChecked config result
 IsCheckedIf false config result = result ≡ Ok tt
 
--- with `linux`, the first rule of Linux that applies ends the command
+-- with `linux`, the first rule of Linux that applies ends the command, or a refused allocation of room for as many numbers as
+-- there are devices
 abbrev pub IsLinuxEnd : Bool → Configuration → CommandFault → Type 0
 IsLinuxEnd linux config (Linux refusal) = (linux ≡ true) × (linux_refusal config ≡ Some refusal)
+IsLinuxEnd linux config NoMemory = (linux ≡ true) × IsOutOfMemory (length config.devices)
 IsLinuxEnd linux config fault = ⊥
 
--- a line for each mapped device, or an object of them
-pub record PrintsDevices {S D : Type 0} (json linux : Bool) (w : Calls S D) (words : StackWords) (old new : Option (List ℕ)) : Type 0 where
+-- the object isn't made, as memory ran out; its library gives no evidence of that
+abbrev pub IsObjectUnmade : ListForm → CommandFault → Type 0
+IsObjectUnmade Object fault = fault ≡ NoMemory
+IsObjectUnmade form fault = ⊥
+
+-- a line for each mapped device, a tree or an object of them
+pub record PrintsDevices {S D : Type 0} (form : ListForm) (linux : Bool) (w : Calls S D) (words : StackWords) (old new : Option (List ℕ)) : Type 0 where
   pub config : Configuration
   pub made : Configures w words config
   pub taken : IsTaken linux config
-  pub printed : Appends old new (load_text json config)
+  pub printed : Appends old new (load_text form config words.bindings)
 
 -- the devices of the one that is made aren't printed
-pub record FailsToListDevices {S D : Type 0} (linux : Bool) (w : Calls S D) (words : StackWords) (failed : Bool) (fault : CommandFault) : Type 0 where
+pub record FailsToListDevices {S D : Type 0} (form : ListForm) (linux : Bool) (w : Calls S D) (words : StackWords) (failed : Bool) (fault : CommandFault) : Type 0 where
   pub config : Configuration
   pub made : Configures w words config
-  pub why : (fault ≡ NoMemory) ⊎ (IsLinuxEnd linux config fault ⊎ IsReplyUnwritten failed fault)
+  pub why : IsObjectUnmade form fault ⊎ (IsLinuxEnd linux config fault ⊎ IsReplyUnwritten failed fault)
 
 -- that, or the text makes none
-abbrev pub IsListEnd : {S D : Type 0} → Bool → Calls S D → StackWords → Bool → CommandFault → Type 0
-IsListEnd linux w words failed fault = IsStackEnd (FailsToLoadFile w words) fault ⊎ FailsToListDevices linux w words failed fault
+abbrev pub IsListEnd : {S D : Type 0} → ListForm → Bool → Calls S D → StackWords → Bool → CommandFault → Type 0
+IsListEnd form linux w words failed fault = IsStackEnd (FailsToLoadFile w words) fault ⊎ FailsToListDevices form linux w words failed fault
 
 -- ---- `read`
 

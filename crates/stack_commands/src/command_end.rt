@@ -5,11 +5,12 @@ ghost use Rattle.stack_commands.specs.CommandEnds.{words_end};
 use crate::fault::CommandFault;
 use command_line::WordsFault;
 
-/// Why a command ends early, and whether that is printed as an object.
+/// Why a command ends early, whether that is printed as an object, and whether no sentence on it is printed.
 #[derive(Clone, Copy)]
 pub struct CommandEnd<'a> {
     pub fault: CommandFault<'a>,
     pub json: bool,
+    pub quiet: bool,
 }
 
 impl From<WordsFault<'_>> for CommandEnd<'_> {
@@ -19,6 +20,7 @@ impl From<WordsFault<'_>> for CommandEnd<'_> {
         CommandEnd {
             fault: CommandFault::from(fault),
             json: false,
+            quiet: false,
         }
     }
 }

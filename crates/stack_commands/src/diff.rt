@@ -10,8 +10,7 @@ use std::alloc::Global;
 use std::io::Write;
 use verity_commands::{VerityFault, both_trusted_in, invoke_diff};
 
-/// `diff [--all] [--blocks N] [--json] [--old-pin FILE] [--pin FILE] HASH1 [ROOT1] HASH2 [ROOT2]`. The pins are read before an image
-/// is opened.
+/// `diff [OPTIONS] HASH1 [ROOT1] HASH2 [ROOT2]`. The files of root hashes and pins are read before an image is opened.
 pub fn compare_images<'a, I: Images, W: Write>(
     alloc: Global,
     context: Context<'_, I, W>,

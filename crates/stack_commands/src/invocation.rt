@@ -16,6 +16,7 @@ use crate::repair::repair_image;
 use crate::scan::invoke_scan;
 use crate::serve::invoke_session;
 use crate::streams::{invoke_cat, invoke_store};
+use crate::tree_verify::check_tree;
 use crate::verify::check_image;
 use crate::write::invoke_write;
 use command_line::Invocation;
@@ -31,7 +32,7 @@ use std::alloc::Global;
 use std::io::{Read, Write};
 use verity_commands::{
     invoke_dump, invoke_format, invoke_format_pinned, invoke_format_tree, invoke_table,
-    invoke_table_tree, invoke_verify_tree,
+    invoke_table_tree,
 };
 
 /// Runs a command; the options are those that say what an image is.
@@ -92,7 +93,13 @@ pub fn invoke<'a, I: Images, G: Generators + Progress + Watchers, S: Read, W: Wr
             Ok(invoke_format_tree(alloc, images, generators, &words, &options, writer)?)
         }
         Invocation::VerifyTree(words) => {
-            Ok(invoke_verify_tree(alloc, images, generators, &words, &options, writer)?)
+            check_tree(
+                alloc,
+                Context { images, writer },
+                generators,
+                &words,
+                &options,
+            )
         }
         Invocation::TableTree(words) => {
             Ok(invoke_table_tree(alloc, images, &words, &options, writer)?)

@@ -1,24 +1,25 @@
 //! The command `load`: checks a stack, and says what its devices are.
-ghost use Rattle.std.specs.Prelude.{◌≡◌, ◌⊎◌, IfErr, OnOk};
+ghost use Rattle.std.specs.Prelude.{◌⊎◌, map, IfErr, OnOk};
+ghost use Rattle.command_line.specs.Bindings.{binding_record};
 ghost use Rattle.stack_commands.specs.Endings.{IsSilent, IsReplyUnwritten};
 ghost use Rattle.stack_commands.specs.Contexts.{DoesLoad, EndsListing, EndsLoad, IsSilentOn, ListsFile, PrintsConfiguration};
-ghost use Rattle.stack_commands.specs.StackCommands.{IsCheckedIf};
+ghost use Rattle.stack_commands.specs.StackCommands.{IsCheckedIf, IsObjectUnmade};
 
 use crate::context::Context;
 use crate::fault::CommandFault;
 use crate::words::stack_file;
-use command_line::LoadWords;
+use command_line::{Binding, ListForm, LoadWords};
 use image_files::Images;
 use linux_rules::{LinuxFault, check_linux};
 use program_io::Counted;
-use scan_commands::{devices_line, say_devices};
+use scan_commands::{devices_line, say_devices, say_tree};
 use stack_config::Config;
 use stack_files::{StackFile, open_configuration};
 use std::alloc::Global;
 use std::io::Write;
 
-/// `load [--json] [--linux] STACK BINDING...`: the devices of a stack file over the bindings, as a JSON object or a line each; with
-/// `--linux` only if Linux would load them too, and read and write the same.
+/// `load [--json | --tree] [--linux] STACK BINDING...`: the devices of a stack file over the bindings, as a JSON object, a tree or a
+/// line each; with `--linux` only if Linux would load them too, and read and write the same.
 pub fn invoke_load<'a, I: Images, W: Write>(
     alloc: Global,
     context: Context<'_, I, W>,
@@ -30,30 +31,31 @@ pub fn invoke_load<'a, I: Images, W: Write>(
     let LoadWords {
         stack,
         bindings,
-        json,
+        form,
         linux,
     } = words;
     let file = stack_file(stack, &bindings);
-    load_stack_file(alloc, context, file, json, linux)
+    load_stack_file(alloc, context, file, form, linux)
 }
 
-// The devices of a stack file, as a JSON object or a line each.
+// The devices of a stack file.
 #[tactic(auto, using(crate::proofs::EndingLemmas::quiet))]
 fn load_stack_file<'a, I: Images, W: Write>(
     alloc: Global,
     context: Context<'_, I, W>,
     file: StackFile<'a, '_>,
-    json: bool,
+    form: ListForm,
     linux: bool,
 ) -> Result<(), CommandFault<'a>>
-    ensures ok { OnOk result (ListsFile I.relations I.Dev.state W.contents context.entry context.exit file.entry json linux) }
-    ensures err { IfErr result (EndsListing I.relations I.Dev.state W.contents context.entry context.exit file.entry linux) }
+    ensures ok { OnOk result (ListsFile I.relations I.Dev.state W.contents context.entry context.exit file.entry form linux) }
+    ensures err { IfErr result (EndsListing I.relations I.Dev.state W.contents context.entry context.exit file.entry form linux) }
     ensures quiet { IfErr result (IsSilentOn W.contents context.entry context.exit) }
 {
     let Context { images, writer } = context;
+    let bindings = file.bindings;
     let config = open_configuration(alloc, images, file)?;
     check_rules(&config, linux)?;
-    say_configuration(alloc, &config, json, writer)
+    say_configuration(alloc, &config, bindings, form, writer)
 }
 
 // With `linux`, whether Linux would take the configuration too.
@@ -66,23 +68,32 @@ fn check_rules(config: &Config, linux: bool) -> Result<(), LinuxFault>
     Ok(())
 }
 
-// Its mapped devices, as an object on one line or a line each.
+// Its mapped devices, as an object on one line, a tree or a line each.
 #[tactic(auto, using(crate::proofs::EndingLemmas::quiet))]
 fn say_configuration<'a, W: Write>(
     alloc: Global,
     config: &Config,
-    json: bool,
+    bindings: &[Binding<'_>],
+    form: ListForm,
     writer: &mut Counted<W>,
 ) -> Result<(), CommandFault<'a>>
-    ensures ok { OnOk result (PrintsConfiguration W.contents writer.old writer.new config.now json) }
-    ensures err { IfErr result (λ fault. (fault ≡ CommandFault.NoMemory) ⊎ IsReplyUnwritten writer.new.failed fault) }
+    ensures ok { OnOk result (PrintsConfiguration W.contents writer.old writer.new config.now (map binding_record bindings.now) form) }
+    ensures err { IfErr result (λ fault. IsObjectUnmade form fault ⊎ IsReplyUnwritten writer.new.failed fault) }
     ensures quiet { IfErr result (λ fault. IsSilent fault (W.contents writer.old.inner) (W.contents writer.new.inner)) }
 {
-    if json {
-        let line = devices_line(alloc, config)?;
-        writer.put(line.as_bytes())?;
-        return Ok(());
+    match form {
+        ListForm::Lines => {
+            say_devices(config, writer)?;
+            Ok(())
+        }
+        ListForm::Tree => {
+            say_tree(config, bindings, writer)?;
+            Ok(())
+        }
+        ListForm::Object => {
+            let line = devices_line(alloc, config)?;
+            writer.put(line.as_bytes())?;
+            Ok(())
+        }
     }
-    say_devices(config, writer)?;
-    Ok(())
 }

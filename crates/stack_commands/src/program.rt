@@ -1,10 +1,11 @@
 //! The whole program: its words, a reader and a writer in, the status out.
 ghost use Rattle.std.specs.Prelude.{false, true, ◌≡◌, ◌⊎◌, ℕ, List, Option, map, string_bytes, OnOk, IfErr};
 ghost use Rattle.program_io.specs.Streams.{streams};
+ghost use Rattle.command_line.specs.FormatOptions.{text_of};
 ghost use Rattle.image_commands.specs.Drawing.{drawing};
 ghost use Rattle.image_files.specs.Opener.{calls};
 ghost use Rattle.partition_commands.specs.Warnings.{notes_of};
-ghost use Rattle.stack_commands.specs.Commands.{EndsCommand, ExplainsUsage, IsCommandDone, IsRepeated, is_output_failed, is_usage, object_asked, output_is_data, told_to, writes_data};
+ghost use Rattle.stack_commands.specs.Commands.{EndsCommand, ExplainsEnd, ExplainsUsage, IsCommandDone, IsRepeated, is_usage, object_asked, output_is_data, said_message, told_to, writes_data};
 ghost use Rattle.stack_commands.specs.Contexts.{IsToldAs};
 ghost use Rattle.stack_commands.specs.Lines.{DoesWords, EndsWords};
 ghost use Rattle.stack_commands.specs.Uses.{uses};
@@ -13,14 +14,14 @@ use crate::command_end::CommandEnd;
 use crate::ending::{end, end_as};
 use crate::fault::CommandFault;
 use crate::invocation::invoke;
+use crate::messages::commands::ending_message;
 use command_parser::{misuse_of, parse};
 use device_adapters::{Progress, Watchers};
 use fec_commands::FecFault;
 use image_commands::Generators;
 use image_files::Images;
-use manual_pages::print_usage_error;
+use manual_pages::{print_message, print_usage_error};
 use program_io::{Counted, WriteFault};
-use scan_commands::{PassFault, RecoveringFault};
 use std::alloc::Global;
 use std::io::{Read, Write};
 use verity_commands::VerityFault;
@@ -33,7 +34,7 @@ const UNPRINTED: u8 = 1;
 /// the stack or images that differ, 4 a client that breaks the NBD protocol.
 ///
 /// All that is opened is opened by `images`. Why `cat` and `nbd` end early goes to `errors`, since what they write is
-/// data for another program; so do the explanation of a usage error, beside `usage`, the line that OUT of `copy` failed, and the
+/// data for another program; so do the explanation of a usage error, beside `usage`, the sentence on any other end, and the
 /// warnings of the table that `partitions` finds.
 /// If the writer fails, `errors` gets the reason of every other command, too.
 pub fn command<I: Images, G: Generators + Progress + Watchers, S: Read, W: Write, E: Write>(
@@ -53,12 +54,11 @@ pub fn command<I: Images, G: Generators + Progress + Watchers, S: Read, W: Write
     match run(alloc, images, generators, words, reader, writer, errors) {
         Ok(()) => DONE,
         Err(ended) => {
-            let CommandEnd { fault, json } = ended;
-            explain(alloc, errors, words, fault);
+            let CommandEnd { fault, json, quiet } = ended;
+            explain(alloc, errors, words, fault, quiet);
             if output_is_data(words) {
                 end(errors, fault)
             } else {
-                tell_output(errors, fault);
                 report_end(alloc, writer, errors, fault, json)
             }
         }
@@ -90,45 +90,52 @@ fn report_end<W: Write, E: Write>(
     }
 }
 
-// Prints which argument keeps the arguments from being a command.
+// Explains on standard error why a command ends early: which argument keeps the arguments from being a command, or a sentence on
+// the refusal or fault.
 fn explain<E: Write>(
     alloc: Global,
     errors: &mut Counted<E>,
     words: &[String],
     fault: CommandFault<'_>,
+    quiet: bool,
 )
     ensures usage { is_usage fault.entry ≡ true → ExplainsUsage (map string_bytes words.now) (E.contents errors.old.inner) (E.contents errors.new.inner) errors.new.failed }
-    ensures other { is_usage fault.entry ≡ false → errors.new ≡ errors.old }
+    ensures end { is_usage fault.entry ≡ false → ExplainsEnd quiet fault.entry (E.contents errors.old.inner) (E.contents errors.new.inner) errors.new.failed }
+    ensures failed { errors.old.failed ≡ true → errors.new.failed ≡ true }
 {
     if is_usage(fault) {
         print_misuse(alloc, errors, words);
+    } else {
+        print_reason(errors, fault, quiet);
     }
 }
 
 fn print_misuse<E: Write>(alloc: Global, errors: &mut Counted<E>, words: &[String])
-    ensures { ExplainsUsage (map string_bytes words.now) (E.contents errors.old.inner) (E.contents errors.new.inner) errors.new.failed }
+    ensures printed { ExplainsUsage (map string_bytes words.now) (E.contents errors.old.inner) (E.contents errors.new.inner) errors.new.failed }
+    ensures failed { errors.old.failed ≡ true → errors.new.failed ≡ true }
 {
     let misuse = misuse_of(alloc, words);
     let _said = print_usage_error(errors, words, misuse);
 }
 
-// Says on standard error that OUT of `copy` failed, since the printed line doesn't name the device.
-fn tell_output<E: Write>(errors: &mut Counted<E>, fault: CommandFault<'_>)
-    ensures { is_output_failed fault.entry ≡ false → errors.new ≡ errors.old }
+// Prints the sentence on an end, if there is one and it is asked for.
+fn print_reason<E: Write>(errors: &mut Counted<E>, fault: CommandFault<'_>, quiet: bool)
+    ensures printed { ExplainsEnd quiet fault.entry (E.contents errors.old.inner) (E.contents errors.new.inner) errors.new.failed }
+    ensures failed { errors.old.failed ≡ true → errors.new.failed ≡ true }
 {
-    if is_output_failed(fault) {
-        let _said = errors.put(b"dmstack: OUT failed\n");
+    match said_message(fault, quiet) {
+        Some(message) => {
+            let _said = print_message(errors, message);
+        }
+        None => {}
     }
 }
 
-// Whether OUT failed, the image to which `copy` writes.
-fn is_output_failed(fault: CommandFault<'_>) -> bool
-    ensures { result ≡ is_output_failed fault.entry }
+// The sentence on an end, if there is one and it is asked for.
+fn said_message(fault: CommandFault<'_>, quiet: bool) -> Option<&'static str>
+    ensures { text_of result ≡ said_message quiet fault.entry }
 {
-    match fault {
-        CommandFault::Recovering(RecoveringFault::Pass(fault)) => fault == PassFault::Output,
-        _ => false,
-    }
+    if quiet { None } else { ending_message(fault) }
 }
 
 // Whether the words are no command.
@@ -176,19 +183,20 @@ fn run<'a, I: Images, G: Generators + Progress + Watchers, S: Read, W: Write, E:
     ensures err { IfErr result (EndsWords I.relations I.Dev.state S.remaining W.contents images.old images.new (drawing G.gives G.Generator.stream generators.old generators.new) reader.old reader.new writer.old writer.new (notes_of E.contents errors.old errors.new) (map string_bytes words.now)) }
 {
     let line = parse(alloc, words)?;
-    let json = line.options.json;
+    let (json, quiet) = (line.options.json, line.options.quiet);
     match invoke(alloc, images, generators, line, reader, writer, errors) {
         Ok(()) => Ok(()),
-        Err(fault) => Err(command_end(fault, json)),
+        Err(fault) => Err(command_end(fault, json, quiet)),
     }
 }
 
-// How a command ends early, with `--json` or without it: `usage` stays a line.
-fn command_end(fault: CommandFault<'_>, json: bool) -> CommandEnd<'_>
-    ensures { result ≡ record { fault = fault.entry; json = object_asked json fault.entry } }
+// How a command ends early, with `--json` and `--quiet` or without them: `usage` stays a line.
+fn command_end(fault: CommandFault<'_>, json: bool, quiet: bool) -> CommandEnd<'_>
+    ensures { result ≡ record { fault = fault.entry; json = object_asked json fault.entry; quiet = quiet } }
 {
     CommandEnd {
         fault,
         json: json && !is_usage(fault),
+        quiet,
     }
 }

@@ -15,6 +15,8 @@ pub mod BytesLemmas
 pub mod StackLemmas
 pub mod LeafCallLemmas
 pub mod SectorCallLemmas
+pub mod WayCallLemmas
+pub mod BlockCallLemmas
 pub mod BlockPartLemmas
 pub mod WritablePlainLemmas
 pub mod UnitWriteLemmas
@@ -24,3 +26,4 @@ pub mod HeldLemmas
 pub mod RunBytesLemmas
 pub mod RefusedLemmas
 pub mod SyncCallLemmas
+pub mod DirtyLemmas

@@ -292,6 +292,12 @@ pub record IsPut (p : VerityPart) (start : List ℕ) (j many : ℕ) (bytes row :
   pub row_even : length row % p.verity.now.data_block ≡ 0
   pub row_count : length row / p.verity.now.data_block ≡ many
 
+-- the bytes are no more than the blocks that were had
+pub blocks-long : {c : Configuration} {p : VerityPart} {found : List FoundRecord} (start bytes : List ℕ) (j : ℕ) → BlocksAt c p (length start / 512) found → length bytes ≡ length start → length start % 512 ≡ 0 → j ≡ length start / 512 / block_sectors p.verity.now → length bytes ≤ j * p.verity.now.data_block
+blocks-long {p = p} start bytes j b same whole all =
+    let count : j * block_sectors p.verity.now ≡ length start / 512 = ap (λ (k : ℕ). k * block_sectors p.verity.now) all ∙ b.count in
+    omega (arith, same, whole, count, block-begin b j)
+
 module _ {c : Configuration} {p : VerityPart} {found : List FoundRecord} {start : List ℕ} (b : BlocksAt c p (length start / 512) found) where
   -- none of them yet
   pub checked-none : (chains : Chains) {old : List Device} (made : List (List ℕ)) (path : List CachedBlock) → length made ≡ 128 → path ≡ [] → AllKept c old found → AreChecked c p chains start 0 0 start made path old old found found
@@ -551,6 +557,10 @@ module _ {c : Configuration} {p : VerityPart} {n : ℕ} {found : List FoundRecor
     -- it was read, unless the line ignores it
     was-read : (made : List (List ℕ)) (x : List ℕ) → AreReadAhead c p j r out made did.old → j < r → IsRead c p did.old j (take (j * p.verity.now.data_block + p.verity.now.data_block - j * p.verity.now.data_block) (drop (j * p.verity.now.data_block) out)) (get_or made j x)
     was-read made x ahead within = subst (λ (l : List ℕ). IsRead c p did.old j l (get_or made j x)) (sym (part-is out)) (ahead j (omega arith) within x)
+
+    -- the digest that was made of the bytes that stand there
+    pub digest-made : (made : List (List ℕ)) (x : List ℕ) → AreReadAhead c p j r out made did.old → j < r → get_or made j x ≡ digest p.verity.now.salt (take (j * p.verity.now.data_block + p.verity.now.data_block - j * p.verity.now.data_block) (drop (j * p.verity.now.data_block) out))
+    digest-made made x ahead within = (was-read made x ahead within).made_is
 
     -- it has another digest
     pub block-differs : {ignored : Bool} (made : List (List ℕ)) (x : List ℕ) → ignored ≡ is_ignored p.verity.now expected → AreReadAhead c p j r out made did.old → (ignored ≡ false → j < r) → (ignored ≡ false) × (get_or made j x ≡ expected → ⊥)

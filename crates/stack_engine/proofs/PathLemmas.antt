@@ -5,7 +5,7 @@ use Rattle.std.proofs.lemmas.List.Elements.{All-push, All-take}
 use Rattle.std.proofs.Math.Nat.{add-mul, mul-le-mul_right}
 use Rattle.tree_shape.specs.Shape.{levels}
 use Rattle.stack_rules.specs.Trees.{tree_of}
-use Rattle.stack_meaning.proofs.lemmas.LeafListLemmas.{AreRead-more, AreRead-then}
+use Rattle.stack_meaning.proofs.lemmas.LeafListLemmas.{AreRead-more, AreRead-none, AreRead-then}
 use Rattle.block_device.specs.Device.{Device}
 use Rattle.stack_rules.specs.Records.{Configuration}
 use Rattle.verified_cache.specs.Cache.{CachedBlock}
@@ -79,6 +79,12 @@ module _ (c : Configuration) (v : Verity) (tree : Tree) (index : ℕ) (loaded : 
 -- a block of no line
 pub no_block : CachedBlock
 no_block = record { key = record { device = 0; line = 0; level = 0; block = 0 }; digest = []; bytes = [] }
+
+-- a way of which nothing was walked
+pub walk-begins : (b : DataBlock) {l : ℕ} {path : List (List ℕ)} {old : List Device} → levels (tree_of b.verity) ≡ l → [] ≡ path → IsWalked b l b.verity.root path old old
+walk-begins b {path = path} {old = old} all none =
+    subst (λ (k : ℕ). IsWalked b k b.verity.root path old old) all
+    (subst (λ (p : List (List ℕ)). IsWalked b (levels (tree_of b.verity)) b.verity.root p old old) none (record { count = omega arith; moved = AreRead-none _ old; hangs = λ rest content len h. h; exact = λ steady. refl }))
 
 -- a way that was walked, wherever it ends
 pub path-ended : (b : DataBlock) (l : ℕ) {expected : List ℕ} {path : List (List ℕ)} {old new : List Device} → IsWalked b l expected path old new → AreRead old (levels (tree_of b.verity) * (hash_sectors b.verity * b.on_hash.cost)) new

@@ -13,7 +13,6 @@ use Rattle.stack_meaning.specs.Reading.{buffer_answer}
 use Rattle.stack_meaning.specs.Units.{per_unit, unit_first}
 use Rattle.stack_lines.specs.declared.source.CryptPart.{CryptPart}
 use Rattle.stack_lines.specs.declared.source.Run.{Run}
-use Rattle.stack_lines.specs.declared.source.Source.{Source}
 use Rattle.stack_lines.specs.declared.source.Source.TheVariants.{Below, Units, UnitPart}
 use Rattle.stack_lines.specs.declared.units.WholeUnit.{WholeUnit}
 use Rattle.stack_lines.specs.Runs.{IsRunAt}
@@ -44,11 +43,11 @@ StepsUpTo does c k x first at bytes old mid = WritesUpTo does c (in_steps k x) f
 abbrev pub GivesUpTo : {D : Type 0} → (D → Call → D → Type 0) → Configuration → ℕ → ℕ → ℕ → ℕ → List ℕ → List D → List D → Type 0
 GivesUpTo {D = D} does c d first n at xs old mid = (new : List D) (answer : Result (List ℕ) IoFault) → Gives does c (Below (mapped d) (first + at)) (n - at) mid new answer → Gives does c (Below (mapped d) first) n old new (bytes_before xs answer)
 
-before-none : (answer : Result (List ℕ) IoFault) → bytes_before [] answer ≡ answer
+pub before-none : (answer : Result (List ℕ) IoFault) → bytes_before [] answer ≡ answer
 before-none (Ok ys) = refl
 before-none (Err fault) = refl
 
-before-before : (xs ys : List ℕ) (answer : Result (List ℕ) IoFault) → bytes_before xs (bytes_before ys answer) ≡ bytes_before (xs ++ ys) answer
+pub before-before : (xs ys : List ℕ) (answer : Result (List ℕ) IoFault) → bytes_before xs (bytes_before ys answer) ≡ bytes_before (xs ++ ys) answer
 before-before xs ys (Ok zs) = ap Ok (sym (append_assoc xs ys zs))
 before-before xs ys (Err fault) = refl
 

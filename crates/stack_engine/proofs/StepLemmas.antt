@@ -55,15 +55,6 @@ step-none sound plain touches = record { cached = record { capacity = refl; soun
 up-meets : {said said' : ℕ → Said} {first first' n n' : ℕ} → ((a b : List Device) (r : Result Unit IoFault) → IsPlain said first n a b r → IsPlain said' first' n' a b r) → MeetVerity said first n → MeetVerity said' first' n'
 up-meets plain some = (plain [] [] (Err io.NoMemory) (met some)).memory refl
 
-pub below-meets : (c : Configuration) (lower : Lower) (first n : ℕ) → MeetVerity (said_at c lower) first n → MeetVerity (source_said c (Below lower first)) 0 n
-below-meets c lower first n = up-meets (λ a b r. below_plain c lower first n)
-
-pub units-meets : (c : Configuration) (x : CryptPart) (first n : ℕ) → AreUnits c x n → first ≡ unit_first x.units x.first → MeetVerity (said_at c x.lower) first n → MeetVerity (source_said c (Units x)) 0 n
-units-meets c x first n units at some = up-meets (λ a b r. units-plain c x n units) (subst (λ (k : ℕ). MeetVerity (said_at c x.lower) k n) at some)
-
-pub part-meets : (c : Configuration) (x : CryptPart) (whole : WholeUnit) (n m : ℕ) → IsWholeOf x whole → LieInUnit c x n → 0 < n → m ≡ whole.sectors → MeetVerity (source_said c (Units whole.from)) 0 m → MeetVerity (source_said c (UnitPart x)) 0 n
-part-meets c x whole n m of lies some count met_some = up-meets (λ a b r. part-plain c x whole n of lies some) (subst (λ (k : ℕ). MeetVerity (source_said c (Units whole.from)) 0 k) count met_some)
-
 -- a run on another one
 step-up : {c : Configuration} {run up : SectorRun} {old new : BackingRecord} {result : Result Unit IoFault}
     → ((a b : List Device) (r : Result Unit IoFault) → IsPlain run.said run.first run.count a b r → IsPlain up.said up.first up.count a b r)

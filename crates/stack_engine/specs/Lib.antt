@@ -9,6 +9,7 @@ pub mod Uncut
 pub mod Pieces
 pub mod Bytes
 pub mod WritePieces
+pub mod Dirty
 pub mod ReadSteps
 pub mod WriteSteps
 pub mod Syncs

@@ -54,10 +54,10 @@ answer_bytes (Err fault) = Err fault
 abbrev pub ReadPieceCalls : Configuration → ℕ → ℕ → ℕ → Result (List ℕ) IoFault → List LeafCall → Type 0
 ReadPieceCalls c d first n answer calls = ((answer ≡ Err io.NoMemory) × (calls ≡ [])) ⊎ AreReadCalls c (Below (mapped d) first) n calls answer
 
--- Whatever the leaves answer, where no `verity` line is on the way of n sectors of mapped device at.0, from sector at.1 on: these
--- calls of their devices were made, and no others.
+-- Whatever the leaves answer, of n sectors of mapped device at.0, from sector at.1 on: these calls of their devices were made, and no
+-- others.
 abbrev pub PieceGives : {D : Type 0} → (D → Device) → (D → Call → D → Type 0) → StackRecord → ℕ × ℕ → ℕ → Result (List ℕ) IoFault → StackRecord → Type 0
-PieceGives state does w at n answer w' = (MeetsVerity w at.0 at.1 n → ⊥) → ServesCalls state (DeviceDoes state does) (ReadPieceCalls w.config at.0 at.1 n answer) w.leaves w'.leaves
+PieceGives state does w at n answer w' = ServesCalls state (DeviceDoes state does) (ReadPieceCalls w.config at.0 at.1 n answer) w.leaves w'.leaves
 
 -- How a piece is answered, n sectors of mapped device d from the first on, with the stack that the answer leaves:
 -- whatever the leaves answer

@@ -1,6 +1,6 @@
 -- What the steps of a read say: of a source, from its first sector on; of a leaf or a device, from sector `first` on; and of blocks.
 -- They fill the buffer `out`, as it was before.
-use Rattle.std.specs.Prelude.{◌≡◌, ℕ, ◌*◌, ◌/◌, Bool, List, Vec, Result, length, map, take}
+use Rattle.std.specs.Prelude.{◌≡◌, ℕ, ◌*◌, ◌/◌, ◌<◌, Bool, IsTrue, List, Vec, Result, Ok, Err, is_ok, length, map, take, get_or}
 use Rattle.std.specs.Global.{Global}
 use Rattle.block_device.specs.Call.{Call}
 use Rattle.block_device.specs.Device.{Device}
@@ -33,7 +33,7 @@ use Rattle.stack_engine.specs.declared.path.WantedBlock.{WantedBlock}
 use Rattle.stack_engine.specs.Backings.{BackingRecord, backing_of, leaves_in}
 use Rattle.stack_engine.specs.Bytes.{GetsBytes}
 use Rattle.stack_engine.specs.Premises.{CanRead}
-use Rattle.stack_engine.specs.SectorCalls.{Gives}
+use Rattle.stack_engine.specs.SectorCalls.{DataPlace, DataRead, ExpectedBlock, LeadsTo, ReadOf, ReadsBy, data_of, expected_hash, hash_of, last_bytes, one_block, sectors_of, whole_data}
 
 -- the buffer can be filled from the source, where those chains were found before
 abbrev pub CanFill : {D : Type 0} → (D → Device) → Configuration → Backing D → List FoundRecord → Source → List ℕ → Type 0
@@ -74,13 +74,48 @@ StepAt state c lower first out old new result = IsReadStep c (run_beneath c lowe
 
 -- ---- whatever the devices answer
 
--- The calls on the devices that read n sectors of a source, where no `verity` line is on their way. The answer is what they gave.
-abbrev pub GivesFrom : {D : Type 0} → (D → Call → D → Type 0) → Configuration → Source → ℕ → Backing D → Backing D → Result (List ℕ) IoFault → Type 0
-GivesFrom does c source n old new answer = (MeetVerity (source_said c source) 0 n → ⊥) → Gives does c source n old.devices.items new.devices.items answer
+-- the calls on the devices that read it
+abbrev pub ReadsOn : {D : Type 0} → (D → Call → D → Type 0) → Configuration → ReadOf → Backing D → Backing D → Result (List ℕ) IoFault → Type 0
+ReadsOn does c what old new answer = ReadsBy does c what old.devices.items new.devices.items answer
 
--- the same of a leaf or a device
+-- n sectors of a source
+abbrev pub GivesFrom : {D : Type 0} → (D → Call → D → Type 0) → Configuration → Source → ℕ → Backing D → Backing D → Result (List ℕ) IoFault → Type 0
+GivesFrom does c source n = ReadsOn does c (sectors_of source n)
+
+-- n sectors of a leaf or a device
 abbrev pub GivesAt : {D : Type 0} → (D → Call → D → Type 0) → Configuration → Lower → ℕ → ℕ → Backing D → Backing D → Result (List ℕ) IoFault → Type 0
-GivesAt does c lower first n old new answer = (MeetVerity (said_at c lower) first n → ⊥) → Gives does c (Below lower first) n old.devices.items new.devices.items answer
+GivesAt does c lower first n = GivesFrom does c (Below lower first) n
+
+-- as many as fill a buffer, which may be none: then no call is made
+pub record GivesAny {D : Type 0} (does : D → Call → D → Type 0) (c : Configuration) (from : Lower × ℕ) (out : List ℕ) (old new : Backing D) (answer : Result (List ℕ) IoFault) : Type 0 where
+  pub none : length out ≡ 0 → (new.devices.items ≡ old.devices.items) × IsTrue (is_ok answer)
+  pub some : 0 < length out → GivesAt does c from.0 from.1 (length out / 512) old new answer
+
+-- the bytes of a block, or of a chain's data block; or the fault
+abbrev pub block_answer : Result (Vec ℕ Global) IoFault → Result (List ℕ) IoFault
+block_answer (Ok block) = Ok block.items
+block_answer (Err fault) = Err fault
+
+abbrev pub content_answer : Result ChainRecord IoFault → Result (List ℕ) IoFault
+content_answer (Ok chain) = Ok chain.content
+content_answer (Err fault) = Err fault
+
+-- an extent as a block that has the digest
+abbrev pub expected_in : Extent → List ℕ → List ℕ → ExpectedBlock
+expected_in extent salt digest = record { extent = extent; salt = salt; digest = digest }
+
+-- the data block of a place of which that digest is expected, after whatever hash block
+abbrev pub GivesData : {D : Type 0} → (D → Call → D → Type 0) → Configuration → DataPlace → List ℕ → Backing D → Backing D → Result (List ℕ) IoFault → Type 0
+GivesData does c p expected old new answer = (last : List ℕ) → ReadsOn does c (data_of p 0 expected last one_block) old new answer
+
+-- the hash block on the way to a place, which stands on the path; or the fault
+abbrev pub GivesOnWay : {D : Type 0} → (D → Call → D → Type 0) → Configuration → DataPlace → WantedBlock → List CachedBlock → Backing D → Backing D → Result Unit IoFault → Type 0
+GivesOnWay does c p wanted path old new result = (x : CachedBlock) → ReadsOn does c (hash_of (expected_hash p wanted.level wanted.digest)) old new (buffer_answer result ((get_or path wanted.at x).bytes))
+
+-- The way to a place was walked: with the calls that read what is beneath it, whatever that is, all is read; or it ended by a fault.
+abbrev pub WalksTo : {D : Type 0} → (D → Call → D → Type 0) → Configuration → DataPlace → List CachedBlock → Backing D → Backing D → Result (List ℕ) IoFault → Type 0
+WalksTo does c p path old new (Ok expected) = (next : DataRead) → LeadsTo does c (whole_data p next) (data_of p 0 expected (last_bytes (take (levels (tree_of p.verity)) path)) next) old.devices.items new.devices.items
+WalksTo does c p path old new (Err fault) = (next : DataRead) → ReadsOn does c (whole_data p next) old new (Err fault)
 
 -- ---- of a leaf or a device
 

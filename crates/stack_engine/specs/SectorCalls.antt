@@ -1,12 +1,18 @@
 -- Which calls on the devices of leaves a read and a write of sectors make, whatever the devices answer: which sectors of which
 -- leaves, in which order, with which bytes, and none after the first that failed. A device is accessed by its longest runs,
 -- and a leaf by one call for each run.
-use Rattle.std.specs.Prelude.{◌≡◌, ℕ, ◌+◌, ◌*◌, ◌/◌, ◌%◌, true, false, List, [], ◌∷◌, ◌++◌, length, take, drop, replicate, Result, Ok, Err}
+use Rattle.std.specs.Prelude.{◌≡◌, ℕ, zero, suc, ◌+◌, ◌*◌, ◌/◌, ◌%◌, ◌<◌, ◌≤◌, true, false, List, [], ◌∷◌, ◌++◌, length, take, drop, replicate, Result, Ok, Err}
+use Rattle.hash_tree.specs.Chain.{ChainRecord, IsGood}
+use Rattle.tree_shape.specs.Digests.{digest, digest_in}
+use Rattle.tree_shape.specs.Shape.{levels, slot, ancestor}
 use Rattle.block_device.specs.Call.{Call, Read, Write}
+use Rattle.dm_table.specs.declared.verity.Verity.{Verity}
 use Rattle.stack_rules.specs.declared.lower.Lower.{Lower}
 use Rattle.stack_rules.specs.declared.lower.Lower.TheVariants.{Leaf}
 use Rattle.stack_rules.specs.Names.{mapped}
 use Rattle.stack_rules.specs.Records.{Configuration}
+use Rattle.stack_rules.specs.Trees.{tree_of, block_sectors, zero_block}
+use Rattle.stack_meaning.specs.Blocks.{hash_sectors, hash_start, next_digest, is_ignored}
 use Rattle.stack_meaning.specs.declared.fault.Fault.TheVariants as why
 use Rattle.stack_meaning.specs.declared.fault.IoFault.{IoFault}
 use Rattle.stack_meaning.specs.declared.fault.IoFault.TheVariants as io
@@ -15,11 +21,16 @@ use Rattle.stack_meaning.specs.Units.{per_unit, unit_first, encrypted_units, dec
 use Rattle.stack_lines.specs.declared.source.CryptPart.{CryptPart}
 use Rattle.stack_lines.specs.declared.source.Run.{Run}
 use Rattle.stack_lines.specs.declared.source.Source.{Source}
-use Rattle.stack_lines.specs.declared.source.Source.TheVariants.{Below, Units, UnitPart, Zeros, Fails}
+use Rattle.stack_lines.specs.declared.source.Source.TheVariants.{Below, Units, UnitPart, Zeros, Fails, Block, Blocks}
+use Rattle.stack_lines.specs.declared.source.VerityPart.{VerityPart}
+use Rattle.stack_lines.specs.declared.tree.Extent.{Extent}
+use Rattle.stack_lines.specs.declared.tree.Tree.{Tree}
 use Rattle.stack_lines.specs.Runs.{IsRunAt}
 use Rattle.stack_lines.specs.Sources.{from_unit}
+use Rattle.stack_lines.specs.Walks.{IsBlockOfDigest}
 use Rattle.stack_lines.specs.Writing.{SomeEncrypt}
 use Rattle.stack_engine.specs.LeafCalls.{LeafCall, MakesCalls}
+use Rattle.verified_cache.specs.Cache.{CachedBlock}
 
 -- the units of a part, encrypted and decrypted
 abbrev pub part_encrypted : CryptPart → List ℕ → List ℕ
@@ -47,25 +58,148 @@ abbrev pub bytes_before : List ℕ → Result (List ℕ) IoFault → Result (Lis
 bytes_before xs (Ok ys) = Ok (xs ++ ys)
 bytes_before xs (Err fault) = Err fault
 
--- n sectors of a source are read by these calls, and this is answered: the bytes that the calls gave, or decrypted ones.
--- No line on the way is a `verity` line.
-pub data AreReadCalls (c : Configuration) : Source → ℕ → List LeafCall → Result (List ℕ) IoFault → Type 0 where
+-- sectors of a leaf or device as one block, with the digest that is expected of it
+pub record ExpectedBlock : Type 0 where
+  pub extent : Extent
+  pub salt : List ℕ
+  pub digest : List ℕ
+
+-- data block `index` of a `verity` line, and the devices of its data blocks and hash blocks
+pub record DataPlace : Type 0 where
+  pub verity : Verity
+  pub on_data : Lower
+  pub on_hash : Lower
+  pub index : ℕ
+
+abbrev pub place_in : Verity → Tree → ℕ → DataPlace
+place_in v tree index = record { verity = v; on_data = tree.data; on_hash = tree.hash; index = index }
+
+abbrev pub place_at : VerityPart → ℕ → DataPlace
+place_at x index = record { verity = x.verity.now; on_data = x.data; on_hash = x.hash; index = index }
+
+abbrev pub next_place : DataPlace → DataPlace
+next_place p = record p { index = p.index + 1 }
+
+-- the hash block of level l on the way to it, and the data block
+abbrev pub expected_hash : DataPlace → ℕ → List ℕ → ExpectedBlock
+expected_hash p l expected = record { extent = record { lower = p.on_hash; first = hash_start p.verity l p.index; sectors = hash_sectors p.verity }; salt = p.verity.salt; digest = expected }
+
+abbrev pub expected_data : DataPlace → List ℕ → ExpectedBlock
+expected_data p expected = record { extent = record { lower = p.on_data; first = block_sectors p.verity * p.index; sectors = block_sectors p.verity }; salt = p.verity.salt; digest = expected }
+
+-- n sectors of a part of a data block, of the bytes of the block
+abbrev pub block_part : VerityPart → ℕ → List ℕ → List ℕ
+block_part x n content = take (512 * n) (drop (512 * (x.first % block_sectors x.verity.now)) content)
+
+-- what follows the hash blocks: the one data block; or so many data blocks, of which these bytes were read before
+pub data DataRead : Type 0 where
+  one_block : DataRead
+  blocks_left : ℕ → List ℕ → DataRead
+
+-- the last hash block of a path, if there is one
+abbrev pub last_bytes : List CachedBlock → List ℕ
+last_bytes [] = []
+last_bytes (x ∷ []) = x.bytes
+last_bytes (x ∷ (y ∷ more)) = last_bytes (y ∷ more)
+
+-- the digest of the k-th data block after a place, in the last hash block on the way to it
+abbrev pub digest_after : DataPlace → List ℕ → ℕ → List ℕ
+digest_after p last k = digest_in last (slot (tree_of p.verity) (ancestor (tree_of p.verity) 0 p.index) + k)
+
+-- `many` of the blocks that are left may be read by one call. If the line ignores blocks of zeros, the last hash block on the way to
+-- the first one has the digest of each, and the line ignores none of them.
+pub record AreReadTogether (p : DataPlace) (last : List ℕ) (left many : ℕ) : Type 0 where
+  pub some : 0 < many
+  pub most : many ≤ left
+  pub known : (k : ℕ) → 0 < k → k < many → p.verity.ignore_zero_blocks ≡ true → 32 * (slot (tree_of p.verity) (ancestor (tree_of p.verity) 0 p.index) + k) + 32 ≤ length last
+  pub used : (k : ℕ) → 0 < k → k < many → is_ignored p.verity (digest_after p last k) ≡ false
+
+-- What is read: n sectors of a source; an expected block, or one that may be kept; what stands beneath so many levels of hash blocks,
+-- where a digest is expected of the next block, after a hash block of those bytes; so many data blocks from a place on, of which
+-- those bytes were read before.
+pub data ReadOf : Type 0 where
+  sectors_of : Source → ℕ → ReadOf
+  block_of : ExpectedBlock → ReadOf
+  hash_of : ExpectedBlock → ReadOf
+  data_of : DataPlace → ℕ → List ℕ → List ℕ → DataRead → ReadOf
+  blocks_of : DataPlace → ℕ → List ℕ → ReadOf
+
+-- data from the root down
+abbrev pub whole_data : DataPlace → DataRead → ReadOf
+whole_data p next = data_of p (levels (tree_of p.verity)) p.verity.root [] next
+
+-- It is read by these calls, and this is answered: the bytes that the calls gave, or decrypted ones. A block of a `verity` line is
+-- answered only if each block on the way to it has the digest that the block before it, as it was read or kept, has for it; nothing
+-- is read after a block that differs, nor after memory ran out.
+pub data ReadCalls (c : Configuration) : ReadOf → List LeafCall → Result (List ℕ) IoFault → Type 0 where
   -- of a leaf, by one call
-  leaf_read : (i s : ℕ) (bytes : List ℕ) → AreReadCalls c (Below (Leaf i) s) (length bytes / 512) (record { leaf = i; call = Read s bytes true } ∷ []) (Ok bytes)
-  leaf_unread : (i s : ℕ) (bytes : List ℕ) → AreReadCalls c (Below (Leaf i) s) (length bytes / 512) (record { leaf = i; call = Read s bytes false } ∷ []) (Err (io.Device (i + 1)))
+  leaf_read : (i s : ℕ) (bytes : List ℕ) → ReadCalls c (sectors_of (Below (Leaf i) s) (length bytes / 512)) (record { leaf = i; call = Read s bytes true } ∷ []) (Ok bytes)
+  leaf_unread : (i s : ℕ) (bytes : List ℕ) → ReadCalls c (sectors_of (Below (Leaf i) s) (length bytes / 512)) (record { leaf = i; call = Read s bytes false } ∷ []) (Err (io.Device (i + 1)))
   -- of a device: none; the longest run, and then the sectors after it; or that run alone, if it meets a fault
-  none_read : (d s : ℕ) → AreReadCalls c (Below (mapped d) s) 0 [] (Ok [])
-  line_read : {d s n : ℕ} {run : Run} {calls later : List LeafCall} {xs : List ℕ} {answer : Result (List ℕ) IoFault} → IsRunAt c d s (run.count + n) run → AreReadCalls c run.source run.count calls (Ok xs) → AreReadCalls c (Below (mapped d) (s + run.count)) n later answer
-      → AreReadCalls c (Below (mapped d) s) (run.count + n) (calls ++ later) (bytes_before xs answer)
-  line_unread : {d s n : ℕ} {run : Run} {calls : List LeafCall} {fault : IoFault} → IsRunAt c d s n run → AreReadCalls c run.source run.count calls (Err fault) → AreReadCalls c (Below (mapped d) s) n calls (Err fault)
+  none_read : (d s : ℕ) → ReadCalls c (sectors_of (Below (mapped d) s) 0) [] (Ok [])
+  line_read : {d s n : ℕ} {run : Run} {calls later : List LeafCall} {xs : List ℕ} {answer : Result (List ℕ) IoFault} → IsRunAt c d s (run.count + n) run → ReadCalls c (sectors_of run.source run.count) calls (Ok xs) → ReadCalls c (sectors_of (Below (mapped d) (s + run.count)) n) later answer
+      → ReadCalls c (sectors_of (Below (mapped d) s) (run.count + n)) (calls ++ later) (bytes_before xs answer)
+  line_unread : {d s n : ℕ} {run : Run} {calls : List LeafCall} {fault : IoFault} → IsRunAt c d s n run → ReadCalls c (sectors_of run.source run.count) calls (Err fault) → ReadCalls c (sectors_of (Below (mapped d) s) n) calls (Err fault)
   -- of a `crypt` line: whole units, and sectors of one unit
-  units_read : {u : CryptPart} {n : ℕ} {calls : List LeafCall} {bytes : List ℕ} → AreReadCalls c (Below u.lower (unit_first u.units u.first)) n calls (Ok bytes) → AreReadCalls c (Units u) n calls (Ok (part_decrypted u bytes))
-  units_unread : {u : CryptPart} {n : ℕ} {calls : List LeafCall} {fault : IoFault} → AreReadCalls c (Below u.lower (unit_first u.units u.first)) n calls (Err fault) → AreReadCalls c (Units u) n calls (Err fault)
-  part_read : {u : CryptPart} {calls : List LeafCall} {unit : List ℕ} (n : ℕ) → AreReadCalls c (Units (from_unit u)) (per_unit u.units) calls (Ok unit) → AreReadCalls c (UnitPart u) n calls (Ok (unit_sectors u n unit))
-  part_unread : {u : CryptPart} {calls : List LeafCall} {fault : IoFault} (n : ℕ) → AreReadCalls c (Units (from_unit u)) (per_unit u.units) calls (Err fault) → AreReadCalls c (UnitPart u) n calls (Err fault)
+  units_read : {u : CryptPart} {n : ℕ} {calls : List LeafCall} {bytes : List ℕ} → ReadCalls c (sectors_of (Below u.lower (unit_first u.units u.first)) n) calls (Ok bytes) → ReadCalls c (sectors_of (Units u) n) calls (Ok (part_decrypted u bytes))
+  units_unread : {u : CryptPart} {n : ℕ} {calls : List LeafCall} {fault : IoFault} → ReadCalls c (sectors_of (Below u.lower (unit_first u.units u.first)) n) calls (Err fault) → ReadCalls c (sectors_of (Units u) n) calls (Err fault)
+  part_read : {u : CryptPart} {calls : List LeafCall} {unit : List ℕ} (n : ℕ) → ReadCalls c (sectors_of (Units (from_unit u)) (per_unit u.units)) calls (Ok unit) → ReadCalls c (sectors_of (UnitPart u) n) calls (Ok (unit_sectors u n unit))
+  part_unread : {u : CryptPart} {calls : List LeafCall} {fault : IoFault} (n : ℕ) → ReadCalls c (sectors_of (Units (from_unit u)) (per_unit u.units)) calls (Err fault) → ReadCalls c (sectors_of (UnitPart u) n) calls (Err fault)
   -- of a `zero` line and of an `error` line
-  zeros_read : (n : ℕ) → AreReadCalls c Zeros n [] (Ok (replicate (512 * n) 0))
-  fails_read : (n : ℕ) → AreReadCalls c Fails n [] (Err (io.Stack why.ErrorTarget))
+  zeros_read : (n : ℕ) → ReadCalls c (sectors_of Zeros n) [] (Ok (replicate (512 * n) 0))
+  fails_read : (n : ℕ) → ReadCalls c (sectors_of Fails n) [] (Err (io.Stack why.ErrorTarget))
+  -- of a data block of a `verity` line: from its chain, which was found before; from the block, which is read; or none, if the read
+  -- ends by a fault, or memory runs out for what it gave
+  chain_found : {x : VerityPart} (n : ℕ) (chain : ChainRecord) → chain.index ≡ x.first / block_sectors x.verity.now → IsGood (tree_of x.verity.now) x.verity.now.salt x.verity.now.root chain → ReadCalls c (sectors_of (Block x) n) [] (Ok (block_part x n chain.content))
+  data_read : {x : VerityPart} {calls : List LeafCall} {content : List ℕ} (n : ℕ) → ReadCalls c (whole_data (place_at x (x.first / block_sectors x.verity.now)) one_block) calls (Ok content) → ReadCalls c (sectors_of (Block x) n) calls (Ok (block_part x n content))
+  data_unread : {x : VerityPart} {calls : List LeafCall} {fault : IoFault} (n : ℕ) → ReadCalls c (whole_data (place_at x (x.first / block_sectors x.verity.now)) one_block) calls (Err fault) → ReadCalls c (sectors_of (Block x) n) calls (Err fault)
+  data_full : {x : VerityPart} {calls : List LeafCall} {content : List ℕ} (n : ℕ) → ReadCalls c (whole_data (place_at x (x.first / block_sectors x.verity.now)) one_block) calls (Ok content) → ReadCalls c (sectors_of (Block x) n) calls (Err io.NoMemory)
+  -- of whole data blocks
+  blocks_read : {x : VerityPart} {n : ℕ} {calls : List LeafCall} {answer : Result (List ℕ) IoFault} → ReadCalls c (blocks_of (place_at x (x.first / block_sectors x.verity.now)) (n / block_sectors x.verity.now) []) calls answer → ReadCalls c (sectors_of (Blocks x) n) calls answer
+  -- an expected block: its sectors, which have the digest; or they have another one, or can't be read; or memory runs out before it
+  block_checked : {x : ExpectedBlock} {calls : List LeafCall} {bytes : List ℕ} → ReadCalls c (sectors_of (Below x.extent.lower x.extent.first) x.extent.sectors) calls (Ok bytes) → digest x.salt bytes ≡ x.digest → ReadCalls c (block_of x) calls (Ok bytes)
+  block_differs : {x : ExpectedBlock} {calls : List LeafCall} {bytes : List ℕ} → ReadCalls c (sectors_of (Below x.extent.lower x.extent.first) x.extent.sectors) calls (Ok bytes) → (digest x.salt bytes ≡ x.digest → ⊥) → ReadCalls c (block_of x) calls (Err (io.Stack why.Mismatch))
+  block_unread : {x : ExpectedBlock} {calls : List LeafCall} {fault : IoFault} → ReadCalls c (sectors_of (Below x.extent.lower x.extent.first) x.extent.sectors) calls (Err fault) → ReadCalls c (block_of x) calls (Err fault)
+  block_full : (x : ExpectedBlock) → ReadCalls c (block_of x) [] (Err io.NoMemory)
+  -- a hash block: a kept one, which has the digest, or it is read; or memory runs out before it or after it
+  hash_kept : (x : ExpectedBlock) (bytes : List ℕ) → IsBlockOfDigest x.extent.sectors x.salt x.digest bytes → ReadCalls c (hash_of x) [] (Ok bytes)
+  hash_full : (x : ExpectedBlock) → ReadCalls c (hash_of x) [] (Err io.NoMemory)
+  hash_lost : {x : ExpectedBlock} {calls : List LeafCall} {bytes : List ℕ} → ReadCalls c (hash_of x) calls (Ok bytes) → ReadCalls c (hash_of x) calls (Err io.NoMemory)
+  hash_read : {x : ExpectedBlock} {calls : List LeafCall} {answer : Result (List ℕ) IoFault} → ReadCalls c (block_of x) calls answer → ReadCalls c (hash_of x) calls answer
+  -- the way to data: the next hash block, and then what is beneath it, by the digest in it
+  way_down : {p : DataPlace} {l : ℕ} {expected last block : List ℕ} {next : DataRead} {calls later : List LeafCall} {answer : Result (List ℕ) IoFault} → ReadCalls c (hash_of (expected_hash p l expected)) calls (Ok block) → ReadCalls c (data_of p l (next_digest p.verity l p.index block) block next) later answer
+      → ReadCalls c (data_of p (suc l) expected last next) (calls ++ later) answer
+  way_stops : {p : DataPlace} {l : ℕ} {expected : List ℕ} (last : List ℕ) (next : DataRead) {calls : List LeafCall} {fault : IoFault} → ReadCalls c (hash_of (expected_hash p l expected)) calls (Err fault) → ReadCalls c (data_of p (suc l) expected last next) calls (Err fault)
+  way_full : (p : DataPlace) (l : ℕ) (expected last : List ℕ) (next : DataRead) → ReadCalls c (data_of p l expected last next) [] (Err io.NoMemory)
+  -- the one data block: zeros, if the line ignores it, or it is read
+  one_ignored : (p : DataPlace) (expected last : List ℕ) → is_ignored p.verity expected ≡ true → ReadCalls c (data_of p zero expected last one_block) [] (Ok (zero_block p.verity))
+  one_read : {p : DataPlace} {expected : List ℕ} (last : List ℕ) {calls : List LeafCall} {answer : Result (List ℕ) IoFault} → is_ignored p.verity expected ≡ false → ReadCalls c (block_of (expected_data p expected)) calls answer → ReadCalls c (data_of p zero expected last one_block) calls answer
+  -- whole data blocks, the next of which was read before: it is ignored, or has the digest, and those after it are read; or it differs
+  next_ignored : {p : DataPlace} {left : ℕ} {expected ahead : List ℕ} (last : List ℕ) {calls : List LeafCall} {answer : Result (List ℕ) IoFault} → is_ignored p.verity expected ≡ true → ReadCalls c (blocks_of (next_place p) left (drop p.verity.data_block ahead)) calls answer
+      → ReadCalls c (data_of p zero expected last (blocks_left (suc left) ahead)) calls (bytes_before (zero_block p.verity) answer)
+  next_checked : {p : DataPlace} {left : ℕ} {expected ahead : List ℕ} (block last : List ℕ) {calls : List LeafCall} {answer : Result (List ℕ) IoFault} → is_ignored p.verity expected ≡ false → IsBlockOfDigest (block_sectors p.verity) p.verity.salt expected block → ReadCalls c (blocks_of (next_place p) left ahead) calls answer
+      → ReadCalls c (data_of p zero expected last (blocks_left (suc left) (block ++ ahead))) calls (bytes_before block answer)
+  next_differs : {p : DataPlace} {expected : List ℕ} (left : ℕ) (block ahead last : List ℕ) → is_ignored p.verity expected ≡ false → length block ≡ 512 * block_sectors p.verity → (digest p.verity.salt block ≡ expected → ⊥) → ReadCalls c (data_of p zero expected last (blocks_left left (block ++ ahead))) [] (Err (io.Stack why.Mismatch))
+  -- it wasn't read before: it is read together with later ones
+  together_read : {p : DataPlace} {left many : ℕ} {expected last bytes : List ℕ} {calls later : List LeafCall} {answer : Result (List ℕ) IoFault} → is_ignored p.verity expected ≡ false → AreReadTogether p last left many → ReadCalls c (sectors_of (Below p.on_data (block_sectors p.verity * p.index)) (many * block_sectors p.verity)) calls (Ok bytes)
+      → ReadCalls c (data_of p zero expected last (blocks_left left bytes)) later answer → ReadCalls c (data_of p zero expected last (blocks_left left [])) (calls ++ later) answer
+  together_unread : {p : DataPlace} {left many : ℕ} {expected last : List ℕ} {calls : List LeafCall} {fault : IoFault} → is_ignored p.verity expected ≡ false → AreReadTogether p last left many → ReadCalls c (sectors_of (Below p.on_data (block_sectors p.verity * p.index)) (many * block_sectors p.verity)) calls (Err fault)
+      → ReadCalls c (data_of p zero expected last (blocks_left left [])) calls (Err fault)
+  -- no data blocks; or the way to the next one
+  blocks_end : (p : DataPlace) (ahead : List ℕ) → ReadCalls c (blocks_of p zero ahead) [] (Ok [])
+  blocks_next : {p : DataPlace} {left : ℕ} {ahead : List ℕ} {calls : List LeafCall} {answer : Result (List ℕ) IoFault} → ReadCalls c (whole_data p (blocks_left (suc left) ahead)) calls answer → ReadCalls c (blocks_of p (suc left) ahead) calls answer
+  blocks_full : (p : DataPlace) (left : ℕ) (ahead : List ℕ) → ReadCalls c (blocks_of p left ahead) [] (Err io.NoMemory)
+
+abbrev pub AreReadCalls : Configuration → Source → ℕ → List LeafCall → Result (List ℕ) IoFault → Type 0
+AreReadCalls c source n = ReadCalls c (sectors_of source n)
+
+-- the calls that read it lead from some devices to others
+abbrev pub ReadsBy : {D : Type 0} → (D → Call → D → Type 0) → Configuration → ReadOf → List D → List D → Result (List ℕ) IoFault → Type 0
+ReadsBy does c what old new answer = MakesCalls does (λ calls. ReadCalls c what calls answer) old new
+
+-- with the calls that read the rest, however they end, it is read
+pub record LeadsTo {D : Type 0} (does : D → Call → D → Type 0) (c : Configuration) (what rest : ReadOf) (old mid : List D) : Type 0 where
+  pub later : (new : List D) (answer : Result (List ℕ) IoFault) → ReadsBy does c rest mid new answer → ReadsBy does c what old new answer
 
 -- ---- writes
 
@@ -108,7 +242,7 @@ AreWriteCalls c source = WriteCalls c (at_once source)
 
 -- the calls that read n sectors of a source, and those that write these bytes there, lead from some devices to others
 abbrev pub Gives : {D : Type 0} → (D → Call → D → Type 0) → Configuration → Source → ℕ → List D → List D → Result (List ℕ) IoFault → Type 0
-Gives does c source n old new answer = MakesCalls does (λ calls. AreReadCalls c source n calls answer) old new
+Gives does c source n = ReadsBy does c (sectors_of source n)
 
 abbrev pub Writes : {D : Type 0} → (D → Call → D → Type 0) → Configuration → WriteTo → List ℕ → List D → List D → Result Unit IoFault → Type 0
 Writes does c to bytes old new result = MakesCalls does (λ calls. WriteCalls c to bytes calls result) old new

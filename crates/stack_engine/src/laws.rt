@@ -1,6 +1,8 @@
 //! Laws of the definitions: each function's contract is the law, and its call gives it.
+ghost use Rattle.stack_engine.specs.Dirty.{ReadsKeepDirty, WritesMakeDirty};
 ghost use Rattle.stack_engine.specs.Laws.{FormattedDataIsRead, IgnoredBlocksCollide, SpansStandOnLeaves, AnsweredChainsAreGood, ForgedAnswersCollide, ForgedBytesCollide, ForgedSectorsCollide, OtherLeavesChangeNoAnswer, WrittenLeavesAreForgotten};
 
+use block_device::BlockDev;
 use hash_tree::laws::{forged_blocks_collide, formed_chains_are_good};
 
 /// Where the data device begins with some blocks, the hash device has their tree and the line its root, a sector
@@ -62,4 +64,14 @@ pub fn forged_sectors_collide()
 /// device is, or stands on, a leaf that was written.
 pub fn written_leaves_are_forgotten()
     ensures { WrittenLeavesAreForgotten }
+{}
+
+/// A piece of a read leaves those leaves dirty that were, whatever their devices answer.
+pub fn reads_keep_dirty<D: BlockDev>()
+    ensures { ReadsKeepDirty D.state D.does }
+{}
+
+/// A piece of a write leaves those leaves dirty that were, and those that it called to write, whatever their devices answer.
+pub fn writes_make_dirty<D: BlockDev>()
+    ensures { WritesMakeDirty D.state D.does }
 {}

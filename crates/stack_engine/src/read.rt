@@ -15,7 +15,8 @@ ghost use Rattle.stack_engine.specs.Stacks.{IsSound};
 ghost use Rattle.stack_engine.specs.Premises.{FitsIn};
 ghost use Rattle.stack_engine.specs.LeafCalls.{IsLeafCall};
 ghost use Rattle.stack_engine.specs.Backings.{leaves_in, IsBacking, Asks, StaysSound, did};
-ghost use Rattle.stack_engine.specs.ReadSteps.{CanFill, ReadsLeaf, StepFrom, StepAt, GivesFrom, GivesAt, GotAt, GetsBy, extent_wanted, data_wanted, way_wanted, ChainBy, WalkedBy, ReadsWay};
+ghost use Rattle.stack_engine.specs.SectorCalls.{block_of, hash_of, one_block, place_in, whole_data};
+ghost use Rattle.stack_engine.specs.ReadSteps.{CanFill, ReadsLeaf, StepFrom, StepAt, ReadsOn, GivesFrom, GivesAt, GivesAny, GivesData, GivesOnWay, WalksTo, GotAt, GetsBy, extent_wanted, data_wanted, way_wanted, ChainBy, WalkedBy, ReadsWay, expected_in, block_answer, content_answer};
 ghost use Rattle.stack_engine.specs.Keeping.{ReadsAs, ReadsSourceAs};
 
 use crate::backing::Backing;
@@ -186,6 +187,7 @@ fn read_block<D: BlockDev>(
         (did D.state backing.old found.old.items backing.new found.new.items)
         (buffer_answer result out.new) }
     ensures step { StepFrom D.state config.now (Source.Block part.entry) out.old backing.old backing.new result }
+    ensures given { GivesFrom (DeviceDoes D.state D.does) config.now (Source.Block part.entry) (length out.old / 512) backing.old backing.new (buffer_answer result out.new) }
 {
     let verity = part.verity;
     let sectors = u64::from(verity.data_block / 512);
@@ -236,6 +238,7 @@ fn read_blocks<D: BlockDev>(
         (did D.state backing.old found.old.items backing.new found.new.items)
         (buffer_answer result out.new) }
     ensures step { StepFrom D.state config.now (Source.Blocks part.entry) out.old backing.old backing.new result }
+    ensures given { GivesFrom (DeviceDoes D.state D.does) config.now (Source.Blocks part.entry) (length out.old / 512) backing.old backing.new (buffer_answer result out.new) }
 {
     let verity = part.verity;
     let tree = tree_of(config, &part);
@@ -301,6 +304,7 @@ fn read_beneath<D: BlockDev>(
     ensures reads { GotAt D.state config.now lower first out.old backing.old backing.new (buffer_answer result out.new) }
     ensures cached { StaysSound D.state config.now backing.old backing.new }
     ensures touches { Asks D.state (leaves_of config.now lower) backing.old backing.new result }
+    ensures given { GivesAny (DeviceDoes D.state D.does) config.now (lower, first) out.old backing.old backing.new (buffer_answer result out.new) }
 {
     if out.is_empty() {
         return Ok(());
@@ -330,6 +334,7 @@ fn walk<D: BlockDev>(
     ensures reads { ChainBy D.state config.now verity.now index backing.old backing.new result }
     ensures cached { StaysSound D.state config.now backing.old backing.new }
     ensures touches { Asks D.state (leaves_of config.now (mapped tree.now.device.0)) backing.old backing.new result }
+    ensures given { ReadsOn (DeviceDoes D.state D.does) config.now (whole_data (place_in verity.now tree.now index) one_block) backing.old backing.new (content_answer result) }
 {
     let mut expected = verity.root;
     let mut path: Vec<Vec<u8>> = Vec::new(backing.alloc);
@@ -374,6 +379,7 @@ fn read_data<D: BlockDev>(
     ensures reads { GetsBy D.state (data_wanted config.now verity.now index expected.now) backing.old backing.new result }
     ensures cached { StaysSound D.state config.now backing.old backing.new }
     ensures touches { Asks D.state (leaves_of config.now (mapped tree.now.device.0)) backing.old backing.new result }
+    ensures given { GivesData (DeviceDoes D.state D.does) config.now (place_in verity.now tree.now index) expected.now backing.old backing.new (block_answer result) }
 {
     if is_ignored(config, verity, tree, expected) {
         return match zero_block(backing.alloc, verity.data_block) {
@@ -400,6 +406,7 @@ fn hash_block<D: BlockDev>(
     ensures reads { GetsBy D.state (extent_wanted config.now extent salt.now expected.now) backing.old backing.new result }
     ensures cached { StaysSound D.state config.now backing.old backing.new }
     ensures touches { Asks D.state (leaves_of config.now extent.lower) backing.old backing.new result }
+    ensures given { ReadsOn (DeviceDoes D.state D.does) config.now (hash_of (expected_in extent salt.now expected.now)) backing.old backing.new (block_answer result) }
 {
     match backing.cache.copy_of(backing.alloc, key, expected) {
         Err(_) => Err(IoFault::NoMemory),
@@ -439,6 +446,7 @@ fn path_block<D: BlockDev>(
     ensures held { All (IsCached config.now (leaves_in D.state backing.new)) path.new.items }
     ensures cached { StaysSound D.state config.now backing.old backing.new }
     ensures touches { Asks D.state (leaves_of config.now tree.now.hash) backing.old backing.new result }
+    ensures given { GivesOnWay (DeviceDoes D.state D.does) config.now (place_in verity.now tree.now wanted.now.block) wanted.now path.new.items backing.old backing.new result }
 {
     let at = wanted.at;
     let digest = wanted.digest;
@@ -475,6 +483,7 @@ fn walk_path<D: BlockDev>(
     ensures held { All (IsCached config.now (leaves_in D.state backing.new)) path.new.items }
     ensures cached { StaysSound D.state config.now backing.old backing.new }
     ensures touches { Asks D.state (leaves_of config.now tree.now.hash) backing.old backing.new result }
+    ensures given { WalksTo (DeviceDoes D.state D.does) config.now (place_in verity.now tree.now index) path.new.items backing.old backing.new result }
 {
     let mut digest = verity.root;
     let mut at = 0usize;
@@ -513,6 +522,7 @@ fn read_checked<D: BlockDev>(
     ensures reads { GetsBy D.state (extent_wanted config.now extent salt.now expected.now) backing.old backing.new result }
     ensures cached { StaysSound D.state config.now backing.old backing.new }
     ensures touches { Asks D.state (leaves_of config.now extent.lower) backing.old backing.new result }
+    ensures given { ReadsOn (DeviceDoes D.state D.does) config.now (block_of (expected_in extent salt.now expected.now)) backing.old backing.new (block_answer result) }
 {
     let mut block = match zero_sectors(backing.alloc, extent.sectors) {
         Ok(block) => block,

@@ -1,6 +1,7 @@
 //! Data blocks that are read together, and how each is judged.
-ghost use Rattle.std.specs.Prelude.{◌≡◌, ◌⊎◌, true, false, ◌<◌, ◌≤◌, ◌+◌, max, length, replicate, IsTrue};
+ghost use Rattle.std.specs.Prelude.{◌≡◌, ◌⊎◌, true, false, ◌<◌, ◌≤◌, ◌+◌, ◌-◌, max, length, replicate, IsTrue};
 ghost use Rattle.stack_lines.specs.Walks.{IsTreeOf};
+ghost use Rattle.stack_engine.specs.SectorCalls.{AreReadTogether, last_bytes, place_in};
 
 use crate::path::PathBlock;
 use dm_table::Verity;
@@ -31,13 +32,13 @@ fn taken_in_a_row(
 ) -> usize
     requires tree { IsTreeOf config.now verity.now tree.now }
     requires some { 0 < most }
-    ensures some { 0 < result }
-    ensures most { result ≤ most }
+    ensures { AreReadTogether (place_in verity.now tree.now index) (last_bytes path.now) most result }
 {
-    let block = match path.last() {
-        None => return 1,
-        Some(block) => block.bytes.as_slice(),
-    };
+    if path.is_empty() {
+        return 1;
+    }
+    let last = &path[path.len() - 1];
+    let block = last.bytes.as_slice();
     let slot = tree.shape.slot_on_path(0, index) as usize;
     let digests = block.len() / Digest::SIZE;
     if digests <= slot {
@@ -69,6 +70,7 @@ pub(crate) fn row_len(
     ensures fresh { (result ≡ 0) ⊎ (next.read ≤ next.at) }
     ensures some { next.ignored ≡ false → next.read ≤ next.at → 0 < result }
     ensures most { next.at + result ≤ next.count }
+    ensures together { 0 < result → (next.ignored ≡ false) × AreReadTogether (place_in verity.now tree.now next.block) (last_bytes path.now) (next.count - next.at) result }
 {
     if next.ignored {
         return 0;

@@ -19,6 +19,7 @@ pub use configuration::{configuration_of, open_configuration};
 pub use device::{NamedDevice, find_device, open_device, open_device_and_output};
 pub use leaves::OpenLeaves;
 pub use opening_fault::OpeningFault;
+pub use source::MOST_TEXT;
 pub use stack::{load_stack, open_leaves, open_loaded};
 pub use stack_fault::StackFault;
 pub use stack_file::{OpenStack, StackFile, open_with_input, open_with_source};

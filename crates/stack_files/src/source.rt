@@ -8,7 +8,8 @@ use crate::opening_fault::OpeningFault;
 use block_device::BlockDev;
 use image_files::{FileText, Images, UnopenedFile, read_text};
 
-const MOST_TEXT: usize = 1 << 20;
+/// The largest length of a stack file in bytes.
+pub const MOST_TEXT: usize = 1 << 20;
 
 // One sector more than a write may have, so that the queue refuses a longer file.
 const MOST_BYTES: usize = 2049 * 512;

@@ -22,5 +22,6 @@ mod units;
 mod zero_digests;
 
 pub use loading::{config_over, load};
+pub use lower_set::MOST_DEVICES;
 pub use removal::remove;
 pub use stack_rules::{ConfigFault, LoadFault, LoadKind, Refusal, RemoveFault};

@@ -14,8 +14,7 @@ use Rattle.stack_meaning.specs.declared.fault.Fault.{Fault}
 use Rattle.stack_meaning.specs.Outcomes.{Images, Outcome, then_outcome}
 use Rattle.stack_engine.proofs.lemmas.BlockLemmas.{same_block}
 use Rattle.stack_meaning.proofs.lemmas.SectorLemmas.{said_at-line}
-use Rattle.stack_recovery.specs.Alike.{AreAlike}
-use Rattle.stack_recovery.specs.Pieces.{AreLostTogether}
+use Rattle.stack_recovery.specs.Alike.{AreAlike, AreLostTogether}
 
 -- what a block's fault is, whichever of its sectors is asked for
 fault-through : (x : Outcome) (f g : List ℕ → List ℕ) (fault : Fault) → then_outcome x (λ b. Ok (f b)) ≡ Err fault → then_outcome x (λ b. Ok (g b)) ≡ Err fault
@@ -40,10 +39,17 @@ module _ (at : List ℕ → ℕ → Said) (d l w n : ℕ) (images : Images) (fau
 -- sectors of a device that lie in one line
 pub alike-at : (c : Configuration) → IsLoaded c → (d s n l : ℕ) (line : Line) → line_at c d s ≡ Some (l, line) → line.start ≤ s → s + n ≤ line.start + line.length
     → AreLostTogether line.target (s - line.start) n → AreAlike c d s n
-alike-at c loaded d s n l line found start inside together images fault j k low below e =
-    let at : (m : ℕ) → m < n → sector c images (mapped d) (s + m) ≡ (line_said (said_by_name c) d l line.target (s - line.start + m)).means images =
-    λ m h. ap (λ (x : Said). x.means images) (said_at-line c loaded.valid d s m l line found start (omega (arith, inside, h))) in
-    at k below ∙ lost-together (said_by_name c) d l (s - line.start) n images fault j k low below line.target together (sym (at j low) ∙ e)
+alike-at c loaded d s n l line found start inside together = record {
+  number = l;
+  line = line;
+  is = found;
+  inside = inside;
+  together = together;
+  means = λ images fault j k low below e.
+      let at : (m : ℕ) → m < n → sector c images (mapped d) (s + m) ≡ (line_said (said_by_name c) d l line.target (s - line.start + m)).means images =
+      λ m h. ap (λ (x : Said). x.means images) (said_at-line c loaded.valid d s m l line found start (omega (arith, inside, h))) in
+      at k below ∙ lost-together (said_by_name c) d l (s - line.start) n images fault j k low below line.target together (sym (at j low) ∙ e);
+}
 
 pub fewer-together : (target : Target) (w m n : ℕ) → m ≤ n → AreLostTogether target w n → AreLostTogether target w m
 fewer-together Error w m n le h = tt

@@ -15,7 +15,7 @@ copied_image-push first (x ∷ more) r image =
     copied_image-push (first + length (states_of x)) more r next
     ∙ ap (λ (k : ℕ). image_after k r.found r.count (copied_image (first + length (states_of x)) more next)) at
 
-same-device : {a b c : Device} → IsSameDevice a b → IsSameDevice b c → IsSameDevice a c
+pub same-device : {a b c : Device} → IsSameDevice a b → IsSameDevice b c → IsSameDevice a c
 same-device p q = record { size = q.size ∙ p.size; may_write = q.may_write ∙ p.may_write; steady = q.steady ∙ p.steady; never_fails = λ h. q.never_fails (p.never_fails h) }
 
 pub copied-none : (device : Device) → IsCopied [] device device

@@ -1,5 +1,5 @@
 -- The calls on the output device, while sectors are left.
-use Rattle.std.proofs.Common.{◌≡◌, ℕ, true, false, Bool, List, [], ◌∷◌, ◌++◌, length, replicate, Option, Result, Ok, Err, IfErr, IfOk, OnOk, refl, sym, ◌∙◌, subst}
+use Rattle.std.proofs.Common.{◌≡◌, ℕ, false, Bool, List, [], ◌∷◌, ◌++◌, length, Option, Ok, refl, sym, ◌∙◌, subst}
 use Rattle.std.proofs.lemmas.List.{append-nil}
 use Rattle.block_device.specs.Call.{Call, Calls, Write}
 use Rattle.block_device.proofs.lemmas.CallLemmas.{calls-last}
@@ -14,10 +14,8 @@ use Rattle.stack_recovery.specs.declared.piece_limit.PieceLimit.{PieceLimit}
 use Rattle.stack_recovery.specs.declared.tally.Tally.{Tally}
 use Rattle.stack_recovery.specs.Handing.{HandsOver, HandsOverPart, copy_calls}
 use Rattle.stack_recovery.specs.Losses.{StopsInPiece}
-use Rattle.stack_recovery.specs.Recoveries.{Parties, Sides, parties}
+use Rattle.stack_recovery.specs.Recoveries.{Sides, parties}
 use Rattle.stack_recovery.specs.Surveys.{all_states}
-use Rattle.stack_recovery.proofs.AheadLemmas.{marks-none}
-use Rattle.stack_recovery.proofs.SurveyLemmas.{survey-same}
 use Rattle.stack_recovery.proofs.UnderwayLemmas.{IsUnderway}
 
 -- such a pass, whose writes are the calls on the output device
@@ -63,23 +61,3 @@ module _ {O L : Type 0} (Did : O → Call → O → Type 0) (makes_map : Bool) (
         (calls-last Did out out' out'' h.calls (Write (length (all_states h.under.reads)) bytes false) h.did (subst (λ (k : ℕ). Did out' (Write k bytes false) out'') h.under.here call));
     ends = (n, bytes, subst (λ (k : ℕ). EachBytes now.stack d k n (Ok bytes) stack) h.under.here read, refl);
   }
-
--- ---- if no sector was read before
-
-pub hands-none : {O L : Type 0} (Did : O → Call → O → Type 0) (n d : ℕ) (old new : Parties O L) → HandsOver Did (replicate n false) d old new → HandsOver Did [] d old new
-hands-none Did n d old new p = record {
-  reads = p.reads;
-  survey = survey-same (replicate n false) [] d 0 old.stack p.reads new.stack (marks-none n) p.survey;
-  whole = p.whole;
-  made = p.made;
-}
-
-pub part-none : {O L : Type 0} (Did : O → Call → O → Type 0) (n d : ℕ) (old new : Parties O L) (fault : RecoveryFault) → HandsOverPart Did (replicate n false) d old new fault → HandsOverPart Did [] d old new fault
-part-none Did n d old new fault p = record {
-  reads = p.reads;
-  left = p.left;
-  last = p.last;
-  survey = survey-same (replicate n false) [] d 0 old.stack p.reads p.left (marks-none n) p.survey;
-  made = p.made;
-  ends = p.ends;
-}

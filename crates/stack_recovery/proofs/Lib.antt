@@ -8,6 +8,9 @@ mod GrowthLemmas
 mod HandingLemmas
 mod MeantLemmas
 mod PieceLemmas
+mod SkimEndLemmas
+mod SkimLemmas
+mod SkimPieceLemmas
 mod SurveyLemmas
 mod UnderwayLemmas
 mod VerityLossLemmas

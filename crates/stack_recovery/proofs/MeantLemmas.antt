@@ -1,9 +1,9 @@
 -- What is found over leaves that are steady and never fail.
-use Rattle.std.proofs.Common.{Bool, ◌≡◌, ◌≢◌, ℕ, zero, suc, ◌+◌, ◌-◌, ◌<◌, List, [], ◌∷◌, ◌++◌, length, replicate, true, Some, None, Ok, Err, refl, sym, ap, ◌∙◌, subst, arith}
+use Rattle.std.proofs.Common.{Bool, ◌≡◌, ◌≢◌, ◌⊎◌, ℕ, zero, suc, ◌+◌, ◌-◌, ◌<◌, List, [], ◌∷◌, ◌++◌, length, get_or, replicate, true, false, Some, None, Ok, Err, inl, inr, refl, sym, ap, ◌∙◌, subst, arith}
 use Rattle.std.proofs.lemmas.Bool.{false≢true}
-use Rattle.std.proofs.lemmas.List.{length-append, length-replicate}
+use Rattle.std.proofs.lemmas.List.{get_or-replicate, length-append, length-replicate}
 use Rattle.block_device.specs.Device.{Device, in_memory}
-use Rattle.stack_rules.specs.Names.{mapped}
+use Rattle.stack_rules.specs.Names.{mapped, size}
 use Rattle.stack_rules.specs.Records.{Configuration}
 use Rattle.stack_meaning.specs.declared.fault.IoFault.{IoFault}
 use Rattle.stack_meaning.specs.declared.fault.IoFault.TheVariants.{Stack, Device as DeviceFailed, NoMemory}
@@ -16,8 +16,12 @@ use Rattle.stack_engine.specs.Bytes.{EachBytes}
 use Rattle.stack_engine.specs.Stacks.{StackRecord}
 use Rattle.stack_meaning.proofs.lemmas.LeafListLemmas.{AreSteady-kept, images-kept, same_length}
 use Rattle.stack_recovery.specs.Alike.{AreAlike}
-use Rattle.stack_recovery.specs.Laws.{AreSure, StatesAreMeant, meant_state, meant_states}
+use Rattle.stack_recovery.specs.Laws.{AreSure, MarksAreMeant, StatesAreMeant, SurveysAreMeant, meant_state, meant_states}
+use Rattle.rescue_map.specs.Maps.{marks}
+use Rattle.stack_recovery.specs.FirstPasses.{unread_marks}
+use Rattle.stack_recovery.specs.Skims.{IsSkimOver, Skim, is_read, marks_of, skim_marks}
 use Rattle.stack_recovery.specs.Surveys.{Finding, IsPieceSurveyed, SectorState, again, all_states, had, kept, lost, states_found, states_of}
+use Rattle.stack_recovery.proofs.AheadLemmas.{marks-none}
 use Rattle.stack_recovery.proofs.lemmas.LostLemmas.{span-fault}
 
 -- ---- sectors of a span
@@ -57,12 +61,23 @@ meant-bytes at first (suc n) bytes e =
     let rest = joint-rest (at first) (span at (suc first) n) bytes e in
     ap (λ (x : SectorState). x ∷ meant_states at (suc first) n) (joint-first (at first) (span at (suc first) n) bytes e) ∙ ap (λ (l : List SectorState). None ∷ l) (meant-bytes at (suc first) n rest.0 rest.1)
 
+-- one of these sectors
+meant-byte : (at : ℕ → Outcome) (first n : ℕ) (bytes : List ℕ) → span at first n ≡ Ok bytes → (k : ℕ) → k < n → meant_state (at (first + k)) ≡ None
+meant-byte at first zero bytes e k low = absurd (omega (arith, low))
+meant-byte at first (suc n) bytes e zero low =
+    let here : first + 0 ≡ first = omega arith in
+    ap (λ (t : ℕ). meant_state (at t)) here ∙ joint-first (at first) (span at (suc first) n) bytes e
+meant-byte at first (suc n) bytes e (suc k) low =
+    let rest = joint-rest (at first) (span at (suc first) n) bytes e in
+    let step : first + suc k ≡ suc first + k = omega arith in
+    ap (λ (t : ℕ). meant_state (at t)) step ∙ meant-byte at (suc first) n rest.0 rest.1 k (omega (arith, low))
+
 -- sectors that are lost together, by the fault of one
 meant-fault : (c : Configuration) (images : Images) (d first n : ℕ) (fault : Fault) → AreAlike c d first n → span (sector c images (mapped d)) first n ≡ Err fault
     → meant_states (sector c images (mapped d)) first n ≡ replicate n (meant_state (Err fault))
 meant-fault c images d first n fault alike e =
     let found = span-fault (sector c images (mapped d)) first n fault e in
-    meant-each (sector c images (mapped d)) first n (meant_state (Err fault)) (λ k low. ap meant_state (alike images fault found.0 k found.1 low found.2))
+    meant-each (sector c images (mapped d)) first n (meant_state (Err fault)) (λ k low. ap meant_state (alike.means images fault found.0 k found.1 low found.2))
 
 -- ---- pieces
 
@@ -76,7 +91,7 @@ sure-kept {old = old} {new = new} a s = record {
 abbrev some-device : Device
 some-device = in_memory [] true
 
-module _ (d first : ℕ) (w : StackRecord) (sure : AreSure (λ i. stands_on w.config i (mapped d)) w.leaves) (n : ℕ) (after : StackRecord) where
+module _ (marks : List Bool) (d first : ℕ) (w : StackRecord) (known : MarksAreMeant marks d w) (sure : AreSure (λ i. stands_on w.config i (mapped d)) w.leaves) (n : ℕ) (after : StackRecord) where
   abbrev at : ℕ → Outcome
   at = sector w.config (steady_images w.leaves) (mapped d)
 
@@ -85,35 +100,130 @@ module _ (d first : ℕ) (w : StackRecord) (sure : AreSure (λ i. stands_on w.co
   meant-lost (DeviceFailed i) p alike kind = let failed = p.any.may.1 in absurd (failed.unsure some-device (sure.never_fail (i - 1) some-device failed.inside p.any.touches.fault))
   meant-lost NoMemory p alike kind = absurd (kind refl)
 
-  pub meant-piece : (found : Finding) → IsPieceSurveyed [] d first w (record { count = n; found = found; after = after })
+  pub meant-piece : (found : Finding) → IsPieceSurveyed marks d first w (record { count = n; found = found; after = after })
       → states_found n found ≡ meant_states (sector w.config (steady_images w.leaves) (mapped d)) first (length (states_found n found))
   meant-piece (had bytes) p =
       sym (ap (meant_states at first) (length-replicate {A = SectorState} n None) ∙ meant-bytes at first n bytes (p.answered.steady sure.steady).exact)
   meant-piece (lost fault) p =
       sym (ap (meant_states at first) (length-replicate {A = SectorState} n (Some fault)) ∙ meant-lost fault p.answered p.may.0 p.may.1)
   meant-piece (again fault) p = refl
-  meant-piece kept p = absurd (false≢true (p.marked 0 p.may))
+  meant-piece kept p = sym (ap (meant_states at first) (length-replicate {A = SectorState} n None) ∙ meant-each at first n None (λ k low. known (first + k) (p.marked k low)))
 
--- what a piece leaves, of sectors of which none was had before
-moved : (d first : ℕ) (w : StackRecord) (n : ℕ) (found : Finding) (after : StackRecord) → IsPieceSurveyed [] d first w (record { count = n; found = found; after = after })
-    → (k : ℕ) × AreRead w.leaves k after.leaves × (after.config ≡ w.config)
-moved d first w n (had bytes) after p = (_, p.answered.any.moved, p.answered.any.config)
-moved d first w n (lost fault) after p = (_, p.answered.any.moved, p.answered.any.config)
-moved d first w n (again fault) after p = (_, p.answered.any.moved, p.answered.any.config)
-moved d first w n kept after p = absurd (false≢true (p.marked 0 p.may))
+-- ---- what a read leaves
 
-pub states-meant : StatesAreMeant
-states-meant d first w [] w' s sure = refl
-states-meant d first w (r ∷ more) w' s sure =
+-- the stack means the same, and its backing devices are steady and never fail
+record IsLeft (d : ℕ) (w after : StackRecord) : Type 0 where
+  config : after.config ≡ w.config
+  images : steady_images after.leaves ≡ steady_images w.leaves
+  sure : AreSure (λ i. stands_on after.config i (mapped d)) after.leaves
+
+same-left : (d : ℕ) (w after : StackRecord) → after ≡ w → AreSure (λ i. stands_on w.config i (mapped d)) w.leaves → IsLeft d w after
+same-left d w after e sure = subst (λ (v : StackRecord). IsLeft d w v) (sym e) (record { config = refl; images = refl; sure = sure })
+
+read-left : (d : ℕ) (w after : StackRecord) {n : ℕ} → AreRead w.leaves n after.leaves → after.config ≡ w.config → AreSure (λ i. stands_on w.config i (mapped d)) w.leaves → IsLeft d w after
+read-left d w after moved config sure = record {
+  config = config;
+  images = images-kept moved;
+  sure = subst (λ (c : Configuration). AreSure (λ i. stands_on c i (mapped d)) after.leaves) (sym config) (sure-kept moved sure);
+}
+
+then-left : (d : ℕ) (w mid after : StackRecord) → IsLeft d w mid → IsLeft d mid after → IsLeft d w after
+then-left d w mid after p q = record { config = q.config ∙ p.config; images = q.images ∙ p.images; sure = q.sure }
+
+piece-left : (marks : List Bool) (d first : ℕ) (w : StackRecord) (n : ℕ) (found : Finding) (after : StackRecord) → IsPieceSurveyed marks d first w (record { count = n; found = found; after = after })
+    → AreSure (λ i. stands_on w.config i (mapped d)) w.leaves → IsLeft d w after
+piece-left marks d first w n (had bytes) after p sure = read-left d w after p.answered.any.moved p.answered.any.config sure
+piece-left marks d first w n (lost fault) after p sure = read-left d w after p.answered.any.moved p.answered.any.config sure
+piece-left marks d first w n (again fault) after p sure = read-left d w after p.answered.any.moved p.answered.any.config sure
+piece-left marks d first w n kept after p sure = same-left d w after p.answered sure
+
+-- what a sector means afterwards
+left-state : (d : ℕ) (w after : StackRecord) (k : ℕ) → IsLeft d w after
+    → meant_state (sector after.config (steady_images after.leaves) (mapped d) k) ≡ meant_state (sector w.config (steady_images w.leaves) (mapped d) k)
+left-state d w after k p =
+    ap (λ (c : Configuration). meant_state (sector c (steady_images after.leaves) (mapped d) k)) p.config ∙ ap (λ (i : Images). meant_state (sector w.config i (mapped d) k)) p.images
+
+left-states : (d : ℕ) (w after : StackRecord) (first n : ℕ) → IsLeft d w after
+    → meant_states (sector after.config (steady_images after.leaves) (mapped d)) first n ≡ meant_states (sector w.config (steady_images w.leaves) (mapped d)) first n
+left-states d w after first n p =
+    ap (λ (c : Configuration). meant_states (sector c (steady_images after.leaves) (mapped d)) first n) p.config ∙ ap (λ (i : Images). meant_states (sector w.config i (mapped d)) first n) p.images
+
+-- ---- a scan
+
+pub surveys-meant : SurveysAreMeant
+surveys-meant marks d first w [] w' s known sure = refl
+surveys-meant marks d first w (r ∷ more) w' s known sure =
     let n : ℕ = length (states_of r) in
     let m : ℕ = length (all_states more) in
-    let left = moved d first w r.count r.found r.after s.0 in
-    let config : r.after.config ≡ w.config = left.2 in
-    let images : steady_images r.after.leaves ≡ steady_images w.leaves = images-kept left.1 in
+    let left : IsLeft d w r.after = piece-left marks d first w r.count r.found r.after s.0 sure in
     let at : ℕ → Outcome = sector w.config (steady_images w.leaves) (mapped d) in
-    let head : states_of r ≡ meant_states at first n = meant-piece d first w sure r.count r.after r.found s.0 in
-    let rest = states-meant d (first + n) r.after more w' s.1 (subst (λ (c : Configuration). AreSure (λ i. stands_on c i (mapped d)) r.after.leaves) (sym config) (sure-kept left.1 sure)) in
-    let tail : all_states more ≡ meant_states at (first + n) m =
-    rest ∙ ap (λ (c : Configuration). meant_states (sector c (steady_images r.after.leaves) (mapped d)) (first + n) m) config ∙ ap (λ (i : Images). meant_states (sector w.config i (mapped d)) (first + n) m) images in
+    let head : states_of r ≡ meant_states at first n = meant-piece marks d first w known sure r.count r.after r.found s.0 in
+    let rest = surveys-meant marks d (first + n) r.after more w' s.1 (λ k is. left-state d w r.after k left ∙ known k is) left.sure in
+    let tail : all_states more ≡ meant_states at (first + n) m = rest ∙ left-states d w r.after (first + n) m left in
     ap (λ (l : List SectorState). l ++ all_states more) head ∙ ap (λ (l : List SectorState). meant_states at first n ++ l) tail
     ∙ sym (ap (meant_states at first) (length-append (states_of r) (all_states more)) ∙ meant-add at first n m)
+
+-- ---- the first pass
+
+-- a sector that is marked lies in one of two lists
+marked-apart : (xs ys : List Bool) (k : ℕ) → get_or (xs ++ ys) k false ≡ true → ((k < length xs) × (get_or xs k false ≡ true)) ⊎ ((j : ℕ) × (k ≡ length xs + j) × (get_or ys j false ≡ true))
+marked-apart [] ys k e = inr (k, omega arith, e)
+marked-apart (x ∷ xs) ys zero e = inl (omega arith, e)
+marked-apart (x ∷ xs) ys (suc k) e = next (marked-apart xs ys k e)
+  where
+    next : ((k < length xs) × (get_or xs k false ≡ true)) ⊎ ((j : ℕ) × (k ≡ length xs + j) × (get_or ys j false ≡ true))
+        → ((suc k < length (x ∷ xs)) × (get_or (x ∷ xs) (suc k) false ≡ true)) ⊎ ((j : ℕ) × (suc k ≡ length (x ∷ xs) + j) × (get_or ys j false ≡ true))
+    next (inl p) = inl (omega (arith, p.0), p.1)
+    next (inr p) = inr (p.0, omega (arith, p.1), p.2)
+
+unmarked : (n k : ℕ) → get_or (replicate n false) k false ≡ true → ⊥
+unmarked n k e = false≢true (marks-none n k ∙ e)
+
+-- of a piece the sectors that are marked were read
+piece-known : (before : List Bool) (d first : ℕ) (w : StackRecord) (n : ℕ) (found : Finding) (after : StackRecord) → ((k : ℕ) → get_or before k false ≡ true → ⊥)
+    → IsPieceSurveyed before d first w (record { count = n; found = found; after = after }) → AreSure (λ i. stands_on w.config i (mapped d)) w.leaves → (k : ℕ) → k < n → is_read found ≡ true
+    → meant_state (sector w.config (steady_images w.leaves) (mapped d) (first + k)) ≡ None
+piece-known before d first w n (had bytes) after none p sure k low is = meant-byte (sector w.config (steady_images w.leaves) (mapped d)) first n bytes (p.answered.steady sure.steady).exact k low
+piece-known before d first w n (lost fault) after none p sure k low is = absurd (false≢true is)
+piece-known before d first w n (again fault) after none p sure k low is = absurd (false≢true is)
+piece-known before d first w n kept after none p sure k low is = absurd (none (first + k) (p.marked k low))
+
+-- of a piece and those after it
+module _ (before : List Bool) (d first : ℕ) (w : StackRecord) (s : Skim) (more : List Skim) (none : (k : ℕ) → get_or before k false ≡ true → ⊥) (p : IsPieceSurveyed before d first w s.piece)
+    (sure : AreSure (λ i. stands_on w.config i (mapped d)) w.leaves) (left : IsLeft d w s.piece.after)
+    (rest : (k : ℕ) → get_or (skim_marks more) k false ≡ true → meant_state (sector s.piece.after.config (steady_images s.piece.after.leaves) (mapped d) (first + length (marks_of s) + k)) ≡ None) where
+  within : (k : ℕ) → ((k < length (replicate s.piece.count (is_read s.piece.found))) × (get_or (replicate s.piece.count (is_read s.piece.found)) k false ≡ true))
+      ⊎ ((j : ℕ) × (k ≡ length (replicate s.piece.count (is_read s.piece.found)) + j) × (get_or (replicate s.skip false) j false ≡ true)) → meant_state (sector w.config (steady_images w.leaves) (mapped d) (first + k)) ≡ None
+  within k (inl x) =
+      let low : k < s.piece.count = omega (arith, x.0, length-replicate {A = Bool} s.piece.count (is_read s.piece.found)) in
+      piece-known before d first w s.piece.count s.piece.found s.piece.after none p sure k low (sym (get_or-replicate s.piece.count k (is_read s.piece.found) false low) ∙ x.1)
+  within k (inr x) = absurd (unmarked s.skip x.0 x.2)
+
+  apart : (k : ℕ) → ((k < length (marks_of s)) × (get_or (marks_of s) k false ≡ true)) ⊎ ((j : ℕ) × (k ≡ length (marks_of s) + j) × (get_or (skim_marks more) j false ≡ true)) → meant_state (sector w.config (steady_images w.leaves) (mapped d) (first + k)) ≡ None
+  apart k (inl x) = within k (marked-apart (replicate s.piece.count (is_read s.piece.found)) (replicate s.skip false) k x.1)
+  apart k (inr x) =
+      let at : first + k ≡ first + length (marks_of s) + x.0 = omega (arith, x.1) in
+      ap (λ (t : ℕ). meant_state (sector w.config (steady_images w.leaves) (mapped d) t)) at ∙ sym (left-state d w s.piece.after (first + length (marks_of s) + x.0) left) ∙ rest x.0 x.2
+
+  skim-known : (k : ℕ) → get_or (skim_marks (s ∷ more)) k false ≡ true → meant_state (sector w.config (steady_images w.leaves) (mapped d) (first + k)) ≡ None
+  skim-known k e = apart k (marked-apart (marks_of s) (skim_marks more) k e)
+
+-- what the pass leaves, and that the sectors that it marks mean bytes
+skims-known : (before : List Bool) (d first : ℕ) (w : StackRecord) (skims : List Skim) (w' : StackRecord) → ((k : ℕ) → get_or before k false ≡ true → ⊥) → IsSkimOver before d first w skims w'
+    → AreSure (λ i. stands_on w.config i (mapped d)) w.leaves
+    → IsLeft d w w' × ((k : ℕ) → get_or (skim_marks skims) k false ≡ true → meant_state (sector w.config (steady_images w.leaves) (mapped d) (first + k)) ≡ None)
+skims-known before d first w [] w' none h sure = (same-left d w w' h sure, λ k e. absurd (false≢true e))
+skims-known before d first w (s ∷ more) w' none h sure =
+    let left : IsLeft d w s.piece.after = piece-left before d first w s.piece.count s.piece.found s.piece.after h.0 sure in
+    let rest = skims-known before d (first + length (marks_of s)) s.piece.after more w' none h.1 left.sure in
+    (then-left d w s.piece.after w' left rest.0, skim-known before d first w s more none h.0 sure left rest.1)
+
+pub states-meant : StatesAreMeant
+states-meant d old counts new r sure =
+    let n : ℕ = length (all_states r.rescues.reads) in
+    let p = skims-known (unread_marks old.stack.config d) d 0 old.stack r.skims.skims r.between.stack (unmarked (size old.stack.config (mapped d))) r.skims.survey sure in
+    let known : MarksAreMeant (marks r.map) d r.between.stack =
+    λ k is. let here : k ≡ 0 + k = omega arith in
+    left-state d old.stack r.between.stack k p.0 ∙ ap (λ (t : ℕ). meant_state (sector old.stack.config (steady_images old.stack.leaves) (mapped d) t)) here
+    ∙ p.1 k (sym (ap (λ (l : List Bool). get_or l k false) r.skims.noted) ∙ is) in
+    surveys-meant (marks r.map) d 0 r.between.stack r.rescues.reads new.stack r.rescues.survey known p.0.sure ∙ left-states d old.stack r.between.stack 0 n p.0

@@ -1,14 +1,17 @@
 -- The pieces of a pass, their limits and their writes.
-use Rattle.std.proofs.Common.{◌≡◌, ℕ, ◌+◌, ◌-◌, ◌≤◌, Bool, false, List, [], ◌∷◌, ◌++◌, length, drop, get_or, replicate, refl, sym, ap, ◌∙◌, subst, arith, append_assoc}
+use Rattle.std.proofs.Common.{◌≡◌, ◌≢◌, ℕ, min, ◌+◌, ◌-◌, ◌≤◌, Bool, false, List, [], ◌∷◌, ◌++◌, length, drop, replicate, sym, ap, ◌∙◌, subst, arith, append_assoc}
 use Rattle.std.proofs.lemmas.List.{append-nil, length-append, length-drop, length-replicate}
 use Rattle.block_device.specs.Call.{Call}
 use Rattle.stack_rules.specs.Names.{mapped, size}
 use Rattle.stack_rules.specs.Records.{Configuration}
+use Rattle.stack_meaning.specs.declared.fault.IoFault.{IoFault}
+use Rattle.stack_meaning.specs.declared.fault.IoFault.TheVariants.{NoMemory}
 use Rattle.stack_recovery.specs.declared.piece_limit.PieceLimit.{PieceLimit}
 use Rattle.stack_recovery.specs.Handing.{calls_found, copy_calls}
 use Rattle.stack_recovery.specs.PassPieces.{AreInPieces, IsNextPiece, IsPieceFound, Pass, limit_after, limit_from, pass_over}
 use Rattle.stack_recovery.specs.Pieces.{EndsAligned}
-use Rattle.stack_recovery.specs.Surveys.{Finding, PieceRead, SectorState, again, all_states, had, kept, lost, states_of}
+use Rattle.stack_recovery.specs.Skims.{IsSkimFound}
+use Rattle.stack_recovery.specs.Surveys.{again, PieceRead, SectorState, all_states, states_of}
 use Rattle.stack_recovery.proofs.AheadLemmas.{marked-next}
 
 states-after : (first : ℕ) (x : PieceRead) (more : List PieceRead) → first + length (all_states (x ∷ more)) ≡ first + length (states_of x) + length (all_states more)
@@ -59,29 +62,11 @@ next-piece config d before makes_map at count sectors most n rest e all within i
     whole : rest ≡ [] → at + count ≡ sectors
     whole none = omega (arith, all, within, inside, length-drop at before, ap length e, length-append (replicate count false) rest, length-replicate {A = Bool} count false, ap length none)
 
--- ---- the same marks
-
-next-same : (config : Configuration) (d : ℕ) (marks others : List Bool) (makes_map : Bool) (first most n : ℕ) → ((k : ℕ) → get_or others k false ≡ get_or marks k false)
-    → IsNextPiece (pass_over config d marks makes_map) first most n → IsNextPiece (pass_over config d others makes_map) first most n
-next-same config d marks others makes_map first most n same h = record {
-  end = h.end;
-  unread = λ j low. same (first + j) ∙ h.unread j low;
-  inside = h.inside;
-  whole = h.whole;
-  ends = h.ends;
-}
-
-found-same : (config : Configuration) (d : ℕ) (marks others : List Bool) (makes_map : Bool) (first most n : ℕ) (found : Finding) → ((k : ℕ) → get_or others k false ≡ get_or marks k false)
-    → IsPieceFound (pass_over config d marks makes_map) first most n found → IsPieceFound (pass_over config d others makes_map) first most n found
-found-same config d marks others makes_map first most n (had bytes) same h = next-same config d marks others makes_map first most n same h
-found-same config d marks others makes_map first most n (lost fault) same h = next-same config d marks others makes_map first most n same h
-found-same config d marks others makes_map first most n (again fault) same h = next-same config d marks others makes_map first most n same h
-found-same config d marks others makes_map first most n kept same h = tt
-
-pub pieces-same : (config : Configuration) (d : ℕ) (marks others : List Bool) (makes_map : Bool) (first : ℕ) (limit : PieceLimit) (reads : List PieceRead) → ((k : ℕ) → get_or others k false ≡ get_or marks k false)
-    → AreInPieces (pass_over config d marks makes_map) first limit reads → AreInPieces (pass_over config d others makes_map) first limit reads
-pieces-same config d marks others makes_map first limit [] same h = tt
-pieces-same config d marks others makes_map first limit (r ∷ more) same h = (
-  found-same config d marks others makes_map first limit.most r.count r.found same h.0,
-  pieces-same config d marks others makes_map (first + length (states_of r)) (limit_after limit first r) more same h.1,
-)
+-- a piece whose read failed, in a run of sectors that weren't read before, and the sectors that are skipped after it
+pub skipped-piece : (config : Configuration) (d : ℕ) (before : List Bool) (by_map : Bool) (at count sectors n wanted skip : ℕ) (fault : IoFault) (rest : List Bool) → fault ≢ NoMemory → drop at before ≡ replicate count false ++ rest
+    → length before ≡ sectors → at ≤ sectors → at + count ≤ sectors → sectors ≡ size config (mapped d) → (by_map ≡ false → rest ≡ [])
+    → EndsAligned config d at (at + count) 128 n → skip ≡ min wanted (count - n) → IsSkimFound (pass_over config d before by_map) at wanted n (again fault) skip
+unfolding next-piece
+skipped-piece config d before by_map at count sectors n wanted skip fault rest kind e all within inside is last ends skipped =
+    let room : count - n ≡ at + count - (at + n) = omega arith in
+    (kind, next-piece config d before by_map at count sectors 128 n rest e all within inside is last ends, skipped ∙ ap (λ (m : ℕ). min wanted m) room)

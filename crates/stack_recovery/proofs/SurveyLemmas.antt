@@ -1,5 +1,5 @@
 -- Pieces that are read one after another.
-use Rattle.std.proofs.Common.{◌≡◌, ℕ, ◌+◌, Bool, false, List, [], ◌∷◌, ◌++◌, length, get_or, refl, ap, ◌∙◌, subst, arith}
+use Rattle.std.proofs.Common.{◌≡◌, ℕ, ◌+◌, Bool, List, [], ◌∷◌, ◌++◌, length, refl, ap, ◌∙◌, subst, arith}
 use Rattle.std.proofs.lemmas.List.{append-nil, length-append}
 use Rattle.std.proofs.lemmas.List.Concat.{flat_map-append}
 use Rattle.stack_engine.specs.Stacks.{StackRecord}
@@ -17,12 +17,3 @@ survey-push marks d first w [] mid r s p =
 survey-push marks d first w (x ∷ more) mid r s p =
     let at : first + length (all_states (x ∷ more)) ≡ first + length (states_of x) + length (all_states more) = omega (arith, length-append (states_of x) (all_states more)) in
     (s.0, survey-push marks d (first + length (states_of x)) x.after more mid r s.1 (subst (λ (k : ℕ). IsPieceSurveyed marks d k mid r) at p))
-
--- the same marks
-pub survey-same : (marks others : List Bool) (d first : ℕ) (w : StackRecord) (reads : List PieceRead) (w' : StackRecord) → ((k : ℕ) → get_or others k false ≡ get_or marks k false)
-    → IsSurveyOver marks d first w reads w' → IsSurveyOver others d first w reads w'
-survey-same marks others d first w [] w' same s = s
-survey-same marks others d first w (r ∷ more) w' same s = (
-  record { answered = s.0.answered; may = s.0.may; marked = λ j low. same (first + j) ∙ s.0.marked j low },
-  survey-same marks others d (first + length (states_of r)) r.after more w' same s.1,
-)

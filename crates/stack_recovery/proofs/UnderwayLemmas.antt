@@ -25,15 +25,15 @@ use Rattle.stack_recovery.specs.Listings.{Listed, Tells}
 use Rattle.stack_recovery.specs.Losses.{StopsInPiece}
 use Rattle.stack_recovery.specs.PassPieces.{ArePassPieces, IsNextPiece, IsPieceFound, limit_after, limit_from, pass_over}
 use Rattle.stack_recovery.specs.PieceLimits.{first_limit, limit_after_bytes, limit_after_failure, limit_after_loss}
-use Rattle.stack_recovery.specs.Recoveries.{EndsEarly, FailsOutput, FindsNoMemory, GoesOver, IsBegunOver, AreMarksNoted, IsMapRefused, IsRecoveryEnd, NotesMore, Recovers, RunsShort, Sides, sides}
+use Rattle.stack_recovery.specs.Recoveries.{EndsEarly, FailsOutput, FindsNoMemory, GoesOver, IsBegunOver, AreMarksNoted, IsMapRefused, NotesMore, RunsShort, Sides, sides}
 use Rattle.stack_recovery.specs.Surveys.{AreMarked, IsPieceSurveyed, IsSurveyOver, PieceRead, SectorState, again, all_states, had, kept, lost, states_of}
 use Rattle.stack_recovery.specs.Texts.{lost_text}
-use Rattle.stack_recovery.proofs.AheadLemmas.{length-noted, marks-none, noted-more}
+use Rattle.stack_recovery.proofs.AheadLemmas.{length-noted, noted-more}
 use Rattle.stack_recovery.proofs.CopyLemmas.{copied-had, copied-lost, copied-none}
 use Rattle.runs.proofs.lemmas.RunLemmas.{IsTallied, tallied-all, tallied-had, tallied-lost, tallied-none}
 use Rattle.stack_recovery.proofs.LostRunLemmas.{is_same-equality, lost_in-append, lost_in-had, lost_in-lost, lost_in-most}
-use Rattle.stack_recovery.proofs.PieceLemmas.{calls-push, limit-push, pieces-push, pieces-same}
-use Rattle.stack_recovery.proofs.SurveyLemmas.{states-push, survey-push, survey-same}
+use Rattle.stack_recovery.proofs.PieceLemmas.{calls-push, limit-push, pieces-push}
+use Rattle.stack_recovery.proofs.SurveyLemmas.{states-push, survey-push}
 use Rattle.stack_recovery.proofs.WritingLemmas.{runs-then, tells_nothing}
 
 -- The sectors before that one were had or are lost, and of their runs all but the last were printed. The next piece has that
@@ -258,56 +258,3 @@ module _ (makes_map : Bool) (before : List Bool) (d : ℕ) (old now : Sides) (at
     counted = is ∙ ap (λ (m : ℕ). record { read = m - tally.lost; lost = tally.lost }) (all ∙ u.here) ∙ ap (λ (m : ℕ). record { read = length (all_states u.reads) - m; lost = m }) u.lost;
     noted = u.noted;
   }
-
--- where no sector was had before
-pub recovers-none : (n d : ℕ) (old : Sides) (counts : Counts) (noted : Option (List Run)) (new : Sides) → GoesOver (replicate n false) d old counts noted new → is_some noted ≡ false → Recovers d old counts new
-recovers-none n d old counts noted new p none = record {
-  reads = p.reads;
-  survey = survey-same (replicate n false) [] d 0 old.stack p.reads new.stack (marks-none n) p.survey;
-  whole = p.whole;
-  pieces = pieces-same old.stack.config d (replicate n false) [] false 0 first_limit p.reads (marks-none n)
-      (subst (λ (m : Bool). ArePassPieces (pass_over old.stack.config d (replicate n false) m) p.reads) none p.pieces);
-  copied = p.copied;
-  unfailed = p.unfailed;
-  printed = p.printed;
-  counted = p.counted;
-}
-
-begun-none : (n d : ℕ) (makes_map : Bool) (old new : Sides) → IsBegunOver makes_map (replicate n false) d old new → IsBegunOver makes_map [] d old new
-begun-none n d makes_map old new p = record {
-  reads = p.reads;
-  left = p.left;
-  runs = p.runs;
-  more = p.more;
-  survey = survey-same (replicate n false) [] d 0 old.stack p.reads p.left (marks-none n) p.survey;
-  pieces = pieces-same old.stack.config d (replicate n false) [] makes_map 0 first_limit p.reads (marks-none n) p.pieces;
-  first = p.first;
-  printed = p.printed;
-}
-
-short-none : (n d : ℕ) (makes_map : Bool) (old new : Sides) → RunsShort makes_map (replicate n false) d old new → RunsShort makes_map [] d old new
-unfolding begun-none
-short-none n d makes_map old new p = record {
-  begun = begun-none n d makes_map old new p.begun;
-  copied = p.copied;
-  unfailed = p.unfailed;
-  refused = p.refused;
-}
-
-output-none : (n d : ℕ) (makes_map : Bool) (old new : Sides) → FailsOutput makes_map (replicate n false) d old new → FailsOutput makes_map [] d old new
-unfolding begun-none
-output-none n d makes_map old new p = record {
-  begun = begun-none n d makes_map old new p.begun;
-  out = p.out;
-  n = p.n;
-  bytes = p.bytes;
-  read = p.read;
-  copied = p.copied;
-  writing = p.writing;
-  failed = p.failed;
-  sure = p.sure;
-}
-
-pub ends-none : (n d : ℕ) (old new : Sides) (fault : RecoveryFault) → EndsEarly false (replicate n false) d old new fault → IsRecoveryEnd d old new fault
-ends-none n d old new recovery.NoMemory p = short-none n d false old new p
-ends-none n d old new recovery.Output p = output-none n d false old new p

@@ -1,12 +1,11 @@
 -- Lines that are written one after another.
 use Rattle.std.proofs.Common.{◌≡◌, ℕ, List, [], ◌∷◌, ◌++◌, Option, Some, None, Result, Ok, Err, sym, ap, ◌∙◌, subst}
-use Rattle.std.specs.Prelude.{IfErr, IfOk, OnOk, IsErrAnd}
+use Rattle.std.specs.Prelude.{IfErr, IsErrAnd}
 use Rattle.std.specs.Io.KnownBytes.{Appends}
 use Rattle.std.proofs.lemmas.List.{append-nil, append_assoc}
 use Rattle.std.proofs.lemmas.List.Concat.{flat_map-append}
 use Rattle.stack_recovery.specs.declared.fault.RecoveryFault.{RecoveryFault}
 use Rattle.stack_recovery.specs.LostRuns.{LostRun}
-use Rattle.stack_recovery.specs.declared.recovery.Counts.{Counts}
 use Rattle.stack_recovery.specs.Listings.{Listed, Tells}
 use Rattle.stack_recovery.specs.Texts.{lost_run_text, lost_text}
 
@@ -40,16 +39,3 @@ runs_text_last runs run = flat_map-append lost_run_text runs (run ∷ []) ∙ ap
 pub err-from : {T : Type 0} (r : Result T RecoveryFault) (P : RecoveryFault → Type 0) (fault : RecoveryFault) → IsErrAnd r (λ e. e ≡ fault) → P fault → IfErr r P
 err-from (Ok done) P fault is holds = tt
 err-from (Err e) P fault is holds = subst P (sym is) holds
-
--- what follows of a result
-pub err-as : (r : Result Counts RecoveryFault) (P Q : RecoveryFault → Type 0) → ((fault : RecoveryFault) → P fault → Q fault) → IfErr r P → IfErr r Q
-err-as (Ok counts) P Q f h = tt
-err-as (Err fault) P Q f h = f fault h
-
-pub ok-so : (r : Result Counts RecoveryFault) (P Q : Counts → Type 0) (R : Type 0) → ((counts : Counts) → P counts → R → Q counts) → IfOk r P → OnOk r R → IfOk r Q
-ok-so (Ok counts) P Q R f h k = f counts h k
-ok-so (Err fault) P Q R f h k = tt
-
-pub on-ok-as : (r : Result Counts RecoveryFault) (P Q : Type 0) → (P → Q) → OnOk r P → OnOk r Q
-on-ok-as (Ok counts) P Q f h = f h
-on-ok-as (Err fault) P Q f h = tt

@@ -1,5 +1,5 @@
 -- Laws of what a recovery finds.
-use Rattle.std.specs.Prelude.{◌≡◌, ◌≢◌, ◌↔◌, ℕ, zero, suc, ◌+◌, ◌-◌, ◌/◌, ◌<◌, ◌≤◌, Bool, IsTrue, List, [], ◌∷◌, length, get_or, All, Some, None, Ok, Err}
+use Rattle.std.specs.Prelude.{◌≡◌, ◌≢◌, ◌↔◌, ℕ, zero, suc, ◌+◌, ◌-◌, ◌/◌, ◌<◌, ◌≤◌, Bool, true, false, IsTrue, List, [], ◌∷◌, length, get_or, All, Some, None, Ok, Err}
 use Rattle.std.specs.List.{slice_index_or}
 use Rattle.block_device.specs.Device.{Device}
 use Rattle.dm_table.specs.declared.table.Line.{Line}
@@ -19,7 +19,10 @@ use Rattle.stack_meaning.specs.Outcomes.{Images, Outcome}
 use Rattle.stack_engine.specs.Stacks.{StackRecord}
 use Rattle.runs.specs.Runs.{runs_of}
 use Rattle.stack_recovery.specs.LostRuns.{LostRun, is_same_fault}
-use Rattle.stack_recovery.specs.Surveys.{IsStackSurvey, PieceRead, SectorState, all_states}
+use Rattle.stack_recovery.specs.declared.recovery.Counts.{Counts}
+use Rattle.stack_recovery.specs.Recoveries.{Sides}
+use Rattle.stack_recovery.specs.Surveys.{IsSurveyOver, PieceRead, SectorState, all_states}
+use Rattle.stack_recovery.specs.TwoPasses.{Recovers}
 
 -- ---- on backing devices that are steady and never fail
 
@@ -38,10 +41,20 @@ abbrev pub meant_states : (ℕ → Outcome) → ℕ → ℕ → List SectorState
 meant_states at first zero = []
 meant_states at first (suc n) = meant_state (at first) ∷ meant_states at (suc first) n
 
--- if the backing devices are such, a sector is lost exactly if it means a fault, and by that fault
-abbrev pub StatesAreMeant : Type 0
-StatesAreMeant = (d first : ℕ) (w : StackRecord) (reads : List PieceRead) (w' : StackRecord) → IsStackSurvey d first w reads w' → AreSure (λ i. stands_on w.config i (mapped d)) w.leaves
+-- each sector with this mark means bytes
+abbrev pub MarksAreMeant : List Bool → ℕ → StackRecord → Type 0
+MarksAreMeant marks d w = (k : ℕ) → slice_index_or marks k false ≡ true → meant_state (sector w.config (steady_images w.leaves) (mapped d) k) ≡ None
+
+-- If the backing devices are such, a sector is lost exactly if it means a fault, and by that fault: in a scan, if the sectors that
+-- were read before mean bytes
+abbrev pub SurveysAreMeant : Type 0
+SurveysAreMeant = (marks : List Bool) (d first : ℕ) (w : StackRecord) (reads : List PieceRead) (w' : StackRecord) → IsSurveyOver marks d first w reads w' → MarksAreMeant marks d w → AreSure (λ i. stands_on w.config i (mapped d)) w.leaves
     → all_states reads ≡ meant_states (sector w.config (steady_images w.leaves) (mapped d)) first (length (all_states reads))
+
+-- and in a recovery in two passes
+abbrev pub StatesAreMeant : Type 0
+StatesAreMeant = (d : ℕ) (old : Sides) (counts : Counts) (new : Sides) (r : Recovers d old counts new) → AreSure (λ i. stands_on old.stack.config i (mapped d)) old.stack.leaves
+    → all_states r.rescues.reads ≡ meant_states (sector old.stack.config (steady_images old.stack.leaves) (mapped d)) 0 (length (all_states r.rescues.reads))
 
 -- ---- runs
 

@@ -1,5 +1,6 @@
 pub mod Alike
 pub mod Copies
+pub mod FirstPasses
 pub mod Handing
 pub mod Laws
 pub mod Listings
@@ -9,6 +10,9 @@ pub mod PassLaws
 pub mod PassPieces
 pub mod Pieces
 pub mod Recoveries
+pub mod Skims
+pub mod Skips
 pub mod Surveys
 pub mod Texts
+pub mod TwoPasses
 pub mod Losses

@@ -8,16 +8,9 @@ use Rattle.stack_rules.specs.Names.{lines_of}
 use Rattle.stack_rules.specs.Records.{Configuration}
 use Rattle.stack_rules.specs.Trees.{block_sectors}
 use Rattle.stack_recovery.specs.declared.piece.Piece.{Piece}
-use Rattle.stack_recovery.specs.Alike.{AreAlike}
+use Rattle.stack_recovery.specs.Alike.{AreAlike, AreLostTogether}
 
--- n sectors of a line from its sector w on are lost together: the sectors of an `error` line, of one data block of a verity
--- line, or one sector of another line
-abbrev pub AreLostTogether : Target → ℕ → ℕ → Type 0
-AreLostTogether Error w n = Unit {0}
-AreLostTogether (Verity v) w n = w % block_sectors v + n ≤ block_sectors v
-AreLostTogether target w n = n ≤ 1
-
--- how many of them are lost together from sector w of a line on, and how many in each unit after them
+-- how many sectors are lost together from sector w of a line on, and how many in each unit after them
 abbrev pub rest_of_unit : Target → ℕ → ℕ
 rest_of_unit Error w = 128
 rest_of_unit (Verity v) w = block_sectors v - w % block_sectors v

@@ -1,9 +1,8 @@
 -- The effects of a recovery.
-use Rattle.std.specs.Prelude.{◌≡◌, ◌⊎◌, ℕ, ◌-◌, Bool, true, false, IsTrue, List, [], ◌++◌, length, map, Option, Some, None, is_some, Ok, Err}
+use Rattle.std.specs.Prelude.{◌≡◌, ◌⊎◌, ℕ, ◌-◌, Bool, true, false, IsTrue, List, ◌++◌, length, map, Option, Some, None, is_some, Ok, Err}
 use Rattle.allocation.specs.Refusal.{IsOutOfMemory}
 use Rattle.block_device.specs.Device.{Device, HasFailed, IsWritten}
 use Rattle.stack_rules.specs.Names.{mapped, size}
-use Rattle.stack_rules.specs.declared.lower.DevId.{DevId}
 use Rattle.stack_meaning.specs.declared.fault.IoFault.TheVariants as io
 use Rattle.stack_meaning.specs.Meaning.{said_at}
 use Rattle.stack_meaning.specs.Reading.{MeetVerity}
@@ -20,7 +19,7 @@ use Rattle.stack_recovery.specs.declared.rescued.Rescued.{Rescued}
 use Rattle.stack_recovery.specs.Copies.{IsCopied}
 use Rattle.stack_recovery.specs.Listings.{Listed, Tells}
 use Rattle.stack_recovery.specs.PassPieces.{ArePassPieces, pass_over}
-use Rattle.stack_recovery.specs.Surveys.{IsStackSurvey, IsSurveyOver, PieceRead, SectorState, all_states}
+use Rattle.stack_recovery.specs.Surveys.{IsSurveyOver, PieceRead, SectorState, all_states}
 use Rattle.stack_recovery.specs.Texts.{lost_text}
 
 -- the stack, the output device, and what was printed
@@ -31,18 +30,6 @@ pub record Sides : Type 0 where
 
 abbrev pub sides : StackRecord → Device → Listed → Sides
 sides stack out printed = record { stack = stack; out = out; printed = printed }
-
--- Each sector of device d was read or is lost. The sectors that were read were copied, a line was printed for each longest lost
--- run, and the counts are right.
-pub record Recovers (d : ℕ) (old : Sides) (counts : Counts) (new : Sides) : Type 0 where
-  pub reads : List PieceRead
-  pub survey : IsStackSurvey d 0 old.stack reads new.stack
-  pub whole : length (all_states reads) ≡ size old.stack.config (mapped d)
-  pub pieces : ArePassPieces (pass_over old.stack.config d [] false) reads
-  pub copied : IsCopied reads old.out new.out
-  pub unfailed : new.out.failures ≡ old.out.failures
-  pub printed : Tells old.printed new.printed (lost_text (runs_of is_same_fault 0 (all_states reads)))
-  pub counted : counts ≡ record { read = length (all_states reads) - lost_in (all_states reads); lost = lost_in (all_states reads) }
 
 -- the first pieces of the device were read, and the first of their lost runs printed
 pub record IsBegunOver (makes_map : Bool) (marks : List Bool) (d : ℕ) (old new : Sides) : Type 0 where
@@ -93,9 +80,6 @@ EndsEarly makes_map marks d old new Output = FailsOutput makes_map marks d old n
 abbrev pub IsRescueEnd : List Bool → ℕ → Sides → Sides → RecoveryFault → Type 0
 IsRescueEnd marks d old new fault = EndsEarly true marks d old new fault
 
-abbrev pub IsRecoveryEnd : ℕ → Sides → Sides → RecoveryFault → Type 0
-IsRecoveryEnd d old new fault = EndsEarly false [] d old new fault
-
 -- ---- in terms of the arguments of a call
 
 -- a stack, the output device, and the receiver of lost runs
@@ -111,16 +95,6 @@ parties stack out listing = record { stack = stack; out = out; listing = listing
 abbrev pub seen_sides : {O L : Type 0} → (O → Device) → (L → Listed) → Parties O L → Sides
 seen_sides state told p = sides p.stack (state p.out) (told p.listing)
 
-abbrev pub RecoversBy : {O L : Type 0} → (O → Device) → (L → Listed) → ℕ → Parties O L → Parties O L → Counts → Type 0
-RecoversBy state told d old new counts = Recovers d (seen_sides state told old) counts (seen_sides state told new)
-
--- a recovery of a device, by its index and the arguments before and after the call
-abbrev pub Recovered : {O L : Type 0} → (O → Device) → (L → Listed) → DevId → StackRecord → O → L → StackRecord → O → L → Counts → Type 0
-Recovered state told d stack out listing stack' out' listing' counts = RecoversBy state told d.0 (parties stack out listing) (parties stack' out' listing') counts
-
-abbrev pub EndsRecovery : {O L : Type 0} → (O → Device) → (L → Listed) → ℕ → Parties O L → Parties O L → RecoveryFault → Type 0
-EndsRecovery state told d old new fault = IsRecoveryEnd d (seen_sides state told old) (seen_sides state told new) fault
-
 -- ---- if some sectors were read before
 
 -- whether a sector was read
@@ -133,7 +107,8 @@ abbrev pub AreMarksNoted : Option (List Run) → List SectorState → Type 0
 AreMarksNoted None states = Unit {0}
 AreMarksNoted (Some runs) states = marks runs ≡ map is_had states
 
--- Each sector of device d was read, now or before, or is lost. In addition to `RecoversBy`, a map is made of all sectors.
+-- Each sector of device d was read, now or before, or is lost. The sectors that were read now were copied, a line was printed for
+-- each longest lost run, the counts are right, and a map is made of all sectors.
 pub record GoesOver (before : List Bool) (d : ℕ) (old : Sides) (counts : Counts) (made : Option (List Run)) (new : Sides) : Type 0 where
   pub reads : List PieceRead
   pub survey : IsSurveyOver before d 0 old.stack reads new.stack

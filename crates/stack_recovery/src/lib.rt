@@ -11,6 +11,8 @@ mod piece;
 mod piece_limit;
 mod recovery;
 mod rescued;
+mod skimming;
+mod skip;
 mod tally;
 
 pub use discard::Discard;
@@ -21,3 +23,4 @@ pub use piece::{Piece, piece_at};
 pub use piece_limit::PieceLimit;
 pub use recovery::{Counts, recover, recover_with};
 pub use rescued::{Rescued, rescue};
+pub use skimming::skim;

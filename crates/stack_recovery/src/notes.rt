@@ -1,5 +1,5 @@
 //! The map that a recovery makes of the sectors.
-ghost use Rattle.std.specs.Prelude.{◌≡◌, ◌+◌, ◌≤◌, ◌^◌, length, replicate, true, IfErr, OnErr, OnOk};
+ghost use Rattle.std.specs.Prelude.{◌≡◌, ◌+◌, ◌++◌, ◌≤◌, ◌^◌, length, replicate, true, IfErr, OnErr, OnOk};
 ghost use Rattle.std.specs.Option.{ForSome, is_some};
 ghost use Rattle.allocation.specs.Refusal.{IsOutOfMemory};
 ghost use Rattle.rescue_map.specs.Maps.{marks};
@@ -23,6 +23,20 @@ pub(crate) fn note(noted: &mut Option<Map>, count: u64, had: bool) -> Result<(),
 {
     match noted {
         None => Ok(()),
-        Some(map) => Ok(map.push(Run { count, had })?),
+        Some(map) => mark(map, count, had),
     }
+}
+
+/// Records in the map that the next `count` sectors were read (`had`) or weren't.
+///
+/// # Errors
+///
+/// `NoMemory` if the allocator refused memory for a run of the map.
+pub(crate) fn mark(map: &mut Map, count: u64, had: bool) -> Result<(), RecoveryFault>
+    requires some { 1 ≤ count }
+    requires room { length (marks map.old) + count ≤ 2 ^ 54 }
+    ensures ok { OnOk result (marks map.new ≡ marks map.old ++ replicate count had) }
+    ensures err { IfErr result (λ fault. (fault ≡ recovery_fault.NoMemory) × IsOutOfMemory 1) }
+{
+    Ok(map.push(Run { count, had })?)
 }

@@ -3,7 +3,8 @@ ghost use Rattle.std.specs.Prelude.{◌≡◌, ◌≤◌, ◌<◌};
 ghost use Rattle.stack_recovery.specs.Pieces.{IsPieceLimit};
 ghost use Rattle.stack_recovery.specs.PieceLimits.{first_limit, limit_after_bytes, limit_after_failure, limit_after_loss};
 
-const MOST_PIECE: u32 = 128;
+/// The most sectors of a piece, unless more are lost together.
+pub(crate) const MOST_PIECE: u32 = 128;
 
 /// The most sectors of the next piece, and the end of the last piece that couldn't be read whole. Pieces get shorter up to this
 /// sector, and longer after it.

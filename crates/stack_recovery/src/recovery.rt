@@ -7,7 +7,8 @@ ghost use Rattle.rescue_map.specs.Maps.{marks};
 ghost use Rattle.rescue_map.specs.Aheads.{marks_ahead};
 ghost use Rattle.stack_recovery.specs.Handing.{HandsOver, HandsOverPart};
 ghost use Rattle.stack_recovery.specs.Losses.{ListsLost, NotesLost, StopsInPiece, TalliesLost};
-ghost use Rattle.stack_recovery.specs.Recoveries.{EndsEarlyBy, EndsRecovery, GoesOverBy, AreMarksNoted, Recovered, parties};
+ghost use Rattle.stack_recovery.specs.Recoveries.{EndsEarlyBy, GoesOverBy, AreMarksNoted, parties};
+ghost use Rattle.stack_recovery.specs.TwoPasses.{EndsRecovery, HandsTwice, HandsTwicePart, Recovered};
 ghost use Rattle.runs.specs.Runs.{run};
 ghost use Rattle.runs.specs.Tallies.{EndsAt};
 
@@ -17,12 +18,15 @@ use crate::lost_run::{LostRun, is_same};
 use crate::notes::note;
 use crate::piece::{Piece, piece_at};
 use crate::piece_limit::PieceLimit;
+use crate::rescued::rescue;
+use crate::skimming::skim_ahead;
 use crate::tally::Tally;
 use block_device::BlockDev;
 use device_adapters::{NoProgress, Progress};
 use rescue_map::{Ahead, Map};
 use stack_config::DevId;
 use stack_engine::{IoFault, Stack};
+use std::alloc::Global;
 
 /// How many sectors were read, and how many are lost.
 #[derive(Clone, Copy, Debug, PartialEq, Eq)]
@@ -32,17 +36,21 @@ pub struct Counts {
 }
 
 /// The size of the longest piece in bytes.
-const ROOM: usize = 65536;
+pub(crate) const ROOM: usize = 65536;
 
 /// Reads each sector of a mapped device, and reports each longest run of sectors that are lost by one fault. Each readable
 /// sector is written to the same offset of `out`, which has room for all sectors. Lost sectors are left unchanged there. Each
 /// piece that is read is written by one call, in order, and nothing is called after a failed write.
+///
+/// The device is read in two passes: the first one skips ahead after failed reads, as [`skim`](crate::skim) does, and the second
+/// one reads what the first one left.
 ///
 /// # Errors
 ///
 /// - `NoMemory` if an allocation was refused.
 /// - `Output` if `out` failed.
 pub fn recover<D: BlockDev, O: BlockDev, L: Listing>(
+    alloc: Global,
     stack: &mut Stack<D>,
     d: DevId,
     out: &mut O,
@@ -53,10 +61,10 @@ pub fn recover<D: BlockDev, O: BlockDev, L: Listing>(
     requires allowed { IsTrue (O.state out.old).may_write }
     ensures ok { IfOk result (Recovered O.state L.told d stack.old out.old listing.old stack.new out.new listing.new) }
     ensures err { IfErr result (EndsRecovery O.state L.told d.0 (parties stack.old out.old listing.old) (parties stack.new out.new listing.new)) }
-    ensures handed { OnOk result (HandsOver (DeviceDoes O.state O.does) [] d.0 (parties stack.old out.old listing.old) (parties stack.new out.new listing.new)) }
-    ensures stopped { IfErr result (HandsOverPart (DeviceDoes O.state O.does) [] d.0 (parties stack.old out.old listing.old) (parties stack.new out.new listing.new)) }
+    ensures handed { OnOk result (HandsTwice (DeviceDoes O.state O.does) d.0 (parties stack.old out.old listing.old) (parties stack.new out.new listing.new)) }
+    ensures stopped { IfErr result (HandsTwicePart (DeviceDoes O.state O.does) d.0 (parties stack.old out.old listing.old) (parties stack.new out.new listing.new)) }
 {
-    recover_with(stack, d, out, listing, &mut NoProgress)
+    recover_with(alloc, stack, d, out, listing, &mut NoProgress)
 }
 
 /// Recovers a device as `recover` does, and reports progress.
@@ -66,6 +74,7 @@ pub fn recover<D: BlockDev, O: BlockDev, L: Listing>(
 /// - `NoMemory` if an allocation was refused.
 /// - `Output` if `out` failed.
 pub fn recover_with<D: BlockDev, O: BlockDev, L: Listing, P: Progress>(
+    alloc: Global,
     stack: &mut Stack<D>,
     d: DevId,
     out: &mut O,
@@ -77,11 +86,13 @@ pub fn recover_with<D: BlockDev, O: BlockDev, L: Listing, P: Progress>(
     requires allowed { IsTrue (O.state out.old).may_write }
     ensures ok { IfOk result (Recovered O.state L.told d stack.old out.old listing.old stack.new out.new listing.new) }
     ensures err { IfErr result (EndsRecovery O.state L.told d.0 (parties stack.old out.old listing.old) (parties stack.new out.new listing.new)) }
-    ensures handed { OnOk result (HandsOver (DeviceDoes O.state O.does) [] d.0 (parties stack.old out.old listing.old) (parties stack.new out.new listing.new)) }
-    ensures stopped { IfErr result (HandsOverPart (DeviceDoes O.state O.does) [] d.0 (parties stack.old out.old listing.old) (parties stack.new out.new listing.new)) }
+    ensures handed { OnOk result (HandsTwice (DeviceDoes O.state O.does) d.0 (parties stack.old out.old listing.old) (parties stack.new out.new listing.new)) }
+    ensures stopped { IfErr result (HandsTwicePart (DeviceDoes O.state O.does) d.0 (parties stack.old out.old listing.old) (parties stack.new out.new listing.new)) }
 {
     let ahead = Ahead::unread(stack.config().sectors(d));
-    go_over(stack, d, out, ahead, &mut None, listing, progress)
+    let map = skim_ahead(alloc, stack, d, out, ahead, progress)?;
+    let rescued = rescue(alloc, stack, d, out, &map, listing, progress)?;
+    Ok(rescued.counts)
 }
 
 /// Recovers a device. Sectors that were read before, by the marks ahead, aren't read again. The map, if one is made, is empty
@@ -226,7 +237,7 @@ fn lose_piece<L: Listing>(
     Ok(true)
 }
 
-// Reports progress in bytes.
-fn tell<P: Progress>(progress: &mut P, done: u64, all: u64) {
+/// Reports progress in bytes.
+pub(crate) fn tell<P: Progress>(progress: &mut P, done: u64, all: u64) {
     progress.tell(done.saturating_mul(512), Some(all.saturating_mul(512)));
 }

@@ -1,5 +1,5 @@
 -- The printed arguments of a `verity` line read back.
-use Rattle.std.proofs.Common.{◌≡◌, ℕ, ◌*◌, ◌/◌, ◌^◌, ◌<◌, ◌≤◌, Bool, true, false, List, [], ◌∷◌, length, decimal, Ok, Err, ok_or, Some, None, codes, refl, ap, ◌∙◌, inl, inr, arith}
+use Rattle.std.proofs.Common.{◌≡◌, ℕ, ◌*◌, ◌/◌, ◌^◌, ◌<◌, ◌≤◌, Bool, true, false, List, [], ◌∷◌, ◌++◌, length, decimal, Ok, Err, ok_or, Some, None, codes, refl, ap, ◌∙◌, inl, inr, arith}
 use Rattle.std.specs.Str.{bytes_eq}
 use Rattle.std.proofs.lemmas.Slice.Eq.{bytes_eq-Decides}
 use Rattle.std.proofs.lemmas.Bool.{cases_Bool, cond-true}
@@ -9,6 +9,8 @@ use Rattle.tree_shape.specs.Shape.{is_block_size}
 use Rattle.tree_shape.proofs.lemmas.ShapeFaultLemmas.{is_block_size-cases}
 use Rattle.dm_table.specs.declared.table.Target.TheVariants as targets
 use Rattle.dm_table.specs.declared.target_type.TargetType.TheVariants as types
+use Rattle.dm_table.specs.declared.verity.CorruptionMode.{CorruptionMode}
+use Rattle.dm_table.specs.declared.verity.CorruptionMode.TheVariants.{Fail, Panic, Restart}
 use Rattle.dm_table.specs.declared.verity.Verity.{Verity}
 use Rattle.dm_table.specs.declared.fault.TextKind.TheVariants as kinds
 use Rattle.dm_table.specs.Words.{Word}
@@ -16,9 +18,9 @@ use Rattle.dm_table.specs.Names.{is_device}
 use Rattle.dm_table.specs.Numbers.{number, number_if}
 use Rattle.dm_table.specs.Reading.{◌>>=◌}
 use Rattle.dm_table.specs.Arguments.{device_at}
-use Rattle.dm_table.specs.Options.{is_one_of, AreOptionsOfGrammar}
+use Rattle.dm_table.specs.Options.{is_one_of, option_name, AreOptionsOfGrammar}
 use Rattle.table_text.specs.ArgumentWords.{options_words, salt_word, verity_words}
-use Rattle.dm_table.specs.Verity.{version_at, block_size_at, salt_at, ignore_zero_blocks, verity_options, verity_at}
+use Rattle.dm_table.specs.Verity.{version_at, block_size_at, corruption_at, corruption_words, salt_at, ignore_zero_blocks, known_verity_options, try_verify_in_tasklet, verity_options, verity_at, word_if}
 use Rattle.dm_table.specs.Grammar.{IsVerityOfGrammar}
 use Rattle.table_text.proofs.PrintedTargetLemmas.{ReadBack, read_back}
 use Rattle.table_text.proofs.PrintedLemmas.{IsPrinted, ArePrinted, printed-decimal, printed-device, number-decimal, number_at-decimal}
@@ -57,14 +59,31 @@ salt_at-printed (byte ∷ more) fits each =
     salt_at-digits word other (omega (arith, twice)) (omega (arith, twice, fits))
     ∙ bytes_at-printed (length word / 2) kinds.Salt (byte ∷ more) (omega (arith, twice)) each
 
--- the option, or none
-options-grammar : (ignores : Bool) → AreOptionsOfGrammar (verity_options true) (verity_options ignores)
-options-grammar true = record { each = refl; count = omega arith }
-options-grammar false = record { each = refl; count = omega arith }
+-- the options for these values
+abbrev options_of : CorruptionMode → Bool → Bool → List Word
+options_of mode ignores tasklet = corruption_words mode ++ word_if ignores ignore_zero_blocks ++ word_if tasklet try_verify_in_tasklet
 
-ignores-printed : (ignores : Bool) → is_one_of ignore_zero_blocks (verity_options ignores) ≡ ignores
-ignores-printed true = refl
-ignores-printed false = refl
+-- what these options are read as again
+record AreReadBack (mode : CorruptionMode) (ignores tasklet : Bool) : Type 0 where
+  grammar : AreOptionsOfGrammar known_verity_options (options_of mode ignores tasklet)
+  corruption : corruption_at (options_of mode ignores tasklet) ≡ Ok mode
+  ignores_zeros : is_one_of ignore_zero_blocks (options_of mode ignores tasklet) ≡ ignores
+  in_tasklet : is_one_of try_verify_in_tasklet (options_of mode ignores tasklet) ≡ tasklet
+
+options-read : (mode : CorruptionMode) (ignores tasklet : Bool) → AreReadBack mode ignores tasklet
+unfolding option_name
+options-read Fail true true = record { grammar = record { each = refl; count = omega arith }; corruption = refl; ignores_zeros = refl; in_tasklet = refl }
+options-read Fail true false = record { grammar = record { each = refl; count = omega arith }; corruption = refl; ignores_zeros = refl; in_tasklet = refl }
+options-read Fail false true = record { grammar = record { each = refl; count = omega arith }; corruption = refl; ignores_zeros = refl; in_tasklet = refl }
+options-read Fail false false = record { grammar = record { each = refl; count = omega arith }; corruption = refl; ignores_zeros = refl; in_tasklet = refl }
+options-read Restart true true = record { grammar = record { each = refl; count = omega arith }; corruption = refl; ignores_zeros = refl; in_tasklet = refl }
+options-read Restart true false = record { grammar = record { each = refl; count = omega arith }; corruption = refl; ignores_zeros = refl; in_tasklet = refl }
+options-read Restart false true = record { grammar = record { each = refl; count = omega arith }; corruption = refl; ignores_zeros = refl; in_tasklet = refl }
+options-read Restart false false = record { grammar = record { each = refl; count = omega arith }; corruption = refl; ignores_zeros = refl; in_tasklet = refl }
+options-read Panic true true = record { grammar = record { each = refl; count = omega arith }; corruption = refl; ignores_zeros = refl; in_tasklet = refl }
+options-read Panic true false = record { grammar = record { each = refl; count = omega arith }; corruption = refl; ignores_zeros = refl; in_tasklet = refl }
+options-read Panic false true = record { grammar = record { each = refl; count = omega arith }; corruption = refl; ignores_zeros = refl; in_tasklet = refl }
+options-read Panic false false = record { grammar = record { each = refl; count = omega arith }; corruption = refl; ignores_zeros = refl; in_tasklet = refl }
 
 -- printed arguments read back
 verity-printed : (verity : Verity) → IsVerityOfGrammar verity → verity_at (verity_words verity) ≡ Ok verity
@@ -78,15 +97,20 @@ verity-printed verity h =
     let start = number_at-decimal verity.start h.places.start in
     let root = bytes_at-printed 32 kinds.Digest verity.root h.root_size h.root_bytes in
     let salt = salt_at-printed verity.salt h.salt_size h.salt_bytes in
-    let options = options-printed (verity_options true) (verity_options verity.ignore_zero_blocks) (options-grammar verity.ignore_zero_blocks) in
-    rw (version_at-printed, below, hash, data_block, hash_block, blocks, start, root, salt, options, ignores-printed verity.ignore_zero_blocks) refl
+    let back = options-read verity.corruption verity.ignore_zero_blocks verity.in_tasklet in
+    let options = options-printed known_verity_options (verity_options verity) back.grammar in
+    rw (version_at-printed, below, hash, data_block, hash_block, blocks, start, root, salt, options, back.corruption, back.ignores_zeros, back.in_tasklet) refl
 
 printed-salt : (salt : List ℕ) → IsBytes salt → IsPrinted (salt_word salt)
 printed-salt [] each = (omega arith, refl)
 printed-salt (byte ∷ more) each = printed-bytes (byte ∷ more) (omega arith) each
 
-printed-option : (ignores : Bool) → ArePrinted (options_words (verity_options ignores))
-printed-option ignores = printed-options (verity_options true) (verity_options ignores) ((omega arith, refl), tt) (options-grammar ignores)
+known-printed : ArePrinted known_verity_options
+known-printed = ((omega arith, refl), ((omega arith, refl), ((omega arith, refl), ((omega arith, refl), tt))))
+
+printed-option : (verity : Verity) → ArePrinted (options_words (verity_options verity))
+printed-option verity =
+    printed-options known_verity_options (verity_options verity) known-printed (options-read verity.corruption verity.ignore_zero_blocks verity.in_tasklet).grammar
 
 -- each word may stand in a text
 printed-verity : (verity : Verity) → IsVerityOfGrammar verity → ArePrinted (verity_words verity)
@@ -108,7 +132,7 @@ printed-verity verity h =
                   printed-decimal verity.start h.places.start,
                   (
                     (omega arith, refl),
-                    (printed-bytes verity.root (omega (arith, size)) h.root_bytes, (printed-salt verity.salt h.salt_bytes, printed-option verity.ignore_zero_blocks)),
+                    (printed-bytes verity.root (omega (arith, size)) h.root_bytes, (printed-salt verity.salt h.salt_bytes, printed-option verity)),
                   ),
                 ),
               ),

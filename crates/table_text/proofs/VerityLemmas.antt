@@ -12,7 +12,7 @@ use Rattle.dm_table.specs.Names.{is_device, most_name}
 use Rattle.dm_table.specs.Numbers.{number}
 use Rattle.dm_table.specs.Arguments.{device_at, number_at, bytes_at}
 use Rattle.dm_table.specs.Options.{options_at}
-use Rattle.dm_table.specs.Verity.{version_at, block_size_at, algorithm_at, digest_at, salt_at, verity_options, verity_at}
+use Rattle.dm_table.specs.Verity.{version_at, block_size_at, algorithm_at, corruption_at, digest_at, known_verity_options, salt_at, verity_at}
 use Rattle.dm_table.specs.Grammar.{IsVerityOfGrammar}
 use Rattle.dm_table.proofs.lemmas.NameLengthLemmas.{device-length}
 use Rattle.table_text.proofs.ReadValueLemmas.{bind_ok, ok_same, ok_or_ok, chosen, number_if-some, number_at-fits}
@@ -91,10 +91,11 @@ verity-grammar (version ∷ dev ∷ hash_dev ∷ data_size ∷ hash_size ∷ cou
     let known = bind_ok (algorithm_at algorithm) _ verity start.2 in
     let root = bind_ok (digest_at digest) _ verity known.2 in
     let salt = bind_ok (salt_at digits) _ verity root.2 in
-    let options = bind_ok (options_at (verity_options true) params) _ verity salt.2 in
+    let options = bind_ok (options_at known_verity_options params) _ verity salt.2 in
+    let corruption = bind_ok (corruption_at options.0) _ verity options.2 in
     let root_bytes = bytes_at-grammar 32 kinds.Digest digest root.0 root.1 in
     let salt_bytes = salt_at-grammar digits salt.0 salt.1 in
-    subst IsVerityOfGrammar (ok_same _ verity options.2) (record {
+    subst IsVerityOfGrammar (ok_same _ verity corruption.2) (record {
       devices = record { below = device_at-grammar dev below.0 below.1; hash = device_at-grammar hash_dev hash.0 hash.1 };
       places = record {
         data_block = block_size_at-grammar data_size data_block.0 data_block.1;

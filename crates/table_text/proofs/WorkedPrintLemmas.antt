@@ -2,6 +2,7 @@
 use Rattle.std.proofs.Common.{◌≡◌, ℕ, Bool, List, [], ◌∷◌, ◌++◌, replicate, refl, codes, true, false}
 use Rattle.hex.specs.Hex.{encode_with}
 use Rattle.std.specs.Fmt.{digits}
+use Rattle.dm_table.specs.declared.verity.CorruptionMode.TheVariants.{Fail}
 use Rattle.dm_table.specs.declared.table.Base.{Base}
 use Rattle.dm_table.specs.declared.table.Line.{Line}
 use Rattle.dm_table.specs.declared.table.Target.{Target}
@@ -24,7 +25,7 @@ crypt_line options =
 -- a `verity` line
 abbrev verity_line : List ℕ → Bool → Line
 verity_line salt ignores =
-    line 0 8 (verity_target (record { «data» = codes "D"; hash = codes "/dev/mapper/t"; data_block = 4096; hash_block = 512; blocks = 1; start = 3; root = replicate 32 171; salt = salt; ignore_zero_blocks = ignores }))
+    line 0 8 (verity_target (record { «data» = codes "D"; hash = codes "/dev/mapper/t"; data_block = 4096; hash_block = 512; blocks = 1; start = 3; root = replicate 32 171; salt = salt; ignore_zero_blocks = ignores; corruption = Fail; in_tasklet = false }))
 
 -- a printed table
 printed : printed_table false (line 0 8 (Linear (base (codes "D") 2)) ∷ line 8 32 (Striped 8 (base (codes "A") 0 ∷ base (codes "/dev/mapper/b") 16 ∷ [])) ∷ line 40 1 Error ∷ line 41 1 Zero ∷ [])

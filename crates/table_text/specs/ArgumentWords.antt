@@ -32,4 +32,4 @@ salt_word (byte ∷ more) = encode_lower (byte ∷ more)
 unfoldable pub verity_words : Verity → List Word
 verity_words verity =
     codes "1" ∷ verity.data ∷ verity.hash ∷ decimal verity.data_block ∷ decimal verity.hash_block ∷ decimal verity.blocks ∷ decimal verity.start
-    ∷ algorithm_name Sha256 ∷ encode_lower verity.root ∷ salt_word verity.salt ∷ options_words (verity_options verity.ignore_zero_blocks)
+    ∷ algorithm_name Sha256 ∷ encode_lower verity.root ∷ salt_word verity.salt ∷ options_words (verity_options verity)

@@ -2,13 +2,13 @@
 ghost use Rattle.std.specs.Prelude.{◌≡◌, ◌≤◌, ◌+◌, ◌∷◌, ◌++◌, IfErr, OnOk, codes, length};
 ghost use Rattle.allocation.specs.Asked.{asked};
 ghost use Rattle.table_text.specs.ArgumentWords.{options_words, salt_word, verity_words};
-ghost use Rattle.dm_table.specs.Verity.{verity_options};
+ghost use Rattle.dm_table.specs.Verity.{corruption_words, verity_options, word_if};
 ghost use Rattle.table_text.specs.Print.{PrintsWords, printed_length};
 
 use crate::print::{push_spaced, push_spaced_number};
 use crate::print_digits::push_digits;
 use allocation::OutOfMemory;
-use dm_table::Verity;
+use dm_table::{CorruptionMode, Verity};
 
 /// Prints the type and arguments of a `verity` line.
 pub(crate) fn print_verity(text: &mut Vec<u8>, verity: &Verity) -> Result<(), OutOfMemory>
@@ -26,7 +26,7 @@ pub(crate) fn print_verity(text: &mut Vec<u8>, verity: &Verity) -> Result<(), Ou
     push_spaced(text, verity.salt.algorithm().name())?;
     push_digits(text, verity.root.as_bytes())?;
     print_salt(text, verity.salt.bytes())?;
-    print_options(text, verity.ignore_zero_blocks)?;
+    print_options(text, verity)?;
     Ok(())
 }
 
@@ -42,15 +42,51 @@ fn print_salt(text: &mut Vec<u8>, salt: &[u8]) -> Result<(), OutOfMemory>
     }
 }
 
-// Appends the number of options and the option, if the line has it.
-fn print_options(text: &mut Vec<u8>, ignore_zero_blocks: bool) -> Result<(), OutOfMemory>
-    ensures ok { OnOk result (PrintsWords text.old (options_words (verity_options ignore_zero_blocks)) text.new) }
-    ensures err { IfErr result (λ e. asked e ≤ printed_length (options_words (verity_options ignore_zero_blocks))) }
+// Appends the number of options and the options, or nothing if the line has none.
+fn print_options(text: &mut Vec<u8>, verity: &Verity) -> Result<(), OutOfMemory>
+    ensures ok { OnOk result (PrintsWords text.old (options_words (verity_options verity.now)) text.new) }
+    ensures err { IfErr result (λ e. asked e ≤ printed_length (options_words (verity_options verity.now))) }
 {
-    if !ignore_zero_blocks {
+    let count = option_count(verity);
+    if count == 0 {
         return Ok(());
     }
-    push_spaced_number(text, 1)?;
-    push_spaced(text, b"ignore_zero_blocks")?;
+    push_spaced_number(text, count)?;
+    print_corruption(text, verity.corruption)?;
+    print_if(text, verity.ignore_zero_blocks, b"ignore_zero_blocks")?;
+    print_if(text, verity.in_tasklet, b"try_verify_in_tasklet")?;
     Ok(())
+}
+
+fn option_count(verity: &Verity) -> u64
+    ensures { result ≡ length (verity_options verity.now) }
+{
+    let corruption = match verity.corruption {
+        CorruptionMode::Fail => 0,
+        CorruptionMode::Restart => 1,
+        CorruptionMode::Panic => 1,
+    };
+    corruption + u64::from(verity.ignore_zero_blocks) + u64::from(verity.in_tasklet)
+}
+
+fn print_corruption(text: &mut Vec<u8>, mode: CorruptionMode) -> Result<(), OutOfMemory>
+    ensures ok { OnOk result (PrintsWords text.old (corruption_words mode) text.new) }
+    ensures err { IfErr result (λ e. asked e ≤ printed_length (corruption_words mode)) }
+{
+    match mode {
+        CorruptionMode::Fail => Ok(()),
+        CorruptionMode::Restart => push_spaced(text, b"restart_on_corruption"),
+        CorruptionMode::Panic => push_spaced(text, b"panic_on_corruption"),
+    }
+}
+
+fn print_if(text: &mut Vec<u8>, is_set: bool, word: &[u8]) -> Result<(), OutOfMemory>
+    ensures ok { OnOk result (PrintsWords text.old (word_if is_set word.now) text.new) }
+    ensures err { IfErr result (λ e. asked e ≤ printed_length (word_if is_set word.now)) }
+{
+    if is_set {
+        push_spaced(text, word)
+    } else {
+        Ok(())
+    }
 }

@@ -3,14 +3,14 @@ ghost use Rattle.std.specs.Prelude.{◌≡◌, ◌/◌, ◌<◌, ◌≤◌, ◌�
 ghost use Rattle.dm_table.specs.declared.fault.TextKind.TheVariants as kinds;
 ghost use Rattle.table_text.specs.Reading.{IsReading};
 ghost use Rattle.dm_table.specs.Arguments.{bytes_at, device_at};
-ghost use Rattle.dm_table.specs.Verity.{algorithm_at, block_size_at, digest_at, salt_at, verity_at, version_at};
+ghost use Rattle.dm_table.specs.Verity.{algorithm_at, block_size_at, corruption_at, digest_at, salt_at, verity_at, version_at};
 
 use crate::cut::Words;
 use crate::digits::decode_digits;
 use crate::line_fault::LineFault;
 use crate::numbers::{number, read_number};
 use crate::option_words::read_options;
-use dm_table::{Name, TextKind, Verity, is_device, is_kept};
+use dm_table::{CorruptionMode, Name, Options, TextKind, Verity, is_device, is_kept};
 use std::alloc::Global;
 use tree_shape::{Algorithm, Digest, Salt, is_block_size};
 
@@ -47,8 +47,19 @@ pub(crate) fn read_verity(alloc: Global, mut arguments: Words<'_>) -> Result<Ver
     let algorithm = read_algorithm(words.algorithm)?;
     let root = read_root(words.root)?;
     let salt = read_salt(algorithm, words.salt)?;
-    let options = read_options(alloc, arguments, &["ignore_zero_blocks"])?;
+    let options = read_options(
+        alloc,
+        arguments,
+        &[
+            "ignore_zero_blocks",
+            "restart_on_corruption",
+            "panic_on_corruption",
+            "try_verify_in_tasklet",
+        ],
+    )?;
+    let corruption = corruption_mode(&options)?;
     let ignore_zero_blocks = is_kept(&options, b"ignore_zero_blocks");
+    let in_tasklet = is_kept(&options, b"try_verify_in_tasklet");
     let data = Name::new(alloc, words.device)?;
     let hash = Name::new(alloc, words.hash_device)?;
     Ok(Verity {
@@ -61,6 +72,8 @@ pub(crate) fn read_verity(alloc: Global, mut arguments: Words<'_>) -> Result<Ver
         root,
         salt,
         ignore_zero_blocks,
+        corruption,
+        in_tasklet,
     })
 }
 
@@ -157,4 +170,20 @@ fn decode_salt(algorithm: Algorithm, word: &[u8], room: &mut [u8]) -> Result<Sal
 {
     decode_digits(word, room, TextKind::Salt)?;
     Salt::new(algorithm, room).ok_or(TextKind::Salt)
+}
+
+fn corruption_mode(options: &Options) -> Result<CorruptionMode, TextKind>
+    ensures { result ≡ corruption_at options.now }
+{
+    let panics = is_kept(options, b"panic_on_corruption");
+    if is_kept(options, b"restart_on_corruption") {
+        if panics {
+            return Err(TextKind::Option);
+        }
+        return Ok(CorruptionMode::Restart);
+    }
+    if panics {
+        return Ok(CorruptionMode::Panic);
+    }
+    Ok(CorruptionMode::Fail)
 }

@@ -15,7 +15,7 @@ use Rattle.tree_path.proofs.lemmas.PathLemmas.{leads-down, stored-down}
 use Rattle.runs.specs.Kinds.{State}
 use Rattle.tree_difference.specs.declared.difference.Totals.{Totals}
 use Rattle.tree_difference.specs.declared.fault.DifferenceFault.{DifferenceFault}
-use Rattle.tree_difference.specs.declared.fault.DifferenceFault.TheVariants.{Image, Unpinned, Unlike, Hash, NoMemory, Write}
+use Rattle.tree_difference.specs.declared.fault.DifferenceFault.TheVariants.{Image, Unaligned, Unpinned, Unlike, Hash, NoMemory, Write}
 use Rattle.tree_difference.specs.declared.fault.Unlike.{Unlike as Field}
 use Rattle.tree_difference.specs.declared.fault.Unlike.TheVariants.{DataBlockSize, HashBlockSize, Salt}
 use Rattle.tree_difference.specs.declared.fault.Which.TheVariants.{First, Second}
@@ -167,6 +167,7 @@ module _ (pair : TreePair) (w : Walk) (d d' e e' d'' e'' : Device) (old new : Op
   walk-cause (Image Second (Super f)) h = absurd h
   walk-cause (Image Second TooSmall) h = absurd h
   walk-cause (Image Second NoRoom) h = absurd h
+  walk-cause (Unaligned tree) h = absurd h
   walk-cause (Unpinned tree mismatch) h = absurd h
   walk-cause (Unlike f) h = absurd h
   walk-cause NoMemory h = absurd h
@@ -176,6 +177,7 @@ module _ (pair : TreePair) (w : Walk) (d d' e e' d'' e'' : Device) (old new : Op
   comparison-cause Write h = h
   comparison-cause (Hash tree level number) h = walk-cause (Hash tree level number) h
   comparison-cause (Image tree f) h = walk-cause (Image tree f) h
+  comparison-cause (Unaligned tree) h = absurd h
   comparison-cause (Unpinned tree mismatch) h = absurd h
   comparison-cause (Unlike f) h = absurd h
   comparison-cause NoMemory h = absurd h

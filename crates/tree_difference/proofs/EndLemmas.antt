@@ -15,7 +15,7 @@ use Rattle.runs.specs.Limits.{limited_lines}
 use Rattle.runs.specs.Kinds.{State, count_of, is_state, one_if}
 use Rattle.tree_difference.specs.declared.difference.Totals.{Totals}
 use Rattle.tree_difference.specs.declared.fault.DifferenceFault.{DifferenceFault}
-use Rattle.tree_difference.specs.declared.fault.DifferenceFault.TheVariants.{Image, Unpinned, Unlike, Hash, NoMemory, Write}
+use Rattle.tree_difference.specs.declared.fault.DifferenceFault.TheVariants.{Image, Unaligned, Unpinned, Unlike, Hash, NoMemory, Write}
 use Rattle.tree_difference.specs.declared.walk.Walk.{Walk}
 use Rattle.tree_difference.specs.Causes.{IsWalkCause}
 use Rattle.tree_difference.specs.Comparisons.{Compares, ReadsDiffering, DifferenceWorld, compared_totals}
@@ -37,6 +37,7 @@ count_of-most kind (x ∷ xs) = omega (arith, weight-most (is_state kind x), cou
 pub walk-comparison : (w : Walk) (d e d' e' : Device) (failed : Bool) (fault : DifferenceFault) → IsWalkCause w d e d' e' fault → IsComparisonCause w d e d' e' failed fault
 walk-comparison w d e d' e' failed (Hash tree level number) h = h
 walk-comparison w d e d' e' failed (Image tree f) h = h
+walk-comparison w d e d' e' failed (Unaligned tree) h = absurd h
 walk-comparison w d e d' e' failed (Unpinned tree mismatch) h = absurd h
 walk-comparison w d e d' e' failed (Unlike f) h = absurd h
 walk-comparison w d e d' e' failed NoMemory h = absurd h

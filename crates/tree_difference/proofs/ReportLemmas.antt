@@ -20,7 +20,7 @@ use Rattle.runs.specs.Tallies.{listed}
 use Rattle.runs.specs.Texts.{listing_text}
 use Rattle.runs.proofs.lemmas.ListingLemmas.{listed-all, listed-none}
 use Rattle.tree_difference.specs.declared.fault.DifferenceFault.{DifferenceFault}
-use Rattle.tree_difference.specs.declared.fault.DifferenceFault.TheVariants.{Image, Unpinned, Unlike, Hash, NoMemory, Write}
+use Rattle.tree_difference.specs.declared.fault.DifferenceFault.TheVariants.{Image, Unaligned, Unpinned, Unlike, Hash, NoMemory, Write}
 use Rattle.tree_difference.specs.declared.fault.Which.{Which}
 use Rattle.tree_difference.specs.declared.fault.Which.TheVariants.{First, Second}
 use Rattle.tree_difference.specs.declared.walk.Walk.{Walk}
@@ -41,6 +41,7 @@ ancestor-first s n = zero-div (per_block s ^ n)
 pub first-block : (p q : PathRecord) (d d' : Device) (from to : ℕ) (which : Which) (fault : DifferenceFault) → IsWayCause (steps p q d d' 0 from) which to fault → IsFirstBlock fault
 first-block p q d d' from to which (Hash tree level number) h = h.2 ∙ ancestor-first p.shape (level + 1)
 first-block p q d d' from to which (Image tree f) h = tt
+first-block p q d d' from to which (Unaligned tree) h = tt
 first-block p q d d' from to which (Unpinned tree mismatch) h = tt
 first-block p q d d' from to which (Unlike f) h = tt
 first-block p q d d' from to which NoMemory h = tt
@@ -50,6 +51,7 @@ pub way-first : (w : Walk) (q : PathRecord) (d d' : Device) (i level : ℕ) (fau
 way-first w q d d' i level (Hash First at number) h = (h.1.between.1, h.2)
 way-first w q d d' i level (Hash Second at number) h = let clash : Second ≡ First = h.0 in absurd (cc)
 way-first w q d d' i level (Image tree f) h = tt
+way-first w q d d' i level (Unaligned tree) h = tt
 way-first w q d d' i level (Unpinned tree mismatch) h = tt
 way-first w q d d' i level (Unlike f) h = tt
 way-first w q d d' i level NoMemory h = tt
@@ -59,6 +61,7 @@ pub way-second : (w : Walk) (q : PathRecord) (d d' : Device) (i level : ℕ) (fa
 way-second w q d d' i level (Hash Second at number) h = (h.1.between.1, h.2)
 way-second w q d d' i level (Hash First at number) h = let clash : First ≡ Second = h.0 in absurd (cc)
 way-second w q d d' i level (Image tree f) h = tt
+way-second w q d d' i level (Unaligned tree) h = tt
 way-second w q d d' i level (Unpinned tree mismatch) h = tt
 way-second w q d d' i level (Unlike f) h = tt
 way-second w q d d' i level NoMemory h = tt
@@ -69,6 +72,7 @@ pub way-then : (w w' : Walk) (i low top : ℕ) (fault : DifferenceFault) → Are
 way-then w w' i low top (Hash First at number) t le h = (omega (arith, h.0, le), h.1 ∙ ap (λ (s : ShapeRecord). ancestor s (at + 1) i) t.first.shape_is)
 way-then w w' i low top (Hash Second at number) t le h = (omega (arith, h.0, le), h.1 ∙ ap (λ (s : ShapeRecord). ancestor s (at + 1) i) t.second.shape_is)
 way-then w w' i low top (Image tree f) t le h = tt
+way-then w w' i low top (Unaligned tree) t le h = tt
 way-then w w' i low top (Unpinned tree mismatch) t le h = tt
 way-then w w' i low top (Unlike f) t le h = tt
 way-then w w' i low top NoMemory t le h = tt
@@ -91,6 +95,7 @@ module _ (w : Walk) (d e : Device) (have : HaveTrees w d e) (at top : ℕ) (is :
       let same : per_block w.second.shape ≡ width w = ap (λ (b : ℕ). b / 32) have.alike.hash_block in
       under (width w) some at top level number is.begins h.0 (h.1 ∙ ap (λ (p : ℕ). at / p ^ (level + 1)) same)
   below-way (Image tree f) h = tt
+  below-way (Unaligned tree) h = tt
   below-way (Unpinned tree mismatch) h = tt
   below-way (Unlike f) h = tt
   below-way NoMemory h = tt
@@ -101,6 +106,7 @@ module _ (w : Walk) (d e : Device) (have : HaveTrees w d e) (at top : ℕ) (is :
 reported : (t : Trees) (w : DifferenceWorld) (most : Option ℕ) (fault : DifferenceFault) → ReportsBefore t w most fault → IsReported t w most fault
 reported t w most (Hash tree level number) r = r
 reported t w most (Image tree f) r = r
+reported t w most (Unaligned tree) r = r
 reported t w most (Unpinned tree mismatch) r = r
 reported t w most (Unlike f) r = r
 reported t w most NoMemory r = r
@@ -109,6 +115,7 @@ reported t w most Write r = tt
 first-below : (t : Trees) (fault : DifferenceFault) → IsFirstBlock fault → IsBelow t 0 fault
 first-below t (Hash tree level number) first = sym (ap (λ (n : ℕ). n * per_block t.first ^ (level + 1)) first ∙ zero-mul (per_block t.first ^ (level + 1)))
 first-below t (Image tree f) first = tt
+first-below t (Unaligned tree) first = tt
 first-below t (Unpinned tree mismatch) first = tt
 first-below t (Unlike f) first = tt
 first-below t NoMemory first = tt
@@ -155,6 +162,7 @@ before-was t d e d' e' d'' e'' old new most fault p q r = record {
 pub reported-was : (t : Trees) (d e d' e' d'' e'' : Device) (old new : Option (List ℕ)) (most : Option ℕ) (fault : DifferenceFault) → IsOnlyRead d d' → IsOnlyRead e e' → IsReported t (difference_world d' e' d'' e'' old new) most fault → IsReported t (difference_world d e d'' e'' old new) most fault
 reported-was t d e d' e' d'' e'' old new most (Hash tree level number) p q r = before-was t d e d' e' d'' e'' old new most (Hash tree level number) p q r
 reported-was t d e d' e' d'' e'' old new most (Image tree f) p q r = before-was t d e d' e' d'' e'' old new most (Image tree f) p q r
+reported-was t d e d' e' d'' e'' old new most (Unaligned tree) p q r = before-was t d e d' e' d'' e'' old new most (Unaligned tree) p q r
 reported-was t d e d' e' d'' e'' old new most (Unpinned tree mismatch) p q r = before-was t d e d' e' d'' e'' old new most (Unpinned tree mismatch) p q r
 reported-was t d e d' e' d'' e'' old new most (Unlike f) p q r = before-was t d e d' e' d'' e'' old new most (Unlike f) p q r
 reported-was t d e d' e' d'' e'' old new most NoMemory p q r = before-was t d e d' e' d'' e'' old new most NoMemory p q r

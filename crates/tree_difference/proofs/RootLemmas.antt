@@ -11,7 +11,7 @@ use Rattle.tree_path.specs.Path.{PathRecord, IsPathOf, LeadsTo, AreStored, block
 use Rattle.tree_path.specs.Steps.{IsDown, IsStopped, steps}
 use Rattle.tree_path.proofs.lemmas.PathLemmas.{digest_on-top}
 use Rattle.tree_difference.specs.declared.fault.DifferenceFault.{DifferenceFault}
-use Rattle.tree_difference.specs.declared.fault.DifferenceFault.TheVariants.{Image, Unpinned, Unlike, Hash, NoMemory, Write}
+use Rattle.tree_difference.specs.declared.fault.DifferenceFault.TheVariants.{Image, Unaligned, Unpinned, Unlike, Hash, NoMemory, Write}
 use Rattle.tree_difference.specs.declared.fault.Which.{Which}
 use Rattle.tree_difference.specs.declared.fault.Which.TheVariants.{First, Second}
 use Rattle.tree_difference.specs.declared.trees.TreePair.{TreePair}
@@ -56,6 +56,7 @@ root-cause s root p q d d' which (Image tree DeviceFailed) is valid h = h
 root-cause s root p q d d' which (Image tree (Super f)) is valid h = absurd h
 root-cause s root p q d d' which (Image tree TooSmall) is valid h = absurd h
 root-cause s root p q d d' which (Image tree NoRoom) is valid h = absurd h
+root-cause s root p q d d' which (Unaligned tree) is valid h = absurd h
 root-cause s root p q d d' which (Unpinned tree mismatch) is valid h = absurd h
 root-cause s root p q d d' which (Unlike f) is valid h = absurd h
 root-cause s root p q d d' which NoMemory is valid h = absurd h
@@ -70,6 +71,7 @@ module _ (pair : TreePair) (d d' e : Device) (old new : Option (List ℕ)) (fail
   first-cause (Image tree (Super f)) h = absurd h
   first-cause (Image tree TooSmall) h = absurd h
   first-cause (Image tree NoRoom) h = absurd h
+  first-cause (Unaligned tree) h = absurd h
   first-cause (Unpinned tree mismatch) h = absurd h
   first-cause (Unlike f) h = absurd h
   first-cause NoMemory h = (ap (λ (x : Device). x.failures) h.0, refl, h.1)
@@ -83,6 +85,7 @@ module _ (pair : TreePair) (d d' e : Device) (old new : Option (List ℕ)) (fail
   second-cause e' (Image tree (Super f)) df h = absurd h
   second-cause e' (Image tree TooSmall) df h = absurd h
   second-cause e' (Image tree NoRoom) df h = absurd h
+  second-cause e' (Unaligned tree) df h = absurd h
   second-cause e' (Unpinned tree mismatch) df h = absurd h
   second-cause e' (Unlike f) df h = absurd h
   second-cause e' NoMemory df h = (df, ap (λ (x : Device). x.failures) h.0, h.1)

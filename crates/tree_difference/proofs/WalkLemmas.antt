@@ -11,7 +11,7 @@ use Rattle.tree_path.specs.Steps.{IsStopped, steps}
 use Rattle.verity_format.proofs.lemmas.DeviceLemmas.{failed-then, steady-then}
 use Rattle.tree_path.proofs.lemmas.PathLemmas.{digests-down, leads-down, stored-down}
 use Rattle.tree_difference.specs.declared.fault.DifferenceFault.{DifferenceFault}
-use Rattle.tree_difference.specs.declared.fault.DifferenceFault.TheVariants.{Image, Unpinned, Unlike, Hash, NoMemory, Write}
+use Rattle.tree_difference.specs.declared.fault.DifferenceFault.TheVariants.{Image, Unaligned, Unpinned, Unlike, Hash, NoMemory, Write}
 use Rattle.tree_difference.specs.declared.fault.Which.TheVariants.{First, Second}
 use Rattle.tree_difference.specs.declared.walk.Walk.{Walk}
 use Rattle.tree_difference.specs.Causes.{IsBadBlock, IsWayCause, IsWalkCause}
@@ -128,6 +128,7 @@ cause-then w w' d e dm em d' e' (Image First NoRoom) t p q df ef h = absurd h
 cause-then w w' d e dm em d' e' (Image Second (Super f)) t p q df ef h = absurd h
 cause-then w w' d e dm em d' e' (Image Second TooSmall) t p q df ef h = absurd h
 cause-then w w' d e dm em d' e' (Image Second NoRoom) t p q df ef h = absurd h
+cause-then w w' d e dm em d' e' (Unaligned tree) t p q df ef h = absurd h
 cause-then w w' d e dm em d' e' (Unpinned tree mismatch) t p q df ef h = absurd h
 cause-then w w' d e dm em d' e' (Unlike f) t p q df ef h = absurd h
 cause-then w w' d e dm em d' e' NoMemory t p q df ef h = absurd h
@@ -145,6 +146,7 @@ entering-first w q d e d' i level (Image First NoRoom) can h = absurd h
 entering-first w q d e d' i level (Image Second (Super f)) can h = absurd h
 entering-first w q d e d' i level (Image Second TooSmall) can h = absurd h
 entering-first w q d e d' i level (Image Second NoRoom) can h = absurd h
+entering-first w q d e d' i level (Unaligned tree) can h = absurd h
 entering-first w q d e d' i level (Unpinned tree mismatch) can h = absurd h
 entering-first w q d e d' i level (Unlike f) can h = absurd h
 entering-first w q d e d' i level NoMemory can h = absurd h
@@ -161,6 +163,7 @@ entering-second w q d e d' e' i level (Image First NoRoom) can h = absurd h
 entering-second w q d e d' e' i level (Image Second (Super f)) can h = absurd h
 entering-second w q d e d' e' i level (Image Second TooSmall) can h = absurd h
 entering-second w q d e d' e' i level (Image Second NoRoom) can h = absurd h
+entering-second w q d e d' e' i level (Unaligned tree) can h = absurd h
 entering-second w q d e d' e' i level (Unpinned tree mismatch) can h = absurd h
 entering-second w q d e d' e' i level (Unlike f) can h = absurd h
 entering-second w q d e d' e' i level NoMemory can h = absurd h

@@ -27,6 +27,8 @@ pub enum Unlike {
 pub enum DifferenceFault {
     /// A hash image has no superblock, is too small for its tree, or failed.
     Image(Which, VerifyFault),
+    /// No hash block begins at the sector of a superblock.
+    Unaligned(Which),
     /// A superblock differs from its pin.
     Unpinned(Which, Mismatch),
     /// The superblocks make the trees incomparable.

@@ -12,4 +12,4 @@ mod walk;
 
 pub use difference::{Totals, compare_trees};
 pub use fault::{DifferenceFault, Unlike, Which};
-pub use trees::{Roots, TreePair, TrustedTrees, read_trees};
+pub use trees::{Roots, TreePair, TreeStarts, TrustedTrees, read_trees};

@@ -16,6 +16,13 @@ pub struct Roots {
     pub second: Digest,
 }
 
+/// The sectors of 512 bytes of their files at which two hash images begin.
+#[derive(Clone, Copy, Debug, PartialEq, Eq)]
+pub struct TreeStarts {
+    pub first: u64,
+    pub second: u64,
+}
+
 /// What is trusted of two trees: the root hash of each, and its pin if it has one.
 #[derive(Clone, Copy)]
 pub struct TrustedTrees {
@@ -31,23 +38,26 @@ pub struct TreePair {
     pub roots: Roots,
 }
 
-/// Reads the superblocks of two hash images, each once, and returns their trees, which can be compared. No other block is read.
+/// Reads the superblocks of two hash images that begin at those sectors, each once, and returns their trees, which can be
+/// compared. No other block is read.
 ///
 /// # Errors
 ///
 /// - `Image` if a hash image has no superblock, is too small for its tree, or failed.
+/// - `Unaligned` if no hash block begins at the sector of a superblock.
 /// - `Unpinned` if a superblock differs from its pin.
 /// - `Unlike` if the superblocks make the trees incomparable.
 pub fn read_trees<D: BlockDev, E: BlockDev>(
     first: &mut D,
     second: &mut E,
+    starts: &TreeStarts,
     trusted: &TrustedTrees,
 ) -> Result<TreePair, DifferenceFault>
-    ensures ok { IfOk result (ReadsTrees D.state E.state first.old second.old first.new second.new trusted.now) }
-    ensures err { IfErr result (ReadsNoTrees D.state E.state first.old second.old first.new second.new trusted.now) }
+    ensures ok { IfOk result (ReadsTrees D.state E.state first.old second.old first.new second.new starts.now trusted.now) }
+    ensures err { IfErr result (ReadsNoTrees D.state E.state first.old second.old first.new second.new starts.now trusted.now) }
 {
-    let one = superblock_of(first, Which::First, &trusted.first.pin)?;
-    let two = superblock_of(second, Which::Second, &trusted.second.pin)?;
+    let one = superblock_of(first, starts.first, Which::First, &trusted.first.pin)?;
+    let two = superblock_of(second, starts.second, Which::Second, &trusted.second.pin)?;
     match check_alike(&one, &two) {
         Some(field) => Err(DifferenceFault::Unlike(field)),
         None => Ok(TreePair {

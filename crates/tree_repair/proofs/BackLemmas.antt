@@ -20,9 +20,9 @@ use Rattle.tree_repair.specs.Passes.{AreBack, HasNoted, IsBackIn, IsGoodThen, ba
 use Rattle.tree_repair.specs.Repairs.{LiesOn, job_of}
 use Rattle.tree_repair.specs.Runs.{HasRun, IsDone, Job, Visit, visit}
 use Rattle.tree_repair.specs.ParitySearches.{IsSought, IsSoughtAt, trial}
-use Rattle.tree_repair.specs.Worlds.{RepairWorld}
+use Rattle.tree_repair.specs.Worlds.{IsImageUnfailed, RepairWorld}
 use Rattle.tree_repair.proofs.RunLemmas.{runs-then, world-none, world-then}
-use Rattle.tree_repair.proofs.WholeLemmas.{AreUnfailedSince, all-good-of, bool-or, good-in-right, outcome-by}
+use Rattle.tree_repair.proofs.WholeLemmas.{all-good-of, bool-or, good-in-right, outcome-by}
 
 -- ---- one after another
 
@@ -150,11 +150,11 @@ all-good-behind {j} {w} {x} {y} run all = record {
 -- ---- the whole
 
 module _ (plan : Plan) (j : Job) (w y : RepairWorld) (same : j ≡ job_of plan true) (lies : LiesOn plan.tree.shape w) where
-  parity-job : (all sure : Bool) → (IsTrue all → IsAllGood (job_of plan true) w y) → (IsTrue sure → AreUnfailedSince w y) → IsParityOutcome plan w y (pass_outcome (all && sure) plan.tree.shape.blocks)
+  parity-job : (all sure : Bool) → (IsTrue all → IsAllGood (job_of plan true) w y) → (IsTrue sure → IsImageUnfailed w y) → IsParityOutcome plan w y (pass_outcome (all && sure) plan.tree.shape.blocks)
   parity-job all sure good unfailed = outcome-by all sure plan.tree.shape.blocks (IsParityOutcome plan w y)
-      (λ is known. (let g = good is in all-good-of plan true w y g.visits lies g.runs g.done g.each (unfailed known))) tt
+      (λ is known. (let g = good is in all-good-of plan true w y g.visits lies g.runs g.done g.each (unfailed known))) (λ why. tt)
 
-  pub parity-outcome : (all sure : Bool) (n : ℕ) → n ≡ j.tree.shape.blocks → (IsTrue all → IsAllGood j w y) → (IsTrue sure → AreUnfailedSince w y) → IsParityOutcome plan w y (pass_outcome (all && sure) n)
+  pub parity-outcome : (all sure : Bool) (n : ℕ) → n ≡ j.tree.shape.blocks → (IsTrue all → IsAllGood j w y) → (IsTrue sure → IsImageUnfailed w y) → IsParityOutcome plan w y (pass_outcome (all && sure) n)
   parity-outcome all sure n count good unfailed =
       subst (λ (m : ℕ). IsParityOutcome plan w y (pass_outcome (all && sure) m)) (sym (count ∙ ap (λ (k : Job). k.tree.shape.blocks) same))
       (parity-job all sure (λ is. subst (λ (k : Job). IsAllGood k w y) same (good is)) unfailed)

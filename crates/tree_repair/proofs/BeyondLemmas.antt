@@ -2,13 +2,11 @@
 use Rattle.std.proofs.Common.{◌≡◌, ◌≤◌, ◌<◌, ℕ, Bool, true, false, List, [], ◌∷◌, ◌++◌, refl, sym, subst, arith, inl, inr}
 use Rattle.std.specs.Prelude.{◌⊎◌}
 use Rattle.std.specs.List.{flat_map}
-use Rattle.block_device.specs.Device.{Device, HasFailed}
+use Rattle.block_device.specs.Device.{Device}
 use Rattle.fec_area.specs.declared.layout.Layout.{Layout}
 use Rattle.fec_area.specs.declared.restoring.RestoreFault.TheVariants.{TooManyLost, TooSmall, Device as DeviceFailed, NoMemory}
-use Rattle.fec_area.specs.Writing.{HasAnyFailed}
 use Rattle.tree_shape.specs.Shape.{ShapeRecord, IsShape, ancestor, levels}
 use Rattle.tree_path.specs.Path.{PathRecord}
-use Rattle.tree_survey.specs.Failing.{HasFailedTimes}
 use Rattle.tree_repair.specs.declared.bad.BadBlock.{BadBlock}
 use Rattle.tree_repair.specs.declared.mending.Mended.{Mended}
 use Rattle.tree_repair.specs.declared.mending.Mended.TheVariants as mended
@@ -20,55 +18,10 @@ use Rattle.tree_repair.specs.Repairs.{job_of}
 use Rattle.tree_repair.specs.Runs.{Job, Visit, VisitsAll, visit}
 use Rattle.tree_repair.specs.ParitySearches.{AreSought, IsBlockUnmade, IsSought, IsSoughtAt, IsTriedBehind, IsUncovered, IsVain, Trial, trial}
 use Rattle.tree_repair.specs.Worlds.{HasCountedNone, IsParityRead, IsWorldRead, RepairWorld}
-use Rattle.tree_repair.proofs.ExcuseLemmas.{counted-left, counted-right, passed-for, runs-own}
+use Rattle.tree_repair.proofs.ExcuseLemmas.{counted-left, passed-for, runs-own}
 use Rattle.tree_repair.proofs.KeepLemmas.{runs-before}
 use Rattle.tree_repair.proofs.RunLemmas.{parity-none, parity-then, runs-one, runs-read, runs-then, world-none, world-then}
-
--- ---- devices that counted no failure
-
--- the counters of the three devices didn't decrease between two states
-record AreCounting (w w' : RepairWorld) (p p' : Device) : Type 0 where
-  data_more : HasFailedTimes w.data_dev 0 w'.data_dev
-  hash_more : HasFailedTimes w.hash_dev 0 w'.hash_dev
-  parity_more : HasFailedTimes p 0 p'
-
-parity-counting : (p q : Device) → IsParityRead p q → HasFailedTimes p 0 q
-parity-counting p q read = inl (omega (arith, read.more))
-
-counting-runs : (j : Job) (vs : List Visit) (a b : RepairWorld) (p q : Device) → VisitsAll j vs a b → IsParityRead p q → AreCounting a b p q
-counting-runs j vs a b p q runs read = record { data_more = runs-own j 0 vs a b runs; hash_more = runs-own j 1 vs a b runs; parity_more = parity-counting p q read }
-
-counting-read : (a b : RepairWorld) (p q : Device) → IsWorldRead a b → IsParityRead p q → AreCounting a b p q
-counting-read a b p q world read = record { data_more = inl (omega (arith, world.data_more)); hash_more = inl (omega (arith, world.hash_more)); parity_more = parity-counting p q read }
-
--- none was counted between the first two of three states, nor between the last two
-none-left : (a b c : RepairWorld) (p q r : Device) → AreCounting b c q r → HaveCountedNone a c p r → HaveCountedNone a b p q
-none-left a b c p q r more none = record {
-  data_none = counted-left a.data_dev b.data_dev c.data_dev more.data_more none.data_none;
-  hash_none = counted-left a.hash_dev b.hash_dev c.hash_dev more.hash_more none.hash_none;
-  parity_none = counted-left p q r more.parity_more none.parity_none;
-}
-
-none-right : (a b c : RepairWorld) (p q r : Device) → AreCounting a b p q → HaveCountedNone a c p r → HaveCountedNone b c q r
-none-right a b c p q r more none = record {
-  data_none = counted-right a.data_dev b.data_dev c.data_dev more.data_more none.data_none;
-  hash_none = counted-right a.hash_dev b.hash_dev c.hash_dev more.hash_more none.hash_none;
-  parity_none = counted-right p q r more.parity_more none.parity_none;
-}
-
--- so none failed
-unfailed : (old new : Device) → HasFailedTimes old 0 new → HasCountedNone old new → HasFailed old new → ⊥
-unfailed old new more none (inl less) = omega (arith, less, none.none)
-unfailed old new (inl few) none (inr most) = omega (arith, few, most, none.below)
-unfailed old new (inr end) none (inr most) = omega (arith, end, none.below)
-
-none-failed : (w w' : RepairWorld) (p p' : Device) → AreCounting w w' p p' → HaveCountedNone w w' p p' → HasAnyFailed w.data_dev w.hash_dev p w'.data_dev w'.hash_dev p' → ⊥
-none-failed w w' p p' more none failed = any failed
-  where
-    any : HasAnyFailed w.data_dev w.hash_dev p w'.data_dev w'.hash_dev p' → ⊥
-    any (inl (inl one)) = unfailed w.data_dev w'.data_dev more.data_more none.data_none one
-    any (inl (inr two)) = unfailed w.hash_dev w'.hash_dev more.hash_more none.hash_none two
-    any (inr three) = unfailed p p' more.parity_more none.parity_none three
+use Rattle.tree_repair.proofs.UnfailedLemmas.{AreCounting, counting-read, counting-runs, none-failed, none-left, none-right, unfailed}
 
 -- ---- a block that is sought
 
@@ -127,24 +80,24 @@ tried-parity : (j : Job) (h i : ℕ) (t : Trial) (back : Bool) → IsTriedBehind
 tried-parity j h i t true behind = behind.tried.1
 tried-parity j h i t false behind = behind.tried.0.parity
 
-sought-visits : (j : Job) (h i : ℕ) (t : Trial) (found back : Bool) → IsSoughtAt j h i t found back → (us : List Visit) × VisitsAll j us t.w t.w'
+pub sought-visits : (j : Job) (h i : ℕ) (t : Trial) (found back : Bool) → IsSoughtAt j h i t found back → (us : List Visit) × VisitsAll j us t.w t.w'
 sought-visits j h i t true back (not, left) = ([], left.image)
 sought-visits j h i t false back (inl (not, (left, reach))) = ([], left.image)
 sought-visits j h i t false back (inr behind) = tried-visits j h i t back behind
 
-sought-parity : (j : Job) (h i : ℕ) (t : Trial) (found back : Bool) → IsSoughtAt j h i t found back → IsParityRead t.parity_dev t.parity_dev'
+pub sought-parity : (j : Job) (h i : ℕ) (t : Trial) (found back : Bool) → IsSoughtAt j h i t found back → IsParityRead t.parity_dev t.parity_dev'
 sought-parity j h i t true back (not, left) = left.parity
 sought-parity j h i t false back (inl (not, (left, reach))) = left.parity
 sought-parity j h i t false back (inr behind) = tried-parity j h i t back behind
 
-all-visits : (j : Job) (l : Layout) (lost : List ℕ) (bs : List BadBlock) (w w' : RepairWorld) (p p' : Device) (hash_came : Bool) → AreSought j l lost bs w w' p p' hash_came → (us : List Visit) × VisitsAll j us w w'
+pub all-visits : (j : Job) (l : Layout) (lost : List ℕ) (bs : List BadBlock) (w w' : RepairWorld) (p p' : Device) (hash_came : Bool) → AreSought j l lost bs w w' p p' hash_came → (us : List Visit) × VisitsAll j us w w'
 all-visits j l lost [] w w' p p' hash_came (same, none) = ([], subst (IsWorldRead w) (sym same) (world-none w))
 all-visits j l lost (b ∷ more) w w' p p' hash_came (a, (q, (back, (rest, (is, (here, are)))))) =
     let first = sought-visits j b.place.height b.place.index (trial l lost w a p q) b.found back here in
     let later = all-visits j l lost more a w' q p' rest are in
     (first.0 ++ later.0, runs-then j first.0 later.0 w a w' first.1 later.1)
 
-all-parity : (j : Job) (l : Layout) (lost : List ℕ) (bs : List BadBlock) (w w' : RepairWorld) (p p' : Device) (hash_came : Bool) → AreSought j l lost bs w w' p p' hash_came → IsParityRead p p'
+pub all-parity : (j : Job) (l : Layout) (lost : List ℕ) (bs : List BadBlock) (w w' : RepairWorld) (p p' : Device) (hash_came : Bool) → AreSought j l lost bs w w' p p' hash_came → IsParityRead p p'
 all-parity j l lost [] w w' p p' hash_came (same, none) = subst (IsParityRead p) (sym none.0) (parity-none p)
 all-parity j l lost (b ∷ more) w w' p p' hash_came (a, (q, (back, (rest, (is, (here, are)))))) =
     parity-then (sought-parity j b.place.height b.place.index (trial l lost w a p q) b.found back here) (all-parity j l lost more a w' q p' rest are)
@@ -243,6 +196,7 @@ settled-by j l lost h i vs us w x w' p sure behind by =
       a = by.a;
       b = by.b;
       part = record { earlier = by.earlier; later = by.later ++ us; before = by.before; behind = runs-then j by.later us by.b x w' by.behind behind };
+      read = by.read;
       cut = passed-for j h i vs w x by (counted-left w.hash_dev x.hash_dev w'.hash_dev (runs-own j 1 us x w' behind) sure);
     }))
 

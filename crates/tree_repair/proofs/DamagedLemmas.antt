@@ -30,16 +30,19 @@ use Rattle.tree_repair.specs.Runs.{IsVisited, Job, Visit, VisitsAll, look_at, ow
 use Rattle.tree_repair.specs.Sources.{bytes_on_device}
 use Rattle.tree_repair.specs.ParitySearches.{AreCovered}
 use Rattle.tree_repair.specs.WithinParity.{DamagedBlocksWithinParityComeBack, FormerImage, HasTreeSizes, IsAsFormed, IsDamaged, IsFormerOf, damaged_count, is_damaged}
-use Rattle.tree_repair.specs.Worlds.{RepairWorld}
+use Rattle.tree_repair.specs.Worlds.{IsImageUnfailed, RepairWorld}
 use Rattle.tree_repair.proofs.ApartLemmas.{IsSamePlace, same-or-elsewhere}
+use Rattle.tree_repair.proofs.BeyondLemmas.{all-visits}
 use Rattle.tree_repair.proofs.DataBackLemmas.{data-back}
 use Rattle.tree_repair.proofs.DistinctLemmas.{AreDifferent, among-first, among-more, among-none, among-split, but, but-from, count-but, count-different}
+use Rattle.tree_repair.proofs.ExcuseLemmas.{counted-left, more-none}
 use Rattle.tree_repair.proofs.FormerLemmas.{former-digest}
 use Rattle.tree_repair.proofs.NumberLemmas.{of-data, of-hash}
-use Rattle.tree_repair.proofs.RunLemmas.{read-same, runs-one, visited-same}
+use Rattle.tree_repair.proofs.RunLemmas.{read-same, runs-one}
 use Rattle.tree_repair.proofs.StandLemmas.{IsReady}
-use Rattle.tree_repair.proofs.StayFormedLemmas.{IsSure, covered-same, own-steady, own-sure, read-images, ready-same, runs-kept, sure-same, visit-ready}
-use Rattle.tree_repair.proofs.WithinParityLemmas.{HoldsParity, holds-first, holds-later}
+use Rattle.tree_repair.proofs.StayFormedLemmas.{covered-same, own-steady, read-images, ready-same, rest-sure, runs-kept, visit-ready, visit-sure-in}
+use Rattle.tree_repair.proofs.UnfailedLemmas.{image-sure, own-sure, sure-before, unfailed}
+use Rattle.tree_repair.proofs.WithinParityLemmas.{HoldsParity, holds-first, holds-last, sure-earlier, sure-last}
 
 -- ---- numbers that count as lost
 
@@ -145,13 +148,15 @@ module _ (form : FormedChainsAreGood) (j : Job) (valid : IsShape j.tree.shape) (
       sym (at.is.bytes w.data_dev.image w.hash_dev.image ∙ ap (λ (n : ℕ). block_at w.hash_dev.image n (position j.tree.shape g (ancestor j.tree.shape (g + 1) i))) at.size)
 
   -- a block that is as it was formatted isn't lost
-  lost-other : (v : Visit) (a b : RepairWorld) → IsVisited j v a b → v.mended ≡ mended.Lost → IsSure a → IsReady j.tree.shape a → (k : ℕ)
+  lost-other : (v : Visit) (a b : RepairWorld) → IsVisited j v a b → v.mended ≡ mended.Lost → IsImageUnfailed a b → IsReady j.tree.shape a → (k : ℕ)
       → IsCoveredAt j.tree.shape l v.height v.index k → IsAsFormed l f a k → Collide j.tree.salt
   lost-other v a b here lost sure ready k at is =
       let nowhere : IsFoundNowhere (look_at j here.p v.height v.index a b) =
       subst (λ (m : Mended). IsMended (look_at j here.p v.height v.index a b) v.bytes v.done m) lost here.mended_as in
       elim nowhere.bad [
-        | inl failed ↦ absurd (failed.1 (own-sure v.height a sure))
+        | inl failed ↦
+            let d = look_at j here.p v.height v.index a b in
+            absurd (unfailed d.old nowhere.seen (more-none d.old nowhere.seen nowhere.more) (counted-left d.old nowhere.seen d.new (more-none nowhere.seen d.new nowhere.beneath_more) (own-sure v.height a b sure)) failed.0)
         | inr other ↦ elim (former-digest j.tree valid f former form l v.height v.index k at here.p here.way) [
           | inr clash ↦ clash
           | inl good ↦ absurd (other.other (ap (digest j.tree.salt) (other.stand (own-steady j.tree.shape v.height a ready) ∙ stands-covered v.height v.index k at a ∙ is) ∙ good))
@@ -159,13 +164,13 @@ module _ (form : FormedChainsAreGood) (j : Job) (valid : IsShape j.tree.shape) (
       ]
 
   -- what counts as lost behind visits wasn't as it was formatted before them
-  lost-damaged : j.write ≡ true → (vs : List Visit) (w w' : RepairWorld) → VisitsAll j vs w w' → IsSure w → IsReady j.tree.shape w → (lost : List ℕ)
+  lost-damaged : j.write ≡ true → (vs : List Visit) (w w' : RepairWorld) → VisitsAll j vs w w' → IsImageUnfailed w w' → IsReady j.tree.shape w → (lost : List ℕ)
       → AreCovered j.tree.shape l (flat_map (bad_of j) vs) lost → (n : ℕ) → IsAmong lost n → IsAsFormed l f w n → Collide j.tree.salt
   lost-damaged write [] w w' runs sure ready lost are n among is = absurd (among-none n (subst (λ (xs : List ℕ). IsAmong xs n) are among))
   lost-damaged write (v ∷ more) w w' (a, (b, (read, (here, rest)))) sure ready lost are n among is =
-      let sure_a : IsSure a = sure-same w a (read-same w a read) sure in
+      let sure_a : IsImageUnfailed a b = visit-sure-in j v more w a b w' read here rest sure in
       let ready_a : IsReady j.tree.shape a = ready-same j.tree.shape w a (read-same w a read) (read-images j.tree.shape w a read ready) ready in
-      let sure_b : IsSure b = sure-same a b (visited-same j v a b here) sure_a in
+      let sure_b : IsImageUnfailed b w' = rest-sure j v more w a b w' read here rest sure in
       let ready_b : IsReady j.tree.shape b = visit-ready j valid v a b here sure_a ready_a in
       let is_a : IsAsFormed l f a n = covered-same l w a n (read-images j.tree.shape w a read ready) ∙ is in
       let inside : n < covered_blocks l = lost-inside j.tree.shape l (flat_map (bad_of j) (v ∷ more)) lost are n among in
@@ -234,14 +239,16 @@ damaged-back form plan write l f w w' p p' r tree room i low few =
     let pass = passes.pass in
     let bs : List BadBlock = flat_map (bad_of j) pass.visits in
     let lost : List ℕ = pass.sought.lost in
+    let us = all-visits j l lost bs pass.behind w' passes.last_parity p' pass.hash_came pass.sought.sought in
+    let sure_last : IsImageUnfailed passes.last pass.behind =
+    sure-before j us.0 passes.last pass.behind w' us.1 (image-sure passes.last w' passes.last_parity p' (sure-last plan l f w w' p p' r)) in
     let first : HoldsParity s l f w p = holds-first plan l f w w' p p' r in
-    let last : HoldsParity s l f passes.last passes.last_parity =
-    holds-later j r.seeks.lies.valid l f passes.earlier w passes.last p passes.last_parity passes.before passes.parity_read.read first in
+    let last : HoldsParity s l f passes.last passes.last_parity = holds-last plan l f w w' p p' r in
     let inside : (n : ℕ) → IsAmong lost n → n < covered_blocks l = lost-inside s l bs lost pass.sought.are in
     let clash : (n : ℕ) → IsAmong lost n → IsAsFormed l f w n → Collide j.tree.salt = λ n among is.
-    elim (runs-kept form j r.seeks.lies.valid f r.former l r.sizes passes.earlier w passes.last passes.before first.sure first.ready n (inside n among) is) [
+    elim (runs-kept form j r.seeks.lies.valid f r.former l r.sizes passes.earlier w passes.last passes.before (sure-earlier plan l f w w' p p' r) first.ready n (inside n among) is) [
       | inr found ↦ found
-      | inl now ↦ lost-damaged form j r.seeks.lies.valid f r.former l r.sizes write pass.visits passes.last pass.behind pass.runs last.sure last.ready lost pass.sought.are n among now
+      | inl now ↦ lost-damaged form j r.seeks.lies.valid f r.former l r.sizes write pass.visits passes.last pass.behind pass.runs sure_last last.ready lost pass.sought.are n among now
     ] in
     elim (damaged-or l f w (Collide j.tree.salt) lost clash) [
       | inr found ↦ inr found

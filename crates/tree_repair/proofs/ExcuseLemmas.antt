@@ -23,7 +23,7 @@ use Rattle.tree_repair.proofs.RunLemmas.{world-none}
 
 -- ---- a device
 
-more-none : (a b : Device) → a.failures ≤ b.failures → HasFailedTimes a 0 b
+pub more-none : (a b : Device) → a.failures ≤ b.failures → HasFailedTimes a 0 b
 more-none a b more = inl (omega (arith, more))
 
 stays-none : (a b : Device) → b ≡ a → HasFailedTimes a 0 b

@@ -24,6 +24,7 @@ use Rattle.tree_repair.specs.Coverage.{AreDigestsOn, AreGoodFrom, AreThere, AreV
 use Rattle.tree_repair.specs.Passes.{HasNoted, IsGoodThen, bad_of}
 use Rattle.tree_repair.specs.Runs.{IsDone, Job, VisitsAll, Visit, visit_line, visit}
 use Rattle.tree_repair.specs.Worlds.{IsWorldRead, RepairWorld}
+use Rattle.tree_repair.proofs.FlawLemmas.{flaws-none}
 use Rattle.tree_repair.proofs.OnceLemmas.{due-at, due-none}
 use Rattle.tree_repair.proofs.RunLemmas.{runs-then, world-none}
 use Rattle.tree_repair.proofs.SourceLemmas.{each-none, there-before}
@@ -174,4 +175,5 @@ noted-good {j} {w} {w'} {old} {a} p row valid read good ways =
       once = λ ok. good-once j.tree.shape valid row.first cs;
       any = λ ok clean. (clean, good-then j row.first cs);
       passed = λ ok clean. (clean, visited);
+      flaws = λ ok. flaws-none j w w' a;
     }

@@ -1,5 +1,5 @@
 -- A block that was written, and is read back.
-use Rattle.std.proofs.Common.{◌≡◌, ◌≤◌, ◌<◌, ◌+◌, ◌/◌, ℕ, zero, suc, Bool, false, List, [], ◌∷◌, Option, None, refl, sym, ◌∙◌, subst, arith, inl, inr, add-one}
+use Rattle.std.proofs.Common.{◌≡◌, ◌≤◌, ◌<◌, ◌+◌, ◌/◌, ℕ, zero, suc, Bool, true, false, IsTrue, ap, List, [], ◌∷◌, Option, None, refl, sym, ◌∙◌, subst, arith, inl, inr, add-one}
 use Rattle.block_device.specs.Device.{Device}
 use Rattle.tree_shape.specs.Shape.{ShapeRecord, IsShape, ancestor, level_blocks}
 use Rattle.tree_shape.proofs.lemmas.ShapeFactLemmas.{ancestor-lt, ancestor-none}
@@ -7,8 +7,15 @@ use Rattle.tree_path.specs.Steps.{HasReadAtMost}
 use Rattle.tree_repair.specs.declared.bad.BadBlocks.{BadBlocks}
 use Rattle.tree_repair.specs.AccessBudgets.{Bill, LeavesBlock, LeavesChecked, LeavesVisit, LeavesWorld, block_read, checks_over, data_over, hash_over, hash_up_to, left_of, made_over, nothing_due, sectors_over, visits_over}
 use Rattle.tree_repair.specs.Coverage.{IsLookedAt}
+use Rattle.tree_repair.specs.Flaws.{HappensIn, IsNotRead, IsNotReadBack, IsReadOr}
+use Rattle.tree_repair.specs.Parity.{IsGoodNow}
+use Rattle.tree_repair.specs.Noting.{kept_or}
 use Rattle.tree_repair.specs.Passes.{HasNoted}
-use Rattle.tree_repair.specs.Runs.{HasRun, Job, VisitsAll, Visit, size_at}
+use Rattle.tree_repair.specs.Sources.{IsBad, wanted}
+use Rattle.tree_path.specs.Path.{PathRecord, digest_on}
+use Rattle.tree_survey.specs.Surveys.{IsWay}
+use Rattle.std.proofs.lemmas.Bool.{false≢true, true≢false}
+use Rattle.tree_repair.specs.Runs.{HasRun, Job, VisitsAll, Visit, sector_at, size_at}
 use Rattle.tree_repair.specs.Worlds.{IsWorldRead, RepairWorld, repair_world}
 use Rattle.tree_repair.proofs.AskedLemmas.{next-here}
 use Rattle.verity_format.proofs.lemmas.DeviceLemmas.{only_read-none}
@@ -17,6 +24,7 @@ use Rattle.tree_path.specs.Unused.{digests_in}
 use Rattle.tree_repair.specs.declared.fault.RepairFault.{RepairFault}
 use Rattle.verity_format.specs.Blocks.{IsOnlyRead}
 use Rattle.tree_repair.proofs.BillLemmas.{leaves-end, leaves-more, leaves-none, leaves-read, leaves-then}
+use Rattle.tree_repair.proofs.FlawLemmas.{flaws-left, happens-here, happens-right}
 use Rattle.tree_repair.proofs.OverLemmas.{data-more, hash-more, left-next}
 use Rattle.tree_repair.proofs.RunLemmas.{world-then}
 
@@ -108,15 +116,75 @@ looked-kept j h i vs a b c (inr by) read = inr (record {
   cut = by.cut;
 })
 
-pub noted-kept : {j : Job} {Due : ℕ → ℕ → Type 0} {w x y : RepairWorld} {old new : Option (List ℕ)} {a b c : BadBlocks} → HasNoted j Due w x old new a b None → IsWorldRead x y → c.asked ≡ b.asked → c.blocks.items ≡ b.blocks.items
-    → (c.any ≡ false → b.any ≡ false) → c.passed ≡ b.passed → HasNoted j Due w y old new a c None
-noted-kept {j} {Due} {w} {x} {y} {old} {new} {a} {b} {c} p read asked blocks any passed = record {
+-- a block was read back, or not
+noted-back : {j : Job} {Due : ℕ → ℕ → Type 0} {w x y : RepairWorld} {old new : Option (List ℕ)} {a b : BadBlocks} (kept : Bool) → HasNoted j Due w x old new a b None → IsWorldRead x y → (kept ≡ false → IsNotReadBack j x y)
+    → HasNoted j Due w y old new a (kept_or kept b) None
+noted-back {j} {Due} {w} {x} {y} {old} {new} {a} {b} true p read lost = record {
   run = has-kept p.run read;
-  asked = asked ∙ p.asked;
-  noted = λ end on. blocks ∙ p.noted end on;
+  asked = p.asked;
+  noted = p.noted;
   looked = λ end h i due. looked-kept j h i p.run.visits w x y (p.looked end h i due) read;
   only = p.only;
   once = p.once;
-  any = λ end clean. p.any end (any clean);
-  passed = λ end clean. p.passed end (sym passed ∙ clean);
+  any = p.any;
+  passed = p.passed;
+  flaws = λ end. flaws-left j [] w x y a b (p.flaws end) read;
 }
+noted-back {j} {Due} {w} {x} {y} {old} {new} {a} {b} false p read lost =
+    let here : HappensIn j (IsNotReadBack j) w y = happens-right j (IsNotReadBack j) p.run.visits w x y p.run.runs (happens-here j (IsNotReadBack j) x y (lost refl)) in
+    record {
+      run = has-kept p.run read;
+      asked = p.asked;
+      noted = p.noted;
+      looked = λ end h i due. looked-kept j h i p.run.visits w x y (p.looked end h i due) read;
+      only = p.only;
+      once = p.once;
+      any = λ end clean. absurd (true≢false clean);
+      passed = p.passed;
+      flaws = λ end. record { corrupt = λ yes. inr (inr here); skipped = (flaws-left j [] w x y a b (p.flaws end) read).skipped; unkept = λ yes. inr here };
+    }
+
+pub noted-kept : {j : Job} {Due : ℕ → ℕ → Type 0} {w x y : RepairWorld} {old new : Option (List ℕ)} {a b c : BadBlocks} (kept : Bool) → HasNoted j Due w x old new a b None → IsWorldRead x y → c ≡ kept_or kept b → (kept ≡ false → IsNotReadBack j x y)
+    → HasNoted j Due w y old new a c None
+noted-kept {j} {Due} {w} {x} {y} {old} {new} {a} {b} {c} kept p read is lost = subst (λ (z : BadBlocks). HasNoted j Due w y old new a z None) (sym is) (noted-back kept p read lost)
+
+-- which changes none of the blocks noted
+pub kept-blocks : (kept : Bool) (b : BadBlocks) → (kept_or kept b).blocks.items ≡ b.blocks.items
+kept-blocks true b = refl
+kept-blocks false b = refl
+
+-- so it was, if none is noted as not read back
+pub kept-true : (kept : Bool) (b c : BadBlocks) → c ≡ kept_or kept b → c.unkept ≡ false → IsTrue kept
+kept-true true b c is none = refl
+kept-true false b c is none = absurd (true≢false (sym (ap (λ (z : BadBlocks). z.unkept) is) ∙ none))
+
+-- ---- whether a block is read with its digest
+
+module _ (j : Job) (h i : ℕ) where
+  pub read-by : (w w' : RepairWorld) (r : Bool) → (IsTrue r → IsGoodNow j h i w) → (r ≡ false → IsNotRead j h i w w') → IsReadOr j h i true w w' r
+  read-by w w' true good lost = λ due. good refl
+  read-by w w' false good lost = lost refl
+
+  pub read-due : (due : Bool) (w w' : RepairWorld) (r : Bool) → IsReadOr j h i true w w' r → IsReadOr j h i due w w' r
+  read-due due w w' true good = λ is. good refl
+  read-due due w w' false lost = lost
+
+  pub read-good : (due : Bool) (w w' : RepairWorld) (r : Bool) → IsReadOr j h i due w w' r → IsTrue r → IsTrue due → IsGoodNow j h i w
+  read-good due w w' true good is = good
+  read-good due w w' false lost is = absurd (false≢true is)
+
+  pub read-lost : (due : Bool) (w w' : RepairWorld) (r : Bool) → IsReadOr j h i due w w' r → r ≡ false → IsNotRead j h i w w'
+  read-lost due w w' true good is = absurd (true≢false is)
+  read-lost due w w' false lost is = lost
+
+pub lost-data : (j : Job) (p : PathRecord) (h i : ℕ) (d d' e : Device) (cs es : List Device) → i < j.tree.shape.blocks → IsWay j.tree i h p → h ≡ 0
+    → IsBad d (sector_at j.tree.shape h i) (wanted j.tree.salt (digest_on p i h) (size_at j.tree.shape h / 512)) d' → IsWorldRead (repair_world d e cs es) (repair_world d' e cs es)
+    → IsNotRead j h i (repair_world d e cs es) (repair_world d' e cs es)
+lost-data j p zero i d d' e cs es inside way none bad read = record { p = p; inside = inside; way = way; bad = bad; read = read }
+lost-data j p (suc h) i d d' e cs es inside way none bad read = absurd (omega (arith, none))
+
+pub lost-hash : (j : Job) (p : PathRecord) (h i l : ℕ) (d d' e : Device) (cs es : List Device) → i < j.tree.shape.blocks → IsWay j.tree i h p → h ≡ suc l
+    → IsBad d (sector_at j.tree.shape h i) (wanted j.tree.salt (digest_on p i h) (size_at j.tree.shape h / 512)) d' → IsWorldRead (repair_world e d es cs) (repair_world e d' es cs)
+    → IsNotRead j h i (repair_world e d es cs) (repair_world e d' es cs)
+lost-hash j p zero i l d d' e cs es inside way some bad read = absurd (omega (arith, some))
+lost-hash j p (suc h) i l d d' e cs es inside way some bad read = record { p = p; inside = inside; way = way; bad = bad; read = read }

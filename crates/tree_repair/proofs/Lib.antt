@@ -1,5 +1,6 @@
 mod BackLemmas
 mod BeyondLemmas
+mod FlawLemmas
 mod FormedLemmas
 mod FormerLemmas
 mod FreshLemmas
@@ -40,6 +41,7 @@ mod StandLemmas
 mod StayFormedLemmas
 mod StayLemmas
 mod TryLemmas
+mod UnfailedLemmas
 mod UnknownLemmas
 mod UnusedEntryLemmas
 mod VerifiedPathLemmas

@@ -14,12 +14,14 @@ use Rattle.tree_repair.specs.declared.bad.BadBlock.{BadBlock}
 use Rattle.tree_repair.specs.declared.bad.BadBlocks.{BadBlocks}
 use Rattle.tree_repair.specs.declared.fault.RepairFault.{RepairFault}
 use Rattle.tree_repair.specs.Coverage.{IsDueAt, IsFromUp, IsLookedAt, IsVisitAt}
-use Rattle.tree_repair.specs.Noting.{IsGoodBefore, found_of, passed_some}
+use Rattle.tree_repair.specs.Flaws.{IsSkipped, LeavesCorrupt}
+use Rattle.tree_repair.specs.Noting.{any_after, found_of, passed_some}
 use Rattle.tree_repair.specs.Passes.{ArePasses, HasNoted, IsGoodThen, IsPass, bad_of}
 use Rattle.tree_repair.specs.Runs.{HasRun, IsVisited, Job, Visit, visit_line}
 use Rattle.tree_repair.specs.ParitySearches.{HasSought}
 use Rattle.tree_repair.specs.Worlds.{IsParityRead, IsWorldRead, RepairWorld}
 use Rattle.tree_repair.proofs.BlockCheckLemmas.{in-left, in-right, looked-behind, looked-left, looked-right}
+use Rattle.tree_repair.proofs.FlawLemmas.{any-none, any-some, flaws-none, flaws-right, flaws-then, happens-here}
 use Rattle.tree_repair.proofs.OnceLemmas.{AreParts, all-due, due-at, due-none, due-one, once-one, once-then}
 use Rattle.tree_repair.proofs.RunLemmas.{has-behind, has-none, has-one, has-read, has-then, parity-none, world-none}
 
@@ -33,11 +35,12 @@ noted-none {j} {Due} {w} {old} {a} none = record {
   once = λ end. tt;
   any = λ end clean. (clean, All-nil (IsGoodThen j));
   passed = λ end clean. (clean, λ h i due. absurd (none h i due));
+  flaws = λ end. flaws-none j w w a;
 }
 
 -- blocks that were passed by
-pub noted-read : {j : Job} {Due : ℕ → ℕ → Type 0} {w w' : RepairWorld} {old : Option (List ℕ)} {a b : BadBlocks} → b ≡ passed_some a → IsWorldRead w w' → ((h i : ℕ) → Due h i → IsLookedAt j h i [] w w') → HasNoted j Due w w' old old a b None
-noted-read {j} {Due} {w} {w'} {old} {a} {b} same read looked = subst (λ (x : BadBlocks). HasNoted j Due w w' old old a x None) (sym same) (record {
+pub noted-read : {j : Job} {Due : ℕ → ℕ → Type 0} {w w' : RepairWorld} {old : Option (List ℕ)} {a b : BadBlocks} → b ≡ passed_some a → IsWorldRead w w' → IsSkipped j w w' → ((h i : ℕ) → Due h i → IsLookedAt j h i [] w w') → HasNoted j Due w w' old old a b None
+noted-read {j} {Due} {w} {w'} {old} {a} {b} same read skip looked = subst (λ (x : BadBlocks). HasNoted j Due w w' old old a x None) (sym same) (record {
   run = has-read read;
   asked = refl;
   noted = λ end on. sym (append-nil a.blocks.items);
@@ -46,6 +49,7 @@ noted-read {j} {Due} {w} {w'} {old} {a} {b} same read looked = subst (λ (x : Ba
   once = λ end. tt;
   any = λ end clean. (clean, All-nil (IsGoodThen j));
   passed = λ end clean. absurd (true≢false clean);
+  flaws = λ end. record { corrupt = λ yes. inl yes; skipped = λ yes. inr (happens-here j (IsSkipped j) w w' skip); unkept = λ yes. inl yes };
 })
 
 pub noted-then : {j : Job} {Due First Next : ℕ → ℕ → Type 0} {w x y : RepairWorld} {old now new : Option (List ℕ)} {a b c : BadBlocks} {fault : Option RepairFault} → HasNoted j First w x old now a b None → HasNoted j Next x y now new b c fault
@@ -78,10 +82,11 @@ noted-then {j} {Due} {First} {Next} {w} {x} {y} {old} {now} {new} {a} {b} {c} {f
           | inr at ↦ in-right j.tree.shape h i p.run.visits q.run.visits (behind.1 h i at)
         ],
       );
+  flaws = λ end. flaws-then j p.run.visits q.run.visits w x y a b c p.run.runs q.run.runs (p.flaws refl) (q.flaws end);
 }
 
 pub noted-behind : {j : Job} {Due : ℕ → ℕ → Type 0} {w x y : RepairWorld} {old new : Option (List ℕ)} {a b : BadBlocks} {fault : Option RepairFault} → IsWorldRead w x → HasNoted j Due x y old new a b fault → HasNoted j Due w y old new a b fault
-noted-behind {j} {Due} {w} {x} {y} read p = record {
+noted-behind {j} {Due} {w} {x} {y} {old} {new} {a} {b} read p = record {
   run = has-behind read p.run;
   asked = p.asked;
   noted = p.noted;
@@ -90,20 +95,29 @@ noted-behind {j} {Due} {w} {x} {y} read p = record {
   once = p.once;
   any = p.any;
   passed = p.passed;
+  flaws = λ end. flaws-right j [] w x y a b read (p.flaws end);
 }
 
 pub noted-one : {j : Job} {v : Visit} {w w' : RepairWorld} {old new : Option (List ℕ)} {a b : BadBlocks} (Due : ℕ → ℕ → Type 0) → IsVisited j v w w' → v.done ≡ true → Appends old new (visit_line j v) → b.asked ≡ a.asked
-    → (IsTrue a.asked → b.blocks.items ≡ a.blocks.items ++ bad_of j v) → (b.any ≡ false → IsGoodBefore a (found_of j.write v.mended)) → b.passed ≡ a.passed → ((h i : ℕ) → Due h i → IsVisitAt j.tree.shape h i v)
+    → (IsTrue a.asked → b.blocks.items ≡ a.blocks.items ++ bad_of j v) → b.any ≡ any_after a.any (found_of j.write v.mended) → b.passed ≡ a.passed → b.unkept ≡ a.unkept → ((h i : ℕ) → Due h i → IsVisitAt j.tree.shape h i v)
     → Due v.height v.index → HasNoted j Due w w' old new a b None
-noted-one {j} {v} {w} {w'} {old} {new} {a} {b} Due here done told same noted any by at is = record {
+noted-one {j} {v} {w} {w'} {old} {new} {a} {b} Due here done told same noted any by unkept at is = record {
   run = has-one here done told;
   asked = same;
   noted = λ end on. noted on ∙ ap (λ (l : List BadBlock). a.blocks.items ++ l) (sym (append-nil (bad_of j v)));
   looked = λ end h i due. inl (inl (at h i due));
   only = λ end. due-one j.tree.shape Due v is;
   once = λ end. once-one j.tree.shape v;
-  any = λ end clean. (let is = any clean in (is.0, All-cons (IsGoodThen j) v [] is.1 (All-nil (IsGoodThen j))));
+  any = λ end clean. (let is = any-none a.any (found_of j.write v.mended) (sym any ∙ clean) in (is.0, All-cons (IsGoodThen j) v [] is.1 (All-nil (IsGoodThen j))));
   passed = λ end clean. (sym by ∙ clean, λ h i due. inl (at h i due));
+  flaws = λ end. record {
+    corrupt = λ yes. elim (any-some a.any (found_of j.write v.mended) (subst IsTrue any yes)) [
+      | inl was ↦ inl was
+      | inr corrupt ↦ inr (inl (happens-here j (LeavesCorrupt j) w w' (record { v = v; visited = here; corrupt = corrupt })))
+    ];
+    skipped = λ yes. inl (subst IsTrue by yes);
+    unkept = λ yes. inl (subst IsTrue unkept yes);
+  };
 }
 
 -- for the same blocks, said otherwise
@@ -118,6 +132,7 @@ noted-same {j} {Due} {More} p there back = record {
   once = p.once;
   any = p.any;
   passed = λ end clean. (let all = p.passed end clean in (all.0, λ h i due. all.1 h i (there h i due)));
+  flaws = p.flaws;
 }
 
 -- one that didn't come to its end
@@ -131,6 +146,7 @@ noted-not run same = record {
   once = λ end. absurd (true≢false end);
   any = λ end. absurd (true≢false end);
   passed = λ end. absurd (true≢false end);
+  flaws = λ end. absurd (true≢false end);
 }
 
 -- behind one that did

@@ -25,13 +25,14 @@ use Rattle.tree_repair.specs.Runs.{IsVisited, Job, VisitsAll, Visit, look_at, ow
 use Rattle.tree_repair.specs.Standing.{IsNotLost, StandsGood}
 use Rattle.tree_repair.specs.ParitySearches.{AreCovered, IsUncovered}
 use Rattle.tree_repair.specs.WithinParity.{FormerImage, HasTreeSizes, IsAsFormed, IsFormerOf}
-use Rattle.tree_repair.specs.Worlds.{RepairWorld}
+use Rattle.tree_repair.specs.Worlds.{IsImageUnfailed, RepairWorld}
 use Rattle.tree_repair.proofs.DistinctLemmas.{among-more}
 use Rattle.tree_repair.proofs.FormerLemmas.{former-stands}
 use Rattle.tree_repair.proofs.NumberLemmas.{covered-not, covered-one}
-use Rattle.tree_repair.proofs.RunLemmas.{read-same, visited-same}
+use Rattle.tree_repair.proofs.RunLemmas.{read-same}
 use Rattle.tree_repair.proofs.StandLemmas.{IsReady, stands-beside}
-use Rattle.tree_repair.proofs.StayFormedLemmas.{IsSure, look-done, own-steady, own-sure, read-images, ready-same, runs-kept, sure-same, visit-ready, visit-stands}
+use Rattle.tree_repair.proofs.StayFormedLemmas.{own-steady, read-images, ready-same, rest-sure, runs-kept, visit-ready, visit-stands, visit-sure-in}
+use Rattle.tree_repair.proofs.UnfailedLemmas.{look-done, own-sure}
 
 -- ---- blocks that are recorded
 
@@ -132,15 +133,15 @@ module _ (j : Job) (valid : IsShape j.tree.shape) where
             ∙ ap (digest j.tree.salt) (sym (found.there.stand steady)) ∙ found.there.good;
       }
 
-  found-stands : (h i : ℕ) (m : Mended) (bytes : List ℕ) (done : Bool) (a b : RepairWorld) → IsVisited j (visit h i m bytes done) a b → IsSure a → IsReady j.tree.shape a
+  found-stands : (h i : ℕ) (m : Mended) (bytes : List ℕ) (done : Bool) (a b : RepairWorld) → IsVisited j (visit h i m bytes done) a b → IsImageUnfailed a b → IsReady j.tree.shape a
       → IsBlockFound m → IsNotLost m → found_of false m ≡ Some true
       → StandsGood j h i b ⊎ IsTold j.write m
   found-stands h i m bytes done a b here sure ready found kept unwritten = elim (cases_Bool j.write) [
-    | inl write ↦ inl (visit-stands j valid (visit h i m bytes done) a b here sure ready write (look-done (look_at j here.p h i a b) bytes done m here.mended_as (own-sure h a sure) found) kept)
+    | inl write ↦ inl (visit-stands j valid (visit h i m bytes done) a b here sure ready write (look-done (look_at j here.p h i a b) (own-sure h a b sure) bytes done m here.mended_as found) kept)
     | inr not ↦ inr (true, ap (λ (w : Bool). found_of w m) not ∙ unwritten)
   ]
 
-  stands-or : (h i : ℕ) (m : Mended) (bytes : List ℕ) (done : Bool) (a b : RepairWorld) → IsVisited j (visit h i m bytes done) a b → IsSure a → IsReady j.tree.shape a
+  stands-or : (h i : ℕ) (m : Mended) (bytes : List ℕ) (done : Bool) (a b : RepairWorld) → IsVisited j (visit h i m bytes done) a b → IsImageUnfailed a b → IsReady j.tree.shape a
       → StandsGood j h i b ⊎ IsTold j.write m
   stands-or h i mended.Good bytes done a b here sure ready = inl (good-stands h i bytes done a b here ready)
   stands-or h i (mended.Copy k) bytes done a b here sure ready = found-stands h i (mended.Copy k) bytes done a b here sure ready tt tt refl
@@ -176,18 +177,18 @@ module _ (form : FormedChainsAreGood) (j : Job) (valid : IsShape j.tree.shape) (
     beside-formed h i g m k at height same stands = stands-formed h i k at (stands-beside j valid h i m w same (subst (λ (n : ℕ). StandsGood j n m w) height stands))
 
   module _ (h i k : ℕ) (at : IsCoveredAt j.tree.shape l h i k) where
-    pub formed-on : (vs : List Visit) (a b : RepairWorld) → VisitsAll j vs a b → IsSure a → IsReady j.tree.shape a → IsAsFormed l f a k ⊎ Collide j.tree.salt → IsAsFormed l f b k ⊎ Collide j.tree.salt
+    pub formed-on : (vs : List Visit) (a b : RepairWorld) → VisitsAll j vs a b → IsImageUnfailed a b → IsReady j.tree.shape a → IsAsFormed l f a k ⊎ Collide j.tree.salt → IsAsFormed l f b k ⊎ Collide j.tree.salt
     formed-on vs a b runs sure ready (inl is) = runs-kept form j valid f former l fits vs a b runs sure ready k at.inside is
     formed-on vs a b runs sure ready (inr clash) = inr clash
 
     -- behind visits one that was visited is recorded, or is as it was formatted
-    pub visited-formed : (vs : List Visit) (w w' : RepairWorld) → VisitsAll j vs w w' → IsSure w → IsReady j.tree.shape w → IsVisitedIn j.tree.shape h i vs
+    pub visited-formed : (vs : List Visit) (w w' : RepairWorld) → VisitsAll j vs w w' → IsImageUnfailed w w' → IsReady j.tree.shape w → IsVisitedIn j.tree.shape h i vs
         → ((found : Bool) × IsRecordedIn j.tree.shape h i found (flat_map (bad_of j) vs)) ⊎ (IsAsFormed l f w' k ⊎ Collide j.tree.salt)
     visited-formed [] w w' runs sure ready there = absurd there
     visited-formed (v ∷ more) w w' (a, (b, (read, (here, rest)))) sure ready there =
-        let sure_a : IsSure a = sure-same w a (read-same w a read) sure in
+        let sure_a : IsImageUnfailed a b = visit-sure-in j v more w a b w' read here rest sure in
         let ready_a : IsReady j.tree.shape a = ready-same j.tree.shape w a (read-same w a read) (read-images j.tree.shape w a read ready) ready in
-        let sure_b : IsSure b = sure-same a b (visited-same j v a b here) sure_a in
+        let sure_b : IsImageUnfailed b w' = rest-sure j v more w a b w' read here rest sure in
         let ready_b : IsReady j.tree.shape b = visit-ready j valid v a b here sure_a ready_a in
         elim there [
           | inl one ↦ elim (stands-or j valid v.height v.index v.mended v.bytes v.done a b here sure_a ready_a) [
@@ -201,13 +202,13 @@ module _ (form : FormedChainsAreGood) (j : Job) (valid : IsShape j.tree.shape) (
         ]
 
     -- and one that was had where blocks may be written is as it was formatted
-    pub had-formed : j.write ≡ true → (vs : List Visit) (w w' : RepairWorld) → VisitsAll j vs w w' → IsSure w → IsReady j.tree.shape w → IsHadIn j.tree.shape h i vs
+    pub had-formed : j.write ≡ true → (vs : List Visit) (w w' : RepairWorld) → VisitsAll j vs w w' → IsImageUnfailed w w' → IsReady j.tree.shape w → IsHadIn j.tree.shape h i vs
         → IsAsFormed l f w' k ⊎ Collide j.tree.salt
     had-formed write [] w w' runs sure ready there = absurd there
     had-formed write (v ∷ more) w w' (a, (b, (read, (here, rest)))) sure ready there =
-        let sure_a : IsSure a = sure-same w a (read-same w a read) sure in
+        let sure_a : IsImageUnfailed a b = visit-sure-in j v more w a b w' read here rest sure in
         let ready_a : IsReady j.tree.shape a = ready-same j.tree.shape w a (read-same w a read) (read-images j.tree.shape w a read ready) ready in
-        let sure_b : IsSure b = sure-same a b (visited-same j v a b here) sure_a in
+        let sure_b : IsImageUnfailed b w' = rest-sure j v more w a b w' read here rest sure in
         let ready_b : IsReady j.tree.shape b = visit-ready j valid v a b here sure_a ready_a in
         elim there [
           | inl one ↦ elim (stands-or j valid v.height v.index v.mended v.bytes v.done a b here sure_a ready_a) [

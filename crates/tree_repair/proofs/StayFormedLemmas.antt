@@ -15,58 +15,45 @@ use Rattle.verity_format.proofs.lemmas.SizeLemmas.{block-inside}
 use Rattle.verity_format.specs.Blocks.{block_at}
 use Rattle.tree_repair.specs.declared.mending.Mended.{Mended}
 use Rattle.tree_repair.specs.declared.mending.Mended.TheVariants as mended
-use Rattle.tree_repair.specs.Mending.{IsAllowedPut, IsBlockFound, IsMended, BlockCheck}
+use Rattle.tree_repair.specs.Mending.{IsAllowedPut, IsMended, BlockCheck}
 use Rattle.tree_repair.specs.Runs.{IsDone, IsVisited, Job, VisitsAll, Visit, look_at, other, own, visit}
 use Rattle.tree_repair.specs.Standing.{IsNotLost, StandsGood}
 use Rattle.tree_repair.specs.WithinParity.{FormattedBlocksStay, FormerImage, HasTreeSizes, IsFormerOf}
-use Rattle.tree_repair.specs.Worlds.{IsWorldRead, RepairWorld}
+use Rattle.tree_repair.specs.Worlds.{HasCountedNone, IsImageUnfailed, IsWorldRead, RepairWorld}
 use Rattle.tree_repair.proofs.FormerLemmas.{former-stands}
 use Rattle.tree_repair.proofs.PutLemmas.{look-run, lost-image}
 use Rattle.tree_repair.proofs.RunLemmas.{AreSame, other-image, read-same, runs-one, visited-same}
 use Rattle.tree_repair.proofs.StandLemmas.{IsReady, image-ready, runs-ready, runs-stand}
+use Rattle.tree_repair.proofs.UnfailedLemmas.{own-sure, put-done, sure-after, sure-before, sure-from}
 
--- ---- a look at a block of a device that never fails
+-- ---- a check of a block of a device that counted no failure
 
-put-sure : (write : Bool) (old : Device) (first sectors : ℕ) (bytes : List ℕ) (done : Bool) (new : Device) → IsAllowedPut write old first sectors bytes done new → IsTrue old.never_fails
+put-sure : (write : Bool) (old : Device) (first sectors : ℕ) (bytes : List ℕ) (done : Bool) (new : Device) → IsAllowedPut write old first sectors bytes done new → HasCountedNone old new
     → (new.image ≡ old.image) ⊎ (IsTrue write × (done ≡ true))
-put-sure true old first sectors bytes done new put sure = inr (refl, put.sure sure)
-put-sure false old first sectors bytes done new put sure = inl (ap (λ (d : Device). d.image) put.0)
+put-sure true old first sectors bytes done new put none = inr (refl, put-done true old first sectors bytes done new put none)
+put-sure false old first sectors bytes done new put none = inl (ap (λ (d : Device). d.image) put.0)
 
 -- leaves it as it is, or was to write, and did
-look-sure : (l : BlockCheck) (bytes : List ℕ) (done : Bool) (m : Mended) → IsMended l bytes done m → IsTrue l.old.never_fails → IsTrue l.old.steady
+look-sure : (l : BlockCheck) (bytes : List ℕ) (done : Bool) (m : Mended) → IsMended l bytes done m → HasCountedNone l.old l.new → IsTrue l.old.steady
     → (l.new.image ≡ l.old.image) ⊎ (IsTrue l.write × ((done ≡ true) × IsNotLost m))
-look-sure l bytes done mended.Good found sure steady = inl (found.read.image steady)
-look-sure l bytes done (mended.Copy k) found sure steady =
-    elim (put-sure l.write found.between l.first l.w.sectors bytes done l.new found.put (found.read.same.never_fails sure)) [
+look-sure l bytes done mended.Good found none steady = inl (found.read.image steady)
+look-sure l bytes done (mended.Copy k) found none steady =
+    elim (put-sure l.write found.between l.first l.w.sectors bytes done l.new found.put (sure-from l none found.between found.more)) [
       | inl same ↦ inl (same ∙ found.read.image steady)
       | inr wrote ↦ inr (wrote.0, (wrote.1, tt))
     ]
-look-sure l bytes done mended.Remade found sure steady =
-    elim (put-sure l.write found.between l.first l.w.sectors bytes done l.new found.put (found.beneath_read.same.never_fails (found.read.same.never_fails sure))) [
+look-sure l bytes done mended.Remade found none steady =
+    elim (put-sure l.write found.between l.first l.w.sectors bytes done l.new found.put (sure-from l none found.between (omega (arith, found.more, found.beneath_more)))) [
       | inl same ↦ inl (same ∙ found.beneath_read.image (steady-then found.read.same steady) ∙ found.read.image steady)
       | inr wrote ↦ inr (wrote.0, (wrote.1, tt))
     ]
-look-sure l bytes done mended.Parity found sure steady =
+look-sure l bytes done mended.Parity found none steady =
     let r = found.replaced in
-    elim (put-sure l.write r.between l.first l.w.sectors bytes done l.new r.put (r.read.same.never_fails sure)) [
+    elim (put-sure l.write r.between l.first l.w.sectors bytes done l.new r.put (sure-from l none r.between r.more)) [
       | inl same ↦ inl (same ∙ r.read.image steady)
       | inr wrote ↦ inr (wrote.0, (wrote.1, tt))
     ]
-look-sure l bytes done mended.Lost found sure steady = inl (lost-image l bytes done found steady)
-
--- what it found was written, if it may be
-put-done : (write : Bool) (old : Device) (first sectors : ℕ) (bytes : List ℕ) (done : Bool) (new : Device) → IsAllowedPut write old first sectors bytes done new → IsTrue old.never_fails → done ≡ true
-put-done true old first sectors bytes done new put sure = put.sure sure
-put-done false old first sectors bytes done new put sure = put.1
-
-pub look-done : (l : BlockCheck) (bytes : List ℕ) (done : Bool) (m : Mended) → IsMended l bytes done m → IsTrue l.old.never_fails → IsBlockFound m → done ≡ true
-look-done l bytes done mended.Good looked sure found = absurd found
-look-done l bytes done (mended.Copy k) looked sure found = put-done l.write looked.between l.first l.w.sectors bytes done l.new looked.put (looked.read.same.never_fails sure)
-look-done l bytes done mended.Remade looked sure found =
-    put-done l.write looked.between l.first l.w.sectors bytes done l.new looked.put (looked.beneath_read.same.never_fails (looked.read.same.never_fails sure))
-look-done l bytes done mended.Parity looked sure found =
-    put-done l.write looked.replaced.between l.first l.w.sectors bytes done l.new looked.replaced.put (looked.replaced.read.same.never_fails sure)
-look-done l bytes done mended.Lost looked sure found = absurd found
+look-sure l bytes done mended.Lost found none steady = inl (lost-image l bytes done found steady)
 
 -- ---- what stands on both devices
 
@@ -81,23 +68,11 @@ both-images (suc l) a b here there = record { data_same = there; hash_same = her
 pub read-images : (s : ShapeRecord) (a b : RepairWorld) → IsWorldRead a b → IsReady s a → HaveSameImages a b
 read-images s a b read ready = record { data_same = read.data_read.image ready.data_ready.steady; hash_same = read.hash_read.image ready.hash_ready.steady }
 
--- both devices never fail
-pub record IsSure (w : RepairWorld) : Type 0 where
-  pub data_sure : IsTrue w.data_dev.never_fails
-  pub hash_sure : IsTrue w.hash_dev.never_fails
-
-pub sure-same : (a b : RepairWorld) → AreSame a b → IsSure a → IsSure b
-sure-same a b same sure = record { data_sure = same.data_same.never_fails sure.data_sure; hash_sure = same.hash_same.never_fails sure.hash_sure }
-
 pub ready-same : (s : ShapeRecord) (a b : RepairWorld) → AreSame a b → HaveSameImages a b → IsReady s a → IsReady s b
 ready-same s a b same images ready = record {
   data_ready = record { steady = steady-then same.data_same ready.data_ready.steady; room = omega (arith, ready.data_ready.room, ap length images.data_same) };
   hash_ready = record { steady = steady-then same.hash_same ready.hash_ready.steady; room = omega (arith, ready.hash_ready.room, ap length images.hash_same) };
 }
-
-pub own-sure : (h : ℕ) (w : RepairWorld) → IsSure w → IsTrue (own h w).never_fails
-own-sure zero w sure = sure.data_sure
-own-sure (suc l) w sure = sure.hash_sure
 
 pub own-steady : (s : ShapeRecord) (h : ℕ) (w : RepairWorld) → IsReady s w → IsTrue (own h w).steady
 own-steady s zero w ready = ready.data_ready.steady
@@ -110,11 +85,11 @@ other-steady s (suc l) w ready = ready.data_ready.steady
 -- ---- a visit
 
 module _ (j : Job) (valid : IsShape j.tree.shape) where
-  module _ (v : Visit) (a b : RepairWorld) (here : IsVisited j v a b) (sure : IsSure a) (ready : IsReady j.tree.shape a) where
+  module _ (v : Visit) (a b : RepairWorld) (here : IsVisited j v a b) (sure : IsImageUnfailed a b) (ready : IsReady j.tree.shape a) where
     -- leaves both devices as they are, or its block was written, and stands good
     visit-sure : HaveSameImages a b ⊎ (IsTrue j.write × ((v.done ≡ true) × IsNotLost v.mended))
     visit-sure =
-        elim (look-sure (look_at j here.p v.height v.index a b) v.bytes v.done v.mended here.mended_as (own-sure v.height a sure) (own-steady j.tree.shape v.height a ready)) [
+        elim (look-sure (look_at j here.p v.height v.index a b) v.bytes v.done v.mended here.mended_as (own-sure v.height a b sure) (own-steady j.tree.shape v.height a ready)) [
           | inl same ↦ inl (both-images v.height a b same (other-image v.height v.mended (other v.height a) (other v.height b) here.other_stays (other-steady j.tree.shape v.height a ready)))
           | inr wrote ↦ inr wrote
         ]
@@ -129,6 +104,15 @@ module _ (j : Job) (valid : IsShape j.tree.shape) where
     visit-stands write done kept =
         runs-stand j valid write (v ∷ []) a b (runs-one j v a b here) (All-cons IsDone v [] done (All-nil IsDone)) ready v.height v.index here.inside
         (inl (record { at = record { height_is = refl; same = refl }; kept = kept }))
+
+-- ---- a run, from its first visit on
+
+module _ (j : Job) (v : Visit) (more : List Visit) (a x y b : RepairWorld) (read : IsWorldRead a x) (here : IsVisited j v x y) (rest : VisitsAll j more y b) (sure : IsImageUnfailed a b) where
+  pub rest-sure : IsImageUnfailed y b
+  rest-sure = sure-after j (v ∷ []) x y b (runs-one j v x y here) (sure-after j [] a x b read sure)
+
+  pub visit-sure-in : IsImageUnfailed x y
+  visit-sure-in = sure-before j more x y b rest (sure-after j [] a x b read sure)
 
 -- ---- covered blocks
 
@@ -222,35 +206,35 @@ module _ (form : FormedChainsAreGood) (j : Job) (valid : IsShape j.tree.shape) (
 
   -- ---- one visit, and many
 
-  visit-kept : (v : Visit) (a b : RepairWorld) → IsVisited j v a b → IsSure a → IsReady j.tree.shape a → (n : ℕ) → n < covered_blocks l → now a n ≡ formerly n
+  visit-kept : (v : Visit) (a b : RepairWorld) → IsVisited j v a b → IsImageUnfailed a b → IsReady j.tree.shape a → (n : ℕ) → n < covered_blocks l → now a n ≡ formerly n
       → (now b n ≡ formerly n) ⊎ Collide j.tree.salt
   visit-kept v a b here sure ready n inside was = elim (visit-sure j valid v a b here sure ready) [
     | inl same ↦ inl (covered-same l a b n same ∙ was)
     | inr wrote ↦ written-kept v.height v.index v.mended v.bytes v.done a b here ready (visit-stands j valid v a b here sure ready wrote.0 wrote.1.0 wrote.1.1) n inside was
   ]
 
-  pub runs-kept : (vs : List Visit) (a b : RepairWorld) → VisitsAll j vs a b → IsSure a → IsReady j.tree.shape a → (n : ℕ) → n < covered_blocks l → now a n ≡ formerly n
+  pub runs-kept : (vs : List Visit) (a b : RepairWorld) → VisitsAll j vs a b → IsImageUnfailed a b → IsReady j.tree.shape a → (n : ℕ) → n < covered_blocks l → now a n ≡ formerly n
       → (now b n ≡ formerly n) ⊎ Collide j.tree.salt
   runs-kept [] a b read sure ready n inside was = inl (covered-same l a b n (read-images j.tree.shape a b read ready) ∙ was)
   runs-kept (v ∷ more) a b (x, (y, (read, (here, rest)))) sure ready n inside was =
       let same : HaveSameImages a x = read-images j.tree.shape a x read ready in
-      let sure_then : IsSure x = sure-same a x (read-same a x read) sure in
+      let sure_then : IsImageUnfailed x y = visit-sure-in j v more a x y b read here rest sure in
       let ready_then : IsReady j.tree.shape x = ready-same j.tree.shape a x (read-same a x read) same ready in
       elim (visit-kept v x y here sure_then ready_then n inside (covered-same l a x n same ∙ was)) [
         | inr clash ↦ inr clash
-        | inl still ↦ runs-kept more y b rest (sure-same x y (visited-same j v x y here) sure_then) (visit-ready j valid v x y here sure_then ready_then) n inside still
+        | inl still ↦ runs-kept more y b rest (rest-sure j v more a x y b read here rest sure) (visit-ready j valid v x y here sure_then ready_then) n inside still
       ]
 
--- steady devices that never fail keep their length
-pub runs-ready-sure : (j : Job) → IsShape j.tree.shape → (vs : List Visit) (a b : RepairWorld) → VisitsAll j vs a b → IsSure a → IsReady j.tree.shape a → IsReady j.tree.shape b
+-- steady devices that counted no failure keep their length
+pub runs-ready-sure : (j : Job) → IsShape j.tree.shape → (vs : List Visit) (a b : RepairWorld) → VisitsAll j vs a b → IsImageUnfailed a b → IsReady j.tree.shape a → IsReady j.tree.shape b
 runs-ready-sure j valid [] a b read sure ready = ready-same j.tree.shape a b (read-same a b read) (read-images j.tree.shape a b read ready) ready
 runs-ready-sure j valid (v ∷ more) a b (x, (y, (read, (here, rest)))) sure ready =
-    let sure_then : IsSure x = sure-same a x (read-same a x read) sure in
+    let sure_then : IsImageUnfailed x y = visit-sure-in j v more a x y b read here rest sure in
     let ready_then : IsReady j.tree.shape x = ready-same j.tree.shape a x (read-same a x read) (read-images j.tree.shape a x read ready) ready in
-    runs-ready-sure j valid more y b rest (sure-same x y (visited-same j v x y here) sure_then) (visit-ready j valid v x y here sure_then ready_then)
+    runs-ready-sure j valid more y b rest (rest-sure j v more a x y b read here rest sure) (visit-ready j valid v x y here sure_then ready_then)
 
 pub formatted-stay : FormedChainsAreGood → FormattedBlocksStay
 formatted-stay form j f former l fits vs w w' runs image sure n was = elim (cases_lt n (covered_blocks l)) [
-  | inl inside ↦ runs-kept form j image.valid f former l fits vs w w' runs (record { data_sure = sure.0; hash_sure = sure.1 }) (image-ready j.tree.shape w image) n inside was
+  | inl inside ↦ runs-kept form j image.valid f former l fits vs w w' runs sure (image-ready j.tree.shape w image) n inside was
   | inr past ↦ inl (covered-past l w'.data_dev.image w'.hash_dev.image n past ∙ sym (covered-past l f.data_image f.hash_image n past))
 ]

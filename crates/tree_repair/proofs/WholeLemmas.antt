@@ -22,12 +22,13 @@ use Rattle.tree_repair.specs.Coverage.{IsFromUp, IsVisitedIn}
 use Rattle.tree_repair.specs.Failures.{AreUncounted}
 use Rattle.tree_repair.specs.Mending.{IsAllowedPut, IsMended, BlockCheck}
 use Rattle.tree_repair.specs.Noting.{found_of, pass_outcome}
-use Rattle.tree_repair.specs.Outcomes.{IsGoodThenIn, IsOutcomeOf, LeavesAllGood, StandsFrom}
+use Rattle.tree_repair.specs.Outcomes.{IsGoodThenIn, IsOutcomeOf, IsPartlyCause, LeavesAllGood, StandsFrom}
 use Rattle.tree_repair.specs.Passes.{HasNoted, IsGoodThen}
 use Rattle.tree_repair.specs.Repairs.{LiesOn, job_of}
 use Rattle.tree_repair.specs.Runs.{IsDone, IsVisited, Job, VisitsAll, Visit, look_at, other, own, sector_at, size_at}
 use Rattle.tree_repair.specs.Standing.{IsLeftGoodIn, IsNotLost, IsSteadyImage, StandsGood}
-use Rattle.tree_repair.specs.Worlds.{HasCountedNone, IsWorldRead, RepairWorld}
+use Rattle.tree_repair.specs.Worlds.{IsImageUnfailed, IsWorldRead, RepairWorld}
+use Rattle.tree_repair.proofs.FlawLemmas.{flaws-happen}
 use Rattle.tree_repair.proofs.OutcomeLemmas.{whole-of}
 use Rattle.tree_repair.proofs.PutLemmas.{lost-image}
 use Rattle.tree_repair.proofs.RunLemmas.{AreSame, are-then, other-image, read-same, visited-same}
@@ -171,18 +172,14 @@ module _ (j : Job) (vs : List Visit) (w w' : RepairWorld) (runs : VisitsAll j vs
   all-stored i inside each = way-stands j i w' (λ h few. all-stand h i inside (each h few))
 
 -- no call of either device failed
-pub record AreUnfailedSince (w w' : RepairWorld) : Type 0 where
-  pub data_none : HasCountedNone w.data_dev w'.data_dev
-  pub hash_none : HasCountedNone w.hash_dev w'.hash_dev
-
-pub unfailed-since : (before : Failures) (w w' : RepairWorld) → before.data ≡ w.data_dev.failures → before.hash ≡ w.hash_dev.failures → AreUncounted before w' → AreUnfailedSince w w'
+pub unfailed-since : (before : Failures) (w w' : RepairWorld) → before.data ≡ w.data_dev.failures → before.hash ≡ w.hash_dev.failures → AreUncounted before w' → IsImageUnfailed w w'
 unfailed-since before w w' first second none = record {
   data_none = record { none = omega (arith, none.data_same, first); below = none.data_below };
   hash_none = record { none = omega (arith, none.hash_same, second); below = none.hash_below };
 }
 
 pub all-good-of : (plan : Plan) (parity : Bool) (w w' : RepairWorld) (vs : List Visit) → LiesOn plan.tree.shape w → VisitsAll (job_of plan parity) vs w w' → All IsDone vs
-    → ((h i : ℕ) → h ≤ levels plan.tree.shape → i < plan.tree.shape.blocks → IsGoodThenIn plan.write plan.tree.shape h i vs) → AreUnfailedSince w w' → LeavesAllGood plan parity w w' plan.tree.shape.blocks
+    → ((h i : ℕ) → h ≤ levels plan.tree.shape → i < plan.tree.shape.blocks → IsGoodThenIn plan.write plan.tree.shape h i vs) → IsImageUnfailed w w' → LeavesAllGood plan parity w w' plan.tree.shape.blocks
 all-good-of plan parity w w' vs lies runs done each unfailed = record {
   lies = lies;
   count_is = refl;
@@ -198,10 +195,10 @@ all-good-of plan parity w w' vs lies runs done each unfailed = record {
 
 -- ---- what is known behind a pass
 
-pub outcome-by : (good sure : Bool) (n : ℕ) (P : Outcome → Type 0) → (IsTrue good → IsTrue sure → P (Whole n)) → P Partly → P (pass_outcome (good && sure) n)
+pub outcome-by : (good sure : Bool) (n : ℕ) (P : Outcome → Type 0) → (IsTrue good → IsTrue sure → P (Whole n)) → ((good ≡ false) ⊎ (sure ≡ false) → P Partly) → P (pass_outcome (good && sure) n)
 outcome-by true true n P all partly = all refl refl
-outcome-by true false n P all partly = partly
-outcome-by false sure n P all partly = partly
+outcome-by true false n P all partly = partly (inr refl)
+outcome-by false sure n P all partly = partly (inl refl)
 
 none-of : (some by : Bool) → IsTrue (not (some || by)) → (some ≡ false) × (by ≡ false)
 none-of true by none = absurd (false≢true none)
@@ -210,18 +207,22 @@ none-of false false none = (refl, refl)
 
 module _ (plan : Plan) (j : Job) (w y : RepairWorld) (same : j ≡ job_of plan false) (lies : LiesOn plan.tree.shape w) where
   -- all that was due was visited, and is good
-  all-good-noted : {old new : Option (List ℕ)} {a b : BadBlocks} → HasNoted (job_of plan false) (IsFromUp plan.tree.shape 0) w y old new a b None → (b.any ≡ false) × (b.passed ≡ false) → AreUnfailedSince w y → LeavesAllGood plan false w y plan.tree.shape.blocks
+  all-good-noted : {old new : Option (List ℕ)} {a b : BadBlocks} → HasNoted (job_of plan false) (IsFromUp plan.tree.shape 0) w y old new a b None → (b.any ≡ false) × (b.passed ≡ false) → IsImageUnfailed w y → LeavesAllGood plan false w y plan.tree.shape.blocks
   all-good-noted notes none unfailed =
       all-good-of plan false w y notes.run.visits lies notes.run.runs (notes.run.done refl)
       (λ h i few inside. good-in-all (job_of plan false) h i notes.run.visits (notes.any refl none.0).1 ((notes.passed refl none.1).1 h i (omega arith, (few, inside)))) unfailed
 
-  outcome-job : {old new : Option (List ℕ)} {a b : BadBlocks} (good sure : Bool) → HasNoted (job_of plan false) (IsFromUp plan.tree.shape 0) w y old new a b None → StandsFrom (job_of plan false) 0 w y
-      → good ≡ not (b.any || b.passed) → (IsTrue sure → AreUnfailedSince w y) → IsOutcomeOf plan w y (pass_outcome (good && sure) plan.tree.shape.blocks)
-  outcome-job {old} {new} {a} {b} good sure notes stands is unfailed =
-      outcome-by good sure plan.tree.shape.blocks (IsOutcomeOf plan w y) (λ all known. all-good-noted notes (none-of b.any b.passed (subst IsTrue is all)) (unfailed known)) (whole-of plan w y lies stands)
+  module _ {old new : Option (List ℕ)} {a b : BadBlocks} (good sure : Bool) (fresh : (a.any ≡ false) × (a.passed ≡ false)) (is : good ≡ not (b.any || b.passed)) (unfailed : IsTrue sure → IsImageUnfailed w y) (failed : sure ≡ false → IsImageUnfailed w y → ⊥) where
+    -- or there is a cause
+    partly-job : HasNoted (job_of plan false) (IsFromUp plan.tree.shape 0) w y old new a b None → (good ≡ false) ⊎ (sure ≡ false) → IsPartlyCause (job_of plan false) w y
+    partly-job notes (inl some) = inr (flaws-happen (job_of plan false) w y a b fresh.0 fresh.1 (notes.flaws refl) (sym is ∙ some))
+    partly-job notes (inr unsure) = inl (failed unsure)
 
-  pub outcome-of : {old new : Option (List ℕ)} {a b : BadBlocks} (good sure : Bool) (n : ℕ) → n ≡ j.tree.shape.blocks → HasNoted j (IsFromUp j.tree.shape 0) w y old new a b None → StandsFrom j 0 w y
-      → good ≡ not (b.any || b.passed) → (IsTrue sure → AreUnfailedSince w y) → IsOutcomeOf plan w y (pass_outcome (good && sure) n)
-  outcome-of {old} {new} {a} {b} good sure n count notes stands is unfailed =
-      subst (λ (m : ℕ). IsOutcomeOf plan w y (pass_outcome (good && sure) m)) (sym (count ∙ ap (λ (k : Job). k.tree.shape.blocks) same))
-      (outcome-job good sure (subst (λ (k : Job). HasNoted k (IsFromUp k.tree.shape 0) w y old new a b None) same notes) (subst (λ (k : Job). StandsFrom k 0 w y) same stands) is unfailed)
+    outcome-job : HasNoted (job_of plan false) (IsFromUp plan.tree.shape 0) w y old new a b None → StandsFrom (job_of plan false) 0 w y → IsOutcomeOf plan w y (pass_outcome (good && sure) plan.tree.shape.blocks)
+    outcome-job notes stands =
+        outcome-by good sure plan.tree.shape.blocks (IsOutcomeOf plan w y) (λ all known. all-good-noted notes (none-of b.any b.passed (subst IsTrue is all)) (unfailed known)) (λ why. (whole-of plan w y lies stands, partly-job notes why))
+
+    pub outcome-of : (n : ℕ) → n ≡ j.tree.shape.blocks → HasNoted j (IsFromUp j.tree.shape 0) w y old new a b None → StandsFrom j 0 w y → IsOutcomeOf plan w y (pass_outcome (good && sure) n)
+    outcome-of n count notes stands =
+        subst (λ (m : ℕ). IsOutcomeOf plan w y (pass_outcome (good && sure) m)) (sym (count ∙ ap (λ (k : Job). k.tree.shape.blocks) same))
+        (outcome-job (subst (λ (k : Job). HasNoted k (IsFromUp k.tree.shape 0) w y old new a b None) same notes) (subst (λ (k : Job). StandsFrom k 0 w y) same stands))

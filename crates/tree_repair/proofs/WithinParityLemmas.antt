@@ -17,52 +17,73 @@ use Rattle.tree_survey.specs.Surveys.{IsWay}
 use Rattle.verity_format.specs.Blocks.{IsOnlyRead}
 use Rattle.tree_repair.specs.declared.bad.BadBlock.{BadBlock}
 use Rattle.tree_repair.specs.declared.repair.Plan.{Plan}
-use Rattle.tree_repair.specs.Beyond.{IsUnderBad}
+use Rattle.tree_repair.specs.Beyond.{HaveCountedNone, IsUnderBad}
 use Rattle.tree_repair.specs.Coverage.{IsPassedBy}
 use Rattle.tree_repair.specs.Parity.{IsCoveredAt}
 use Rattle.tree_repair.specs.Passes.{IsPass, bad_of}
 use Rattle.tree_repair.specs.Repairs.{job_of}
 use Rattle.tree_repair.specs.Runs.{Job, Visit, VisitsAll, size_at}
-use Rattle.tree_repair.specs.ParitySearches.{IsBlockUnmade, IsCutOff, IsMadeOther, IsOffPlace, IsSoughtAt, IsTriedBehind, IsVain, Trial, trial}
+use Rattle.tree_repair.specs.ParitySearches.{IsBlockUnmade, IsCutOff, IsLeft, IsMadeOther, IsOffPlace, IsSoughtAt, IsTriedBehind, IsVain, Trial, trial}
 use Rattle.tree_repair.specs.WithinParity.{FormerImage, HasTreeSizes, IsDamaged, IsFormerOf, IsTrialSettled, IsParityKept, IsRoundPast, IsSettledWithin, IsSoughtWithin, IsSureRepair, IsUnreached, LostBlocksWithinParityComeBack, Stage, stage}
-use Rattle.tree_repair.specs.Worlds.{IsWorldRead, RepairWorld}
+use Rattle.tree_repair.specs.Worlds.{IsImageUnfailed, IsWorldRead, RepairWorld}
 use Rattle.tree_repair.proofs.ApartLemmas.{above-same}
+use Rattle.tree_repair.proofs.BeyondLemmas.{all-visits}
+use Rattle.tree_repair.proofs.ExcuseLemmas.{passed-for}
 use Rattle.tree_repair.proofs.FormerLemmas.{former-digest, former-whole}
 use Rattle.tree_repair.proofs.RecordedLemmas.{IsRecordedIn, formed-on, recorded-beside, recorded-known, visited-formed, visited-or}
-use Rattle.tree_repair.proofs.RunLemmas.{runs-same, runs-then}
-use Rattle.tree_repair.proofs.WantedBlockLemmas.{IsTriedIn, all-run, recorded-tried}
+use Rattle.tree_repair.proofs.RunLemmas.{parity-none, runs-read, runs-then}
+use Rattle.tree_repair.proofs.WantedBlockLemmas.{IsTriedIn, recorded-tried}
 use Rattle.tree_repair.proofs.StandLemmas.{IsReady, image-ready}
-use Rattle.tree_repair.proofs.StayFormedLemmas.{IsSure, runs-ready-sure, sure-same}
+use Rattle.tree_repair.proofs.StayFormedLemmas.{runs-ready-sure}
+use Rattle.tree_repair.proofs.UnfailedLemmas.{counting-read, counting-runs, image-sure, none-failed, none-left, none-right, sure-after, sure-before, unfailed}
 use Rattle.tree_repair.proofs.UnknownLemmas.{IsUnknownBeside, all-or, beside-inside}
 
 -- ---- what the devices are at each moment of a run
 
 pub record HoldsParity (s : ShapeRecord) (l : Layout) (f : FormerImage) (w : RepairWorld) (p : Device) : Type 0 where
-  pub sure : IsSure w
   pub ready : IsReady s w
   pub kept : IsParityKept l f p
-  pub parity_sure : IsTrue p.never_fails
 
-pub holds-later : (j : Job) → IsShape j.tree.shape → (l : Layout) (f : FormerImage) (vs : List Visit) (a b : RepairWorld) (p q : Device) → VisitsAll j vs a b → IsOnlyRead p q
+pub holds-later : (j : Job) → IsShape j.tree.shape → (l : Layout) (f : FormerImage) (vs : List Visit) (a b : RepairWorld) (p q : Device) → VisitsAll j vs a b → IsOnlyRead p q → IsImageUnfailed a b
     → HoldsParity j.tree.shape l f a p → HoldsParity j.tree.shape l f b q
-holds-later j valid l f vs a b p q runs read holds = record {
-  sure = sure-same a b (runs-same j vs a b runs) holds.sure;
-  ready = runs-ready-sure j valid vs a b runs holds.sure holds.ready;
+holds-later j valid l f vs a b p q runs read sure holds = record {
+  ready = runs-ready-sure j valid vs a b runs sure holds.ready;
   kept = record {
     layout = holds.kept.layout;
     steady = steady-then read.same holds.kept.steady;
     stands = subst (IsProtected l f.data_image f.hash_image) (sym (read.image holds.kept.steady)) holds.kept.stands;
   };
-  parity_sure = read.same.never_fails holds.parity_sure;
 }
+
+-- all visits of a pass
+pub pass-run : (j : Job) (l : Layout) (w w' : RepairWorld) (p p' : Device) (again : Bool) → IsPass j l w w' p p' again → (us : List Visit) × VisitsAll j us w w'
+pass-run j l w w' p p' again pass =
+    let us = all-visits j l pass.sought.lost (flat_map (bad_of j) pass.visits) pass.behind w' p p' pass.hash_came pass.sought.sought in
+    (pass.visits ++ us.0, runs-then j pass.visits us.0 w pass.behind w' pass.runs us.1)
 
 pub holds-first : (plan : Plan) (l : Layout) (f : FormerImage) (w w' : RepairWorld) (p p' : Device) (r : IsSureRepair plan l f w w' p p') → HoldsParity plan.tree.shape l f w p
 holds-first plan l f w w' p p' r = record {
-  sure = record { data_sure = r.sure.0; hash_sure = r.sure.1 };
   ready = image-ready plan.tree.shape w (record { valid = r.seeks.lies.valid; steady = r.steady; data_fits = r.seeks.lies.data_fits; tree_fits = r.seeks.lies.tree_fits });
   kept = r.parity;
-  parity_sure = r.sure.2;
 }
+
+-- the passes before the last, and the last one, counted no failure
+module _ (plan : Plan) (l : Layout) (f : FormerImage) (w w' : RepairWorld) (p p' : Device) (r : IsSureRepair plan l f w w' p p') where
+  pub sure-last : HaveCountedNone r.seeks.ends.passes.last w' r.seeks.ends.passes.last_parity p'
+  sure-last =
+      let passes = r.seeks.ends.passes in
+      none-right w passes.last w' p passes.last_parity p' (counting-runs (job_of plan true) passes.earlier w passes.last p passes.last_parity passes.before passes.parity_read) r.unfailed
+
+  pub sure-earlier : IsImageUnfailed w r.seeks.ends.passes.last
+  sure-earlier =
+      let passes = r.seeks.ends.passes in
+      let pass = pass-run (job_of plan true) l passes.last w' passes.last_parity p' r.seeks.ends.again passes.pass in
+      sure-before (job_of plan true) pass.0 w passes.last w' pass.1 (image-sure w w' p p' r.unfailed)
+
+  pub holds-last : HoldsParity plan.tree.shape l f r.seeks.ends.passes.last r.seeks.ends.passes.last_parity
+  holds-last =
+      let passes = r.seeks.ends.passes in
+      holds-later (job_of plan true) r.seeks.lies.valid l f passes.earlier w passes.last p passes.last_parity passes.before passes.parity_read.read sure-earlier (holds-first plan l f w w' p p' r)
 
 -- ---- a pass
 
@@ -91,7 +112,7 @@ module _ (form : FormedChainsAreGood) (j : Job) (valid : IsShape j.tree.shape) (
             ]
       ]
 
-  module _ (w w' : RepairWorld) (p p' : Device) (again : Bool) (pass : IsPass j l w w' p p' again) (holds : HoldsParity j.tree.shape l f w p) where
+  module _ (w w' : RepairWorld) (p p' : Device) (again : Bool) (pass : IsPass j l w w' p p' again) (holds : HoldsParity j.tree.shape l f w p) (none : HaveCountedNone w w' p p') where
     abbrev recorded : List BadBlock
     recorded = flat_map (bad_of j) pass.visits
 
@@ -101,33 +122,38 @@ module _ (form : FormedChainsAreGood) (j : Job) (valid : IsShape j.tree.shape) (
     abbrev st : Stage
     st = stage w pass.behind w'
 
+    us : (us : List Visit) × VisitsAll j us pass.behind w'
+    us = all-visits j l lost recorded pass.behind w' p p' pass.hash_came pass.sought.sought
+
+    sure-visits : IsImageUnfailed w pass.behind
+    sure-visits = sure-before j us.0 w pass.behind w' us.1 (image-sure w w' p p' none)
+
+    pub sure-behind : IsImageUnfailed pass.behind w'
+    sure-behind = sure-after j pass.visits w pass.behind w' pass.runs (image-sure w w' p p' none)
+
     holds-behind : HoldsParity j.tree.shape l f pass.behind p
-    holds-behind = holds-later j valid l f pass.visits w pass.behind p p pass.runs (only_read-none p) holds
+    holds-behind = holds-later j valid l f pass.visits w pass.behind p p pass.runs (only_read-none p) sure-visits holds
 
     -- a hash block above it wasn't good when its turn came
     passed-by : (h i : ℕ) → IsPassedBy j h i pass.visits w pass.behind → IsUnderBad j h i w w'
-    passed-by h i by =
-        let us = all-run j l lost recorded pass.behind w' p p' pass.hash_came pass.sought.sought in
-        elim by.cut [
-          | inl failed ↦ absurd (failed.1 ((runs-same j by.earlier w by.a by.before).hash_same.never_fails holds.sure.hash_sure))
-          | inr cut ↦ record {
-            beside = by.beside;
-            same = by.same;
-            a = by.a;
-            b = by.b;
-            part = record { earlier = by.earlier; later = by.later ++ us.0; before = by.before; behind = runs-then j by.later us.0 by.b pass.behind w' by.behind us.1 };
-            cut = cut;
-          }
-        ]
+    passed-by h i by = record {
+      beside = by.beside;
+      same = by.same;
+      a = by.a;
+      b = by.b;
+      part = record { earlier = by.earlier; later = by.later ++ us.0; before = by.before; behind = runs-then j by.later us.0 by.b pass.behind w' by.behind us.1 };
+      read = by.read;
+      cut = passed-for j h i pass.visits w pass.behind by sure-visits.hash_none;
+    }
 
     -- to a block that is damaged later, and doesn't count as lost, the pass didn't come
-    pub unreached : (vs : List Visit) (a : RepairWorld) (n : ℕ) → VisitsAll j vs pass.behind a → (IsAmong lost n → ⊥) → IsDamaged l f a n → IsUnreached j l n st
-    unreached vs a n runs unknown damaged h i at =
+    pub unreached : (vs later : List Visit) (a : RepairWorld) (n : ℕ) → VisitsAll j vs pass.behind a → VisitsAll j later a w' → (IsAmong lost n → ⊥) → IsDamaged l f a n → IsUnreached j l n st
+    unreached vs later a n runs rest unknown damaged h i at =
         elim (pass.looked h i at.place.high at.place.inside) [
           | inr by ↦ inl (passed-by h i by)
-          | inl seen ↦ elim (visited-formed form j valid f former l fits h i n at pass.visits w pass.behind pass.runs holds.sure holds.ready seen) [
+          | inl seen ↦ elim (visited-formed form j valid f former l fits h i n at pass.visits w pass.behind pass.runs sure-visits holds.ready seen) [
             | inl known ↦ absurd (unknown (recorded-known j.tree.shape valid l holds.kept.layout h i n at known.0 recorded lost pass.sought.are known.1))
-            | inr is ↦ elim (formed-on form j valid f former l fits h i n at vs pass.behind a runs holds-behind.sure holds-behind.ready is) [
+            | inr is ↦ elim (formed-on form j valid f former l fits h i n at vs pass.behind a runs (sure-before j later pass.behind a w' rest sure-behind) holds-behind.ready is) [
               | inl now ↦ absurd (damaged now)
               | inr clash ↦ inr clash
             ]
@@ -136,16 +162,19 @@ module _ (form : FormedChainsAreGood) (j : Job) (valid : IsShape j.tree.shape) (
 
     -- ---- a block that is sought
 
-    module _ (h i : ℕ) (at_in : IsRecordedIn j.tree.shape h i false recorded) (high : h ≤ levels j.tree.shape) (x : IsTriedIn j l lost h i pass.behind w' p) where
+    module _ (h i : ℕ) (at_in : IsRecordedIn j.tree.shape h i false recorded) (high : h ≤ levels j.tree.shape) (x : IsTriedIn j l lost h i pass.behind w' p p') where
+      none-tried : HaveCountedNone x.a x.b x.q x.q'
+      none-tried =
+          none-left x.a x.b w' x.q x.q' p' (counting-runs j x.later x.b w' x.q' p' x.behind x.parity_behind)
+          (none-right pass.behind x.a w' p x.q p' (counting-runs j x.earlier pass.behind x.a p x.q x.before x.parity_read)
+          (none-right w pass.behind w' p p p' (counting-runs j pass.visits w pass.behind p p pass.runs (parity-none p)) none))
+
       module _ (a : RepairWorld) (read : IsWorldRead x.a a) where
         abbrev tr : Trial
         tr = trial l lost a x.b x.q x.q'
 
         runs-to : VisitsAll j (x.earlier ++ []) pass.behind a
         runs-to = runs-then j x.earlier [] pass.behind x.a a x.before read
-
-        holds-then : HoldsParity j.tree.shape l f a x.q
-        holds-then = holds-later j valid l f (x.earlier ++ []) pass.behind a p x.q runs-to x.parity_read.read holds-behind
 
         within : IsTrialSettled j f st tr h x.beside → IsSoughtWithin j l lost f st p h i
         within outcome = record {
@@ -160,60 +189,69 @@ module _ (form : FormedChainsAreGood) (j : Job) (valid : IsShape j.tree.shape) (
           outcome = outcome;
         }
 
-        -- why parity doesn't bring it back
+        -- why parity doesn't bring it back, if nothing is written
         known-at : (k : ℕ) → IsCoveredAt j.tree.shape l h x.beside k → IsAmong lost k
         known-at k at =
             recorded-known j.tree.shape valid l holds.kept.layout h x.beside k at false recorded lost pass.sought.are (recorded-beside j.tree.shape h i x.beside false recorded x.same at_in)
 
-        unmade-past : (k : ℕ) → IsCoveredAt j.tree.shape l h x.beside k → IsBlockUnmade tr k → IsRoundPast j f st tr h x.beside
-        unmade-past k at (TooManyLost count, (of, (is, many, unasked))) = record { k = k; at = at; known = known-at k at; past = inl (rw (sym is) many) }
-        unmade-past k at (TooSmall needed, (of, (is, small, unasked))) = record { k = k; at = at; known = known-at k at; past = inr (inl (rw (sym is) small)) }
-        unmade-past k at (DeviceFailed, (of, failed)) = absurd (of (holds-then.sure.data_sure, holds-then.sure.hash_sure, holds-then.parity_sure))
-        unmade-past k at (NoMemory, (of, unasked)) = absurd of
+        module _ (left : IsLeft tr) where
+          rest : VisitsAll j x.later a w'
+          rest = runs-read j x.later a x.b w' left.image x.behind
 
-        hidden-past : (k : ℕ) → IsCoveredAt j.tree.shape l h x.beside k → IsUnknownBeside f tr k → IsRoundPast j f st tr h x.beside
-        hidden-past k at u = record {
-          k = k;
-          at = at;
-          known = known-at k at;
-          past = inr (inr (record { n = u.n; beside = u.beside; unknown = u.unknown; damaged = u.damaged; unreached = unreached (x.earlier ++ []) a u.n runs-to u.unknown u.damaged }));
-        }
+          holds-then : HoldsParity j.tree.shape l f a x.q
+          holds-then = holds-later j valid l f (x.earlier ++ []) pass.behind a p x.q runs-to x.parity_read.read (sure-before j x.later pass.behind a w' rest sure-behind) holds-behind
 
-        vain-past : (way_path : PathRecord) → IsWay j.tree x.beside h way_path → IsVain j way_path h x.beside tr
-            → (IsOffPlace j.tree.shape l h x.beside ⊎ IsRoundPast j f st tr h x.beside) ⊎ Collide j.tree.salt
-        vain-past way_path way (inl (inl size)) = absurd (size (size-is h))
-        vain-past way_path way (inl (inr off)) = inl (inl off)
-        vain-past way_path way (inr (k, (at, inl unmade))) = inl (inr (unmade-past k at unmade))
-        vain-past way_path way (inr (k, (at, inr other))) = elim (other-unknown tr way_path h x.beside k holds-then at way other) [
-          | inl unknown ↦ inl (inr (hidden-past k at unknown))
-          | inr clash ↦ inr clash
-        ]
+          unmade-past : (k : ℕ) → IsCoveredAt j.tree.shape l h x.beside k → IsBlockUnmade tr k → IsRoundPast j f st tr h x.beside
+          unmade-past k at (TooManyLost count, (of, (is, many, unasked))) = record { k = k; at = at; known = known-at k at; past = inl (rw (sym is) many) }
+          unmade-past k at (TooSmall needed, (of, (is, small, unasked))) = record { k = k; at = at; known = known-at k at; past = inr (inl (rw (sym is) small)) }
+          unmade-past k at (DeviceFailed, (of, failed)) =
+              absurd (none-failed a x.b x.q x.q' (counting-read a x.b x.q x.q' left.image left.parity) (none-right x.a a x.b x.q x.q x.q' (counting-read x.a a x.q x.q read (parity-none x.q)) none-tried) failed)
+          unmade-past k at (NoMemory, (of, unasked)) = absurd of
+
+          hidden-past : (k : ℕ) → IsCoveredAt j.tree.shape l h x.beside k → IsUnknownBeside f tr k → IsRoundPast j f st tr h x.beside
+          hidden-past k at u = record {
+            k = k;
+            at = at;
+            known = known-at k at;
+            past = inr (inr (record { n = u.n; beside = u.beside; unknown = u.unknown; damaged = u.damaged; unreached = unreached (x.earlier ++ []) x.later a u.n runs-to rest u.unknown u.damaged }));
+          }
+
+          vain-past : (way_path : PathRecord) → IsWay j.tree x.beside h way_path → IsVain j way_path h x.beside tr
+              → (IsOffPlace j.tree.shape l h x.beside ⊎ IsRoundPast j f st tr h x.beside) ⊎ Collide j.tree.salt
+          vain-past way_path way (inl (inl size)) = absurd (size (size-is h))
+          vain-past way_path way (inl (inr off)) = inl (inl off)
+          vain-past way_path way (inr (k, (at, inl unmade))) = inl (inr (unmade-past k at unmade))
+          vain-past way_path way (inr (k, (at, inr other))) = elim (other-unknown tr way_path h x.beside k holds-then at way other) [
+            | inl unknown ↦ inl (inr (hidden-past k at unknown))
+            | inr clash ↦ inr clash
+          ]
 
       tried-within : (back : Bool) → IsTriedBehind j h x.beside (trial l lost x.a x.b x.q x.q') back → IsSoughtWithin j l lost f st p h i ⊎ Collide j.tree.salt
       tried-within true behind = inl (within behind.between behind.read (inl behind.tried.0))
       tried-within false behind = elim behind.tried.1 [
-        | inr good ↦ inl (within behind.between behind.read (inr (inl (behind.tried.0.image, good))))
-        | inl along ↦ elim (vain-past behind.between behind.read along.p along.way along.vain) [
-          | inl vain ↦ inl (within behind.between behind.read (inr (inr (record { p = along.p; way = along.way; vain = vain }))))
+        | inr good ↦ inl (within behind.between behind.read (inr (behind.tried.0.image, inl good)))
+        | inl along ↦ elim (vain-past behind.between behind.read behind.tried.0 along.p along.way along.vain) [
+          | inl vain ↦ inl (within behind.between behind.read (inr (behind.tried.0.image, inr (record { p = along.p; way = along.way; vain = vain }))))
           | inr clash ↦ inr clash
         ]
       ]
 
       -- a hash block above it wasn't good
-      cut-under : IsCutOff j.tree x.beside h x.a.hash_dev → IsUnderBad j h i w w'
-      cut-under cut = record {
+      cut-under : IsWorldRead x.a x.b → IsCutOff j.tree x.beside h x.a.hash_dev → IsUnderBad j h i w w'
+      cut-under read cut = record {
         beside = x.beside;
         same = above-same j.tree.shape valid h i x.beside x.same (h + 1) (omega arith);
         a = x.a;
         b = x.b;
         part = record { earlier = pass.visits ++ x.earlier; later = x.later; before = runs-then j pass.visits x.earlier w pass.behind x.a pass.runs x.before; behind = x.behind };
+        read = read;
         cut = cut;
       }
 
       sought-within : (back : Bool) → IsSoughtAt j h x.beside (trial l lost x.a x.b x.q x.q') false back → (IsUnderBad j h i w w' ⊎ IsSoughtWithin j l lost f st p h i) ⊎ Collide j.tree.salt
       sought-within back (inl (none, (left, inl off))) = absurd (off (record { valid = valid; inside = x.inside; high = high }))
-      sought-within back (inl (none, (left, inr (inl failed)))) = absurd (failed.1 ((runs-same j x.earlier pass.behind x.a x.before).hash_same.never_fails holds-behind.sure.hash_sure))
-      sought-within back (inl (none, (left, inr (inr cut)))) = inl (inl (cut-under cut))
+      sought-within back (inl (none, (left, inr (inl failed)))) = absurd (unfailed x.a.hash_dev x.b.hash_dev (inl (omega (arith, left.image.hash_more))) none-tried.hash_none failed.0)
+      sought-within back (inl (none, (left, inr (inr cut)))) = inl (inl (cut-under left.image cut))
       sought-within back (inr behind) = elim (tried-within back behind) [
         | inl came ↦ inl (inr came)
         | inr clash ↦ inr clash
@@ -235,7 +273,6 @@ module _ (form : FormedChainsAreGood) (j : Job) (valid : IsShape j.tree.shape) (
 
 pub within-parity : FormedChainsAreGood → LostBlocksWithinParityComeBack
 within-parity form plan l f w w' p p' r h i high inside =
-    let j : Job = job_of plan true in
     let passes = r.seeks.ends.passes in
-    settled-within form j r.seeks.lies.valid f r.former l r.sizes passes.last w' passes.last_parity p' r.seeks.ends.again passes.pass
-    (holds-later j r.seeks.lies.valid l f passes.earlier w passes.last p passes.last_parity passes.before passes.parity_read.read (holds-first plan l f w w' p p' r)) h i high inside
+    settled-within form (job_of plan true) r.seeks.lies.valid f r.former l r.sizes passes.last w' passes.last_parity p' r.seeks.ends.again passes.pass
+    (holds-last plan l f w w' p p' r) (sure-last plan l f w w' p p' r) h i high inside

@@ -13,9 +13,9 @@ use Rattle.tree_repair.specs.declared.repair.Plan.{Plan}
 use Rattle.tree_repair.specs.Coverage.{IsVisitAt}
 use Rattle.tree_repair.specs.Parity.{IsCoveredAt}
 use Rattle.tree_repair.specs.Repairs.{SeeksByParity, job_of}
-use Rattle.tree_repair.specs.Runs.{Job, Visit, VisitsAll}
+use Rattle.tree_repair.specs.Runs.{IsPart, Job, Visit, VisitsAll}
 use Rattle.tree_repair.specs.ParitySearches.{IsBroughtBack, IsCutOff, IsGoodBehind, IsMadeOther, IsUncovered, Trial, trial}
-use Rattle.tree_repair.specs.Worlds.{HasCountedNone, IsParityRead, RepairWorld}
+use Rattle.tree_repair.specs.Worlds.{HasCountedNone, IsParityRead, IsWorldRead, RepairWorld}
 
 -- ---- blocks that aren't sought by parity
 
@@ -53,20 +53,15 @@ IsOutcome j h i t = IsBroughtBack j h i t.w t.w' ⊎ (IsGoodBehind j h i t.w ⊎
 
 -- ---- at what point of the run
 
--- a part of a run: blocks were visited before and after it
-pub record IsPart (j : Job) (w a b w' : RepairWorld) : Type 0 where
-  pub earlier : List Visit
-  pub later : List Visit
-  pub before : VisitsAll j earlier w a
-  pub behind : VisitsAll j later b w'
-
--- When its turn came a hash block above it was corrupt; this was seen at a neighbouring block with the same hash blocks above.
+-- When its turn came a hash block above it was corrupt, and nothing was written; this was seen at a neighbouring block with the
+-- same hash blocks above.
 pub record IsUnderBad (j : Job) (h i : ℕ) (w w' : RepairWorld) : Type 0 where
   pub beside : ℕ
   pub same : ancestor j.tree.shape (h + 1) beside ≡ ancestor j.tree.shape (h + 1) i
   pub a : RepairWorld
   pub b : RepairWorld
   pub part : IsPart j w a b w'
+  pub read : IsWorldRead a b
   pub cut : IsCutOff j.tree beside h a.hash_dev
 
 -- The block was sought when these covered blocks counted as lost; `beside` is the data block below it that it was sought by.

@@ -18,6 +18,7 @@ pub mod ParitySearches
 pub mod Losing
 pub mod Searching
 pub mod Noting
+pub mod Flaws
 pub mod Coverage
 pub mod Passes
 pub mod Notes

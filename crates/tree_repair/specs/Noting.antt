@@ -37,9 +37,15 @@ bad_blocks place (Some found) = record { place = place; found = found } ∷ []
 abbrev pub IsNoted : BadBlocks → BadBlocks → Place → Option Bool → Type 0
 IsNoted old new place found = IsTrue old.asked → new.blocks.items ≡ old.blocks.items ++ bad_blocks place found
 
--- the block is valid, and no corrupt block was noted before
-abbrev pub IsGoodBefore : BadBlocks → Option Bool → Type 0
-IsGoodBefore old found = (old.any ≡ false) × (found ≡ None)
+-- whether a corrupt block is noted, after the note about a block
+abbrev pub any_after : Bool → Option Bool → Bool
+any_after any None = any
+any_after any (Some found) = true
+
+-- the notes about a block that was written, by whether it was read back
+abbrev pub kept_or : Bool → BadBlocks → BadBlocks
+kept_or true bad = bad
+kept_or false bad = record bad { any = true; unkept = true }
 
 -- some blocks were skipped
 abbrev pub passed_some : BadBlocks → BadBlocks

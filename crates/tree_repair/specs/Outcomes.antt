@@ -8,11 +8,12 @@ use Rattle.tree_repair.specs.declared.outcome.Outcome.{Outcome}
 use Rattle.tree_repair.specs.declared.outcome.Outcome.TheVariants.{Partly, Whole}
 use Rattle.tree_repair.specs.declared.repair.Plan.{Plan}
 use Rattle.tree_repair.specs.Coverage.{IsFromUp, IsVisitAt}
+use Rattle.tree_repair.specs.Flaws.{HappensIn, IsFlaw}
 use Rattle.tree_repair.specs.Noting.{found_of}
 use Rattle.tree_repair.specs.Repairs.{LiesOn, job_of}
 use Rattle.tree_repair.specs.Runs.{IsDone, Job, VisitsAll, Visit}
 use Rattle.tree_repair.specs.Standing.{IsSteadyImage, IsWorldSteady, StandsGood}
-use Rattle.tree_repair.specs.Worlds.{HasCountedNone, RepairWorld}
+use Rattle.tree_repair.specs.Worlds.{HasCountedNone, IsImageUnfailed, RepairWorld}
 
 -- ---- why a block is corrupt after a pass
 
@@ -82,10 +83,14 @@ pub record LeavesAllGood (plan : Plan) (parity : Bool) (w w' : RepairWorld) (cou
   pub hash_unfailed : HasCountedNone w.hash_dev w'.hash_dev
   pub good : IsWorldSteady w → (i : ℕ) → i < count → IsContentStoredAs (job_of plan parity).tree w'.data_dev.image w'.hash_dev.image i None ⊎ Collide plan.tree.salt
 
+-- why not all of the image is known to be valid: a call of its devices failed, or one block isn't known to be valid
+abbrev pub IsPartlyCause : Job → RepairWorld → RepairWorld → Type 0
+IsPartlyCause j w w' = (IsImageUnfailed w w' → ⊥) ⊎ HappensIn j (IsFlaw j) w w'
+
 -- the outcome of a repair without parity
 abbrev pub IsOutcomeOf : Plan → RepairWorld → RepairWorld → Outcome → Type 0
 IsOutcomeOf plan w w' (Whole count) = LeavesAllGood plan false w w' count
-IsOutcomeOf plan w w' Partly = LeavesWhole plan w w'
+IsOutcomeOf plan w w' Partly = LeavesWhole plan w w' × IsPartlyCause (job_of plan false) w w'
 
 -- the outcome of a repair with parity
 abbrev pub IsParityOutcome : Plan → RepairWorld → RepairWorld → Outcome → Type 0

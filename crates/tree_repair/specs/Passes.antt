@@ -11,6 +11,7 @@ use Rattle.tree_repair.specs.declared.bad.BadBlocks.{BadBlocks}
 use Rattle.tree_repair.specs.declared.fault.RepairFault.{RepairFault}
 use Rattle.tree_repair.specs.declared.mending.Mended.TheVariants as mended
 use Rattle.tree_repair.specs.Coverage.{AreVisitedOnce, AreVisitsDue, IsLookedAt, IsVisitAt, IsVisitedIn}
+use Rattle.tree_repair.specs.Flaws.{HasFlaws}
 use Rattle.tree_repair.specs.Noting.{bad_blocks, found_of}
 use Rattle.tree_repair.specs.Runs.{HasRun, IsDone, Job, VisitsAll, Visit}
 use Rattle.tree_repair.specs.ParitySearches.{HasSought}
@@ -26,7 +27,7 @@ IsGoodThen j v = found_of j.write v.mended ≡ None
 
 -- A run that notes the blocks that are corrupt after it, if the caller asks for them. It considered each block that was due,
 -- visited no other, and none twice. If it knows of no corrupt block, all blocks that it visited are valid. If it knows of no
--- skipped block, it visited all blocks that were due.
+-- skipped block, it visited all blocks that were due. What it knows of has its cause in the run.
 pub record HasNoted (j : Job) (Due : ℕ → ℕ → Type 0) (w w' : RepairWorld) (old new : Option (List ℕ)) (a b : BadBlocks) (fault : Option RepairFault) : Type 0 where
   pub run : HasRun j w w' old new fault
   pub asked : b.asked ≡ a.asked
@@ -36,6 +37,7 @@ pub record HasNoted (j : Job) (Due : ℕ → ℕ → Type 0) (w w' : RepairWorld
   pub once : IsNone fault → AreVisitedOnce j.tree.shape run.visits
   pub any : IsNone fault → b.any ≡ false → (a.any ≡ false) × All (IsGoodThen j) run.visits
   pub passed : IsNone fault → b.passed ≡ false → (a.passed ≡ false) × ((h i : ℕ) → Due h i → IsVisitedIn j.tree.shape h i run.visits)
+  pub flaws : IsNone fault → HasFlaws j w w' a b
 
 -- such a run, by the writer before and after and the result
 abbrev pub Notes : {W T : Type 0} → (W → Option (List ℕ)) → Job → (ℕ → ℕ → Type 0) → RepairWorld → RepairWorld → BadBlocks → BadBlocks → CountedRecord W → CountedRecord W → Result T RepairFault → Type 0

@@ -126,6 +126,13 @@ abbrev pub VisitsAll : Job → List Visit → RepairWorld → RepairWorld → Ty
 VisitsAll j [] w w' = IsWorldRead w w'
 VisitsAll j (v ∷ more) w w' = (a : RepairWorld) × ((b : RepairWorld) × (IsWorldRead w a × (IsVisited j v a b × VisitsAll j more b w')))
 
+-- a part of a run: blocks were visited before and after it
+pub record IsPart (j : Job) (w a b w' : RepairWorld) : Type 0 where
+  pub earlier : List Visit
+  pub later : List Visit
+  pub before : VisitsAll j earlier w a
+  pub behind : VisitsAll j later b w'
+
 -- ---- what is printed
 
 abbrev pub verb : Bool → List ℕ

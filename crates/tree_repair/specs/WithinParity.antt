@@ -6,7 +6,6 @@ use Rattle.block_device.specs.Device.{Device, IsSector, IsWhole}
 use Rattle.fec_area.specs.declared.layout.Layout.{Layout}
 use Rattle.fec_area.specs.Layouts.{IsLayout, IsLayoutOf, IsProtected, covered, covered_blocks, parity_sectors}
 use Rattle.fec_area.specs.Restoring.{IsAmong, is_beside, lost_count, round_of}
-use Rattle.fec_area.specs.Rounds.{AllNeverFail, BothNeverFail}
 use Rattle.tree_shape.specs.Shape.{ShapeRecord, ancestor, area_blocks, levels}
 use Rattle.tree_path.specs.Laws.{Collide}
 use Rattle.tree_path.specs.Path.{PathRecord}
@@ -17,13 +16,13 @@ use Rattle.verity_format.specs.Formatting.{IsFormatted}
 use Rattle.verity_format.specs.Image.{area_over, data_sectors, root_over, tree_sectors}
 use Rattle.verity_format.specs.Superblock.{SuperRecord, IsSuperblock, shape_of}
 use Rattle.tree_repair.specs.declared.repair.Plan.{Plan}
-use Rattle.tree_repair.specs.Beyond.{IsHadIn, IsPart, IsUnderBad}
+use Rattle.tree_repair.specs.Beyond.{HaveCountedNone, IsHadIn, IsUnderBad}
 use Rattle.tree_repair.specs.Parity.{IsCoveredAt, IsPlace}
 use Rattle.tree_repair.specs.Repairs.{SeeksByParity, job_of}
-use Rattle.tree_repair.specs.Runs.{Job, Visit, VisitsAll}
+use Rattle.tree_repair.specs.Runs.{IsPart, Job, Visit, VisitsAll}
 use Rattle.tree_repair.specs.Standing.{IsSteadyImage, IsWorldSteady}
 use Rattle.tree_repair.specs.ParitySearches.{IsBroughtBack, IsGoodBehind, IsOffPlace, Trial, trial}
-use Rattle.tree_repair.specs.Worlds.{IsParityRead, IsWorldRead, RepairWorld}
+use Rattle.tree_repair.specs.Worlds.{IsImageUnfailed, IsParityRead, IsWorldRead, RepairWorld}
 
 -- ---- the image as it was formatted
 
@@ -75,11 +74,11 @@ IsAsFormed l f w n = covered l w.data_dev.image w.hash_dev.image n ≡ covered l
 abbrev pub IsDamaged : Layout → FormerImage → RepairWorld → ℕ → Type 0
 IsDamaged l f w n = IsAsFormed l f w n → ⊥
 
--- On steady devices that never fail a covered block that is as formatted stays so, or two different inputs have one digest.
+-- On steady devices, if no call failed, a covered block that is as formatted stays so, or two different inputs have one digest.
 abbrev pub FormattedBlocksStay : Type 0
 FormattedBlocksStay =
     (j : Job) → (f : FormerImage) → IsFormerOf j.tree f → (l : Layout) → HasTreeSizes j.tree.shape l → (visits : List Visit) → (w w' : RepairWorld) → VisitsAll j visits w w'
-    → IsSteadyImage j.tree.shape w → BothNeverFail w.data_dev w.hash_dev → (n : ℕ) → IsAsFormed l f w n → IsAsFormed l f w' n ⊎ Collide j.tree.salt
+    → IsSteadyImage j.tree.shape w → IsImageUnfailed w w' → (n : ℕ) → IsAsFormed l f w n → IsAsFormed l f w' n ⊎ Collide j.tree.salt
 
 -- ---- why a block isn't restored
 
@@ -118,10 +117,10 @@ pub record IsPastParity (j : Job) (f : FormerImage) (s : Stage) (t : Trial) (h i
   pub way : IsWay j.tree i h p
   pub vain : IsOffPlace j.tree.shape t.layout h i ⊎ IsRoundPast j f s t h i
 
--- The result for a block that is sought: it is restored; or it is valid by now, and nothing is written; or parity can't restore
--- it.
+-- The result for a block that is sought: it is restored; or nothing is written, because it is valid by now or parity can't
+-- restore it.
 abbrev pub IsTrialSettled : Job → FormerImage → Stage → Trial → ℕ → ℕ → Type 0
-IsTrialSettled j f s t h i = IsBroughtBack j h i t.w t.w' ⊎ ((IsWorldRead t.w t.w' × IsGoodBehind j h i t.w) ⊎ IsPastParity j f s t h i)
+IsTrialSettled j f s t h i = IsBroughtBack j h i t.w t.w' ⊎ (IsWorldRead t.w t.w' × (IsGoodBehind j h i t.w ⊎ IsPastParity j f s t h i))
 
 -- The block was sought after a pass's visits, when these covered blocks counted as lost; `beside` is the data block below it
 -- that it was sought by.
@@ -142,10 +141,10 @@ pub record IsSoughtWithin (j : Job) (l : Layout) (lost : List ℕ) (f : FormerIm
 abbrev pub IsSettledWithin : Job → Layout → List ℕ → List Visit → FormerImage → Stage → Device → ℕ → ℕ → Type 0
 IsSettledWithin j l lost visits f s p h i = IsHadIn j.tree.shape h i visits ⊎ (IsUnderBad j h i s.before s.after ⊎ IsSoughtWithin j l lost f s p h i)
 
--- a repair on steady devices that never fail, by the parity of the formatted image
+-- a repair on steady devices in which no call failed, by the parity of the formatted image
 pub record IsSureRepair (plan : Plan) (l : Layout) (f : FormerImage) (w w' : RepairWorld) (p p' : Device) : Type 0 where
   pub seeks : SeeksByParity plan l w w' p p'
-  pub sure : AllNeverFail w.data_dev w.hash_dev p
+  pub unfailed : HaveCountedNone w w' p p'
   pub steady : IsWorldSteady w
   pub former : IsFormerOf (job_of plan true).tree f
   pub sizes : HasTreeSizes plan.tree.shape l

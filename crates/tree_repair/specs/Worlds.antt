@@ -40,3 +40,8 @@ pub record AreBothRead (w w' : RepairWorld) : Type 0 where
   pub hash_more : w.hash_dev.failures ≤ w'.hash_dev.failures
   pub data_copies_are : w'.data_copies ≡ w.data_copies
   pub hash_copies_are : w'.hash_copies ≡ w.hash_copies
+
+-- neither device of an image counted a failure between two states
+pub record IsImageUnfailed (w w' : RepairWorld) : Type 0 where
+  pub data_none : HasCountedNone w.data_dev w'.data_dev
+  pub hash_none : HasCountedNone w.hash_dev w'.hash_dev

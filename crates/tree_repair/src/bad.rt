@@ -1,7 +1,7 @@
 //! The corrupt blocks of an image.
 ghost use Rattle.std.specs.Prelude.{◌≡◌, ◌≤◌, ◌+◌, ◌||◌, not, ◌++◌, ◌∷◌, true, false, [], IfErr, IsTrue, OnOk, length};
 ghost use Rattle.allocation.specs.Asked.{WasRefused};
-ghost use Rattle.tree_repair.specs.Noting.{IsGoodBefore, IsNoted, found_of, passed_some, unless};
+ghost use Rattle.tree_repair.specs.Noting.{IsNoted, any_after, found_of, kept_or, passed_some, unless};
 
 use crate::mending::Mended;
 use crate::place::Place;
@@ -31,6 +31,7 @@ impl BadBlocks {
     pub(crate) fn new(alloc: Global, asked: bool) -> BadBlocks
         ensures asked { result.asked ≡ asked }
         ensures none { result.blocks.items ≡ [] }
+        ensures fresh { (result.any ≡ false) × (result.passed ≡ false) }
     {
         BadBlocks {
             asked,
@@ -55,7 +56,7 @@ impl BadBlocks {
         ensures asked { self.new.asked ≡ self.old.asked }
         ensures noted { OnOk result (IsNoted self.old self.new place (found_of write mended)) }
         ensures few { OnOk result (length self.new.blocks.items ≤ length self.old.blocks.items + 1) }
-        ensures any { OnOk result (self.new.any ≡ false → IsGoodBefore self.old (found_of write mended)) }
+        ensures any { OnOk result (self.new.any ≡ any_after self.old.any (found_of write mended)) }
         ensures passed { self.new.passed ≡ self.old.passed }
         ensures unkept { self.new.unkept ≡ self.old.unkept }
         ensures err { IfErr result (WasRefused 1) }
@@ -85,12 +86,7 @@ impl BadBlocks {
 
     /// Notes whether a block was read back after it was written. If it wasn't, it isn't known to be valid.
     pub(crate) fn keep(&mut self, kept: bool)
-        ensures asked { self.new.asked ≡ self.old.asked }
-        ensures blocks { self.new.blocks.items ≡ self.old.blocks.items }
-        ensures any { self.new.any ≡ false → self.old.any ≡ false }
-        ensures kept { self.new.any ≡ false → IsTrue kept }
-        ensures unkept { self.new.unkept ≡ false → (self.old.unkept ≡ false) × IsTrue kept }
-        ensures passed { self.new.passed ≡ self.old.passed }
+        ensures { self.new ≡ kept_or kept self.old }
     {
         if !kept {
             self.any = true;

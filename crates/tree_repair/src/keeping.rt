@@ -1,10 +1,10 @@
 //! Reads blocks back after they were written.
-ghost use Rattle.std.specs.Prelude.{◌≡◌, ◌≤◌, ◌<◌, ◌&&◌, IsTrue, length};
+ghost use Rattle.std.specs.Prelude.{◌≡◌, ◌≤◌, ◌<◌, ◌&&◌, true, length};
 ghost use Rattle.tree_survey.specs.Surveys.{IsWay};
 ghost use Rattle.tree_repair.specs.AccessBudgets.{LeavesWorld, block_read, nothing_due};
+ghost use Rattle.tree_repair.specs.Flaws.{IsReadOr};
 ghost use Rattle.tree_repair.specs.Jobs.{job};
 ghost use Rattle.tree_repair.specs.Noting.{was_put};
-ghost use Rattle.tree_repair.specs.Parity.{IsGoodNow};
 ghost use Rattle.tree_repair.specs.Runs.{CanRun, size_at};
 ghost use Rattle.tree_repair.specs.Worlds.{IsWorldRead};
 
@@ -30,7 +30,7 @@ pub(crate) fn is_kept<D: BlockDev, H: BlockDev, C: BlockDev>(
     requires way { IsWay (job repair.now).tree place.index place.height path.now }
     requires room { size_at repair.now.shape place.height ≤ length memory.old }
     ensures read { IsWorldRead image.old image.new }
-    ensures kept { IsTrue result → IsTrue (was_put repair.now.write mended) → IsGoodNow (job repair.now) place.height place.index image.old }
+    ensures kept { IsReadOr (job repair.now) place.height place.index (was_put repair.now.write mended) image.old image.new result }
     ensures asked { LeavesWorld (block_read repair.now.shape place.height) nothing_due image.old image.new }
 {
     if !was_put(mended, repair.write) {
@@ -52,7 +52,7 @@ fn is_read_back<D: BlockDev, H: BlockDev, C: BlockDev>(
     requires way { IsWay (job repair.now).tree place.index place.height path.now }
     requires room { size_at repair.now.shape place.height ≤ length memory.old }
     ensures read { IsWorldRead image.old image.new }
-    ensures good { IsTrue result → IsGoodNow (job repair.now) place.height place.index image.old }
+    ensures kept { IsReadOr (job repair.now) place.height place.index true image.old image.new result }
     ensures asked { LeavesWorld (block_read repair.now.shape place.height) nothing_due image.old image.new }
 {
     let Place { height, index } = place;

@@ -91,17 +91,18 @@ pub fn what_stays_lost_is_beyond_parity()
     ensures { WhatStaysLostIsBeyondParity }
 {}
 
-/// With the parity of the formatted image, on steady devices that never fail, for each block of the tree one of these holds: it
-/// was valid or found when the last pass came to it; parity restored it; a hash block above it is corrupt; parity doesn't cover
-/// it; the parity is incomplete; more blocks of its round are lost than the code has roots; a block of its round that the pass
-/// didn't come to is damaged; two different inputs have one digest.
+/// With the parity of the formatted image, on steady devices, if no device counted a failure, for each block of the tree one of
+/// these holds: it was valid or found when the last pass came to it; parity restored it; a hash block above it is corrupt; parity
+/// doesn't cover it; the parity is incomplete; more blocks of its round are lost than the code has roots; a block of its round
+/// that the pass didn't come to is damaged; two different inputs have one digest.
 pub fn lost_blocks_within_parity_come_back()
     ensures { LostBlocksWithinParityComeBack }
 {
     formed_chains_are_good()
 }
 
-/// A covered block that is as formatted stays so in a run, or two different inputs have one digest.
+/// On steady devices, if neither counted a failure, a covered block that is as formatted stays so in a run, or two different
+/// inputs have one digest.
 pub fn formatted_blocks_stay()
     ensures { FormattedBlocksStay }
 {

@@ -1,5 +1,5 @@
 //! What is known of an image after a repair.
-ghost use Rattle.std.specs.Prelude.{◌≡◌, ◌&&◌, IsTrue};
+ghost use Rattle.std.specs.Prelude.{◌≡◌, ◌&&◌, false, IsTrue};
 ghost use Rattle.tree_repair.specs.Failures.{AreUncounted};
 ghost use Rattle.tree_repair.specs.Noting.{pass_outcome};
 
@@ -42,7 +42,8 @@ impl Failures {
         self,
         image: &DamagedImage<D, H, C>,
     ) -> bool
-        ensures { IsTrue result → AreUncounted self image.now }
+        ensures none { IsTrue result → AreUncounted self image.now }
+        ensures some { result ≡ false → AreUncounted self image.now → ⊥ }
     {
         let now = Failures::of(image);
         if now.data != self.data || now.hash != self.hash {

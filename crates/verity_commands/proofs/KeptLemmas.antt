@@ -26,6 +26,7 @@ trees_cause d e d' e' old new pair failed (difference.Image Second (verify.Super
 trees_cause d e d' e' old new pair failed (difference.Image Second verify.TooSmall) h = h
 trees_cause d e d' e' old new pair failed (difference.Image Second verify.Device) h = h
 trees_cause d e d' e' old new pair failed (difference.Image Second verify.NoMemory) h = h
+trees_cause d e d' e' old new pair failed (difference.Unaligned which) h = h
 trees_cause d e d' e' old new pair failed (difference.Unpinned which mismatch) h = h
 trees_cause d e d' e' old new pair failed (difference.Unlike field) h = h
 trees_cause d e d' e' old new pair failed (difference.Hash First level n) h = h

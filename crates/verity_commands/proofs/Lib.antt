@@ -3,3 +3,4 @@ pub mod OpeningLemmas
 pub mod KeptLemmas
 pub mod ObjectLemmas
 pub mod CheckedLemmas
+pub mod SurveyLemmas

@@ -4,7 +4,6 @@ use Rattle.std.specs.Io.KnownBytes.{Appends}
 use Rattle.block_device.specs.Device.{Device}
 use Rattle.program_io.specs.Counted.{CountedRecord}
 use Rattle.program_io.specs.JsonLines.{json_line}
-use Rattle.image_files.specs.Opener.{Calls, Opener, calls}
 use Rattle.verity_format.specs.declared.verifying.VerifyFault.{VerifyFault}
 use Rattle.verity_format.specs.declared.verifying.VerifyFault.TheVariants as verify
 use Rattle.runs.specs.declared.line.Line.{Line}
@@ -14,7 +13,6 @@ use Rattle.tree_difference.specs.declared.fault.DifferenceFault.{DifferenceFault
 use Rattle.tree_difference.specs.declared.fault.DifferenceFault.TheVariants as difference_fault
 use Rattle.tree_difference.specs.declared.fault.Which.TheVariants.{Second}
 use Rattle.tree_difference.specs.declared.trees.TreePair.{TreePair}
-use Rattle.tree_difference.specs.declared.trees.TrustedTrees.{TrustedTrees}
 use Rattle.tree_difference.specs.Comparisons.{DifferenceWorld, IsReported, difference_world}
 use Rattle.tree_difference.specs.Differences.{IsDifference, IsDifferenceCause, trees_of}
 use Rattle.tree_survey.specs.declared.fault.SurveyFault.{SurveyFault}
@@ -26,14 +24,11 @@ use Rattle.tree_survey.specs.Passes.{super_tree}
 use Rattle.tree_survey.specs.Surveys.{Tree}
 use Rattle.verity_commands.specs.declared.checked_diff.CheckedTotals.{CheckedTotals}
 use Rattle.verity_commands.specs.declared.diff.DiffForm.{DiffForm}
-use Rattle.verity_commands.specs.declared.paths.HashPaths.{HashPaths}
 use Rattle.verity_commands.specs.declared.paths.TwoHashes.{TwoHashes}
 use Rattle.verity_commands.specs.declared.tree_fault.TreeFault.{TreeFault}
 use Rattle.verity_commands.specs.declared.tree_fault.TreeFault.TheVariants.{Damaged, Differs, Trees, Write}
 use Rattle.verity_commands.specs.Diffs.{difference_totals, is_unchanged, two_devices}
 use Rattle.verity_commands.specs.Objects.{checked_json}
-use Rattle.verity_commands.specs.Openings.{BothPaths, both_paths}
-use Rattle.verity_commands.specs.OpenTrees.{IsOpenTreesEnd, OfTrees}
 
 -- ---- the second tree checked, and then both compared
 
@@ -77,7 +72,7 @@ abbrev pub check_fault : SurveyFault → DifferenceFault
 check_fault (survey_fault.Image fault) = second_fault fault
 check_fault survey_fault.Write = difference_fault.Write
 
--- the same causes if lines are kept in memory
+-- why a comparison with checks ends early, if lines are kept in memory
 abbrev pub IsKeptCheckCause : Device → Device → Device → Device → TreePair → Option ℕ → DifferenceFault → Type 0
 IsKeptCheckCause first second first' second' pair most difference_fault.NoMemory = Unit {0}
 IsKeptCheckCause first second first' second' pair most fault = (old : Option (List ℕ)) × ((new : Option (List ℕ)) × IsCheckedCause (difference_world first second first' second' old new) pair most false fault)
@@ -90,7 +85,7 @@ pub record SaysLines (w : DifferenceWorld) (pair : TreePair) (most : Option ℕ)
   pub difference : IsCheckedDifference (record w { printed' = between }) pair most found
   pub printed_are : Appends between w.printed' (difference_totals found.totals)
 
--- the same, where one object was printed: of the lines and totals that are printed else
+-- the trees were compared and checked, and one object printed, of the lines and totals that are printed without `--json`
 pub record SaysOne (w : DifferenceWorld) (pair : TreePair) (most : Option ℕ) (found : CheckedTotals) : Type 0 where
   pub lines : List Line
   pub difference : IsCheckedDifference (record w { printed = Some []; printed' = Some (lines_text lines) }) pair most found
@@ -131,15 +126,6 @@ IsCheckedEnd json w pair most failed Damaged = SaysSuch json w pair most (λ fou
 IsCheckedEnd json w pair most failed Differs = SaysSuch json w pair most (λ found. IsFoundEnd found Differs)
 IsCheckedEnd json w pair most failed fault = IsSayingEnd json w pair most failed fault
 
--- ---- of images that were opened
-
-abbrev pub PrintsWhole : {S D : Type 0} → Calls S D → BothPaths → TrustedTrees → DiffForm → Option (List ℕ) → Option (List ℕ) → Type 0
-PrintsWhole w paths trusted form old new = OfTrees w paths trusted old new (λ pair i. SaysSuch form.json i pair form.most IsWholeAndSame)
-
--- the trees aren't found, and nothing is printed; or it ends early after that
-abbrev pub IsCheckedFilesEnd : {S D : Type 0} → Calls S D → BothPaths → TrustedTrees → DiffForm → Option (List ℕ) → Option (List ℕ) → Bool → TreeFault → Type 0
-IsCheckedFilesEnd w paths trusted form old new failed fault = IsOpenTreesEnd w paths trusted old new (λ pair i. IsCheckedEnd form.json i pair form.most failed) fault
-
 -- ---- as a call sees them, as in `Diffs`
 
 -- why the check of an image's tree ended early
@@ -171,12 +157,3 @@ FindsWhole state two two' contents writer writer' pair form =
 abbrev pub FailsCheck : {D W : Type 0} → (D → Device) → TwoHashes D → TwoHashes D → (W → Option (List ℕ)) → CountedRecord W → CountedRecord W → TreePair → DiffForm → TreeFault → Type 0
 FailsCheck state two two' contents writer writer' pair form fault =
     IsCheckedEnd form.json (two_devices state two two' (contents writer.inner) (contents writer'.inner)) pair form.most writer'.failed fault
-
--- two images
-abbrev pub ChecksImages : {S D W : Type 0} → Opener S D → (D → Device) → S → S → (W → Option (List ℕ)) → CountedRecord W → CountedRecord W → HashPaths → TrustedTrees → DiffForm → Type 0
-ChecksImages relations state images images' contents writer writer' paths trusted form =
-    PrintsWhole (calls relations state images images') (both_paths paths) trusted form (contents writer.inner) (contents writer'.inner)
-
-abbrev pub FailsToCheckImages : {S D W : Type 0} → Opener S D → (D → Device) → S → S → (W → Option (List ℕ)) → CountedRecord W → CountedRecord W → HashPaths → TrustedTrees → DiffForm → TreeFault → Type 0
-FailsToCheckImages relations state images images' contents writer writer' paths trusted form =
-    IsCheckedFilesEnd (calls relations state images images') (both_paths paths) trusted form (contents writer.inner) (contents writer'.inner) writer'.failed

@@ -1,9 +1,8 @@
 -- What `diff` prints, and how it ends.
-use Rattle.std.specs.Prelude.{◌≡◌, ◌⊎◌, ◌==◌, ◌&&◌, ℕ, Bool, true, false, List, [], ◌++◌, codes, decimal, Option, Some, None}
+use Rattle.std.specs.Prelude.{◌≡◌, ◌==◌, ◌&&◌, ℕ, Bool, true, false, List, [], ◌++◌, codes, decimal, Option, Some, None}
 use Rattle.std.specs.Io.KnownBytes.{Appends}
 use Rattle.block_device.specs.Device.{Device}
 use Rattle.program_io.specs.Counted.{CountedRecord}
-use Rattle.image_files.specs.Opener.{Calls, Opener, calls}
 use Rattle.program_io.specs.JsonLines.{json_line}
 use Rattle.runs.specs.declared.line.Line.{Line}
 use Rattle.runs.specs.declared.listing.KeptLines.{KeptLines}
@@ -12,17 +11,12 @@ use Rattle.tree_difference.specs.declared.fault.DifferenceFault.{DifferenceFault
 use Rattle.tree_difference.specs.declared.fault.DifferenceFault.TheVariants as difference_fault
 use Rattle.tree_difference.specs.declared.difference.Totals.{Totals}
 use Rattle.tree_difference.specs.declared.trees.TreePair.{TreePair}
-use Rattle.tree_difference.specs.declared.trees.TrustedTrees.{TrustedTrees}
 use Rattle.tree_difference.specs.Comparisons.{DifferenceWorld, IsReported, difference_world}
 use Rattle.tree_difference.specs.Differences.{CanCompareTrees, IsDifference, IsDifferenceCause, trees_of}
 use Rattle.verity_commands.specs.declared.tree_fault.TreeFault.{TreeFault}
 use Rattle.verity_commands.specs.declared.tree_fault.TreeFault.TheVariants.{Trees, Differs, Write}
-use Rattle.verity_commands.specs.declared.diff.DiffForm.{DiffForm}
-use Rattle.verity_commands.specs.declared.paths.HashPaths.{HashPaths}
 use Rattle.verity_commands.specs.declared.paths.TwoHashes.{TwoHashes}
 use Rattle.verity_commands.specs.Objects.{difference_json}
-use Rattle.verity_commands.specs.Openings.{BothPaths, both_paths}
-use Rattle.verity_commands.specs.OpenTrees.{IsOpenTreesEnd, OfTrees}
 
 -- `same N changed N removed N added N`
 unfoldable pub difference_totals : Totals → List ℕ
@@ -40,7 +34,7 @@ pub record SaysSame (w : DifferenceWorld) (pair : TreePair) (most : Option ℕ) 
   pub printed_are : Appends between w.printed' (difference_totals totals)
   pub is : is_unchanged totals ≡ same
 
--- the same, where one object was printed: of the lines and totals that are printed else
+-- the trees were compared, and one object printed, of the lines and totals that are printed without `--json`
 pub record SaysSameObject (w : DifferenceWorld) (pair : TreePair) (most : Option ℕ) (same : Bool) : Type 0 where
   pub totals : Totals
   pub lines : List Line
@@ -58,6 +52,7 @@ abbrev pub unkept_difference : DifferenceFault → DifferenceFault
 unkept_difference difference_fault.Write = difference_fault.NoMemory
 unkept_difference difference_fault.NoMemory = difference_fault.NoMemory
 unkept_difference (difference_fault.Image which fault) = difference_fault.Image which fault
+unkept_difference (difference_fault.Unaligned which) = difference_fault.Unaligned which
 unkept_difference (difference_fault.Unpinned which mismatch) = difference_fault.Unpinned which mismatch
 unkept_difference (difference_fault.Unlike field) = difference_fault.Unlike field
 unkept_difference (difference_fault.Hash which level number) = difference_fault.Hash which level number
@@ -67,7 +62,7 @@ abbrev pub IsTreesCause : Device → Device → Device → Device → TreePair �
 IsTreesCause first second first' second' pair difference_fault.NoMemory = Unit {0}
 IsTreesCause first second first' second' pair fault = IsDifferenceCause (difference_world first second first' second' None None) pair false fault
 
--- the same; nothing was printed before if it would be an object, else the lines of what was compared before
+-- why the trees aren't compared; with `--json` nothing was printed before, else the lines of what was compared before
 abbrev pub IsUncompared : Bool → DifferenceWorld → TreePair → Option ℕ → Bool → DifferenceFault → Type 0
 IsUncompared true w pair most failed fault = IsTreesCause w.first w.second w.first' w.second' pair fault × (w.printed' ≡ w.printed)
 IsUncompared false w pair most failed fault = IsDifferenceCause w pair failed fault × IsReported (trees_of pair) w most fault
@@ -79,16 +74,7 @@ IsDiffEnd json w pair most failed (Trees fault) = IsUncompared json w pair most 
 IsDiffEnd json w pair most failed Write = failed ≡ true
 IsDiffEnd json w pair most failed fault = ⊥
 
--- ---- of images that were opened
-
-abbrev pub PrintsSame : {S D : Type 0} → Calls S D → BothPaths → TrustedTrees → DiffForm → Option (List ℕ) → Option (List ℕ) → Type 0
-PrintsSame w paths trusted form old new = OfTrees w paths trusted old new (λ pair i. SaysDifference form.json i pair form.most true)
-
--- the trees aren't found, and nothing is printed; or the comparison ends so
-abbrev pub IsDiffFilesEnd : {S D : Type 0} → Calls S D → BothPaths → TrustedTrees → DiffForm → Option (List ℕ) → Option (List ℕ) → Bool → TreeFault → Type 0
-IsDiffFilesEnd w paths trusted form old new failed fault = IsOpenTreesEnd w paths trusted old new (λ pair i. IsDiffEnd form.json i pair form.most failed) fault
-
--- ---- as a call sees them: what a proof sees of devices, an opener or a writer, and these before and after
+-- ---- as a call sees them: what a proof sees of devices or a writer, and these before and after
 
 -- the trees of two images can be compared, and fit on the devices
 abbrev pub CanCompareTwo : {D : Type 0} → (D → Device) → TwoHashes D → TreePair → Type 0
@@ -98,7 +84,7 @@ CanCompareTwo state two pair = CanCompareTrees pair (state two.first.device) (st
 abbrev pub two_devices : {D : Type 0} → (D → Device) → TwoHashes D → TwoHashes D → Option (List ℕ) → Option (List ℕ) → DifferenceWorld
 two_devices state two two' old new = difference_world (state two.first.device) (state two.second.device) (state two'.first.device) (state two'.second.device) old new
 
--- the same, where lines are kept in memory
+-- two hash images, and the lines kept in memory
 abbrev pub listed_diff : {D : Type 0} → (D → Device) → TwoHashes D → TwoHashes D → KeptLines → KeptLines → DifferenceWorld
 listed_diff state two two' kept kept' = two_devices state two two' (Some (lines_text kept.lines.items)) (Some (lines_text kept'.lines.items))
 
@@ -114,12 +100,3 @@ FindsSame json state two two' contents writer writer' pair most =
 abbrev pub FailsDiff : {D W : Type 0} → Bool → (D → Device) → TwoHashes D → TwoHashes D → (W → Option (List ℕ)) → CountedRecord W → CountedRecord W → TreePair → Option ℕ → TreeFault → Type 0
 FailsDiff json state two two' contents writer writer' pair most =
     IsDiffEnd json (two_devices state two two' (contents writer.inner) (contents writer'.inner)) pair most writer'.failed
-
--- two images
-abbrev pub DiffsImages : {S D W : Type 0} → Opener S D → (D → Device) → S → S → (W → Option (List ℕ)) → CountedRecord W → CountedRecord W → HashPaths → TrustedTrees → DiffForm → Type 0
-DiffsImages relations state images images' contents writer writer' paths trusted form =
-    PrintsSame (calls relations state images images') (both_paths paths) trusted form (contents writer.inner) (contents writer'.inner)
-
-abbrev pub FailsToDiff : {S D W : Type 0} → Opener S D → (D → Device) → S → S → (W → Option (List ℕ)) → CountedRecord W → CountedRecord W → HashPaths → TrustedTrees → DiffForm → TreeFault → Type 0
-FailsToDiff relations state images images' contents writer writer' paths trusted form =
-    IsDiffFilesEnd (calls relations state images images') (both_paths paths) trusted form (contents writer.inner) (contents writer'.inner) writer'.failed

@@ -11,6 +11,7 @@ pub mod OpenTrees
 pub mod Objects
 pub mod Diffs
 pub mod CheckedDiffs
+pub mod DiffImages
 pub mod TreeFaultTexts
 pub mod Invocations
 pub mod Surveys

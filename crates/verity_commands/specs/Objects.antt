@@ -20,7 +20,7 @@ difference_json lines t =
     (member (codes "same") (number (unsigned t.same))
     no_members))))))
 
--- the same, and the hash blocks
+-- the lines and totals of a comparison, with the invalid hash blocks
 abbrev pub checked_json : List Line → Differences → Data
 checked_json lines t =
     object

@@ -5,15 +5,24 @@ use Rattle.image_files.specs.declared.images.OpenImage.{OpenImage}
 use Rattle.image_files.specs.declared.opening.UnopenedFile.{UnopenedFile}
 use Rattle.image_files.specs.Opened.{Refuses}
 use Rattle.image_files.specs.Opener.{Calls, Opener, calls}
-use Rattle.verity_commands.specs.declared.paths.HashPaths.{HashPaths}
+use Rattle.tree_difference.specs.declared.trees.TreeStarts.{TreeStarts}
+use Rattle.verity_commands.specs.declared.paths.HashPlaces.{HashPlaces}
 use Rattle.verity_commands.specs.declared.paths.TwoHashes.{TwoHashes}
 
 pub record BothPaths : Type 0 where
   pub first_path : List ℕ
   pub second_path : List ℕ
 
-abbrev pub both_paths : HashPaths → BothPaths
-both_paths paths = record { first_path = paths.first.now; second_path = paths.second.now }
+-- the files of two hash images, and the sectors where the images begin
+pub record BothPlaces : Type 0 where
+  pub paths : BothPaths
+  pub starts : TreeStarts
+
+abbrev pub both_places : HashPlaces → BothPlaces
+both_places places = record {
+  paths = record { first_path = places.first.path.now; second_path = places.second.path.now };
+  starts = record { first = places.first.first; second = places.second.first };
+}
 
 -- both were opened for reading, the first one first
 pub record OpensBoth {S D : Type 0} (w : Calls S D) (paths : BothPaths) (two : TwoHashes D) : Type 0 where
@@ -40,11 +49,11 @@ pub record ClosesBoth {S D : Type 0} (w : Calls S D) (paths : BothPaths) (two : 
 
 -- ---- as a call sees them: an opener's relations, what a proof sees of its devices, and the opener before and after
 
-abbrev pub OpensHashes : {S D : Type 0} → Opener S D → (D → Device) → S → S → HashPaths → TwoHashes D → Type 0
-OpensHashes relations state images images' paths = OpensBoth (calls relations state images images') (both_paths paths)
+abbrev pub OpensHashes : {S D : Type 0} → Opener S D → (D → Device) → S → S → HashPlaces → TwoHashes D → Type 0
+OpensHashes relations state images images' places = OpensBoth (calls relations state images images') (both_places places).paths
 
-abbrev pub FailsToOpenHashes : {S D : Type 0} → Opener S D → (D → Device) → S → S → HashPaths → UnopenedFile → Type 0
-FailsToOpenHashes relations state images images' paths = FailsToOpenBoth (calls relations state images images') (both_paths paths)
+abbrev pub FailsToOpenHashes : {S D : Type 0} → Opener S D → (D → Device) → S → S → HashPlaces → UnopenedFile → Type 0
+FailsToOpenHashes relations state images images' places = FailsToOpenBoth (calls relations state images images') (both_places places).paths
 
-abbrev pub ClosesHashes : {S D : Type 0} → Opener S D → (D → Device) → S → S → HashPaths → TwoHashes D → Type 0
-ClosesHashes relations state images images' paths = ClosesBoth (calls relations state images images') (both_paths paths)
+abbrev pub ClosesHashes : {S D : Type 0} → Opener S D → (D → Device) → S → S → HashPlaces → TwoHashes D → Type 0
+ClosesHashes relations state images images' places = ClosesBoth (calls relations state images images') (both_places places).paths

@@ -1,4 +1,4 @@
--- What `format` does with a pin, and how it ends early.
+-- What `format` does with the file of a pin or a root hash, and how it ends early.
 use Rattle.std.specs.Prelude.{◌≡◌, ◌⊎◌, ℕ, Bool, List, Option}
 use Rattle.std.specs.Io.KnownBytes.{Appends}
 use Rattle.block_device.specs.Device.{Device}
@@ -29,14 +29,14 @@ places_said f = image_places f.data_path f.hash_path f.hash_offset
 -- FILE is neither DATA nor HASH and can be written, and then the image was made
 pub record MakesApart {S D T G : Type 0} (w : Calls S D) (d : Drawing T G) (options : ImageOptions) (f : PinFormatRecord) (image : MadeImage) : Type 0 where
   pub between : S
-  pub path : IsPinPath (record w { new = between }) f.format.data_path f.format.hash_path f.pin
+  pub path : IsPinPath (record w { new = between }) f.format.data_path f.format.hash_path f.file.path
   pub makes : MakesImage f.format.grow (record w { old = between }) d options (places_said f.format) image
 
--- then FILE still was neither DATA nor HASH, and its pin replaced what FILE held
+-- then FILE still was neither DATA nor HASH, and its pin or its root hash replaced what FILE held
 pub record MakesPinned {S D T G : Type 0} (w : Calls S D) (d : Drawing T G) (options : ImageOptions) (f : PinFormatRecord) (image : MadeImage) : Type 0 where
   pub between : S
   pub makes : MakesApart (record w { new = between }) d options f image
-  pub writes : WritesPin (record w { old = between }) f.format.data_path f.format.hash_path f.pin (pin_of_image options image)
+  pub writes : WritesPin (record w { old = between }) f.format.data_path f.format.hash_path f.file (pin_of_image options image)
 
 -- and then the image's root, salt, identifier and number of blocks were printed
 abbrev pub FormatsByPin : {S D T G : Type 0} → OptionTexts → Calls S D → Drawing T G → PinFormatRecord → Option (List ℕ) → Option (List ℕ) → Type 0
@@ -46,20 +46,20 @@ FormatsByPin texts w d f old new =
 -- the image isn't made
 pub record EndsUnmade {S D T G : Type 0} (w : Calls S D) (d : Drawing T G) (options : ImageOptions) (f : PinFormatRecord) (fault : ImageFault) : Type 0 where
   pub between : S
-  pub path : IsPinPath (record w { new = between }) f.format.data_path f.format.hash_path f.pin
+  pub path : IsPinPath (record w { new = between }) f.format.data_path f.format.hash_path f.file.path
   pub ends : IsMakingEnd f.format.grow (record w { old = between }) d options (places_said f.format) fault
 
--- it was made, but its pin isn't written
+-- it was made, but FILE isn't written
 pub record EndsUnpinned {S D T G : Type 0} (w : Calls S D) (d : Drawing T G) (options : ImageOptions) (f : PinFormatRecord) (fault : ImageFault) : Type 0 where
   pub between : S
   pub image : MadeImage
   pub makes : MakesApart (record w { new = between }) d options f image
-  pub unwritten : IsPinUnwritten (record w { old = between }) f.format.data_path f.format.hash_path f.pin (pin_of_image options image) fault
+  pub unwritten : IsPinUnwritten (record w { old = between }) f.format.data_path f.format.hash_path f.file (pin_of_image options image) fault
 
 -- FILE is one of the two images or can't be written, and nothing was drawn or made; one of these; or the text of what was made can't be written
 abbrev pub IsPinFormatCause : {S D T G : Type 0} → Calls S D → Drawing T G → ImageOptions → PinFormatRecord → Bool → ImageFault → Type 0
 IsPinFormatCause w d options f failed fault =
-    (IsNoPinPath w f.format.data_path f.format.hash_path f.pin fault × (d.new ≡ d.old))
+    (IsNoPinPath w f.format.data_path f.format.hash_path f.file.path fault × (d.new ≡ d.old))
     ⊎ (EndsUnmade w d options f fault ⊎ (EndsUnpinned w d options f fault ⊎ ((image : MadeImage) × MakesPinned w d options f image × IsLineUnwritten failed fault)))
 
 -- a word of the options says no value, or memory ran out while they were read, and nothing was opened; or it ended so

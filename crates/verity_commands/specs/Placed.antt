@@ -19,6 +19,7 @@ use Rattle.image_commands.specs.declared.fault.ImageFault.{ImageFault}
 use Rattle.image_commands.specs.declared.fault.ImageFault.TheVariants.{Format}
 use Rattle.image_commands.specs.declared.table.LineWords.{LineWords}
 use Rattle.image_pin.specs.declared.trusted.TrustedRoot.{TrustedRoot}
+use Rattle.image_pin.specs.Finding.{is_aligned}
 use Rattle.image_commands.specs.declared.watching.WatchedPlaces.{WatchedPlaces}
 use Rattle.image_commands.specs.Drawing.{Drawing}
 use Rattle.image_commands.specs.declared.format.MadeImage.{MadeImage}
@@ -26,8 +27,8 @@ use Rattle.image_commands.specs.Endings.{IsLineUnwritten}
 use Rattle.image_commands.specs.Formats.{made_text}
 use Rattle.image_commands.specs.PlacedFormats.{IsMakingPlacedEnd, MakesPlaced}
 use Rattle.image_commands.specs.Preparing.{IsPreparingEnd}
-use Rattle.image_commands.specs.PlacedImages.{IsPlacedImageEnd, IsPlacedMatchesEnd, PrintsPlacedMatches, PrintsPlacedSuper, RefusesLine}
-use Rattle.image_commands.specs.Places.{TwoPlaces, is_aligned, two_places}
+use Rattle.image_commands.specs.PlacedImages.{IsDumpImageEnd, IsPlacedImageEnd, IsPlacedMatchesEnd, PrintsPlacedMatches, PrintsPlacedSuper, RefusesLine}
+use Rattle.image_commands.specs.Places.{TwoPlaces, two_places}
 use Rattle.image_commands.specs.SuperblockJson.{RefusesDump, dump_text}
 use Rattle.image_commands.specs.TableLines.{placed_line}
 use Rattle.image_files.specs.Opener.{Calls, Opener, calls}
@@ -124,13 +125,13 @@ VerifiesAt w v old new = (v.all ≡ false) × PrintsVerified w v old new
 
 abbrev pub IsSaidVerifyEnd : {S D : Type 0} → Calls S D → VerifyRecord → Option (List ℕ) → Option (List ℕ) → Bool → VerityFault → Type 0
 IsSaidVerifyEnd w v old new failed fault =
-    ((v.all ≡ true) × IsRefusedUnread w fault × (new ≡ old)) ⊎ (IsImageEnd (IsVerifiedEnd w v failed) fault × IsVerityQuiet fault old new)
+    ((v.all ≡ true) × IsRefusedUnread w fault × (new ≡ old)) ⊎ ((v.all ≡ false) × IsImageEnd (IsVerifiedEnd w v failed) fault × IsVerityQuiet fault old new)
 
 abbrev pub DumpsAt : {S D : Type 0} → Calls S D → DumpRecord → Option (List ℕ) → Option (List ℕ) → Type 0
 DumpsAt w d old new = PrintsPlacedSuper w d.hash_path (d.hash_offset / 512) None (λ s. true) (dump_text d.form) old new
 
 abbrev pub IsDumpEnd : {S D : Type 0} → Calls S D → DumpRecord → Option (List ℕ) → Option (List ℕ) → Bool → VerityFault → Type 0
-IsDumpEnd w d old new failed fault = IsImageEnd (IsPlacedImageEnd w d.hash_path (d.hash_offset / 512) None (λ device. RefusesDump d.form) failed) fault × IsVerityQuiet fault old new
+IsDumpEnd w d old new failed fault = IsImageEnd (IsDumpImageEnd w d.hash_path (d.hash_offset / 512) (RefusesDump d.form) failed) fault × IsVerityQuiet fault old new
 
 abbrev pub IsTableEnd : {S D : Type 0} → Calls S D → TableRecord → Option (List ℕ) → Option (List ℕ) → Bool → VerityFault → Type 0
 IsTableEnd w t old new failed fault = IsImageEnd (IsEntryEnd w t failed) fault × IsVerityQuiet fault old new

@@ -3,23 +3,22 @@ use Rattle.std.specs.Prelude.{◌≡◌, ◌⊎◌, ℕ, ◌==◌, ◌&&◌, Boo
 use Rattle.std.specs.Io.KnownBytes.{Appends}
 use Rattle.block_device.specs.Device.{Device}
 use Rattle.program_io.specs.Counted.{CountedRecord}
-use Rattle.image_commands.specs.declared.finding.NoTree.{NoTree}
-use Rattle.image_commands.specs.declared.finding.NoTree.TheVariants as no_tree
+use Rattle.image_pin.specs.declared.finding.NoTree.{NoTree}
+use Rattle.image_pin.specs.declared.finding.NoTree.TheVariants as no_tree
 use Rattle.image_commands.specs.declared.paths.TwoImages.{TwoImages}
 use Rattle.image_commands.specs.declared.places.Bounds.{Bounds}
-use Rattle.image_pin.specs.declared.trusted.TrustedRoot.{TrustedRoot}
-use Rattle.image_commands.specs.Finding.{IsNoTree, ReadsSuper}
+use Rattle.image_commands.specs.declared.tree_source.NoSource.{NoSource}
+use Rattle.image_commands.specs.declared.tree_source.NoSource.TheVariants as no_source
+use Rattle.image_commands.specs.declared.tree_source.SoughtTree.{SoughtTree}
+use Rattle.image_commands.specs.declared.tree_source.TreeSource.{TreeSource}
+use Rattle.image_commands.specs.TreeSources.{IsNoTreeOf, IsTreeOf, may_seek}
 use Rattle.image_commands.specs.Openings.{FailsToOpenTwo, OpensTwo, TwoPaths}
-use Rattle.image_commands.specs.Places.{TwoPlaces, before, behind, data_end}
+use Rattle.image_commands.specs.Places.{IsPartState, TwoPlaces, before, behind, data_end}
 use Rattle.image_files.specs.Opener.{Calls, Opener, calls}
-use Rattle.image_pin.specs.declared.pin.Pin.{Pin}
 use Rattle.program_io.specs.JsonLines.{json_line}
 use Rattle.tree_shape.specs.Shape.{ShapeRecord}
 use Rattle.verity_format.specs.declared.tree.VerityTree.{VerityTree}
 use Rattle.verity_format.specs.declared.verifying.VerifyFault.TheVariants as verify
-use Rattle.verity_format.specs.Blocks.{IsFullRead}
-use Rattle.verity_format.specs.Superblock.{SuperRecord}
-use Rattle.verity_format.specs.Trees.{superblock_tree}
 use Rattle.runs.specs.declared.line.Line.{Line}
 use Rattle.runs.specs.declared.listing.KeptLines.{KeptLines}
 use Rattle.runs.specs.Lines.{lines_text}
@@ -31,7 +30,7 @@ use Rattle.tree_survey.specs.declared.survey.Survey.{Survey as Found}
 use Rattle.tree_survey.specs.Causes.{IsSurveyCause}
 use Rattle.tree_survey.specs.Passes.{IsSurvey, Pass, pass}
 use Rattle.verity_commands.specs.declared.tree_fault.TreeFault.{TreeFault}
-use Rattle.verity_commands.specs.declared.tree_fault.TreeFault.TheVariants.{Damaged, Open, Survey, Unaligned, Unpinned, Write}
+use Rattle.verity_commands.specs.declared.tree_fault.TreeFault.TheVariants.{Damaged, NoShape, Open, Survey, Unaligned, Unpinned, Write}
 use Rattle.verity_commands.specs.declared.survey.SurveyOrder.{SurveyOrder}
 use Rattle.charts.specs.Charts.{chart_text}
 use Rattle.charts.specs.declared.form.ReportForm.{ReportForm}
@@ -60,7 +59,7 @@ pub record SaysSurvey (tree : VerityTree) (w : Pass) (root : List ℕ) (good : B
   pub printed_are : Appends between w.printed' (survey_totals found.totals)
   pub is : is_all_good found ≡ good
 
--- the same, where one object was printed: of the lines and totals that are printed else
+-- the image was scanned, and one object printed, of the lines and totals that are printed without `--json`
 pub record SaysObject (tree : VerityTree) (w : Pass) (root : List ℕ) (good : Bool) : Type 0 where
   pub found : Found
   pub lines : List Line
@@ -68,7 +67,7 @@ pub record SaysObject (tree : VerityTree) (w : Pass) (root : List ℕ) (good : B
   pub printed_are : Appends w.printed w.printed' (json_line (survey_json lines found.totals))
   pub is : is_all_good found ≡ good
 
--- the same, where the lines, a map and the totals were printed at the end
+-- the image was scanned, and the lines, a map and the totals were printed at the end
 pub record SaysChart (tree : VerityTree) (w : Pass) (root : List ℕ) (good : Bool) : Type 0 where
   pub found : Found
   pub lines : List Line
@@ -92,7 +91,7 @@ abbrev pub IsKeptCause : ShapeRecord → Device → Device → Device → Device
 IsKeptCause shape data_dev hash_dev data_dev' hash_dev' (Image verify.NoMemory) = Unit {0}
 IsKeptCause shape data_dev hash_dev data_dev' hash_dev' fault = IsSurveyCause shape data_dev hash_dev data_dev' hash_dev' false fault
 
--- the same; nothing was printed before if lines are kept
+-- why an image isn't scanned; nothing was printed before if lines are kept in memory
 abbrev pub IsUnseen : ReportForm → ShapeRecord → Pass → Bool → SurveyFault → Type 0
 IsUnseen Object shape w failed fault = IsKeptCause shape w.data_dev w.hash_dev w.data_dev' w.hash_dev' fault × (w.printed' ≡ w.printed)
 IsUnseen Chart shape w failed fault = IsKeptCause shape w.data_dev w.hash_dev w.data_dev' w.hash_dev' fault × (w.printed' ≡ w.printed)
@@ -107,15 +106,15 @@ IsSurveyEnd form tree w root failed fault = ⊥
 
 -- ---- a place for the hash image in its file
 
--- the superblock at that sector was read once, and the image scanned by its tree
-pub record SurveysPlaced (form : ReportForm) (data_dev hash_dev : Device) (end first : ℕ) (trusted : TrustedRoot) (old new : Option (List ℕ)) : Type 0 where
-  pub super : SuperRecord
+-- the tree was found by its source, and the image scanned by it; `Data` and `Hash` hold of what calls left
+pub record SurveysPlaced (form : ReportForm) (Data Hash : Device → Type 0) (data_dev hash_dev : Device) (end first : ℕ) (sought : SoughtTree) (old new : Option (List ℕ)) : Type 0 where
+  pub tree : VerityTree
   pub read_dev : Device
   pub data_dev' : Device
   pub hash_dev' : Device
-  pub super_read : ReadsSuper (behind hash_dev first) first trusted.pin super
-  pub one : IsFullRead (behind hash_dev first) 1 read_dev
-  pub says : SaysFound form (superblock_tree super) (pass (before data_dev end) read_dev data_dev' hash_dev' old new) trusted.root true
+  pub left : Hash read_dev × Data data_dev' × Hash hash_dev'
+  pub found : IsTreeOf sought.source (before data_dev end).size (behind hash_dev first) first read_dev tree
+  pub says : SaysFound form tree (pass (before data_dev end) read_dev data_dev' hash_dev' old new) sought.root true
 
 -- with which fault a command ends without a tree
 abbrev pub no_tree_fault : NoTree → TreeFault
@@ -123,49 +122,62 @@ no_tree_fault (no_tree.Unread fault) = Survey (Image fault)
 no_tree_fault no_tree.Unaligned = Unaligned
 no_tree_fault (no_tree.Unpinned mismatch) = Unpinned mismatch
 
--- there is no superblock behind that sector, it differs from the pin, or no hash block begins there
-pub record IsSurveyWithout (hash_dev : Device) (first : ℕ) (pin : Option Pin) (fault : TreeFault) : Type 0 where
-  pub cause : NoTree
-  pub hash_dev' : Device
-  pub none : IsNoTree (behind hash_dev first) first pin hash_dev' cause
-  pub is : fault ≡ no_tree_fault cause
+abbrev pub no_source_fault : NoSource → TreeFault
+no_source_fault (no_source.Stored cause) = no_tree_fault cause
+no_source_fault no_source.Shape = NoShape
 
-pub record EndsPlacedSurvey (form : ReportForm) (data_dev hash_dev : Device) (end first : ℕ) (trusted : TrustedRoot) (old new : Option (List ℕ)) (failed : Bool) (fault : TreeFault) : Type 0 where
-  pub super : SuperRecord
+-- there is no superblock at that sector, it differs from the pin, or no hash block begins there; or no tree has the options' shape
+pub record IsSurveyWithout (Hash : Device → Type 0) (sectors : ℕ) (hash_dev : Device) (first : ℕ) (source : TreeSource) (fault : TreeFault) : Type 0 where
+  pub cause : NoSource
+  pub hash_dev' : Device
+  pub left : Hash hash_dev'
+  pub none : IsNoTreeOf source sectors (behind hash_dev first) first hash_dev' cause
+  pub is : fault ≡ no_source_fault cause
+
+pub record EndsPlacedSurvey (form : ReportForm) (Data Hash : Device → Type 0) (data_dev hash_dev : Device) (end first : ℕ) (sought : SoughtTree) (old new : Option (List ℕ)) (failed : Bool) (fault : TreeFault) : Type 0 where
+  pub tree : VerityTree
   pub read_dev : Device
   pub data_dev' : Device
   pub hash_dev' : Device
-  pub super_read : ReadsSuper (behind hash_dev first) first trusted.pin super
-  pub one : IsFullRead (behind hash_dev first) 1 read_dev
-  pub ends : IsSurveyEnd form (superblock_tree super) (pass (before data_dev end) read_dev data_dev' hash_dev' old new) trusted.root failed fault
+  pub left : Hash read_dev × Data data_dev' × Hash hash_dev'
+  pub found : IsTreeOf sought.source (before data_dev end).size (behind hash_dev first) first read_dev tree
+  pub ends : IsSurveyEnd form tree (pass (before data_dev end) read_dev data_dev' hash_dev' old new) sought.root failed fault
 
-abbrev pub IsPlacedSurveyEnd : ReportForm → Device → Device → ℕ → ℕ → TrustedRoot → Option (List ℕ) → Option (List ℕ) → Bool → TreeFault → Type 0
-IsPlacedSurveyEnd form data_dev hash_dev end first trusted old new failed fault =
-    IsSurveyWithout hash_dev first trusted.pin fault ⊎ EndsPlacedSurvey form data_dev hash_dev end first trusted old new failed fault
+abbrev pub IsPlacedSurveyEnd : ReportForm → (Device → Type 0) → (Device → Type 0) → Device → Device → ℕ → ℕ → SoughtTree → Option (List ℕ) → Option (List ℕ) → Bool → TreeFault → Type 0
+IsPlacedSurveyEnd form Data Hash data_dev hash_dev end first sought old new failed fault =
+    (IsSurveyWithout Hash (before data_dev end).size hash_dev first sought.source fault × (new ≡ old)) ⊎ EndsPlacedSurvey form Data Hash data_dev hash_dev end first sought old new failed fault
 
 -- ---- of images that were opened
 
 abbrev pub survey_places : SurveyOrder → TwoPlaces
 survey_places p = record { paths = record { data_path = p.data.now; hash_path = p.hash.now }; first = p.hash_first }
 
-pub record PrintsGood {S D : Type 0} (form : ReportForm) (w : Calls S D) (places : TwoPlaces) (trusted : TrustedRoot) (old new : Option (List ℕ)) : Type 0 where
+pub record PrintsGood {S D : Type 0} (form : ReportForm) (w : Calls S D) (places : TwoPlaces) (sought : SoughtTree) (old new : Option (List ℕ)) : Type 0 where
   pub two : TwoImages D
+  pub aligned : may_seek sought.source places.first ≡ true
   pub opened : OpensTwo w places.paths false two
-  pub surveys : SurveysPlaced form (w.state two.data.device) (w.state two.hash.device) (data_end two places.first) places.first trusted old new
+  pub surveys : SurveysPlaced form (IsPartState w.state) (IsPartState w.state) (w.state two.data.device) (w.state two.hash.device) (data_end two places.first) places.first sought old new
 
-pub record EndsTreeSurvey {S D : Type 0} (form : ReportForm) (w : Calls S D) (places : TwoPlaces) (trusted : TrustedRoot) (old new : Option (List ℕ)) (failed : Bool) (fault : TreeFault) : Type 0 where
+pub record EndsTreeSurvey {S D : Type 0} (form : ReportForm) (w : Calls S D) (places : TwoPlaces) (sought : SoughtTree) (old new : Option (List ℕ)) (failed : Bool) (fault : TreeFault) : Type 0 where
   pub two : TwoImages D
   pub opened : OpensTwo w places.paths false two
-  pub ends : IsPlacedSurveyEnd form (w.state two.data.device) (w.state two.hash.device) (data_end two places.first) places.first trusted old new failed fault
+  pub ends : IsPlacedSurveyEnd form (IsPartState w.state) (IsPartState w.state) (w.state two.data.device) (w.state two.hash.device) (data_end two places.first) places.first sought old new failed fault
 
 -- one of the two isn't opened
 abbrev pub IsImageUnopened : {S D : Type 0} → Calls S D → TwoPaths → TreeFault → Type 0
 IsImageUnopened w paths (Open file) = FailsToOpenTwo w paths false file
 IsImageUnopened w paths fault = ⊥
 
--- that, or it ends so
-abbrev pub IsSurveyFilesEnd : {S D : Type 0} → ReportForm → Calls S D → TwoPlaces → TrustedRoot → Option (List ℕ) → Option (List ℕ) → Bool → TreeFault → Type 0
-IsSurveyFilesEnd form w places trusted old new failed fault = IsImageUnopened w places.paths fault ⊎ EndsTreeSurvey form w places trusted old new failed fault
+-- no hash block of the options' tree begins there, and nothing was opened
+pub record IsSurveyUnplaced {S D : Type 0} (w : Calls S D) (places : TwoPlaces) (source : TreeSource) (fault : TreeFault) : Type 0 where
+  pub unaligned : may_seek source places.first ≡ false
+  pub is : fault ≡ Unaligned
+  pub same : w.new ≡ w.old
+
+-- one of these, and nothing is printed, or it ends so
+abbrev pub IsSurveyFilesEnd : {S D : Type 0} → ReportForm → Calls S D → TwoPlaces → SoughtTree → Option (List ℕ) → Option (List ℕ) → Bool → TreeFault → Type 0
+IsSurveyFilesEnd form w places sought old new failed fault =
+    (IsSurveyUnplaced w places sought.source fault × (new ≡ old)) ⊎ ((IsImageUnopened w places.paths fault × (new ≡ old)) ⊎ EndsTreeSurvey form w places sought old new failed fault)
 
 -- ---- as a call sees them, as in `Diffs`
 
@@ -173,7 +185,7 @@ IsSurveyFilesEnd form w places trusted old new failed fault = IsImageUnopened w 
 abbrev pub gone_over : SurveyedDevices → SurveyedDevices → Option (List ℕ) → Option (List ℕ) → Pass
 gone_over image image' old new = pass image.data_dev image.hash_dev image'.data_dev image'.hash_dev old new
 
--- the same, where lines are kept in memory
+-- the two devices of an image, and the lines kept in memory
 abbrev pub listed_survey : SurveyedDevices → SurveyedDevices → KeptLines → KeptLines → Pass
 listed_survey image image' kept kept' = gone_over image image' (Some (lines_text kept.lines.items)) (Some (lines_text kept'.lines.items))
 
@@ -189,19 +201,19 @@ abbrev pub FailsSurvey : {W : Type 0} → ReportForm → VerityTree → Surveyed
 FailsSurvey form tree image image' contents writer writer' root = IsSurveyEnd form tree (gone_over image image' (contents writer.inner) (contents writer'.inner)) root writer'.failed
 
 -- what lies before the data's end, and what lies behind a sector
-abbrev pub SurveysBehind : {D H W : Type 0} → (D → Device) → (H → Device) → D × H → (W → Option (List ℕ)) → CountedRecord W → CountedRecord W → Bounds → TrustedRoot → ReportForm → Type 0
-SurveysBehind data_state hash_state devices contents writer writer' bounds trusted form =
-    SurveysPlaced form (data_state devices.0) (hash_state devices.1) bounds.end bounds.first trusted (contents writer.inner) (contents writer'.inner)
+abbrev pub SurveysBehind : {D H W : Type 0} → (D → Device) → (H → Device) → D × H → (W → Option (List ℕ)) → CountedRecord W → CountedRecord W → Bounds → SoughtTree → ReportForm → Type 0
+SurveysBehind data_state hash_state devices contents writer writer' bounds sought form =
+    SurveysPlaced form (IsPartState data_state) (IsPartState hash_state) (data_state devices.0) (hash_state devices.1) bounds.end bounds.first sought (contents writer.inner) (contents writer'.inner)
 
-abbrev pub FailsToSurveyBehind : {D H W : Type 0} → (D → Device) → (H → Device) → D × H → (W → Option (List ℕ)) → CountedRecord W → CountedRecord W → Bounds → TrustedRoot → ReportForm → TreeFault → Type 0
-FailsToSurveyBehind data_state hash_state devices contents writer writer' bounds trusted form =
-    IsPlacedSurveyEnd form (data_state devices.0) (hash_state devices.1) bounds.end bounds.first trusted (contents writer.inner) (contents writer'.inner) writer'.failed
+abbrev pub FailsToSurveyBehind : {D H W : Type 0} → (D → Device) → (H → Device) → D × H → (W → Option (List ℕ)) → CountedRecord W → CountedRecord W → Bounds → SoughtTree → ReportForm → TreeFault → Type 0
+FailsToSurveyBehind data_state hash_state devices contents writer writer' bounds sought form =
+    IsPlacedSurveyEnd form (IsPartState data_state) (IsPartState hash_state) (data_state devices.0) (hash_state devices.1) bounds.end bounds.first sought (contents writer.inner) (contents writer'.inner) writer'.failed
 
 -- two images
-abbrev pub SurveysImages : {S D W : Type 0} → Opener S D → (D → Device) → S → S → (W → Option (List ℕ)) → CountedRecord W → CountedRecord W → SurveyOrder → TrustedRoot → Type 0
-SurveysImages relations state images images' contents writer writer' order trusted =
-    PrintsGood order.form (calls relations state images images') (survey_places order) trusted (contents writer.inner) (contents writer'.inner)
+abbrev pub SurveysImages : {S D W : Type 0} → Opener S D → (D → Device) → S → S → (W → Option (List ℕ)) → CountedRecord W → CountedRecord W → SurveyOrder → SoughtTree → Type 0
+SurveysImages relations state images images' contents writer writer' order sought =
+    PrintsGood order.form (calls relations state images images') (survey_places order) sought (contents writer.inner) (contents writer'.inner)
 
-abbrev pub FailsToSurvey : {S D W : Type 0} → Opener S D → (D → Device) → S → S → (W → Option (List ℕ)) → CountedRecord W → CountedRecord W → SurveyOrder → TrustedRoot → TreeFault → Type 0
-FailsToSurvey relations state images images' contents writer writer' order trusted =
-    IsSurveyFilesEnd order.form (calls relations state images images') (survey_places order) trusted (contents writer.inner) (contents writer'.inner) writer'.failed
+abbrev pub FailsToSurvey : {S D W : Type 0} → Opener S D → (D → Device) → S → S → (W → Option (List ℕ)) → CountedRecord W → CountedRecord W → SurveyOrder → SoughtTree → TreeFault → Type 0
+FailsToSurvey relations state images images' contents writer writer' order sought =
+    IsSurveyFilesEnd order.form (calls relations state images images') (survey_places order) sought (contents writer.inner) (contents writer'.inner) writer'.failed

@@ -29,6 +29,10 @@ abbrev pub hash_image_text : Which → VerifyFault → List ℕ
 hash_image_text of verify.NoMemory = no_memory
 hash_image_text of fault = codes "refused " ++ kind_then (verify_number fault) (verify_name fault) (codes " " ++ (which_name of ++ codes "\n"))
 
+-- no hash block begins where one of them begins
+abbrev pub unaligned_text : Which → List ℕ
+unaligned_text of = codes "refused 18 Unaligned " ++ (which_name of ++ codes "\n")
+
 -- one of the superblocks differs from its pin
 abbrev pub unpinned_text : Which → Mismatch → List ℕ
 unpinned_text of mismatch = codes "refused " ++ kind_then (mismatch_number mismatch) (mismatch_name mismatch) (codes " " ++ (which_name of ++ codes "\n"))
@@ -44,6 +48,7 @@ hash_fault_text of level index = codes "fault hash " ++ (which_name of ++ (codes
 
 abbrev pub difference_text : DifferenceFault → List ℕ
 difference_text (difference.Image of fault) = hash_image_text of fault
+difference_text (difference.Unaligned of) = unaligned_text of
 difference_text (difference.Unpinned of mismatch) = unpinned_text of mismatch
 difference_text (difference.Unlike found) = unlike_text found
 difference_text (difference.Hash of level index) = hash_fault_text of level index
@@ -69,6 +74,7 @@ tree_fault_text (trees.Trees fault) = difference_text fault
 tree_fault_text trees.Differs = []
 tree_fault_text (trees.Survey fault) = survey_text fault
 tree_fault_text trees.Unaligned = codes "refused 18 Unaligned\n"
+tree_fault_text trees.NoShape = codes "refused 1 Shape\n"
 tree_fault_text (trees.Unpinned mismatch) = refused_text (mismatch_number mismatch) (mismatch_name mismatch)
 tree_fault_text trees.UnusedEntries = codes "refused 60 UnusedEntries\n"
 tree_fault_text trees.Damaged = []

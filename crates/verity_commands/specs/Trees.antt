@@ -8,6 +8,8 @@ use Rattle.command_line.specs.declared.option_words.OptionWords.{OptionWords}
 use Rattle.command_line.specs.declared.words.tree_format.TreeFormatWords.{TreeFormatWords}
 use Rattle.command_line.specs.declared.words.tree_table.TreeTableWords.{TreeTableWords}
 use Rattle.command_line.specs.declared.words.tree_verify.TreeVerifyWords.{TreeVerifyWords}
+use Rattle.command_line.specs.declared.values.RootWord.{RootWord}
+use Rattle.command_line.specs.Values.{RootRecord, root_record}
 use Rattle.command_line.specs.FormatOptions.{AreSaid, OptionTexts, option_texts, text_of}
 use Rattle.command_line.specs.words.TreeFormat.{TreeFormatRecord, tree_format_record}
 use Rattle.command_line.specs.words.TreeTable.{TreeTableRecord, tree_table_record}
@@ -15,6 +17,8 @@ use Rattle.command_line.specs.words.TreeVerify.{TreeVerifyRecord, tree_verify_re
 use Rattle.image_commands.specs.declared.fault.ImageFault.{ImageFault}
 use Rattle.image_commands.specs.declared.fault.ImageFault.TheVariants.{Format}
 use Rattle.image_commands.specs.declared.table.LineWords.{LineWords}
+use Rattle.image_commands.specs.declared.tree_source.SoughtTree.{SoughtTree}
+use Rattle.image_commands.specs.declared.tree_source.TreeSource.TheVariants.{Options}
 use Rattle.image_commands.specs.declared.watching.WatchedPlaces.{WatchedPlaces}
 use Rattle.image_commands.specs.Drawing.{Drawing}
 use Rattle.image_commands.specs.TreeFormats.{IsFormatTreeEnd as IsTreeFormatEnd, PrintsTree}
@@ -87,6 +91,16 @@ abbrev pub IsVerifyTreeEnd : {S D : Type 0} → OptionTexts → Calls S D → Tr
 IsVerifyTreeEnd texts w v old new failed fault =
     ((IsTreeUnsaid texts fault × (w.new ≡ w.old)) ⊎ IsImageEnd (λ f. IsRootEnd w v.root f ⊎ EndsVerifiedTree texts w v failed f) fault) × IsVerityQuiet fault old new
 
+-- the tree that options state was told, and its root
+pub record TellsTree {S D : Type 0} (texts : OptionTexts) (w : Calls S D) (root : RootRecord) (sought : SoughtTree) : Type 0 where
+  pub given : FormatOptions
+  pub said : SaysTree texts given
+  pub told : TellsRoot w root sought.root
+  pub is : sought.source ≡ Options given
+
+abbrev pub IsTreeUntold : {S D : Type 0} → OptionTexts → Calls S D → RootRecord → VerityFault → Type 0
+IsTreeUntold texts w root fault = (IsTreeUnsaid texts fault × (w.new ≡ w.old)) ⊎ IsImageEnd (IsRootEnd w root) fault
+
 -- `table`: the root was told, and then the line printed that the words give
 pub record PrintsTreeEntry {S D : Type 0} (texts : OptionTexts) (w : Calls S D) (t : TreeTableRecord) (old new : Option (List ℕ)) : Type 0 where
   pub given : FormatOptions
@@ -134,6 +148,12 @@ VerifiesTreeByWords relations state images images' contents writer writer' optio
 abbrev pub FailsToVerifySaidTree : {S D W : Type 0} → Opener S D → (D → Device) → S → S → (W → Option (List ℕ)) → CountedRecord W → CountedRecord W → OptionWords → TreeVerifyWords → VerityFault → Type 0
 FailsToVerifySaidTree relations state images images' contents writer writer' options words =
     IsVerifyTreeEnd (option_texts options) (calls relations state images images') (tree_verify_record words) (contents writer.inner) (contents writer'.inner) writer'.failed
+
+abbrev pub SeeksTree : {S D : Type 0} → Opener S D → (D → Device) → S → S → OptionWords → RootWord → SoughtTree → Type 0
+SeeksTree relations state images images' options root = TellsTree (option_texts options) (calls relations state images images') (root_record root)
+
+abbrev pub FailsToSeek : {S D : Type 0} → Opener S D → (D → Device) → S → S → OptionWords → RootWord → VerityFault → Type 0
+FailsToSeek relations state images images' options root = IsTreeUntold (option_texts options) (calls relations state images images') (root_record root)
 
 abbrev pub PrintsTreeByWords : {S D W : Type 0} → Opener S D → (D → Device) → S → S → (W → Option (List ℕ)) → CountedRecord W → CountedRecord W → OptionWords → TreeTableWords → Type 0
 PrintsTreeByWords relations state images images' contents writer writer' options words =

@@ -1,4 +1,4 @@
-//! The command `diff --all`: which hash blocks of the second image are invalid, and which data blocks of two images differ.
+//! Which hash blocks of the second image are invalid, and which data blocks of two images differ: `diff --all`.
 ghost use Rattle.std.specs.Prelude.{◌≡◌, ◌≤◌, false, OnOk, IfErr, IfOk};
 ghost use Rattle.verity_format.specs.Image.{tree_sectors};
 ghost use Rattle.verity_format.specs.Superblock.{shape_of};
@@ -6,21 +6,19 @@ ghost use Rattle.tree_difference.specs.Differences.{CanCompareTrees, seen_world}
 ghost use Rattle.tree_survey.specs.Failing.{IsReadOver};
 ghost use Rattle.tree_survey.specs.Hashes.{TellsTree};
 ghost use Rattle.tree_survey.specs.Passes.{super_tree};
-ghost use Rattle.verity_commands.specs.CheckedDiffs.{ChecksImages, FailsCheck, FailsToCheckDevice, FailsToCheckImages, FailsToSay, FindsWhole, IsCheckedCause, IsCheckedDifference, IsFoundEnd, IsWholeAndSame, SaysFound, check_fault, second_fault};
+ghost use Rattle.verity_commands.specs.CheckedDiffs.{FailsCheck, FailsToCheckDevice, FailsToSay, FindsWhole, IsCheckedCause, IsCheckedDifference, IsFoundEnd, IsWholeAndSame, SaysFound, check_fault, second_fault};
 ghost use Rattle.verity_commands.specs.Diffs.{CanCompareTwo};
 
 use crate::checked_object::say_object;
 use crate::diff::{DiffForm, is_unchanged, say_totals};
-use crate::open_trees::{OpenTrees, open_trees};
-use crate::paths::{HashPaths, TwoHashes, close_both};
+use crate::paths::TwoHashes;
 use crate::tree_fault::TreeFault;
 use block_device::BlockDev;
-use image_files::Images;
 use program_io::Counted;
 use runs::Listing;
 use std::alloc::Global;
 use std::io::Write;
-use tree_difference::{DifferenceFault, Totals, TreePair, TrustedTrees, Which, compare_trees};
+use tree_difference::{DifferenceFault, Totals, TreePair, Which, compare_trees};
 use tree_shape::Digest;
 use tree_survey::{SurveyFault, survey_hashes};
 use verity_format::{Superblock, VerifyFault};
@@ -32,32 +30,13 @@ pub struct CheckedTotals {
     pub whole_tree: bool,
 }
 
-/// `diff --all [--blocks N] [--json] HASH1 HASH2`, with the root hashes or the pins that are trusted: a line for each invalid hash
-/// block of the second tree, one for each longest run of data blocks that differ, and the totals; or one JSON object of all of
-/// them. Nothing is printed before both superblocks were read and compared. The hash blocks come next, since the comparison ends
-/// at an invalid one that it reads.
+/// Checks the hash blocks of the second tree, compares both, and prints what is found. The hash blocks come first, since the
+/// comparison ends at an invalid one that it reads.
 ///
 /// # Errors
 ///
-/// `Damaged` if a hash block is invalid, else `Differs` if data blocks differ.
-pub fn check_images<'a, I: Images, W: Write>(
-    alloc: Global,
-    images: &mut I,
-    paths: HashPaths<'a>,
-    trusted: &TrustedTrees,
-    form: DiffForm,
-    writer: &mut Counted<W>,
-) -> Result<(), TreeFault<'a>>
-    ensures ok { OnOk result (ChecksImages I.relations I.Dev.state images.old images.new W.contents writer.old writer.new paths.entry trusted.now form) }
-    ensures err { IfErr result (FailsToCheckImages I.relations I.Dev.state images.old images.new W.contents writer.old writer.new paths.entry trusted.now form) }
-{
-    let OpenTrees { mut two, pair } = open_trees(images, paths, trusted)?;
-    let ended = check(alloc, &mut two, &pair, form, writer);
-    close_both(images, &paths, two);
-    ended
-}
-
-fn check<'a, D: BlockDev, W: Write>(
+/// `Damaged` if a hash block is invalid, else `Differs` if data blocks differ; or the fault of the comparison.
+pub(crate) fn check<'a, D: BlockDev, W: Write>(
     alloc: Global,
     two: &mut TwoHashes<D>,
     pair: &TreePair,
@@ -84,7 +63,7 @@ fn say_checked<'a, D: BlockDev, W: Write>(
     ensures ok { IfOk result (SaysFound form.json D.state two.old two.new W.contents writer.old writer.new pair.now form.most) }
     ensures err { IfErr result (FailsToSay form.json D.state two.old two.new W.contents writer.old writer.new pair.now form.most) }
 {
-    let DiffForm { most, json } = form;
+    let DiffForm { most, json, all: _ } = form;
     if json {
         return say_object(alloc, two, pair, most, writer);
     }

@@ -1,52 +1,32 @@
-//! The command `diff`: which data blocks of two images differ, by their hash trees.
+//! Which data blocks of two images differ, by their hash trees, as lines and totals.
 ghost use Rattle.std.specs.Prelude.{◌≡◌, true, false, OnOk, IfErr};
 ghost use Rattle.program_io.specs.Counted.{Writes};
-ghost use Rattle.verity_commands.specs.Diffs.{CanCompareTwo, DiffsImages, FailsDiff, FailsToDiff, FindsSame, is_unchanged, difference_totals};
+ghost use Rattle.verity_commands.specs.Diffs.{CanCompareTwo, FailsDiff, FindsSame, is_unchanged, difference_totals};
 
 use crate::diff_object::diff_object;
-use crate::open_trees::{OpenTrees, open_trees};
-use crate::paths::{HashPaths, TwoHashes, close_both};
+use crate::paths::TwoHashes;
 use crate::tree_fault::TreeFault;
 use block_device::BlockDev;
-use image_files::Images;
 use program_io::{Counted, WriteFault};
 use std::alloc::Global;
 use std::io::Write;
-use tree_difference::{Totals, TreePair, TrustedTrees, compare_trees};
+use tree_difference::{Totals, TreePair, compare_trees};
 
-/// How many runs are printed at most, and whether one JSON object is printed and no lines.
+/// How many runs are printed at most, whether one JSON object is printed and no lines, and whether each hash block of the second
+/// tree is checked before the comparison.
 #[derive(Clone, Copy, Debug, PartialEq, Eq)]
 pub struct DiffForm {
     pub most: Option<u64>,
     pub json: bool,
+    pub all: bool,
 }
 
-/// `diff [--blocks N] [--json] HASH1 HASH2`, with the root hashes or the pins that are trusted: a line for each longest run of
-/// data blocks that differ, and the totals; or one JSON object of both. Nothing is printed before both superblocks were read and
-/// compared.
+/// Compares the trees of the two hash images.
 ///
 /// # Errors
 ///
-/// `Differs` if data blocks differ.
-pub fn diff_images<'a, I: Images, W: Write>(
-    alloc: Global,
-    images: &mut I,
-    paths: HashPaths<'a>,
-    trusted: &TrustedTrees,
-    form: DiffForm,
-    writer: &mut Counted<W>,
-) -> Result<(), TreeFault<'a>>
-    ensures ok { OnOk result (DiffsImages I.relations I.Dev.state images.old images.new W.contents writer.old writer.new paths.entry trusted.now form) }
-    ensures err { IfErr result (FailsToDiff I.relations I.Dev.state images.old images.new W.contents writer.old writer.new paths.entry trusted.now form) }
-{
-    let OpenTrees { mut two, pair } = open_trees(images, paths, trusted)?;
-    let ended = diff(alloc, &mut two, &pair, form, writer);
-    close_both(images, &paths, two);
-    ended
-}
-
-// Compares the trees of the two hash images.
-fn diff<'a, D: BlockDev, W: Write>(
+/// `Differs` if data blocks differ, or the fault of the comparison.
+pub(crate) fn diff<'a, D: BlockDev, W: Write>(
     alloc: Global,
     two: &mut TwoHashes<D>,
     pair: &TreePair,
@@ -57,7 +37,7 @@ fn diff<'a, D: BlockDev, W: Write>(
     ensures ok { OnOk result (FindsSame form.json D.state two.old two.new W.contents writer.old writer.new pair.now form.most) }
     ensures err { IfErr result (FailsDiff form.json D.state two.old two.new W.contents writer.old writer.new pair.now form.most) }
 {
-    let DiffForm { most, json } = form;
+    let DiffForm { most, json, all: _ } = form;
     if json {
         return diff_object(alloc, two, pair, most, writer);
     }

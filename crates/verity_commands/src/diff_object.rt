@@ -68,6 +68,7 @@ pub(crate) fn unkept(fault: DifferenceFault) -> DifferenceFault
     match fault {
         DifferenceFault::Write => DifferenceFault::NoMemory,
         DifferenceFault::Image(which, image) => DifferenceFault::Image(which, image),
+        DifferenceFault::Unaligned(which) => DifferenceFault::Unaligned(which),
         DifferenceFault::Unpinned(which, mismatch) => DifferenceFault::Unpinned(which, mismatch),
         DifferenceFault::Unlike(unlike) => DifferenceFault::Unlike(unlike),
         DifferenceFault::Hash(which, level, index) => DifferenceFault::Hash(which, level, index),

@@ -2,13 +2,14 @@
 ghost use Rattle.std.specs.Prelude.{OnOk, IfErr};
 ghost use Rattle.verity_commands.specs.Invocations.{DiffsByWords, FailsDiffByWords, FailsSurveyByWords, SurveysByWords};
 
-use crate::checked_diff::check_images;
-use crate::diff::{DiffForm, diff_images};
-use crate::paths::HashPaths;
+use crate::diff::DiffForm;
+use crate::paths::HashPlaces;
+use crate::placed_diff::diff_images;
 use crate::survey::{SurveyOrder, survey_images};
 use crate::tree_fault::TreeFault;
 use command_line::{DiffWords, VerifyWords};
 use device_adapters::Watchers;
+use image_commands::{HashPlace, SoughtTree, TreeSource};
 use image_files::Images;
 use image_pin::TrustedRoot;
 use program_io::Counted;
@@ -37,10 +38,15 @@ pub fn invoke_survey<'a, I: Images, S: Watchers, W: Write>(
         form: words.form,
         progress: words.progress,
     };
-    survey_images(alloc, images, watchers, order, trusted, writer)
+    let sought = SoughtTree {
+        source: TreeSource::Superblock(trusted.pin),
+        root: trusted.root,
+    };
+    survey_images(alloc, images, watchers, order, &sought, writer)
 }
 
-/// `diff [--all] [--blocks N] [--json] HASH1 HASH2`, with the root hashes or the pins that are trusted.
+/// `diff [--all] [--runs N] [--json] [--old-hash-offset BYTES] [--hash-offset BYTES] HASH1 HASH2`, with the root hashes or the pins
+/// that are trusted.
 pub fn invoke_diff<'a, I: Images, W: Write>(
     alloc: Global,
     images: &mut I,
@@ -51,16 +57,20 @@ pub fn invoke_diff<'a, I: Images, W: Write>(
     ensures ok { OnOk result (DiffsByWords I.relations I.Dev.state images.old images.new W.contents writer.old writer.new words.now trusted.now) }
     ensures err { IfErr result (FailsDiffByWords I.relations I.Dev.state images.old images.new W.contents writer.old writer.new words.now trusted.now) }
 {
-    let paths = HashPaths {
-        first: words.old_path,
-        second: words.new_path,
+    let places = HashPlaces {
+        first: HashPlace {
+            path: words.old_path,
+            first: words.old_offset / SECTOR,
+        },
+        second: HashPlace {
+            path: words.new_path,
+            first: words.new_offset / SECTOR,
+        },
     };
     let form = DiffForm {
-        most: words.blocks,
+        most: words.runs,
         json: words.json,
+        all: words.all,
     };
-    if words.all {
-        return check_images(alloc, images, paths, trusted, form, writer);
-    }
-    diff_images(alloc, images, paths, trusted, form, writer)
+    diff_images(alloc, images, &places, trusted, form, writer)
 }

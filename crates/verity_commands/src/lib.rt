@@ -7,10 +7,10 @@ mod diff;
 mod diff_object;
 mod growing;
 mod invoke;
-mod open_trees;
 mod paths;
 mod pinned;
 mod placed;
+mod placed_diff;
 mod places;
 mod status;
 mod survey;
@@ -23,18 +23,21 @@ mod trees;
 mod trusted_trees;
 mod verity_fault;
 
-pub use checked_diff::{CheckedTotals, check_images};
-pub use diff::{DiffForm, diff_images};
+pub use checked_diff::CheckedTotals;
+pub use diff::DiffForm;
 pub use invoke::{invoke_diff, invoke_survey};
-pub use paths::HashPaths;
+pub use paths::HashPlaces;
 pub use pinned::invoke_format_pinned;
 pub use placed::{invoke_dump, invoke_format, invoke_table, invoke_verify};
+pub use placed_diff::diff_images;
 pub use places::{sector_at, trusted_in};
 pub use status::verity_status;
 pub use survey::{SurveyOrder, is_all_good, say_totals, survey_images};
 pub use texts::{say_image_fault, say_verity_fault};
 pub use tree_fault::TreeFault;
 pub use tree_fault_text::{say_tree_fault, tree_status};
-pub use trees::{invoke_format_tree, invoke_table_tree, invoke_verify_tree};
+pub use trees::{
+    invoke_format_tree, invoke_table_tree, invoke_tree_survey, invoke_verify_tree, sought_in,
+};
 pub use trusted_trees::both_trusted_in;
 pub use verity_fault::VerityFault;

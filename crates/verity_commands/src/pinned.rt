@@ -1,4 +1,4 @@
-//! The command `format --pin`.
+//! The commands `format --pin` and `format --root-hash-file`.
 ghost use Rattle.std.specs.Prelude.{OnOk, IfErr};
 ghost use Rattle.image_commands.specs.Drawing.{drawing};
 ghost use Rattle.verity_commands.specs.Pinned.{FailsToFormatPinned, FormatsPinned};
@@ -13,8 +13,8 @@ use program_io::Counted;
 use std::alloc::Global;
 use std::io::Write;
 
-/// `format --pin FILE [--grow] [--progress] [--hash-offset BYTES] [OPTION..] DATA HASH`: whether FILE can be written is found out
-/// before anything is made. It is written once the image is synced, and before the root is printed.
+/// `format --pin FILE [--grow] [--progress] [--hash-offset BYTES] [OPTION..] DATA HASH`, or with `--root-hash-file FILE`: whether
+/// FILE can be written is found out before anything is made. It is written once the image is synced, and before the root is printed.
 pub fn invoke_format_pinned<'a, I: Images, G: Generators + Watchers, W: Write>(
     alloc: Global,
     images: &mut I,
@@ -28,10 +28,10 @@ pub fn invoke_format_pinned<'a, I: Images, G: Generators + Watchers, W: Write>(
 {
     let options = options_of(alloc, options)?;
     let watched = places_of(&words.format);
-    check_pin_path(images, watched.places, words.pin)?;
+    check_pin_path(images, watched.places, words.file.path)?;
     let grow = words.format.grow;
     let made = make_image(alloc, images, generators, options, &watched, grow)?;
     let pin = pin_of_image(&options, &made);
-    write_pin(alloc, images, watched.places, words.pin, &pin)?;
+    write_pin(alloc, images, watched.places, words.file, &pin)?;
     Ok(print_made(writer, &made)?)
 }

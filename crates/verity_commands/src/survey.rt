@@ -2,6 +2,7 @@
 ghost use Rattle.std.specs.Prelude.{◌≡◌, OnOk, IfErr};
 ghost use Rattle.program_io.specs.Counted.{Writes};
 ghost use Rattle.charts.specs.declared.form.ReportForm.TheVariants.{Lines};
+ghost use Rattle.verity_commands.specs.Surveyed.{surveyed};
 ghost use Rattle.verity_commands.specs.Surveys.{FailsSurvey, FailsToSurveyBehind, FailsToSurvey, FindsGood, SurveysBehind, SurveysImages, is_all_good, survey_totals};
 
 use crate::survey_chart::survey_chart;
@@ -11,14 +12,13 @@ use block_device::BlockDev;
 use charts::ReportForm;
 use device_adapters::{Watchers, bytes_before};
 use image_commands::{
-    Bounds, ImagePair, ImagePaths, data_end, find_tree, open_two, place_parts, watch,
+    Bounds, ImagePair, ImagePaths, SoughtTree, bytes_to_read, data_end, may_seek, open_two,
+    place_parts, seek_tree, watch,
 };
 use image_files::Images;
-use image_pin::TrustedRoot;
 use program_io::{Counted, WriteFault};
 use std::alloc::Global;
 use std::io::Write;
-use std::marker::Model;
 use tree_shape::Digest;
 use tree_survey::{Survey, Totals, survey_image};
 use verity_format::VerityTree;
@@ -35,35 +35,26 @@ pub struct SurveyOrder<'a> {
     pub progress: bool,
 }
 
-/// The data device and the hash device of an image that is gone over.
-#[derive(Drop)]
-pub(crate) struct SurveyedImage<D: BlockDev, H: BlockDev> {
-    pub(crate) data: D,
-    pub(crate) hash: H,
-}
-
-impl<D: BlockDev, H: BlockDev> Model for SurveyedImage<D, H> {
-    ghost use Rattle.verity_commands.specs.Surveyed.{SurveyedDevices, surveyed_devices};
-
-    ghost Value = { SurveyedDevices };
-
-    ghost view = { λ i. surveyed_devices (D.state i.data) (H.state i.hash) };
-}
-
-/// `verify --all [--json | --chart] [--progress] [--hash-offset BYTES] DATA HASH ROOT`: a line for each longest run of data
+/// `verify --all [--json | --chart] [--progress] [--hash-offset BYTES] DATA HASH ROOT`, also with `--no-superblock`: a line for each longest run of data
 /// blocks that aren't good, one for each hash block that isn't, and the totals; all of them at the end, with a map of the
-/// data blocks before the totals; or one JSON object of all of them. If one isn't good, the fault is `Damaged`. If both are
-/// one file, the data are what lies before the hash image.
+/// data blocks before the totals; or one JSON object of all of them. If both are one file, the data are what lies before the
+/// hash image.
+///
+/// # Errors
+///
+/// - `Open` if a file isn't opened.
+/// - `Unaligned`, `NoShape`, `Unpinned` or `Survey` if there is no tree of that source, or the scan ends early.
+/// - `Damaged` if a block isn't good.
 pub fn survey_images<'a, I: Images, S: Watchers, W: Write>(
     alloc: Global,
     images: &mut I,
     watchers: &S,
     order: SurveyOrder<'a>,
-    trusted: &TrustedRoot,
+    sought: &SoughtTree,
     writer: &mut Counted<W>,
 ) -> Result<(), TreeFault<'a>>
-    ensures ok { OnOk result (SurveysImages I.relations I.Dev.state images.old images.new W.contents writer.old writer.new order.entry trusted.now) }
-    ensures err { IfErr result (FailsToSurvey I.relations I.Dev.state images.old images.new W.contents writer.old writer.new order.entry trusted.now) }
+    ensures ok { OnOk result (SurveysImages I.relations I.Dev.state images.old images.new W.contents writer.old writer.new order.entry sought.now) }
+    ensures err { IfErr result (FailsToSurvey I.relations I.Dev.state images.old images.new W.contents writer.old writer.new order.entry sought.now) }
 {
     let SurveyOrder {
         data,
@@ -72,12 +63,15 @@ pub fn survey_images<'a, I: Images, S: Watchers, W: Write>(
         form,
         progress,
     } = order;
+    if !may_seek(&sought.source, first) {
+        return Err(TreeFault::Unaligned);
+    }
     let two = open_two(images, ImagePaths { data, hash }, false)?;
     let end = data_end(&two, first);
-    let all = bytes_before(&two.data.device, end);
+    let all = bytes_to_read(&sought.source, bytes_before(&two.data.device, end));
     let devices = watch(two, watchers, progress, all);
     let bounds = Bounds { end, first };
-    survey_behind(alloc, devices, bounds, trusted, form, writer)
+    survey_behind(alloc, devices, bounds, sought, form, writer)
 }
 
 // What lies before the data's end, and what lies behind that sector.
@@ -85,39 +79,31 @@ fn survey_behind<'a, D: BlockDev + Drop, H: BlockDev + Drop, W: Write>(
     alloc: Global,
     devices: (D, H),
     bounds: Bounds,
-    trusted: &TrustedRoot,
+    sought: &SoughtTree,
     form: ReportForm,
     writer: &mut Counted<W>,
 ) -> Result<(), TreeFault<'a>>
-    ensures ok { OnOk result (SurveysBehind D.state H.state devices W.contents writer.old writer.new bounds trusted.now form) }
-    ensures err { IfErr result (FailsToSurveyBehind D.state H.state devices W.contents writer.old writer.new bounds trusted.now form) }
+    ensures ok { OnOk result (SurveysBehind D.state H.state devices W.contents writer.old writer.new bounds sought.now form) }
+    ensures err { IfErr result (FailsToSurveyBehind D.state H.state devices W.contents writer.old writer.new bounds sought.now form) }
 {
     let (data_dev, hash_dev) = devices;
     let mut two = place_parts(data_dev, hash_dev, bounds);
-    let superblock = find_tree(&mut two.hash, bounds.first, &trusted.pin)?;
-    let ImagePair { data, hash } = two;
-    let mut placed = SurveyedImage { data, hash };
-    say_survey(
-        alloc,
-        &mut placed,
-        &superblock.tree(),
-        &trusted.root,
-        form,
-        writer,
-    )
+    let sectors = two.data.sectors();
+    let tree = seek_tree(&sought.source, sectors, &mut two.hash, bounds.first)?;
+    say_survey(alloc, &mut two, &tree, &sought.root, form, writer)
 }
 
 // Goes over the two devices, and prints what was found.
 fn say_survey<'a, D: BlockDev, H: BlockDev, W: Write>(
     alloc: Global,
-    image: &mut SurveyedImage<D, H>,
+    image: &mut ImagePair<D, H>,
     tree: &VerityTree,
     root: &Digest,
     form: ReportForm,
     writer: &mut Counted<W>,
 ) -> Result<(), TreeFault<'a>>
-    ensures ok { OnOk result (FindsGood form tree.now image.old image.new W.contents writer.old writer.new root.now) }
-    ensures err { IfErr result (FailsSurvey form tree.now image.old image.new W.contents writer.old writer.new root.now) }
+    ensures ok { OnOk result (FindsGood form tree.now (surveyed D.state H.state image.old) (surveyed D.state H.state image.new) W.contents writer.old writer.new root.now) }
+    ensures err { IfErr result (FailsSurvey form tree.now (surveyed D.state H.state image.old) (surveyed D.state H.state image.new) W.contents writer.old writer.new root.now) }
 {
     match form {
         ReportForm::Lines => survey_lines(alloc, image, tree, root, writer),
@@ -129,13 +115,13 @@ fn say_survey<'a, D: BlockDev, H: BlockDev, W: Write>(
 // A line each, and the totals.
 fn survey_lines<'a, D: BlockDev, H: BlockDev, W: Write>(
     alloc: Global,
-    image: &mut SurveyedImage<D, H>,
+    image: &mut ImagePair<D, H>,
     tree: &VerityTree,
     root: &Digest,
     writer: &mut Counted<W>,
 ) -> Result<(), TreeFault<'a>>
-    ensures ok { OnOk result (FindsGood Lines tree.now image.old image.new W.contents writer.old writer.new root.now) }
-    ensures err { IfErr result (FailsSurvey Lines tree.now image.old image.new W.contents writer.old writer.new root.now) }
+    ensures ok { OnOk result (FindsGood Lines tree.now (surveyed D.state H.state image.old) (surveyed D.state H.state image.new) W.contents writer.old writer.new root.now) }
+    ensures err { IfErr result (FailsSurvey Lines tree.now (surveyed D.state H.state image.old) (surveyed D.state H.state image.new) W.contents writer.old writer.new root.now) }
 {
     let found = survey_image(alloc, &mut image.data, &mut image.hash, tree, root, writer)?;
     say_totals(writer, found.totals)?;

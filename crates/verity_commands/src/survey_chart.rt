@@ -4,13 +4,15 @@ ghost use Rattle.program_io.specs.Counted.{Writes};
 ghost use Rattle.runs.specs.Lines.{lines_text};
 ghost use Rattle.charts.specs.declared.form.ReportForm.TheVariants.{Chart};
 ghost use Rattle.verity_commands.specs.SurveyCharts.{has_kind, line_touches};
+ghost use Rattle.verity_commands.specs.Surveyed.{surveyed};
 ghost use Rattle.verity_commands.specs.Surveys.{FailsSurvey, FindsGood, charted_survey};
 
-use crate::survey::{SurveyedImage, is_all_good, say_totals};
+use crate::survey::{is_all_good, say_totals};
 use crate::survey_object::keep_survey;
 use crate::tree_fault::TreeFault;
 use block_device::BlockDev;
 use charts::{Marks, is_touched, say_chart};
+use image_commands::ImagePair;
 use program_io::{Counted, WriteFault};
 use runs::{KeptLines, Kind, Line, Listing};
 use std::alloc::Global;
@@ -64,13 +66,13 @@ fn line_touches(line: Line, kind: Kind, at: u64, width: u64) -> bool
 /// Scans the two devices, and prints the lines, a map of the data blocks and the totals at the end.
 pub(crate) fn survey_chart<'a, D: BlockDev, H: BlockDev, W: Write>(
     alloc: Global,
-    image: &mut SurveyedImage<D, H>,
+    image: &mut ImagePair<D, H>,
     tree: &VerityTree,
     root: &Digest,
     writer: &mut Counted<W>,
 ) -> Result<(), TreeFault<'a>>
-    ensures ok { OnOk result (FindsGood Chart tree.now image.old image.new W.contents writer.old writer.new root.now) }
-    ensures err { IfErr result (FailsSurvey Chart tree.now image.old image.new W.contents writer.old writer.new root.now) }
+    ensures ok { OnOk result (FindsGood Chart tree.now (surveyed D.state H.state image.old) (surveyed D.state H.state image.new) W.contents writer.old writer.new root.now) }
+    ensures err { IfErr result (FailsSurvey Chart tree.now (surveyed D.state H.state image.old) (surveyed D.state H.state image.new) W.contents writer.old writer.new root.now) }
 {
     let mut kept = KeptLines::new(alloc);
     let found = keep_survey(alloc, image, tree, root, &mut kept)?;

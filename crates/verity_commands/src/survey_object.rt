@@ -8,11 +8,13 @@ ghost use Rattle.tree_survey.specs.declared.fault.SurveyFault.TheVariants as sur
 ghost use Rattle.tree_survey.specs.Passes.{IsSurvey};
 ghost use Rattle.charts.specs.declared.form.ReportForm.TheVariants.{Object};
 ghost use Rattle.verity_commands.specs.Objects.{survey_json};
+ghost use Rattle.verity_commands.specs.Surveyed.{surveyed};
 ghost use Rattle.verity_commands.specs.Surveys.{FailsSurvey, FailsToListSurvey, FindsGood, listed_survey, unkept_survey};
 
-use crate::survey::{SurveyedImage, is_all_good};
+use crate::survey::is_all_good;
 use crate::tree_fault::TreeFault;
 use block_device::BlockDev;
+use image_commands::ImagePair;
 use program_io::{Counted, line_of};
 use runs::{KeptLines, Line, hashes_value, runs_value};
 use serde_json::{Value, json};
@@ -25,13 +27,13 @@ use verity_format::{VerifyFault, VerityTree};
 /// Goes over the two devices, and prints an object at the end.
 pub(crate) fn survey_object<'a, D: BlockDev, H: BlockDev, W: Write>(
     alloc: Global,
-    image: &mut SurveyedImage<D, H>,
+    image: &mut ImagePair<D, H>,
     tree: &VerityTree,
     root: &Digest,
     writer: &mut Counted<W>,
 ) -> Result<(), TreeFault<'a>>
-    ensures ok { OnOk result (FindsGood Object tree.now image.old image.new W.contents writer.old writer.new root.now) }
-    ensures err { IfErr result (FailsSurvey Object tree.now image.old image.new W.contents writer.old writer.new root.now) }
+    ensures ok { OnOk result (FindsGood Object tree.now (surveyed D.state H.state image.old) (surveyed D.state H.state image.new) W.contents writer.old writer.new root.now) }
+    ensures err { IfErr result (FailsSurvey Object tree.now (surveyed D.state H.state image.old) (surveyed D.state H.state image.new) W.contents writer.old writer.new root.now) }
 {
     let mut kept = KeptLines::new(alloc);
     let found = keep_survey(alloc, image, tree, root, &mut kept)?;
@@ -47,13 +49,13 @@ pub(crate) fn survey_object<'a, D: BlockDev, H: BlockDev, W: Write>(
 #[tactic(auto, using(crate::proofs::KeptLemmas::kept_cause))]
 pub(crate) fn keep_survey<D: BlockDev, H: BlockDev>(
     alloc: Global,
-    image: &mut SurveyedImage<D, H>,
+    image: &mut ImagePair<D, H>,
     tree: &VerityTree,
     root: &Digest,
     kept: &mut KeptLines,
 ) -> Result<Survey, SurveyFault>
-    ensures ok { IfOk result (IsSurvey tree.now (listed_survey image.old image.new kept.old kept.new) root.now) }
-    ensures err { IfErr result (FailsToListSurvey tree.now image.old image.new) }
+    ensures ok { IfOk result (IsSurvey tree.now (listed_survey (surveyed D.state H.state image.old) (surveyed D.state H.state image.new) kept.old kept.new) root.now) }
+    ensures err { IfErr result (FailsToListSurvey tree.now (surveyed D.state H.state image.old) (surveyed D.state H.state image.new)) }
 {
     let found = survey_image(alloc, &mut image.data, &mut image.hash, tree, root, kept);
     match found {

@@ -3,9 +3,9 @@ ghost use Rattle.std.specs.Prelude.{◌≡◌};
 ghost use Rattle.verity_commands.specs.declared.tree_fault.TreeFault.TheVariants as tree_fault;
 ghost use Rattle.tree_survey.specs.declared.fault.SurveyFault.TheVariants as survey_fault;
 
-use image_commands::NoTree;
+use image_commands::NoSource;
 use image_files::UnopenedFile;
-use image_pin::Mismatch;
+use image_pin::{Mismatch, NoTree};
 use program_io::WriteFault;
 use tree_difference::DifferenceFault;
 use tree_survey::SurveyFault;
@@ -24,6 +24,8 @@ pub enum TreeFault<'a> {
     Survey(SurveyFault),
     /// No hash block begins at the place of the superblock.
     Unaligned,
+    /// No tree has the shape that the options state.
+    NoShape,
     /// The superblock differs from the pin.
     Unpinned(Mismatch),
     /// A hash block isn't zero after its last used entry: the image that was formatted has more data blocks than the
@@ -69,6 +71,19 @@ impl From<NoTree> for TreeFault<'_> {
             NoTree::Unread(fault) => TreeFault::from(fault),
             NoTree::Unaligned => TreeFault::Unaligned,
             NoTree::Unpinned(mismatch) => TreeFault::Unpinned(mismatch),
+        }
+    }
+}
+
+impl From<NoSource> for TreeFault<'_> {
+    ghost use Rattle.verity_commands.specs.Surveys.{no_source_fault};
+
+    ghost from_gives = { λ fault given. given ≡ no_source_fault fault };
+
+    fn from(fault: NoSource) -> Self {
+        match fault {
+            NoSource::Stored(fault) => TreeFault::from(fault),
+            NoSource::Shape => TreeFault::NoShape,
         }
     }
 }

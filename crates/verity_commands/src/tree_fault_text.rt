@@ -30,6 +30,7 @@ pub fn say_tree_fault<W: Write>(
         TreeFault::Differs => Ok(()),
         TreeFault::Survey(fault) => say_survey_fault(writer, fault),
         TreeFault::Unaligned => writer.put(b"refused 18 Unaligned\n"),
+        TreeFault::NoShape => writer.put(b"refused 1 Shape\n"),
         TreeFault::Unpinned(mismatch) => { say_refused(writer, mismatch.number(), mismatch.name()) }
         TreeFault::UnusedEntries => writer.put(b"refused 60 UnusedEntries\n"),
         TreeFault::Damaged => Ok(()),
@@ -56,6 +57,10 @@ fn say_difference_fault<W: Write>(
 {
     match fault {
         DifferenceFault::Image(which, fault) => say_hash_image(writer, which, fault),
+        DifferenceFault::Unaligned(which) => {
+            let name = which_name(which);
+            writer.print(format_args!("refused 18 Unaligned {name}\n"))
+        }
         DifferenceFault::Unpinned(which, mismatch) => say_unpinned(writer, which, mismatch),
         DifferenceFault::Unlike(unlike) => say_unlike(writer, unlike),
         DifferenceFault::Hash(which, level, index) => {

@@ -3,16 +3,21 @@ ghost use Rattle.std.specs.Prelude.{OnOk, IfErr, IfOk};
 ghost use Rattle.command_line.specs.FormatOptions.{option_texts};
 ghost use Rattle.image_commands.specs.Drawing.{drawing};
 ghost use Rattle.verity_commands.specs.Endings.{IsTreeUnsaid};
-ghost use Rattle.verity_commands.specs.Trees.{FailsToFormatTree, FailsToPrintTree, FailsToVerifySaidTree, FormatsTreeByWords, PrintsTreeByWords, SaysTree, VerifiesTreeByWords};
+ghost use Rattle.verity_commands.specs.Invocations.{FailsTreeSurvey, SurveysTreeByWords};
+ghost use Rattle.verity_commands.specs.Trees.{FailsToFormatTree, FailsToPrintTree, FailsToVerifySaidTree, FailsToSeek, FormatsTreeByWords, PrintsTreeByWords, SaysTree, SeeksTree, VerifiesTreeByWords};
 
 use crate::growing::format_tree_growing;
 use crate::places::{root_in, sector_at};
+use crate::survey::{SurveyOrder, survey_images};
+use crate::tree_fault::TreeFault;
 use crate::verity_fault::VerityFault;
-use command_line::{OptionWords, TreeFormatWords, TreeTableWords, TreeVerifyWords, options_of};
+use command_line::{
+    OptionWords, RootWord, TreeFormatWords, TreeTableWords, TreeVerifyWords, options_of,
+};
 use device_adapters::Watchers;
 use image_commands::{
-    ExpectedTree, Generators, ImagePlaces, LineWords, WatchedPlaces, format_tree, given_options,
-    prepare_image, print_tree_line, unnamed, verify_tree,
+    ExpectedTree, Generators, ImagePlaces, LineWords, SoughtTree, TreeSource, WatchedPlaces,
+    format_tree, given_options, prepare_image, print_tree_line, unnamed, verify_tree,
 };
 use image_files::Images;
 use image_pin::TrustedRoot;
@@ -20,6 +25,8 @@ use program_io::Counted;
 use std::alloc::Global;
 use std::io::Write;
 use verity_format::FormatOptions;
+
+const SECTOR: u64 = 512;
 
 /// `format --no-superblock [--grow] [--progress] [OPTION..] DATA HASH`
 pub fn invoke_format_tree<'a, I: Images, G: Generators + Watchers, W: Write>(
@@ -75,6 +82,28 @@ pub fn invoke_verify_tree<'a, I: Images, S: Watchers, W: Write>(
     Ok(verify_tree(alloc, images, watchers, watched, &expected, writer)?)
 }
 
+/// `verify --no-superblock --all [--json | --chart] [--progress] [--hash-offset BYTES] DATA HASH ROOT`, of the tree that is sought.
+pub fn invoke_tree_survey<'a, I: Images, S: Watchers, W: Write>(
+    alloc: Global,
+    images: &mut I,
+    watchers: &S,
+    words: &TreeVerifyWords<'a>,
+    sought: &SoughtTree,
+    writer: &mut Counted<W>,
+) -> Result<(), TreeFault<'a>>
+    ensures ok { OnOk result (SurveysTreeByWords I.relations I.Dev.state images.old images.new W.contents writer.old writer.new words.now sought.now) }
+    ensures err { IfErr result (FailsTreeSurvey I.relations I.Dev.state images.old images.new W.contents writer.old writer.new words.now sought.now) }
+{
+    let order = SurveyOrder {
+        data: words.data_path,
+        hash: words.hash_path,
+        hash_first: words.hash_offset / SECTOR,
+        form: words.form,
+        progress: words.progress,
+    };
+    survey_images(alloc, images, watchers, order, sought, writer)
+}
+
 /// `table --no-superblock [OPTION..] HASH [ROOT] DATANAME HASHNAME`
 pub fn invoke_table_tree<'a, I: Images, W: Write>(
     alloc: Global,
@@ -96,6 +125,26 @@ pub fn invoke_table_tree<'a, I: Images, W: Write>(
         hash_name: words.hash_name,
     };
     Ok(print_tree_line(alloc, first, words.name, line, given, writer)?)
+}
+
+/// The tree that options state, and the root hash that an argument or a file has.
+///
+/// # Errors
+///
+/// `Usage` if an option states no value, or no salt is given; `Image` if the file has no root hash, or memory ran out.
+pub fn sought_in<'a, I: Images>(
+    alloc: Global,
+    images: &mut I,
+    root: &RootWord<'a>,
+    options: &OptionWords<'_>,
+) -> Result<SoughtTree, VerityFault<'a>>
+    ensures ok { IfOk result (SeeksTree I.relations I.Dev.state images.old images.new options.now root.now) }
+    ensures err { IfErr result (FailsToSeek I.relations I.Dev.state images.old images.new options.now root.now) }
+{
+    let options = tree_options(alloc, options)?;
+    let root = root_in(images, root)?;
+    let source = TreeSource::Options(options);
+    Ok(SoughtTree { source, root })
 }
 
 // What the options say of a tree, whose salt has to be given.

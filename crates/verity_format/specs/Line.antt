@@ -3,6 +3,7 @@ use Rattle.std.specs.Prelude.{◌≡◌, ℕ, ◌+◌, ◌^◌, ◌<◌, false, 
 use Rattle.hex.specs.Hex.{IsBytes}
 use Rattle.dm_table.specs.declared.table.Line.{Line}
 use Rattle.dm_table.specs.declared.table.Target.TheVariants.{Verity as verity_target}
+use Rattle.dm_table.specs.declared.verity.CorruptionMode.TheVariants.{Fail}
 use Rattle.dm_table.specs.Names.{is_device}
 use Rattle.dm_table.specs.TableText.{table_of}
 use Rattle.table_text.specs.Print.{line_text}
@@ -25,6 +26,8 @@ verity_line s data_name hash_name root start = record {
     root = root;
     salt = s.salt;
     ignore_zero_blocks = false;
+    corruption = Fail;
+    in_tasklet = false;
   });
 }
 

@@ -7,7 +7,7 @@ ghost use Rattle.verity_format.specs.Line.{line_room, table_text, verity_line, v
 use crate::Superblock;
 use crate::access::data_sectors;
 use allocation::OutOfMemory;
-use dm_table::{Line, Name, Target, Verity};
+use dm_table::{CorruptionMode, Line, Name, Target, Verity};
 use std::alloc::Global;
 use table_text::print_line;
 use tree_shape::Digest;
@@ -78,6 +78,8 @@ fn verity_line(
             root: *root,
             salt: superblock.salt(),
             ignore_zero_blocks: false,
+            corruption: CorruptionMode::Fail,
+            in_tasklet: false,
         }),
     })
 }

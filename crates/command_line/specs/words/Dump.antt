@@ -26,7 +26,7 @@ dump_said texts words =
     when (positional (codes "HASH") words) (λ hash_path.
     when (no_more hash_path.1) (λ none.
     when (dump_form texts.pin texts.json) (λ form.
-    when (offset_of texts.hash_offset) (λ hash_offset.
+    when (offset_of (codes "--hash-offset") texts.hash_offset) (λ hash_offset.
     Ok (record {
       hash_path = hash_path.0;
       hash_offset = hash_offset;

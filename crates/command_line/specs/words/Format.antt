@@ -18,7 +18,7 @@ format_said texts words =
     when (positional (codes "DATA") words) (λ data_path.
     when (positional (codes "HASH") data_path.1) (λ hash_path.
     when (no_more hash_path.1) (λ none.
-    when (offset_of texts.hash_offset) (λ hash_offset.
+    when (offset_of (codes "--hash-offset") texts.hash_offset) (λ hash_offset.
     Ok (record {
       data_path = data_path.0;
       hash_path = hash_path.0;

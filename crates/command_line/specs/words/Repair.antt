@@ -22,7 +22,7 @@ unfoldable pub repair_said : OptionTexts → List (List ℕ) → Reading RepairR
 repair_said texts words =
     when (positional (codes "DATA") words) (λ data_path.
     when (positional (codes "HASH") data_path.1) (λ hash_path.
-    when (offset_of texts.hash_offset) (λ hash_offset.
+    when (offset_of (codes "--hash-offset") texts.hash_offset) (λ hash_offset.
     when (fec_choice_of texts.fec texts.fec_roots) (λ fec.
     when (root_or_pin_first texts.pin texts.root_hash_file hash_path.1) (λ found.
     when (said_copies (copies_of data_path.0 hash_path.0 found.1)) (λ copies.

@@ -19,7 +19,7 @@ unfoldable pub table_said : OptionTexts → List (List ℕ) → Reading TableRec
 table_said texts words =
     when (positional (codes "HASH") words) (λ hash_path.
     when (in_superblock texts) (λ a.
-    when (offset_of texts.hash_offset) (λ hash_offset.
+    when (offset_of (codes "--hash-offset") texts.hash_offset) (λ hash_offset.
     when (name_said texts.name) (λ name.
     when (root_or_pin_first texts.pin texts.root_hash_file hash_path.1) (λ found.
     when (device_names found.1) (λ names.

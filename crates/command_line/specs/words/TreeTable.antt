@@ -21,7 +21,7 @@ tree_table_said texts words =
     when (positional (codes "HASH") words) (λ hash_path.
     when (refuse_if (not (is_some texts.blocks)) (codes "--blocks") Missing) (λ a.
     when (refuse_if (not (is_some texts.salt)) (codes "--salt") Missing) (λ b.
-    when (offset_of texts.hash_offset) (λ hash_offset.
+    when (offset_of (codes "--hash-offset") texts.hash_offset) (λ hash_offset.
     when (name_said texts.name) (λ name.
     when (root_first texts.root_hash_file hash_path.1) (λ found.
     when (device_names found.1) (λ names.

@@ -26,7 +26,7 @@ verify_said texts words =
     when (refuse_if (texts.json && not texts.all) (codes "--json") WithoutAll) (λ b.
     when (refuse_if (texts.chart && not texts.all) (codes "--chart") WithoutAll) (λ c.
     when (report_form texts.json texts.chart) (λ form.
-    when (offset_of texts.hash_offset) (λ hash_offset.
+    when (offset_of (codes "--hash-offset") texts.hash_offset) (λ hash_offset.
     when (root_or_pin_alone texts.pin texts.root_hash_file hash_path.1) (λ root.
     Ok (record {
       data_path = data_path.0;

@@ -1,30 +1,34 @@
-//! `diff [--all] [--blocks N] [--json] [--old-pin FILE] [--pin FILE] HASH1 [ROOT1] HASH2 [ROOT2]`
+//! `diff [OPTIONS] HASH1 [ROOT1] HASH2 [ROOT2]`
 ghost use Rattle.command_line.specs.Invocations.{diff};
 ghost use Rattle.command_line.specs.Reading.{ReadsAs};
 ghost use Rattle.command_line.specs.FormatOptions.{option_texts, texts_of};
 ghost use Rattle.command_line.specs.Misuses.{ReadsValue};
-ghost use Rattle.command_line.specs.words.Diff.{diff_record, diff_said};
+ghost use Rattle.command_line.specs.Values.{root_or_pin_record};
+ghost use Rattle.command_line.specs.words.Diff.{diff_record, diff_said, new_root_said, old_root_said};
 
 use crate::fault::WordsFault;
 use crate::invocation::Invocation;
-use crate::misuse::Misuse;
+use crate::misuse::{Cause, Misuse, refuse_if};
 use crate::option_words::OptionWords;
-use crate::positional::{no_more, positional, word_or_pin};
-use crate::values::{RootOrPin, root_or_pin_said, runs_of};
+use crate::positional::{no_more, positional, word_or_file};
+use crate::values::{RootOrPin, offset_of, root_or_pin_said, runs_of};
 
 /// Two hash trees are compared.
 #[derive(Drop)]
 pub struct DiffWords<'a> {
     pub old_path: &'a str,
+    pub old_offset: u64,
     pub old_root: RootOrPin<'a>,
     pub new_path: &'a str,
+    pub new_offset: u64,
     pub new_root: RootOrPin<'a>,
-    pub blocks: Option<u64>,
+    pub runs: Option<u64>,
     pub all: bool,
     pub json: bool,
 }
 
-/// `[--all] [--blocks N] [--json] [--old-pin FILE] [--pin FILE] HASH1 [ROOT1] HASH2 [ROOT2]`: a pin replaces its image's root hash.
+/// `[--all] [--runs N] [--json] [--old-hash-offset BYTES] [--hash-offset BYTES] [--old-root-hash-file FILE | --old-pin FILE]
+/// [--root-hash-file FILE | --pin FILE] HASH1 [ROOT1] HASH2 [ROOT2]`: a file replaces its image's root hash.
 pub fn diff_of<'a>(
     options: &OptionWords<'a>,
     words: &[&'a str],
@@ -43,20 +47,29 @@ fn diff_words<'a>(options: &OptionWords<'a>, words: &[&'a str]) -> Result<DiffWo
     ensures { ReadsValue diff_record (diff_said (option_texts options.now) (texts_of words.now)) result }
 {
     let (old_path, words) = positional("HASH1", words)?;
-    let (old_word, words) = word_or_pin(options.old_pin, "ROOT1", words)?;
+    let (old_word, words) = word_or_file(
+        options.old_pin,
+        options.old_root_hash_file,
+        "ROOT1",
+        words,
+    )?;
     let (new_path, words) = positional("HASH2", words)?;
-    let (new_word, words) = word_or_pin(options.pin, "ROOT2", words)?;
+    let (new_word, words) = word_or_file(options.pin, options.root_hash_file, "ROOT2", words)?;
     no_more(words)?;
-    match root_or_pin_said("--old-pin", options.old_pin, "ROOT1", old_word) {
-        Ok(old_root) => match root_or_pin_said("--pin", options.pin, "ROOT2", new_word) {
+    let old_offset = offset_of("--old-hash-offset", options.old_hash_offset)?;
+    let new_offset = offset_of("--hash-offset", options.hash_offset)?;
+    match old_root_of(options, old_word) {
+        Ok(old_root) => match new_root_of(options, new_word) {
             Ok(new_root) => {
-                let blocks = runs_of(options.blocks)?;
+                let runs = runs_of(options.runs)?;
                 Ok(DiffWords {
                     old_path,
+                    old_offset,
                     old_root,
                     new_path,
+                    new_offset,
                     new_root,
-                    blocks,
+                    runs,
                     all: options.all,
                     json: options.json,
                 })
@@ -65,4 +78,26 @@ fn diff_words<'a>(options: &OptionWords<'a>, words: &[&'a str]) -> Result<DiffWo
         },
         Err(misuse) => Err(misuse),
     }
+}
+
+// The root of the first tree.
+#[tactic(auto, unfolding(crate::specs::words::Diff::old_root_said))]
+fn old_root_of<'a>(options: &OptionWords<'a>, word: &'a str) -> Result<RootOrPin<'a>, Misuse<'a>>
+    ensures { ReadsValue root_or_pin_record (old_root_said (option_texts options.now) word.now) result }
+{
+    let file = options.old_root_hash_file;
+    let both = options.old_pin.is_some() && file.is_some();
+    refuse_if(both, "--old-root-hash-file", Cause::WithOldPin)?;
+    root_or_pin_said("--old-pin", options.old_pin, file, "ROOT1", word)
+}
+
+// The root of the second tree.
+#[tactic(auto, unfolding(crate::specs::words::Diff::new_root_said))]
+fn new_root_of<'a>(options: &OptionWords<'a>, word: &'a str) -> Result<RootOrPin<'a>, Misuse<'a>>
+    ensures { ReadsValue root_or_pin_record (new_root_said (option_texts options.now) word.now) result }
+{
+    let file = options.root_hash_file;
+    let both = options.pin.is_some() && file.is_some();
+    refuse_if(both, "--root-hash-file", Cause::WithPin)?;
+    root_or_pin_said("--pin", options.pin, file, "ROOT2", word)
 }

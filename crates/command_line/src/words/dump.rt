@@ -40,7 +40,7 @@ pub fn dump_of<'a>(
     let (hash_path, words) = positional("HASH", words)?;
     no_more(words)?;
     let form = dump_form(options.pin, options.json)?;
-    let hash_offset = offset_of(options.hash_offset)?;
+    let hash_offset = offset_of("--hash-offset", options.hash_offset)?;
     Ok(Invocation::Dump(DumpWords {
         hash_path,
         hash_offset,

@@ -44,7 +44,7 @@ pub fn format_words<'a>(
     let (data_path, words) = positional("DATA", words)?;
     let (hash_path, words) = positional("HASH", words)?;
     no_more(words)?;
-    let hash_offset = offset_of(options.hash_offset)?;
+    let hash_offset = offset_of("--hash-offset", options.hash_offset)?;
     Ok(FormatWords {
         data_path,
         hash_path,

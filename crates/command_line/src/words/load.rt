@@ -1,4 +1,4 @@
-//! `load [--json] [--linux] STACK BINDING...`
+//! `load [--json | --tree] [--linux] STACK BINDING...`
 ghost use Rattle.command_line.specs.Invocations.{load};
 ghost use Rattle.command_line.specs.Reading.{ReadsAs};
 ghost use Rattle.command_line.specs.FormatOptions.{option_texts, texts_of};
@@ -8,8 +8,10 @@ use crate::binding_words::bindings_of;
 use crate::bindings::Binding;
 use crate::fault::WordsFault;
 use crate::invocation::Invocation;
+use crate::list_form::ListForm;
 use crate::option_words::OptionWords;
 use crate::positional::positional;
+use crate::values::list_form;
 use std::alloc::Global;
 
 /// The devices of a stack are printed: with `linux` only if Linux would load them too, and read the same.
@@ -17,11 +19,11 @@ use std::alloc::Global;
 pub struct LoadWords<'a> {
     pub stack: &'a str,
     pub bindings: Vec<Binding<'a>>,
-    pub json: bool,
+    pub form: ListForm,
     pub linux: bool,
 }
 
-/// `[--json] [--linux] STACK BINDING...`
+/// `[--json | --tree] [--linux] STACK BINDING...`
 #[tactic(auto, unfolding(crate::specs::words::Load::load_said))]
 pub fn load_of<'a>(
     alloc: Global,
@@ -31,11 +33,12 @@ pub fn load_of<'a>(
     ensures { ReadsAs load (load_said (option_texts options.now) (texts_of words.now)) result }
 {
     let (stack, words) = positional("STACK", words)?;
+    let form = list_form(options.json, options.tree)?;
     let bindings = bindings_of(alloc, words)?;
     Ok(Invocation::Load(LoadWords {
         stack,
         bindings,
-        json: options.json,
+        form,
         linux: options.linux,
     }))
 }

@@ -36,7 +36,7 @@ pub fn repair_of<'a>(
 {
     let (data_path, words) = positional("DATA", words)?;
     let (hash_path, words) = positional("HASH", words)?;
-    let hash_offset = offset_of(options.hash_offset)?;
+    let hash_offset = offset_of("--hash-offset", options.hash_offset)?;
     let fec = fec_choice_of(options.fec, options.fec_roots)?;
     match root_or_pin_first(options.pin, options.root_hash_file, words) {
         Ok((root, rest)) => {

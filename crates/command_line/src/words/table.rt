@@ -31,7 +31,7 @@ pub fn table_of<'a>(
 {
     let (hash_path, words) = positional("HASH", words)?;
     in_superblock(options)?;
-    let hash_offset = offset_of(options.hash_offset)?;
+    let hash_offset = offset_of("--hash-offset", options.hash_offset)?;
     let name = name_of(options.name)?;
     match root_or_pin_first(options.pin, options.root_hash_file, words) {
         Ok((root, behind)) => {

@@ -33,7 +33,7 @@ pub fn tree_format_of<'a>(
     let (hash_path, words) = positional("HASH", words)?;
     no_more(words)?;
     refuse_if(options.uuid.is_some(), "--uuid", Cause::WithNoSuperblock)?;
-    let hash_offset = offset_of(options.hash_offset)?;
+    let hash_offset = offset_of("--hash-offset", options.hash_offset)?;
     Ok(Invocation::FormatTree(TreeFormatWords {
         data_path,
         hash_path,

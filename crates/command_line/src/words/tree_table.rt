@@ -33,7 +33,7 @@ pub fn tree_table_of<'a>(
     let (hash_path, words) = positional("HASH", words)?;
     refuse_if(options.blocks.is_none(), "--blocks", Cause::Missing)?;
     refuse_if(options.salt.is_none(), "--salt", Cause::Missing)?;
-    let hash_offset = offset_of(options.hash_offset)?;
+    let hash_offset = offset_of("--hash-offset", options.hash_offset)?;
     let name = name_of(options.name)?;
     match root_first(options.root_hash_file, words) {
         Ok((root, behind)) => {

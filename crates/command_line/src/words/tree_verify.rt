@@ -1,4 +1,4 @@
-//! `verify --no-superblock --salt HEX [OPTIONS] DATA HASH [ROOT]`
+//! `verify --no-superblock --salt HEX [--all [--json | --chart]] [OPTIONS] DATA HASH [ROOT]`
 ghost use Rattle.command_line.specs.Invocations.{verify_tree};
 ghost use Rattle.command_line.specs.Reading.{ReadsAs};
 ghost use Rattle.command_line.specs.FormatOptions.{option_texts, texts_of};
@@ -9,7 +9,8 @@ use crate::invocation::Invocation;
 use crate::misuse::{Cause, refuse_if};
 use crate::option_words::OptionWords;
 use crate::positional::{positional, root_alone};
-use crate::values::{RootWord, offset_of};
+use crate::values::{RootWord, offset_of, report_form};
+use charts::ReportForm;
 
 /// A tree without a superblock is checked, which is what `options_of` reads.
 #[derive(Drop)]
@@ -18,10 +19,12 @@ pub struct TreeVerifyWords<'a> {
     pub hash_path: &'a str,
     pub root: RootWord<'a>,
     pub hash_offset: u64,
+    pub all: bool,
+    pub form: ReportForm,
     pub progress: bool,
 }
 
-/// `--salt HEX [OPTIONS] DATA HASH [ROOT]`
+/// `--salt HEX [--all [--json | --chart]] [OPTIONS] DATA HASH [ROOT]`
 #[tactic(auto, unfolding(crate::specs::words::TreeVerify::tree_verify_said))]
 pub fn tree_verify_of<'a>(
     options: &OptionWords<'a>,
@@ -31,17 +34,19 @@ pub fn tree_verify_of<'a>(
 {
     let (data_path, words) = positional("DATA", words)?;
     let (hash_path, words) = positional("HASH", words)?;
-    refuse_if(options.all, "--all", Cause::WithNoSuperblock)?;
-    refuse_if(options.json, "--json", Cause::WithNoSuperblock)?;
-    refuse_if(options.chart, "--chart", Cause::WithNoSuperblock)?;
+    refuse_if(options.json && !options.all, "--json", Cause::WithoutAll)?;
+    refuse_if(options.chart && !options.all, "--chart", Cause::WithoutAll)?;
+    let form = report_form(options.json, options.chart)?;
     refuse_if(options.salt.is_none(), "--salt", Cause::Missing)?;
-    let hash_offset = offset_of(options.hash_offset)?;
+    let hash_offset = offset_of("--hash-offset", options.hash_offset)?;
     match root_alone(options.root_hash_file, words) {
         Ok(root) => Ok(Invocation::VerifyTree(TreeVerifyWords {
             data_path,
             hash_path,
             root,
             hash_offset,
+            all: options.all,
+            form,
             progress: options.progress,
         })),
         Err(misuse) => Err(WordsFault::Usage(misuse)),

@@ -52,7 +52,7 @@ pub fn verify_words<'a>(
     refuse_if(options.json && !options.all, "--json", Cause::WithoutAll)?;
     refuse_if(options.chart && !options.all, "--chart", Cause::WithoutAll)?;
     let form = report_form(options.json, options.chart)?;
-    let hash_offset = offset_of(options.hash_offset)?;
+    let hash_offset = offset_of("--hash-offset", options.hash_offset)?;
     match root_or_pin_alone(options.pin, options.root_hash_file, words) {
         Ok(root) => Ok(VerifyWords {
             data_path,

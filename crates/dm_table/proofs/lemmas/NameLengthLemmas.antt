@@ -1,7 +1,7 @@
 -- No name and no option has more than 255 bytes.
 use Rattle.std.proofs.Common.{◌≡◌, ℕ, ◌≤◌, Bool, true, List, [], ◌∷◌, length, drop, sym, refl, subst, ◌∙◌, not, ◌&&◌, inl, inr, arith}
 use Rattle.std.specs.Prelude.{◌==◌, All, nat_le}
-use Rattle.std.specs.List.{AllByRecursion, list_all, list_any, starts_with}
+use Rattle.std.specs.List.{AllByRecursion, list_all, starts_with}
 use Rattle.std.specs.Str.{bytes_eq}
 use Rattle.std.proofs.lemmas.Bool.{and_parts, cases_Bool, cond-false, cond-true, leb-true, or_cases}
 use Rattle.std.proofs.lemmas.List.{length-drop}

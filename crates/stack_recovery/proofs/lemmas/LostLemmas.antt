@@ -32,4 +32,4 @@ pub first-lost : (c : Configuration) (images : Images) (d first n : ℕ) (fault 
 first-lost c images d first n fault alike e =
     let found = span-fault (sector c images (mapped d)) first n fault e in
     let here : first + 0 ≡ first = omega arith in
-    ap (sector c images (mapped d)) (sym here) ∙ alike images fault found.0 0 found.1 (omega (arith, found.1)) found.2
+    ap (sector c images (mapped d)) (sym here) ∙ alike.means images fault found.0 0 found.1 (omega (arith, found.1)) found.2

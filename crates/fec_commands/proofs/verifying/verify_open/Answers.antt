@@ -6,14 +6,14 @@ use Rattle.device_adapters.specs.Windows.{windowed}
 use Rattle.command_line.specs.words.FecVerify.{FecVerifyRecord, fec_verify_record}
 use Rattle.fec_area.specs.Layouts.{IsLaidOn}
 use Rattle.image_commands.specs.Comparing.{IsComparedEnd}
-use Rattle.image_commands.specs.Places.{tree_start}
+use Rattle.image_commands.specs.Places.{IsPartState, tree_start}
 use Rattle.verity_commands.specs.declared.verity_fault.VerityFault.TheVariants.{Image}
 use Rattle.verity_format.specs.declared.verifying.Verdict.TheVariants.{Matches}
 use Rattle.verity_format.specs.Verifying.{IsTreeFound}
 use Rattle.fec_commands.specs.declared.fault.FecFault.TheVariants.{Verity}
-use Rattle.fec_commands.specs.Verifying.{EndsChecking, EndsComparing, IsUnmeasured, Parts, VerifiesParts}
+use Rattle.fec_commands.specs.Verifying.{EndsChecking, EndsComparing, IsStateOf, IsUnmeasured, Parts, VerifiesParts}
 use Rattle.fec_commands.proofs.EndingLemmas.{err-from}
-use Rattle.fec_commands.proofs.VerifyingLemmas.{laid-after, parts-are}
+use Rattle.fec_commands.proofs.VerifyingLemmas.{laid-after, parity_end-inner, parts-are, unmeasured-inner}
 use Rattle.fec_commands.proofs.verifying.verify_open.Goals as goal
 
 pub returns-in_err-trusted-clause-err : goal.returns-in_err-trusted-clause-err
@@ -34,7 +34,7 @@ returns-in_err-laid-clause-err g c =
     (inr (record {
       trusted = trusted;
       told = c.in_ok-trusted.ensures.ok;
-      ends = inl (subst (λ (p : Parts). IsUnmeasured p fault) here c.in_err-laid.ensures.err, refl);
+      ends = inl (subst (λ (p : Parts). IsUnmeasured (IsPartState state) p fault) here (unmeasured-inner c.measure.new.hash_dev (λ w. w.inner) (λ w. w.part) state _ fault c.in_err-laid.ensures.err), refl);
     }))
 
 pub returns-in_err-compare-clause-err : goal.returns-in_err-compare-clause-err
@@ -60,12 +60,13 @@ returns-in_err-compare-clause-err g c =
     (inr (record {
       trusted = trusted;
       told = c.in_ok-trusted.ensures.ok;
-      ends = inr (inl (subst (λ (p : Parts). EndsComparing p root old new failed (Verity (Image cause))) here (record {
+      ends = inr (inl (subst (λ (p : Parts). EndsComparing (IsPartState state) (IsPartState state) p root old new failed (Verity (Image cause))) here (record {
         cause = cause;
         laid = c.in_ok-laid.laid;
         read_dev = read_dev;
         data_dev' = data_new;
         hash_dev' = hash_new;
+        left = ((read.inner, (read.part, refl)), (c.compare.new.two.«data».inner.inner, (c.compare.new.two.«data».inner.part, refl)), (c.compare.new.two.hash.inner, (c.compare.new.two.hash.part, refl)));
         measures = c.in_ok-laid.ensures.ok;
         ends = subst₂ (λ (a : ℕ) (d : Device). IsComparedEnd c.in_ok-laid.laid.tree a d read_dev data_new hash_new root failed cause) ahead c.new-data.ensures.state c.in_err-compare.ensures.err;
         is = refl;
@@ -101,13 +102,14 @@ returns-clause-ok g c =
     (λ done. record {
       trusted = trusted;
       told = c.in_ok-trusted.ensures.ok;
-      verifies = subst (λ (p : Parts). VerifiesParts p root old new) here (record {
+      verifies = subst (λ (p : Parts). VerifiesParts (IsPartState state) (IsPartState state) p root old new) here (record {
         told = told;
         matches = record {
           laid = laid;
           read_dev = read_dev;
           data_dev' = data_new;
           hash_dev' = hash_new;
+          left = ((read.inner, (read.part, refl)), (c.compare.new.two.«data».inner.inner, (c.compare.new.two.«data».inner.part, refl)), (c.compare.new.two.hash.inner, (c.compare.new.two.hash.part, refl)));
           measures = c.in_ok-laid.ensures.ok;
           found = subst (λ (d : Device). IsTreeFound laid.tree.shape laid.tree.salt d read_dev data_new hash_new root Matches) c.new-data.ensures.state c.in_ok-compare.ensures.ok.0;
           printed = c.in_ok-compare.ensures.ok.1;
@@ -138,18 +140,19 @@ returns-clause-err g c =
     (λ fault ends. inr (record {
       trusted = trusted;
       told = c.in_ok-trusted.ensures.ok;
-      ends = inr (inr (subst (λ (p : Parts). EndsChecking p root old new failed fault) here (record {
+      ends = inr (inr (subst (λ (p : Parts). EndsChecking (IsPartState state) (IsPartState state) (IsStateOf state) p root old new failed fault) here (record {
         between = told;
         matches = record {
           laid = laid;
           read_dev = read_dev;
           data_dev' = data_new;
           hash_dev' = hash_new;
+          left = ((read.inner, (read.part, refl)), (c.compare.new.two.«data».inner.inner, (c.compare.new.two.«data».inner.part, refl)), (c.compare.new.two.hash.inner, (c.compare.new.two.hash.part, refl)));
           measures = c.in_ok-laid.ensures.ok;
           found = subst (λ (d : Device). IsTreeFound laid.tree.shape laid.tree.salt d read_dev data_new hash_new root Matches) c.new-data.ensures.state c.in_ok-compare.ensures.ok.0;
           printed = c.in_ok-compare.ensures.ok.1;
         };
-        ends = ends;
+        ends = parity_end-inner c.compare.new.two.hash (λ w. w.inner) (λ w. w.part) state _ _ _ _ _ _ _ _ fault ends;
       })));
     }))
     c.print_checked.ensures.err

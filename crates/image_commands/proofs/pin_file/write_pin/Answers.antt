@@ -17,7 +17,7 @@ pub returns-in-Ok-clause-ok : goal.returns-in-Ok-clause-ok
 returns-in-Ok-clause-ok g c = record {
   told = c.check_apart.new.images;
   apart = c.in_ok-check_apart.ensures.ok;
-  replaced = subst (λ (bytes : List ℕ). g.I.Images.relations.replaces c.check_apart.new.images c.args.path.now bytes (Ok (tt {0})) c.replace.new.self)
+  replaced = subst (λ (bytes : List ℕ). g.I.Images.relations.replaces c.check_apart.new.images c.args.file.path.now bytes (Ok (tt {0})) c.replace.new.self)
       (c.as_slice.ensures.value ∙ c.in_ok-text.ensures.text) c.in-Ok.ensures;
 }
 
@@ -25,6 +25,6 @@ pub returns-clause-err : goal.returns-clause-err
 returns-clause-err g c = inr (record {
   told = c.check_apart.new.images;
   apart = c.in_ok-check_apart.ensures.ok;
-  unreplaced = subst (λ (bytes : List ℕ). g.I.Images.relations.replaces c.check_apart.new.images c.args.path.now bytes (Err c.in-Err.fault) c.replace.new.self)
+  unreplaced = subst (λ (bytes : List ℕ). g.I.Images.relations.replaces c.check_apart.new.images c.args.file.path.now bytes (Err c.in-Err.fault) c.replace.new.self)
       (c.as_slice.ensures.value ∙ c.in_ok-text.ensures.text) c.in-Err.ensures;
 })

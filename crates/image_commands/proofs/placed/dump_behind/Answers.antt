@@ -1,4 +1,4 @@
-use Rattle.std.proofs.Common.{ap, inl, refl, subst}
+use Rattle.std.proofs.Common.{ap, refl, subst}
 use Rattle.std.proofs.lemmas.Result.{IfErr-weaker, on_ok_weaker}
 use Rattle.block_device.specs.Device.{Device}
 use Rattle.device_adapters.specs.Parts.{part_behind}
@@ -17,11 +17,13 @@ returns-in_err-superblock-clause-err g c =
     let after = windowed (g.H.BlockDev.state new.inner) new.part in
     let b = windowed-same _ hash_dev _ (part_behind hash_dev c.args.first) (ap g.H.BlockDev.state c.behind-window.ensures.inner) c.behind-window.ensures.part in
     err-from c.from_residual.result _ (Verify c.in_err-superblock.field-0.0) c.from_residual.ensures.1
-    (inl (after, subst (λ (v : Device). IsReadCause v after c.in_err-superblock.field-0.0) b c.in_err-superblock.ensures.err))
+    (after, ((new.inner, (new.part, refl)), subst (λ (v : Device). IsReadCause v after c.in_err-superblock.field-0.0) b c.in_err-superblock.ensures.err))
 
 pub returns-clause-err : goal.returns-clause-err
 returns-clause-err g c =
-    IfErr-weaker c.say_dump.result _ _ (λ fault ends. inl (g.H.BlockDev.state c.args.hash_dev, may_end _ _ c.say_dump.new.writer.failed fault ends)) c.say_dump.ensures.err
+    let new = c.read_superblock.new.hash_dev in
+    let after = windowed (g.H.BlockDev.state new.inner) new.part in
+    IfErr-weaker c.say_dump.result _ _ (λ fault ends. (after, ((new.inner, (new.part, refl)), may_end _ _ c.say_dump.new.writer.failed fault ends))) c.say_dump.ensures.err
 
 pub returns-clause-ok : goal.returns-clause-ok
 returns-clause-ok g c =

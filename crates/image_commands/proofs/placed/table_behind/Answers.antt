@@ -1,16 +1,16 @@
-use Rattle.std.proofs.Common.{◌≡◌, ◌∙◌, ℕ, ap, arith, inl, subst}
+use Rattle.std.proofs.Common.{◌≡◌, ◌∙◌, ℕ, ap, arith, inl, inr, refl, subst}
 use Rattle.std.proofs.lemmas.Result.{IfErr-weaker, on_ok_weaker}
 use Rattle.std.specs.Io.KnownBytes.{Appends}
 use Rattle.block_device.specs.Device.{Device}
 use Rattle.device_adapters.specs.Parts.{part_behind}
 use Rattle.device_adapters.specs.Windows.{windowed}
-use Rattle.image_commands.specs.Finding.{IsNoTree, ReadsSuper, no_tree_fault}
+use Rattle.image_pin.specs.Finding.{IsNoTree, ReadsSuper}
+use Rattle.image_commands.specs.Finding.{no_tree_fault}
 use Rattle.image_commands.specs.Places.{tree_start}
 use Rattle.allocation.specs.Refusal.{IsOutOfMemory}
 use Rattle.image_commands.specs.PlacedImages.{RefusesLineOf}
 use Rattle.image_commands.specs.TableLines.{named_line, words_room}
-use Rattle.image_commands.proofs.lemmas.EndingLemmas.{common-as, may_end}
-use Rattle.image_commands.proofs.FindingLemmas.{no-tree-end}
+use Rattle.image_commands.proofs.lemmas.EndingLemmas.{common-as}
 use Rattle.image_commands.proofs.OpeningLemmas.{err-from}
 use Rattle.image_commands.proofs.PlacedLemmas.{first-small, windowed-same}
 use Rattle.image_commands.proofs.placed.table_behind.Goals as goal
@@ -24,7 +24,13 @@ returns-in_err-superblock-clause-err g c =
     let fault = c.in_err-superblock.field-0.0 in
     let b = windowed-same _ hash_dev _ (part_behind hash_dev first) (ap g.H.BlockDev.state c.behind-window.ensures.inner) c.behind-window.ensures.part in
     err-from c.from_residual.result _ (no_tree_fault fault) c.from_residual.ensures.1
-    (no-tree-end _ hash_dev after first c.args.words.root.now.pin _ fault (subst (λ (v : Device). IsNoTree v first c.args.words.root.now.pin after fault) b c.in_err-superblock.ensures.err))
+    (inl (record {
+      cause = fault;
+      device' = after;
+      left = (new.inner, (new.part, refl));
+      none = subst (λ (v : Device). IsNoTree v first c.args.words.root.now.pin after fault) b c.in_err-superblock.ensures.err;
+      is = refl;
+    }))
 
 -- there is a sector at the place, so that the device doesn't end before it
 pub tree_start-start-requires : goal.tree_start-start-requires
@@ -48,7 +54,7 @@ returns-clause-err g c =
       super_read = found;
       refused = subst (λ (n : ℕ). IsOutOfMemory (words_room s c.args.words n)) start refused;
     }) in
-    IfErr-weaker c.say_line.result _ _ (λ fault ends. inl (hash_dev, may_end _ _ failed fault (common-as failed refuses fault ends))) c.say_line.ensures.err
+    IfErr-weaker c.say_line.result _ _ (λ fault ends. inr (common-as failed refuses fault ends)) c.say_line.ensures.err
 
 pub returns-clause-ok : goal.returns-clause-ok
 returns-clause-ok g c =

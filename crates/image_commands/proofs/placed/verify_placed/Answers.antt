@@ -3,6 +3,8 @@ use Rattle.std.proofs.Math.Path.{subst₃}
 use Rattle.std.proofs.lemmas.Result.{IfErr-weaker, on_ok_weaker}
 use Rattle.block_device.specs.Device.{Device}
 use Rattle.image_commands.specs.PlacedImages.{IsMatchingEnd, MatchesPlaced}
+use Rattle.image_commands.specs.Places.{IsPartState}
+use Rattle.image_commands.proofs.FindingLemmas.{matching-as}
 use Rattle.image_commands.proofs.placed.verify_placed.Goals as goal
 
 pub returns-clause-ok : goal.returns-clause-ok
@@ -15,7 +17,17 @@ returns-clause-ok g c =
     (λ matches. record {
       two = c.in_ok-two.two;
       opened = c.in_ok-two.ensures.ok;
-      matches = subst₃ (λ (d h : Device) (end : ℕ). MatchesPlaced d h end c.args.watched.places.hash_first c.args.trusted.now old new) (ap state watched.ensures.data) (ap state watched.ensures.hash) c.data_end-end.ensures matches;
+      matches = subst₃ (λ (d h : Device) (end : ℕ). MatchesPlaced (IsPartState state) (IsPartState state) d h end c.args.watched.places.hash_first c.args.trusted.now old new) (ap state watched.ensures.data) (ap state watched.ensures.hash) c.data_end-end.ensures (record {
+        super = matches.super;
+        read_dev = matches.read_dev;
+        data_dev' = matches.data_dev';
+        hash_dev' = matches.hash_dev';
+        left = (matches.left.0, (matches.left.1.0.inner, matches.left.1.1), matches.left.2);
+        super_read = matches.super_read;
+        one = matches.one;
+        found = matches.found;
+        printed = matches.printed;
+      });
     })
     c.compare_behind.ensures.ok
 
@@ -27,6 +39,7 @@ returns-clause-err g c =
     (λ fault ends. inr (record {
       two = c.in_ok-two.two;
       opened = c.in_ok-two.ensures.ok;
-      ends = subst₃ (λ (d h : Device) (end : ℕ). IsMatchingEnd d h end c.args.watched.places.hash_first c.args.trusted.now c.compare_behind.new.writer.failed fault) (ap state watched.ensures.data) (ap state watched.ensures.hash) c.data_end-end.ensures ends;
+      ends = subst₃ (λ (d h : Device) (end : ℕ). IsMatchingEnd (IsPartState state) (IsPartState state) d h end c.args.watched.places.hash_first c.args.trusted.now c.compare_behind.new.writer.failed fault) (ap state watched.ensures.data) (ap state watched.ensures.hash) c.data_end-end.ensures
+          (matching-as ends (λ device left. (left.0.inner, left.1)));
     }))
     c.compare_behind.ensures.err

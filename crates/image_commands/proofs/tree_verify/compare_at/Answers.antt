@@ -1,4 +1,4 @@
-use Rattle.std.proofs.Common.{◌≡◌, ℕ, ap, subst, ◌∙◌}
+use Rattle.std.proofs.Common.{◌≡◌, ℕ, ap, refl, subst, ◌∙◌}
 use Rattle.std.proofs.Math.Path.{subst₃}
 use Rattle.std.proofs.lemmas.Result.{IfErr-weaker, on_ok_weaker}
 use Rattle.block_device.specs.Device.{Device}
@@ -11,7 +11,7 @@ use Rattle.verity_format.specs.Trees.{tree_alone}
 use Rattle.verity_format.specs.Verifying.{IsTreeFound}
 use Rattle.image_commands.specs.declared.fault.ImageFault.TheVariants.{Format}
 use Rattle.image_commands.specs.Comparing.{IsComparedEnd}
-use Rattle.image_commands.specs.Places.{before, behind}
+use Rattle.image_commands.specs.Places.{IsPartState, before, behind}
 use Rattle.image_commands.specs.TreeFormats.{tree_with}
 use Rattle.image_commands.specs.TreePlaces.{HasNoShape}
 use Rattle.image_commands.proofs.FindingLemmas.{compared-alone}
@@ -38,6 +38,7 @@ returns-clause-ok g c =
     (λ m. record {
       data_dev' = data_new;
       hash_dev' = hash_new;
+      left = ((c.compare.new.two.data.inner, (c.compare.new.two.data.part, refl)), (c.compare.new.two.hash.inner, (c.compare.new.two.hash.part, refl)));
       found = subst₃ F tree c.place_parts-two.ensures.data c.place_parts-two.ensures.hash m.0;
       printed = m.1;
     })
@@ -55,7 +56,8 @@ returns-clause-err g c =
     c.in_ok-params.ensures.ok.0 ∙ ap (superblock_with c.args.options) (c.sectors.ensures.size ∙ ap (λ (d : Device). d.size) c.place_parts-two.ensures.data) in
     let tree : c.tree_alone.result ≡ tree_alone (tree_with c.args.options data_dev) = c.tree_alone.ensures.value ∙ ap tree_alone params in
     IfErr-weaker c.compare.result _ _
-    (λ fault ends. compared-alone (tree_with c.args.options data_dev) data_dev (g.H.BlockDev.state c.args.devices.1) data_new hash_new c.args.bounds.first root failed fault
+    (λ fault ends. compared-alone (IsPartState g.D.BlockDev.state) (IsPartState g.H.BlockDev.state) (tree_with c.args.options data_dev) data_dev (g.H.BlockDev.state c.args.devices.1) data_new hash_new c.args.bounds.first root failed fault
+    ((c.compare.new.two.data.inner, (c.compare.new.two.data.part, refl)), (c.compare.new.two.hash.inner, (c.compare.new.two.hash.part, refl)))
     (subst (λ (a : ℕ). IsComparedEnd (tree_alone (tree_with c.args.options data_dev)) a data_dev hash_dev data_new hash_new root failed fault) c.tree_start-ahead.ensures
     (subst₃ (λ (t : VerityTree) (d h : Device). IsComparedEnd t c.tree_start-ahead.result d h data_new hash_new root failed fault) tree c.place_parts-two.ensures.data c.place_parts-two.ensures.hash ends)))
     c.compare.ensures.err

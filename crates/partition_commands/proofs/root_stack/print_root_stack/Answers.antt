@@ -31,7 +31,7 @@ returns-in_err-superblock-clause-err g c =
       c.in_err-superblock.ensures.err.0,
       record {
         table = c.in_ok-table.table;
-        read_device = g.D.BlockDev.state c.find_noted.new.device;
+        read_device = c.find_noted.new.device;
         found = c.in_ok-table.ensures.ok.found;
         both = c.in_ok-both.both;
         both_is = ap (λ (ps : List Partition). image_partitions ps c.args.trusted.now.root) (sym c.deref.ensures.value) ∙ sym c.in_ok-both.ensures;

@@ -17,4 +17,4 @@ pub go_on-requires-clause-laid : goal.go_on-requires-clause-laid
 go_on-requires-clause-laid g c = laid-then c.args.layout.now c.args.plan.now _ c.args.image.now c.repair_with_parity.new.image _ _ c.in-Err.fault c.in-Err.ensures.err c.requires.laid
 
 pub returns-in-Err-clause-err : goal.returns-in-Err-clause-err
-returns-in-Err-clause-err g c = cut-then c.args.plan.now _ c.args.image.now c.repair_with_parity.new.image c.go_on.new.image _ _ c.in-Err.fault c.go_on.result c.in-Err.ensures.err c.go_on.ensures
+returns-in-Err-clause-err g c = cut-then c.repair_with_parity.new.writer c.args.plan.now _ c.args.image.now c.repair_with_parity.new.image c.go_on.new.image _ _ c.in-Err.fault c.go_on.result c.in-Err.ensures.told c.in-Err.ensures.err c.go_on.ensures

@@ -15,5 +15,5 @@ returns-clause-ok g c =
 pub returns-clause-err : goal.returns-clause-err
 returns-clause-err g c =
     rw c.end_of.ensures
-    (end-err c.args.plan.now _ c.args.image.now c.repair_through-ended.new.image c.sync_both-synced.new.image _ _ c.repair_through-ended.result c.sync_both-synced.result
+    (end-err c.args.plan.now _ c.args.image.now c.repair_through-ended.new.image c.sync_both-synced.new.image _ _ _ c.repair_through-ended.result c.sync_both-synced.result
     (λ outcome whole. whole.repair) c.repair_through-ended.ensures.ok c.repair_through-ended.ensures.err c.sync_both-synced.ensures.kept c.sync_both-synced.ensures.ok c.sync_both-synced.ensures.err)

@@ -49,7 +49,7 @@ returns-clause-err g c =
     (λ fault ends. record {
       data_dev = c.tell-data.result.0;
       hash_dev = c.tell-data.result.1;
-      holds = subst₂ (λ (q : Plan) (v : RepairWorld). EndsEarly (MendsOnce q v old) (MendsHalf q false v old) whole q new failed fault after) c.plan_at-plan.ensures c.damaged-image.ensures ends;
+      holds = subst₂ (λ (q : Plan) (v : RepairWorld). EndsEarly (MendsOnce q v old) (MendsHalf q false v old failed) whole q new failed fault after) c.plan_at-plan.ensures c.damaged-image.ensures ends;
       back = c.give_back.ensures;
     })
-    (told-err (MendsOnce plan w old) (MendsHalf plan false w old) whole plan c.mend-ended.new.image between new after (λ found mends. mends.mends.on_medium) failed c.mend-ended.result c.tell-data.result.2 c.mend-ended.ensures.ok c.mend-ended.ensures.err untold)
+    (told-err (MendsOnce plan w old) (MendsHalf plan false w old) whole plan c.mend-ended.new.image between new after (λ found mends. mends.mends.on_medium) c.mend-ended.new.writer.failed failed c.mend-ended.result c.tell-data.result.2 c.mend-ended.ensures.ok c.mend-ended.ensures.err c.tell-data.ensures.same untold)

@@ -4,36 +4,36 @@ use Rattle.block_device.specs.Device.{Device}
 use Rattle.rescue_map.specs.MapText.{map_text}
 use Rattle.stack_rules.proofs.lemmas.PassingLemmas.{out_of_memory-more}
 use Rattle.stack_meaning.specs.Memory.{largest_allocation}
-use Rattle.stack_recovery.specs.Recoveries.{Rescues, Sides, sides}
+use Rattle.stack_recovery.specs.Recoveries.{Sides, sides}
 use Rattle.scan_commands.specs.declared.rescue_fault.PassFault.TheVariants.{NoMemory, Output}
 use Rattle.scan_commands.specs.MapFiles.{map_path_of, recovery_ending}
-use Rattle.scan_commands.specs.Turns.{kept, progressed}
-use Rattle.scan_commands.proofs.TurnLemmas.{err-from, failed-behind, stops-rescue, stops-unwritten}
+use Rattle.scan_commands.specs.Turns.{ReadsSectors, kept, progressed}
+use Rattle.scan_commands.proofs.TurnLemmas.{err-from, failed-behind, reads-out, reads-unfailed, stops-reading, stops-unwritten}
 use Rattle.scan_commands.proofs.turns.take_turn.Goals as goal
 
-pub returns-in_err-rescued-clause-err : goal.returns-in_err-rescued-clause-err
-returns-in_err-rescued-clause-err g c =
+pub returns-in_err-read-clause-err : goal.returns-in_err-read-clause-err
+returns-in_err-read-clause-err g c =
     let k = kept g.I.Images.relations.replaces (map_path_of c.args.turn.file) c.args.d.0 c.args.turn.sectors in
     let now = progressed c.args.images.now (sides c.args.stack.now (g.O.BlockDev.state c.args.out.now) (g.L.Listing.told c.args.listing.now)) c.args.turn.map.now c.args.turn.span.first in
-    err-from c.from_residual.result _ (recovery_ending c.in_err-rescued.field-0.0) c.from_residual.ensures.1 (stops-rescue k now c.args.turn.span _ _ _ c.in_err-rescued.field-0.0 c.requires.next c.requires.wanted c.in_err-rescued.ensures.err)
+    err-from c.from_residual.result _ (recovery_ending c.in_err-read.field-0.0) c.from_residual.ensures.1 (stops-reading k c.args.turn.phase now c.args.turn.span _ _ _ c.in_err-read.field-0.0 c.requires.next c.requires.wanted c.in_err-read.ensures.err)
 
 pub returns-in_err-sync-clause-err : goal.returns-in_err-sync-clause-err
 returns-in_err-sync-clause-err g c =
-    let r = c.in_ok-rescued.ensures.ok in
+    let r = c.in_ok-read.ensures.ok in
     let old : Sides = sides c.args.stack.now (g.O.BlockDev.state c.args.out.now) (g.L.Listing.told c.args.listing.now) in
-    let left : Sides = sides c.rescue.new.stack (g.O.BlockDev.state c.rescue.new.out) (g.L.Listing.told c.rescue.new.listing) in
+    let left : Sides = sides c.read_turn.new.stack (g.O.BlockDev.state c.read_turn.new.out) (g.L.Listing.told c.read_turn.new.listing) in
     err-from c.from_residual-in_err-sync.result _ Output c.from_residual-in_err-sync.ensures.1 (
       refl,
-      failed-behind (g.O.BlockDev.state c.args.out.now) (g.O.BlockDev.state c.rescue.new.out) (g.O.BlockDev.state c.sync.new.self) r.unfailed c.in_err-sync.ensures.err.failed,
-      λ h. false≢true (c.in_err-sync.ensures.sure (r.copied.same.never_fails h)),
+      failed-behind (g.O.BlockDev.state c.args.out.now) (g.O.BlockDev.state c.read_turn.new.out) (g.O.BlockDev.state c.sync.new.self) (reads-unfailed c.args.turn.phase _ c.args.d.0 old _ left r) c.in_err-sync.ensures.err.failed,
+      λ h. false≢true (c.in_err-sync.ensures.sure ((reads-out c.args.turn.phase _ c.args.d.0 old _ left r).never_fails h)),
       record {
         span = c.args.turn.span;
         end = c.args.turn.span.first + c.args.turn.span.count;
         next = c.requires.next;
         fails = inr (record {
           left = left;
-          rescued = c.in_ok-rescued.rescued;
-          rescues = subst (λ (l : List Bool). Rescues l c.args.d.0 old c.in_ok-rescued.rescued left) c.requires.wanted c.in_ok-rescued.ensures.ok;
+          made = c.in_ok-read.read;
+          reads = subst (λ (l : List Bool). ReadsSectors c.args.turn.phase l c.args.d.0 old c.in_ok-read.read left) c.requires.wanted r;
           unsynced = c.in_err-sync.ensures.err;
           stack = refl;
         });
@@ -42,28 +42,32 @@ returns-in_err-sync-clause-err g c =
 
 pub returns-in_err-map-clause-err : goal.returns-in_err-map-clause-err
 returns-in_err-map-clause-err g c =
+    let old : Sides = sides c.args.stack.now (g.O.BlockDev.state c.args.out.now) (g.L.Listing.told c.args.listing.now) in
+    let left : Sides = sides c.read_turn.new.stack (g.O.BlockDev.state c.read_turn.new.out) (g.L.Listing.told c.read_turn.new.listing) in
     err-from c.from_residual-in_err-map.result _ NoMemory c.from_residual-in_err-map.ensures.1
-    (refl, ap (λ (o : Device). o.failures) c.in_ok-sync.ensures.ok ∙ c.in_ok-rescued.ensures.ok.unfailed, out_of_memory-more 1 largest_allocation (omega arith) c.in_err-map.ensures.err)
+    (refl, ap (λ (o : Device). o.failures) c.in_ok-sync.ensures.ok ∙ reads-unfailed c.args.turn.phase _ c.args.d.0 old _ left c.in_ok-read.ensures.ok, out_of_memory-more 1 largest_allocation (omega arith) c.in_err-map.ensures.err)
 
 pub returns-in_err-write_map-clause-err : goal.returns-in_err-write_map-clause-err
 returns-in_err-write_map-clause-err g c =
     let k = kept g.I.Images.relations.replaces (map_path_of c.args.turn.file) c.args.d.0 c.args.turn.sectors in
-    let now = progressed c.args.images.now (sides c.args.stack.now (g.O.BlockDev.state c.args.out.now) (g.L.Listing.told c.args.listing.now)) c.args.turn.map.now c.args.turn.span.first in
+    let old : Sides = sides c.args.stack.now (g.O.BlockDev.state c.args.out.now) (g.L.Listing.told c.args.listing.now) in
+    let left : Sides = sides c.read_turn.new.stack (g.O.BlockDev.state c.read_turn.new.out) (g.L.Listing.told c.read_turn.new.listing) in
+    let now = progressed c.args.images.now old c.args.turn.map.now c.args.turn.span.first in
     err-from c.from_residual-in_err-write_map.result _ c.in_err-write_map.field-0.0 c.from_residual-in_err-write_map.ensures.1
-    (stops-unwritten k now (map_text c.args.turn.file.kind c.tried_before-tried.result c.in_ok-map.map) c.write_map.new.images (sides c.rescue.new.stack (g.O.BlockDev.state c.sync.new.self) (g.L.Listing.told c.rescue.new.listing)) c.in_err-write_map.field-0.0
-    (ap (λ (o : Device). o.failures) c.in_ok-sync.ensures.ok ∙ c.in_ok-rescued.ensures.ok.unfailed) c.in_err-write_map.ensures.err)
+    (stops-unwritten k c.args.turn.phase now (map_text c.args.turn.file.kind c.tried_before-tried.result c.in_ok-map.map) c.write_map.new.images (sides c.read_turn.new.stack (g.O.BlockDev.state c.sync.new.self) (g.L.Listing.told c.read_turn.new.listing)) c.in_err-write_map.field-0.0
+    (ap (λ (o : Device). o.failures) c.in_ok-sync.ensures.ok ∙ reads-unfailed c.args.turn.phase _ c.args.d.0 old _ left c.in_ok-read.ensures.ok) c.in_err-write_map.ensures.err)
 
 pub returns-clause-ok : goal.returns-clause-ok
 returns-clause-ok g c =
     let old : Sides = sides c.args.stack.now (g.O.BlockDev.state c.args.out.now) (g.L.Listing.told c.args.listing.now) in
-    let left : Sides = sides c.rescue.new.stack (g.O.BlockDev.state c.rescue.new.out) (g.L.Listing.told c.rescue.new.listing) in
+    let left : Sides = sides c.read_turn.new.stack (g.O.BlockDev.state c.read_turn.new.out) (g.L.Listing.told c.read_turn.new.listing) in
     record {
       span = c.args.turn.span;
       next = c.requires.next;
       left = left;
-      rescued = c.in_ok-rescued.rescued;
-      rescues = subst (λ (l : List Bool). Rescues l c.args.d.0 old c.in_ok-rescued.rescued left) c.requires.wanted c.in_ok-rescued.ensures.ok;
-      on_medium = ap (λ (o : Device). sides c.rescue.new.stack o (g.L.Listing.told c.rescue.new.listing)) c.in_ok-sync.ensures.ok;
+      made = c.in_ok-read.read;
+      reads = subst (λ (l : List Bool). ReadsSectors c.args.turn.phase l c.args.d.0 old c.in_ok-read.read left) c.requires.wanted c.in_ok-read.ensures.ok;
+      on_medium = ap (λ (o : Device). sides c.read_turn.new.stack o (g.L.Listing.told c.read_turn.new.listing)) c.in_ok-sync.ensures.ok;
       map = c.in_ok-map.ensures.marks;
       written = subst (λ (t : Option ℕ). g.I.Images.relations.replaces c.args.images.now c.args.turn.file.path.now (map_text c.args.turn.file.kind t c.in_ok-map.map) (Ok tt) c.write_map.new.images) c.tried_before-tried.ensures c.in_ok-write_map.ensures.ok;
     }

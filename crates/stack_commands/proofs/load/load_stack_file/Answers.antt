@@ -2,7 +2,7 @@ use Rattle.std.proofs.Common.{inl, inr}
 use Rattle.std.proofs.lemmas.Result.{IfErr-weaker, on_ok_weaker}
 use Rattle.stack_commands.specs.declared.fault.CommandFault.TheVariants.{Stack}
 use Rattle.stack_commands.specs.Endings.{linux_ending}
-use Rattle.stack_commands.proofs.LinuxLemmas.{linux-end, linux-taken, early-end, late-end}
+use Rattle.stack_commands.proofs.LinuxLemmas.{linux-end, linux-taken, late-end}
 use Rattle.stack_commands.proofs.OpeningLemmas.{err-from}
 use Rattle.stack_commands.proofs.load.load_stack_file.Goals as goal
 
@@ -15,7 +15,7 @@ returns-in_err-check_rules-clause-err g c =
     let fault = c.in_err-check_rules.field-0.0 in
     let ends = linux-end c.args.linux c.in_ok-config.config fault c.in_err-check_rules.ensures in
     err-from c.from_residual-in_err-check_rules.result _ (linux_ending fault) c.from_residual-in_err-check_rules.ensures.1
-    (inr (record { config = c.in_ok-config.config; made = c.in_ok-config.ensures.ok; why = early-end ends }))
+    (inr (record { config = c.in_ok-config.config; made = c.in_ok-config.ensures.ok; why = inr (inl ends) }))
 
 pub returns-clause-ok : goal.returns-clause-ok
 returns-clause-ok g c =

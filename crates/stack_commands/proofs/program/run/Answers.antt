@@ -18,4 +18,4 @@ returns-in-Ok-clause-ok g c = (invocation_record c.in_ok-line.line.invocation, o
 
 pub returns-in-Err-clause-err : goal.returns-in-Err-clause-err
 returns-in-Err-clause-err g c =
-    rw c.command_end.ensures (inr (invocation_record c.in_ok-line.line.invocation, option_texts c.in_ok-line.line.options, record { invoked = c.in_ok-line.ensures.ok; options = c.in_ok-line.ensures.options }, c.in-Err.ensures.err, c.in-Err.ensures.noted, refl))
+    rw c.command_end.ensures (inr (invocation_record c.in_ok-line.line.invocation, option_texts c.in_ok-line.line.options, record { invoked = c.in_ok-line.ensures.ok; options = c.in_ok-line.ensures.options }, c.in-Err.ensures.err, c.in-Err.ensures.noted, refl, refl))

@@ -1,5 +1,5 @@
-use Rattle.std.proofs.Common.{All, ◌≡◌, ◌<◌, ◌≤◌, ◌+◌, ◌/◌, ◌*◌, ◌-◌, ◌%◌, length, take, drop, map, replicate, get_or, ℕ, List, [], ◌∷◌, ◌++◌, Vec, Global, Option, Result, Ok, Err, inl, refl, sym, ap, ◌∙◌, subst, arith}
-use Rattle.std.proofs.lemmas.List.{length-take, length-take-le, length-drop, length-append, map-append, take_all}
+use Rattle.std.proofs.Common.{All, ◌≡◌, ◌<◌, ◌≤◌, ◌+◌, ◌/◌, ◌*◌, ◌-◌, ◌%◌, length, take, drop, map, replicate, get_or, eqb, true, false, ℕ, List, [], ◌∷◌, ◌++◌, Vec, Global, Option, Result, Ok, Err, inl, inr, refl, sym, ap, ◌∙◌, subst, arith}
+use Rattle.std.proofs.lemmas.List.{length-map, length-take, length-take-le, length-drop, length-append, map-append, take_all}
 use Rattle.std.proofs.Math.Seq.{get_or-append_seam, take-append_seam}
 use Rattle.std.proofs.lemmas.Slice.Eq.{bytes_eq-Decides}
 use Rattle.std.proofs.lemmas.Bool.{eqb-true}
@@ -10,6 +10,10 @@ use Rattle.block_device.specs.Call.{DeviceDoes, Read}
 use Rattle.stack_engine.specs.LeafCalls.{IsLeafCall}
 use Rattle.stack_engine.specs.SectorCalls.{Gives, zeros_read, fails_read}
 use Rattle.stack_engine.proofs.LeafCallLemmas.{makes-none}
+use Rattle.stack_engine.specs.SectorCalls.{LeadsTo, ReadsBy, block_full, block_of, data_of, expected_hash, hash_full, hash_kept, hash_of, last_bytes, one_block, one_ignored, place_in, way_full, whole_data}
+use Rattle.stack_engine.specs.ReadSteps.{expected_in}
+use Rattle.stack_engine.proofs.WayCallLemmas.{block-ungiven, chain-given, checked-given, data-given, data-short, data-ungiven, differs-given, hash-given, hash-ungiven, last-push, leads-begin, one-given, place-same, place-turn, reads-expected, way-ended, way-led, way-short, way-unled}
+use Rattle.stack_engine.proofs.BlockCallLemmas.{BlocksUpTo, block-settled, block-unlike, blocks-begin, blocks-given, blocks-short, blocks-unled, blocks-way, gives-at, path-last, row-asked, row-begins, row-given, row-some, row-stays, row-ungiven, together-at}
 use Rattle.stack_engine.proofs.SectorCallLemmas.{leaf-given, gives-begin, run-given, run-ungiven, all-given, units-given, units-ungiven, part-given, part-ungiven}
 use Rattle.std.specs.Vec.{with_items}
 use borrow.Rule.Slice.PartMut.{put_mid, same_len_mid}
@@ -25,13 +29,13 @@ use Rattle.stack_meaning.specs.declared.fault.Fault.TheVariants.{ErrorTarget, Mi
 use Rattle.stack_meaning.specs.declared.fault.IoFault.TheVariants.{Stack, NoMemory}
 use Rattle.stack_lines.specs.declared.source.Source.{Source}
 use Rattle.stack_lines.specs.declared.source.Source.TheVariants.{Below, Units, UnitPart, Block, Zeros}
-use Rattle.stack_meaning.specs.Found.{FoundRecord, found_entry}
+use Rattle.stack_meaning.specs.Found.{Entry, FoundRecord, found_entry}
 use Rattle.stack_lines.specs.declared.tree.Extent.{Extent}
 use Rattle.stack_meaning.specs.Blocks.{hash_sectors, hash_start, next_digest}
 use Rattle.stack_lines.specs.Walks.{block_in, checked_expected, GetsChain, IsWalked}
 use Rattle.stack_meaning.specs.declared.fault.IoFault.{IoFault}
 use Rattle.stack_meaning.specs.Places.{place_of, run_expected, LeafRead}
-use Rattle.stack_meaning.specs.Reading.{Gets, MeetVerity, buffer_answer}
+use Rattle.stack_meaning.specs.Reading.{Gets, buffer_answer}
 use Rattle.stack_engine.proofs.RunBytesLemmas.{room_sectors, next-run, run-can}
 use Rattle.stack_engine.proofs.StackLemmas.{stack-later}
 use Rattle.stack_meaning.proofs.lemmas.LoadedLemmas.{size-small}
@@ -41,9 +45,9 @@ use Rattle.stack_engine.proofs.PathBlockLemmas.{bytes, hash_place_of, hash-lies,
 use Rattle.stack_meaning.specs.Memory.{largest_allocation}
 use Rattle.stack_engine.proofs.CachedLemmas.{cached-hit, cached-small, keeps-noted, noted_key, keeps-kept, keeps-found}
 use Rattle.stack_lines.proofs.lemmas.StandingLemmas.{named-inside, knows-all}
-use Rattle.stack_engine.proofs.BlockPartLemmas.{kept_length, contains_at, part-room, part_found, part_walked, part_err, part_full, block-at, block-meets}
+use Rattle.stack_engine.proofs.BlockPartLemmas.{kept_at, kept_for, kept_length, contains_at, part-room, part_found, part_walked, part_err, part_full, block-at, block-meets}
 use Rattle.stack_lines.specs.declared.source.CryptPart.{CryptPart}
-use Rattle.stack_lines.specs.Sources.{AreUnits, source_said}
+use Rattle.stack_lines.specs.Sources.{AreUnits}
 use Rattle.stack_engine.proofs.lemmas.BlockLemmas.{distinct-push, length-content}
 use Rattle.stack_engine.proofs.lemmas.WalkLemmas.{checked_ok, checked_err, data_zeros, data_read, walk_full}
 use Rattle.stack_meaning.proofs.lemmas.LeafLemmas.{all-whole}
@@ -54,9 +58,9 @@ use Rattle.std.proofs.lemmas.List.Elements.{All-take}
 use Rattle.verified_cache.specs.Cache.{CachedBlock}
 use Rattle.stack_lines.specs.AtOnce.{CanGo}
 use Rattle.stack_lines.specs.Caches.{IsCached}
-use Rattle.stack_engine.proofs.PathLemmas.{path-read, path-hit, path-put, path-down, path-failed, path-stopped, path-ended, path-whole, no_block}
+use Rattle.stack_engine.proofs.PathLemmas.{path-read, path-hit, path-put, path-down, path-failed, path-stopped, path-ended, path-whole, walk-begins, no_block}
 use Rattle.stack_engine.proofs.BlocksLemmas.{blocks-at, blocks-meet}
-use Rattle.stack_engine.proofs.NextBlockLemmas.{sub-same, way-whole, block-begin, far, row-next, row-fails, row-ahead, checked-none, turn-at, way-fails, way-costs, row-at, row-got, row-costs, put-at, row-covers, checked-as, checked-all, block-differs, block-full, block-checked, rest-ahead}
+use Rattle.stack_engine.proofs.NextBlockLemmas.{sub-same, digest-count, digest-made, blocks-long, way-whole, block-begin, far, row-next, row-fails, row-ahead, checked-none, turn-at, way-fails, way-costs, row-at, row-got, row-costs, put-at, row-covers, checked-as, checked-all, block-differs, block-full, block-checked, rest-ahead}
 use Rattle.stack_engine.specs.declared.path.Chains.TheVariants.{Kept}
 use Rattle.stack_engine.specs.Keeping.{with_chains, AreHandedOut, ReadsAs, ReadsSourceAs, one_found}
 use Rattle.stack_engine.proofs.KeepingLemmas.{device_err, device_ok, finds-as, finds-begin, finds-kept, finds-none, finds-up, gets-none, one-out, same_reads}
@@ -68,7 +72,7 @@ use Rattle.stack_lines.proofs.lemmas.AskLemmas.{asks-none, asks-then, asks-as, a
 use Rattle.stack_engine.proofs.TouchedLemmas.{extent-touched, same-within, hash-touched, hash-within-device, data-touched}
 use Rattle.stack_engine.specs.Backings.{did, backing_of}
 use Rattle.stack_engine.specs.ReadSteps.{run_beneath, IsReadStep}
-use Rattle.stack_engine.proofs.StepLemmas.{met, below-meets, units-meets, part-meets, run-meets, step-met, step-none, below-step, units-step, part-step, zeros-step, fails-step, leaf-step, device-begin, device-step-ok, device-step-err}
+use Rattle.stack_engine.proofs.StepLemmas.{met, step-met, step-none, below-step, units-step, part-step, zeros-step, fails-step, leaf-step, device-begin, device-step-ok, device-step-err}
 use Rattle.stack_engine.proofs.read.+read.Goals as goal
 
 pub read_device-overflow_add-first : goal.read_device-overflow_add-first
@@ -107,11 +111,10 @@ read_device-loop-at-preserved g t c =
       whole = omega (arith, inv.whole);
       within = omega (arith, length-take end (put_mid at (end - at) out c.read_run.new.out), ap length front, length-append (take at out) c.read_run.new.out, length-take at out, c.read_run.auto.out, run.len, inv.within);
       so_far = same_reads config (mapped c.args.from.0.0) c.args.from.1 run.next (sym front) (device_ok config c.args.from.0.0 c.args.from.1 (at / 512) count source c.args.chains loaded run.some run.served inv.so_far more);
-      given = λ none.
+      given =
           let does = DeviceDoes g.D.BlockDev.state g.D.BlockDev.does in
-          let here = subst (λ (k : ℕ). (MeetVerity (source_said config source) 0 k → ⊥) → Gives does config source k c.loop-at.backing.devices.items c.read_run.new.backing.devices.items (Ok c.read_run.new.out)) run.sectors c.in-Ok.ensures.given in
-          run-given c.args.from.0.0 c.args.from.1 (length c.args.out.now / 512) (at / 512) ((length out - at) / 512) (end / 512) next.result (take at out) c.read_run.new.out _ run.left run.next (omega (arith, run.next, run.inside)) next.ensures.run (sym front) (inv.given none)
-          (here (λ some. none (run-meets loaded run _ run.inside some)));
+          let here = subst (λ (k : ℕ). Gives does config source k c.loop-at.backing.devices.items c.read_run.new.backing.devices.items (Ok c.read_run.new.out)) run.sectors c.in-Ok.ensures.given in
+          run-given c.args.from.0.0 c.args.from.1 (length c.args.out.now / 512) (at / 512) ((length out - at) / 512) (end / 512) next.result (take at out) c.read_run.new.out _ run.left run.next (omega (arith, run.next, run.inside)) next.ensures.run (sym front) inv.given here;
       step = device-step-ok loaded run inv.cut run.sectors inv.step c.in-Ok.ensures.step;
       cut = subst (λ (k : ℕ). IsCutBehind config c.args.from.0.0 c.args.from.1 k (length c.args.out.now / 512)) run.next run.behind;
     }
@@ -552,6 +555,11 @@ walk-loop-level-preserved g t c =
           (subst (λ (e : List ℕ). IsWalked b level e (path ++ (block.items ∷ [])) old new) (sym expected) down);
       cached = record { capacity = c.in-Ok.ensures.cached.capacity ∙ c.loop-level.invariant.cached.capacity; sound = c.in-Ok.ensures.cached.sound };
       touches = asks-then c.loop-level.invariant.touches (asks-as (Ok tt) tt (λ failures. refl) (hash-touched c.args.config.now v tree c.requires.stack.sound.loaded c.requires.block.lies c.hash_extent-extent.result c.hash_extent-extent.ensures c.in-Ok.ensures.touches));
+      given = (
+        block.items,
+        subst (λ (e : List ℕ). LeadsTo (DeviceDoes g.D.BlockDev.state g.D.BlockDev.does) c.args.config.now (whole_data (place_in v tree index) one_block) (data_of (place_in v tree index) level e block.items one_block) c.args.backing.now.devices.items c.hash_block.new.backing.devices.items) (sym expected)
+            (way-led c.loop-level.level (c.loop-level.level - 1) block.items (omega (arith, c.loop-level-test.true)) c.loop-level.invariant.given.1 (reads-expected hash_of (ap (λ (e : Extent). expected_in e v.salt c.loop-level.expected) c.hash_extent-extent.ensures.value) c.in-Ok.ensures.given)),
+      );
     }
 
 pub walk-read_data-requires : goal.walk-read_data-requires
@@ -778,6 +786,15 @@ walk_path-loop-left-preserved g t c =
       held = c.in-Ok.ensures.held;
       cached = record { capacity = c.in-Ok.ensures.cached.capacity ∙ c.loop-left.invariant.cached.capacity; sound = c.in-Ok.ensures.cached.sound };
       touches = asks-then c.loop-left.invariant.touches c.in-Ok.ensures.touches;
+      given = λ next.
+          let place = place_in v tree index in
+          let does = DeviceDoes g.D.BlockDev.state g.D.BlockDev.does in
+          let devices = c.args.backing.now.devices.items in
+          let now = c.path_block.new.backing.devices.items in
+          let goes : block ≡ last_bytes (take (at + 1) after) = sym (ap last_bytes (take_more after at no_block c.in-Ok.ensures.there) ∙ last-push (take at after) (get_or after at no_block)) in
+          subst (λ (l : List ℕ). LeadsTo does c.args.config.now (whole_data place next) (data_of place level c.digest_in-digest.result l next) devices now) goes
+          (subst (λ (e : List ℕ). LeadsTo does c.args.config.now (whole_data place next) (data_of place level e block next) devices now) (sym expected)
+          (way-led c.loop-left.left (c.loop-left.left - 1) block (omega (arith, c.loop-left-test.true)) (c.loop-left.invariant.given next) (c.in-Ok.ensures.given no_block)));
     }
 
 -- ---- whole data blocks
@@ -818,6 +835,7 @@ read_blocks-checks-init g t c =
       checked = checked-none b c.args.chains _ _ (ap (λ (l : List (List ℕ)). length l) c.as_mut_slice-made.ensures.value) c.new-path.ensures.items c.requires.kept;
       cached = record { capacity = refl; sound = c.requires.stack.cached };
       touches = asks-none (leaves_of c.args.config.now (mapped c.args.part.device.0)) (map g.D.BlockDev.state c.args.backing.now.devices.items) (Ok tt) tt refl;
+      given = blocks-begin c.args.out.now;
     }
 
 pub read_blocks-walk_path-requires : goal.read_blocks-walk_path-requires
@@ -1040,6 +1058,18 @@ read_blocks-checks-preserved g t c =
       });
       cached = record { capacity = c.in-Ok-read_beneath.ensures.cached.capacity ∙ c.in-Ok.ensures.cached.capacity ∙ all.cached.capacity; sound = c.in-Ok-read_beneath.ensures.cached.sound };
       touches = data-touched config v tree.result b.loaded tree.ensures.tree p.device tree.ensures.device all.touches c.in-Ok.ensures.touches c.in-Ok-read_beneath.ensures.touches;
+      given =
+          let same = place-turn c.args.part tree.result (c.args.part.first / c.from.result + c.checks.at) c.checks.at tree.ensures.tree.on_hash c.requires.fits.holds.of.on_hash tree.ensures.data turn.index in
+          let walked = blocks-way c.checks.invariant.given turn.inside same c.in-Ok.ensures.given in
+          let goes = path-last c.as_slice.ensures.value (c.levels-levels.ensures.value ∙ ap levels tree.ensures.tree.shape_is) in
+          let given = c.in-Ok-read_beneath.ensures.given in
+          let rowed = row-given walked many.result (j * v.data_block + many.result * v.data_block - j * v.data_block) (sub-same (j * v.data_block) (many.result * v.data_block)) put.wide row.end many.ensures.fresh
+          (λ some. together-at c.args.part (length c.args.out.now / 512) j many.result _ same turn.count goes c.is_ignored-ignored.ensures (many.ensures.together some)) (row-stays c.args.part v.data_block many.result row.len given)
+          (λ some. gives-at c.args.part j many.result tree.ensures.data (row-begins (block_sectors v) (c.args.part.first / c.from.result + j) (c.args.part.first / block_sectors v + j) c.data_extent-extent.ensures.value turn.index) row.sectors (row-some many.result v.data_block (block_sectors v) _ row.len b.size.whole b.size.some some) given) in
+          let near : j * v.data_block + v.data_block - j * v.data_block ≡ v.data_block = sub-same (j * v.data_block) v.data_block in
+          let settled = block-settled rowed (j * v.data_block + v.data_block - j * v.data_block) near turn.inside (sym b.size.whole) put.end c.is_ignored-ignored.result c.settle.new.block c.is_ignored-ignored.ensures (row-covers many.ensures.some) (c.if-not-settle.ensures.zeros refl)
+          (λ used. (sym (digest-made b _ turn.inside far_to next put.len put.end made c.index-made-at.result ahead (row-covers many.ensures.some used)) ∙ (c.if-not-settle.ensures.same refl used).0, (c.if-not-settle.ensures.same refl used).1)) in
+          subst (λ (k : ℕ). BlocksUpTo (DeviceDoes g.D.BlockDev.state g.D.BlockDev.does) config p (length c.args.out.now / 512) k (j + 1) (put_mid (j * v.data_block) (j * v.data_block + v.data_block - j * v.data_block) out block) c.args.backing.now.devices.items c.read_beneath.new.backing.devices.items) (sym c.read_as_far-read.ensures) settled;
     }
 
 pub read_blocks-returns-clause-reads : goal.read_blocks-returns-clause-reads
@@ -1170,7 +1200,7 @@ read_device-loop-at-init g t c =
       whole = refl;
       within = omega arith;
       so_far = finds-begin c.args.chains c.requires.kept;
-      given = λ none. gives-begin c.args.from.0.0 c.args.from.1 (length c.args.out.now / 512);
+      given = gives-begin c.args.from.0.0 c.args.from.1 (length c.args.out.now / 512);
       step = device-begin c.args.from.0.0 c.args.from.1 c.requires.stack.cached;
       cut = inl refl;
     }
@@ -1191,7 +1221,6 @@ read_device-returns-clause-step g t c =
 
 pub read_lower-returns-in-Leaf-clause-given : goal.read_lower-returns-in-Leaf-clause-given
 read_lower-returns-in-Leaf-clause-given g t c =
-    λ none.
     let config = c.args.config.now in
     let does = DeviceDoes g.D.BlockDev.state g.D.BlockDev.does in
     let first = c.args.from.1 in
@@ -1210,7 +1239,7 @@ read_lower-returns-in-Device-clause-given g t c = rw c.in-Device.is c.read_devic
 
 pub read_run-returns-in-Below-clause-given : goal.read_run-returns-in-Below-clause-given
 read_run-returns-in-Below-clause-given g t c =
-    rw c.in-Below.is (λ none. c.read_lower.ensures.given (λ some. none (below-meets c.args.config.now c.in-Below.lower c.in-Below.first (length c.args.out.now / 512) some)))
+    rw c.in-Below.is c.read_lower.ensures.given
 
 pub read_run-returns-in-Units-clause-given : goal.read_run-returns-in-Units-clause-given
 read_run-returns-in-Units-clause-given g t c = rw c.in-Units.is c.read_units.ensures.given
@@ -1220,7 +1249,6 @@ read_run-returns-in-UnitPart-clause-given g t c = rw c.in-UnitPart.is c.read_uni
 
 pub read_run-returns-in-Zeros-clause-given : goal.read_run-returns-in-Zeros-clause-given
 read_run-returns-in-Zeros-clause-given g t c =
-    λ none.
     let does = DeviceDoes g.D.BlockDev.state g.D.BlockDev.does in
     let old = c.args.backing.now.devices.items in
     let n : ℕ = length c.args.out.now / 512 in
@@ -1229,36 +1257,31 @@ read_run-returns-in-Zeros-clause-given g t c =
     (subst (λ (b : List ℕ). Gives does c.args.config.now Zeros n old old (Ok b)) (sym (c.fill_zeros.ensures ∙ ap (λ (k : ℕ). replicate k 0) whole)) (makes-none (zeros_read n)))
 
 pub read_run-returns-in-Fails-clause-given : goal.read_run-returns-in-Fails-clause-given
-read_run-returns-in-Fails-clause-given g t c = rw c.in-Fails.is (λ none. makes-none (fails_read (length c.args.out.now / 512)))
+read_run-returns-in-Fails-clause-given g t c = rw c.in-Fails.is (makes-none (fails_read (length c.args.out.now / 512)))
 
 pub read_run-returns-in-Block-clause-given : goal.read_run-returns-in-Block-clause-given
-read_run-returns-in-Block-clause-given g t c =
-    rw c.in-Block.is (λ none. absurd (none (block-meets c.args.config.now c.in-Block.part (length c.args.out.now / 512) (omega (arith, c.requires.fits.sectors.some, c.requires.fits.sectors.whole)))))
+read_run-returns-in-Block-clause-given g t c = rw c.in-Block.is c.read_block.ensures.given
 
 pub read_run-returns-in-Blocks-clause-given : goal.read_run-returns-in-Blocks-clause-given
-read_run-returns-in-Blocks-clause-given g t c =
-    rw c.in-Blocks.is (λ none. absurd (none (blocks-meet c.args.config.now c.in-Blocks.part (length c.args.out.now / 512) (omega (arith, c.requires.fits.sectors.some, c.requires.fits.sectors.whole)))))
+read_run-returns-in-Blocks-clause-given g t c = rw c.in-Blocks.is c.read_blocks.ensures.given
 
 pub read_units-returns-in-Ok-clause-given : goal.read_units-returns-in-Ok-clause-given
 read_units-returns-in-Ok-clause-given g t c =
-    λ none.
     let x = c.args.part in
     let n : ℕ = length c.args.out.now / 512 in
     let unit = c.unit_at-unit in
     units-given x unit.result.first n c.read_lower.new.out _ unit.ensures.first (c.decrypt.ensures ∙ ap (λ (k : ℕ). decrypted_units x.units x.key.now k c.read_lower.new.out) unit.ensures.index)
-    (c.in-Ok.ensures.given (λ some. none (units-meets c.args.config.now x unit.result.first n c.requires.fits.holds unit.ensures.first some)))
+    c.in-Ok.ensures.given
 
 pub read_units-returns-in-Err-clause-given : goal.read_units-returns-in-Err-clause-given
 read_units-returns-in-Err-clause-given g t c =
-    λ none.
     let x = c.args.part in
     let n : ℕ = length c.args.out.now / 512 in
     let unit = c.unit_at-unit in
-    units-ungiven x unit.result.first n c.in-Err.fault unit.ensures.first (c.in-Err.ensures.given (λ some. none (units-meets c.args.config.now x unit.result.first n c.requires.fits.holds unit.ensures.first some)))
+    units-ungiven x unit.result.first n c.in-Err.fault unit.ensures.first c.in-Err.ensures.given
 
 pub read_unit_part-returns-in-Ok-clause-given : goal.read_unit_part-returns-in-Ok-clause-given
 read_unit_part-returns-in-Ok-clause-given g t c =
-    λ none.
     let x = c.args.part in
     let n : ℕ = length c.args.out.now / 512 in
     let whole = c.whole_unit-whole in
@@ -1268,36 +1291,353 @@ read_unit_part-returns-in-Ok-clause-given g t c =
     let is : c.take_sectors.new.out ≡ take (512 * n) (drop (512 * (x.first % per_unit x.units)) c.read_units.new.out) =
     c.take_sectors.ensures ∙ ap (λ (k : ℕ). take k (drop (512 * whole.result.within) c.read_units.new.out)) len ∙ ap (λ (k : ℕ). take (512 * n) (drop (512 * k) c.read_units.new.out)) of.within in
     part-given x whole.result _ n c.read_units.new.out c.take_sectors.new.out of count is
-    (c.in-Ok.ensures.given (λ some. none (part-meets c.args.config.now x whole.result n _ of c.requires.fits.holds (omega (arith, c.requires.fits.sectors.some, c.requires.fits.sectors.whole)) count some)))
+    c.in-Ok.ensures.given
 
 pub read_unit_part-returns-in-Err-clause-given : goal.read_unit_part-returns-in-Err-clause-given
 read_unit_part-returns-in-Err-clause-given g t c =
-    λ none.
     let x = c.args.part in
     let n : ℕ = length c.args.out.now / 512 in
     let whole = c.whole_unit-whole in
     let count = room_sectors c.as_mut_slice-all.result.now whole.result.sectors (ap (λ (l : List ℕ). length l) c.as_mut_slice-all.ensures.value) whole.ensures.few in
-    part-ungiven x whole.result _ n c.in-Err.fault whole.ensures.whole count
-    (c.in-Err.ensures.given (λ some. none (part-meets c.args.config.now x whole.result n _ whole.ensures.whole c.requires.fits.holds (omega (arith, c.requires.fits.sectors.some, c.requires.fits.sectors.whole)) count some)))
+    part-ungiven x whole.result _ n c.in-Err.fault whole.ensures.whole count c.in-Err.ensures.given
 
 pub read_device-returns-in-Err-clause-given : goal.read_device-returns-in-Err-clause-given
 read_device-returns-in-Err-clause-given g t c =
-    λ none.
     let config = c.args.config.now in
     let does = DeviceDoes g.D.BlockDev.state g.D.BlockDev.does in
     let next = c.run_to_read-run in
     let inv = c.loop-at.invariant in
     let source = next.result.source in
     let run = next-run c.args.from.1 c.loop-at.at (length c.args.out.now / 512) c.loop-at.out inv.whole c.loop-at-test.true (omega (arith, c.loop-at.auto.out)) next.ensures.run.served next.ensures.run.some next.ensures.run.most next.ensures.run.longest in
-    let here = subst (λ (k : ℕ). (MeetVerity (source_said config source) 0 k → ⊥) → Gives does config source k c.loop-at.backing.devices.items c.read_run.new.backing.devices.items (Err c.in-Err.fault)) run.sectors c.in-Err.ensures.given in
-    run-ungiven c.args.from.0.0 c.args.from.1 (length c.args.out.now / 512) (c.loop-at.at / 512) ((length c.loop-at.out - c.loop-at.at) / 512) next.result (take c.loop-at.at c.loop-at.out) c.in-Err.fault run.left next.ensures.run (inv.given none)
-    (here (λ some. none (run-meets c.requires.stack.sound.loaded run _ run.inside some)))
+    let here = subst (λ (k : ℕ). Gives does config source k c.loop-at.backing.devices.items c.read_run.new.backing.devices.items (Err c.in-Err.fault)) run.sectors c.in-Err.ensures.given in
+    run-ungiven c.args.from.0.0 c.args.from.1 (length c.args.out.now / 512) (c.loop-at.at / 512) ((length c.loop-at.out - c.loop-at.at) / 512) next.result (take c.loop-at.at c.loop-at.out) c.in-Err.fault run.left next.ensures.run inv.given here
 
 pub read_device-returns-clause-given : goal.read_device-returns-clause-given
 read_device-returns-clause-given g t c =
-    λ none.
     let inv = c.loop-at.invariant in
     let at = c.loop-at.at in
     let all : at / 512 ≡ length c.args.out.now / 512 = omega (arith, inv.within, c.loop-at-test.false, c.loop-at.auto.out) in
     subst (λ (b : List ℕ). Gives (DeviceDoes g.D.BlockDev.state g.D.BlockDev.does) c.args.config.now (Below (mapped c.args.from.0.0) c.args.from.1) (length c.args.out.now / 512) c.args.backing.now.devices.items c.loop-at.backing.devices.items (Ok b)) (take_all at c.loop-at.out (omega (arith, c.loop-at-test.false)))
-    (all-given c.args.from.0.0 c.args.from.1 (length c.args.out.now / 512) (at / 512) (take at c.loop-at.out) all (inv.given none))
+    (all-given c.args.from.0.0 c.args.from.1 (length c.args.out.now / 512) (at / 512) (take at c.loop-at.out) all inv.given)
+
+-- ---- which calls were made over `verity` lines
+
+pub walk-loop-level-init : goal.walk-loop-level-init
+walk-loop-level-init g t c =
+    let config = c.args.config.now in
+    let v = c.args.verity.now in
+    let place = place_in v c.args.tree.now c.args.index in
+    let devices = c.args.backing.now.devices.items in
+    let all : c.levels-level.result ≡ levels (tree_of v) = c.levels-level.ensures.value ∙ ap levels c.requires.block.lies.shape_is in
+    record {
+      walked = walk-begins (block_in config v c.args.index) (sym all) (sym (ap (map bytes) c.new-path.ensures.items));
+      cached = record { capacity = refl; sound = c.requires.stack.cached };
+      touches = asks-none (leaves_of config (mapped c.args.tree.now.device.0)) (map g.D.BlockDev.state devices) (Ok tt) tt refl;
+      given = ([], subst (λ (k : ℕ). LeadsTo (DeviceDoes g.D.BlockDev.state g.D.BlockDev.does) config (whole_data place one_block) (data_of place k v.root [] one_block) devices devices) (sym all) (leads-begin (whole_data place one_block)));
+    }
+
+pub walk_path-loop-left-init : goal.walk_path-loop-left-init
+walk_path-loop-left-init g t c =
+    let config = c.args.config.now in
+    let v = c.args.verity.now in
+    let place = place_in v c.args.tree.now c.args.index in
+    let devices = c.args.backing.now.devices.items in
+    let all : c.levels-left.result ≡ levels (tree_of v) = c.levels-left.ensures.value ∙ ap levels c.requires.block.lies.shape_is in
+    record {
+      within = omega arith;
+      walked = walk-begins (block_in config v c.args.index) (sym all) refl;
+      held = c.requires.held;
+      cached = record { capacity = refl; sound = c.requires.stack.cached };
+      touches = asks-none (leaves_of config c.args.tree.now.hash) (map g.D.BlockDev.state devices) (Ok tt) tt refl;
+      given = λ next. subst (λ (k : ℕ). LeadsTo (DeviceDoes g.D.BlockDev.state g.D.BlockDev.does) config (whole_data place next) (data_of place k v.root [] next) devices devices) (sym all) (leads-begin (whole_data place next));
+    }
+
+pub read_checked-returns-in-Err-clause-given : goal.read_checked-returns-in-Err-clause-given
+read_checked-returns-in-Err-clause-given g t c = makes-none (block_full (expected_in c.args.extent c.args.salt.now c.args.expected.now))
+
+pub read_checked-returns-in-Err-read_lower-clause-given : goal.read_checked-returns-in-Err-read_lower-clause-given
+read_checked-returns-in-Err-read_lower-clause-given g t c =
+    let block = c.in-Ok.block in
+    let held : length c.read_lower.new.out ≡ block.len = c.read_lower.auto.out ∙ ap (λ (l : List ℕ). length l) c.as_mut_slice.ensures.value ∙ sym block.ok.0 in
+    let count : length c.as_mut_slice.result.now / 512 ≡ c.args.extent.sectors = omega (arith, held, c.in-Ok.ensures.ok, c.read_lower.auto.out) in
+    block-ungiven count c.in-Err-read_lower.ensures.given
+
+pub read_checked-returns-then-eq-clause-given : goal.read_checked-returns-then-eq-clause-given
+read_checked-returns-then-eq-clause-given g t c =
+    let e = c.args.extent in
+    let salt = c.args.salt.now in
+    let expected = c.args.expected.now in
+    let block = c.in-Ok.block in
+    let out = c.read_lower.new.out in
+    let held : length out ≡ block.len = c.read_lower.auto.out ∙ ap (λ (l : List ℕ). length l) c.as_mut_slice.ensures.value ∙ sym block.ok.0 in
+    let items : bytes (with_items block out) ≡ out = with_items_is block out held in
+    let value : c.as_slice.result.now ≡ out = c.as_slice.ensures.value ∙ items in
+    let good : c.digest.result ≡ expected = (bytes_eq-Decides c.digest.result expected).0 (sym c.eq.ensures ∙ c.if-eq.true) in
+    let count : length c.as_mut_slice.result.now / 512 ≡ e.sectors = omega (arith, held, c.in-Ok.ensures.ok, c.read_lower.auto.out) in
+    subst (λ (b : List ℕ). ReadsBy (DeviceDoes g.D.BlockDev.state g.D.BlockDev.does) c.args.config.now (block_of (expected_in e salt expected)) c.args.backing.now.devices.items c.read_lower.new.backing.devices.items (Ok b)) (sym items)
+    (checked-given count (ap (digest salt) (sym value) ∙ sym c.digest.ensures ∙ good) c.in-Ok-read_lower.ensures.given)
+
+pub read_checked-returns-else-eq-clause-given : goal.read_checked-returns-else-eq-clause-given
+read_checked-returns-else-eq-clause-given g t c =
+    let e = c.args.extent in
+    let salt = c.args.salt.now in
+    let expected = c.args.expected.now in
+    let block = c.in-Ok.block in
+    let out = c.read_lower.new.out in
+    let held : length out ≡ block.len = c.read_lower.auto.out ∙ ap (λ (l : List ℕ). length l) c.as_mut_slice.ensures.value ∙ sym block.ok.0 in
+    let value : c.as_slice.result.now ≡ out = c.as_slice.ensures.value ∙ with_items_is block out held in
+    let count : length c.as_mut_slice.result.now / 512 ≡ e.sectors = omega (arith, held, c.in-Ok.ensures.ok, c.read_lower.auto.out) in
+    let other : digest salt out ≡ expected → ⊥ = λ same.
+    let made : c.digest.result ≡ expected = c.digest.ensures ∙ ap (digest salt) value ∙ same in
+    let clash : false ≡ true = sym c.if-eq.false ∙ c.eq.ensures ∙ (bytes_eq-Decides c.digest.result expected).1 made in
+    cc in
+    differs-given count other c.in-Ok-read_lower.ensures.given
+
+pub hash_block-returns-in-Err-clause-given : goal.hash_block-returns-in-Err-clause-given
+hash_block-returns-in-Err-clause-given g t c = makes-none (hash_full (expected_in c.args.extent c.args.salt.now c.args.expected.now))
+
+pub hash_block-returns-in-Ok-Some-clause-given : goal.hash_block-returns-in-Ok-Some-clause-given
+hash_block-returns-in-Ok-Some-clause-given g t c =
+    let hit = cached-hit c.args.config.now c.requires.key bytes c.in-Ok-Some.block c.args.expected.now (map g.D.BlockDev.state c.args.backing.now.devices.items) c.args.backing.now.cache c.requires.stack.cached
+    (sym (ap (λ (o : Option (Vec ℕ Global)). option_map bytes o) c.in-Ok-Some.field-0-is) ∙ c.in-Ok-Some.ensures.answer) in
+    makes-none (hash_kept (expected_in c.args.extent c.args.salt.now c.args.expected.now) c.in-Ok-Some.block.items hit.may)
+
+pub hash_block-returns-in-Err-read_checked-clause-given : goal.hash_block-returns-in-Err-read_checked-clause-given
+hash_block-returns-in-Err-read_checked-clause-given g t c = hash-given c.in-Err-read_checked.ensures.given
+
+pub hash_block-returns-in-Ok-clause-given : goal.hash_block-returns-in-Ok-clause-given
+hash_block-returns-in-Ok-clause-given g t c = hash-given c.in-Ok.ensures.given
+
+pub read_data-returns-in-Ok-clause-given : goal.read_data-returns-in-Ok-clause-given
+read_data-returns-in-Ok-clause-given g t c last =
+    let place = place_in c.args.verity.now c.args.tree.now c.args.index in
+    let devices = c.args.backing.now.devices.items in
+    subst (λ (b : List ℕ). ReadsBy (DeviceDoes g.D.BlockDev.state g.D.BlockDev.does) c.args.config.now (data_of place 0 c.args.expected.now last one_block) devices devices (Ok b)) (sym c.in-Ok.ensures.ok)
+    (makes-none (one_ignored place c.args.expected.now last (sym c.is_ignored.ensures ∙ c.if-is_ignored.true)))
+
+pub read_data-returns-in-Err-clause-given : goal.read_data-returns-in-Err-clause-given
+read_data-returns-in-Err-clause-given g t c last = makes-none (way_full (place_in c.args.verity.now c.args.tree.now c.args.index) 0 c.args.expected.now last one_block)
+
+pub read_data-returns-clause-given : goal.read_data-returns-clause-given
+read_data-returns-clause-given g t c last = one-given last (sym c.is_ignored.ensures ∙ c.if-is_ignored.false) c.data_extent-extent.ensures.value c.read_checked.ensures.given
+
+pub walk-returns-in-Err-clause-given : goal.walk-returns-in-Err-clause-given
+walk-returns-in-Err-clause-given g t c =
+    way-unled c.loop-level.level (c.loop-level.level - 1) (omega (arith, c.loop-level-test.true)) c.loop-level.invariant.given.1
+    (reads-expected hash_of (ap (λ (e : Extent). expected_in e c.args.verity.now.salt c.loop-level.expected) c.hash_extent-extent.ensures.value) c.in-Err.ensures.given)
+
+pub walk-returns-in-Err-push-clause-given : goal.walk-returns-in-Err-push-clause-given
+walk-returns-in-Err-push-clause-given g t c =
+    way-short (way-led c.loop-level.level (c.loop-level.level - 1) c.in-Ok.block.items (omega (arith, c.loop-level-test.true)) c.loop-level.invariant.given.1
+    (reads-expected hash_of (ap (λ (e : Extent). expected_in e c.args.verity.now.salt c.loop-level.expected) c.hash_extent-extent.ensures.value) c.in-Ok.ensures.given))
+
+pub walk-returns-in-Err-read_data-clause-given : goal.walk-returns-in-Err-read_data-clause-given
+walk-returns-in-Err-read_data-clause-given g t c =
+    way-ended c.loop-level.level (omega (arith, c.loop-level-test.false)) c.loop-level.invariant.given.1 (c.in-Err-read_data.ensures.given c.loop-level.invariant.given.0)
+
+pub walk-returns-in-Ok-read_data-clause-given : goal.walk-returns-in-Ok-read_data-clause-given
+walk-returns-in-Ok-read_data-clause-given g t c =
+    way-ended c.loop-level.level (omega (arith, c.loop-level-test.false)) c.loop-level.invariant.given.1 (c.in-Ok-read_data.ensures.given c.loop-level.invariant.given.0)
+
+pub read_block-returns-in-Some-clause-given : goal.read_block-returns-in-Some-clause-given
+read_block-returns-in-Some-clause-given g t c =
+    let config = c.args.config.now in
+    let v = c.args.part.verity.now in
+    let p = c.args.part in
+    let n : ℕ = length c.args.out.now / 512 in
+    let found = c.args.found.now.items in
+    let leaves = map g.D.BlockDev.state c.args.backing.now.devices.items in
+    let sectors : c.from-sectors.result ≡ block_sectors v = c.from-sectors.ensures in
+    let x = get_or found c.in-Some.at any_found in
+    let there : c.in-Some.at < length found = omega (arith, c.in-Some.ensures.some.0, ap (λ (l : List FoundRecord). length l) c.as_slice.ensures.value) in
+    let at : found_entry x ≡ (p.device.0, p.line, p.first / block_sectors v) =
+    ap (λ (l : List FoundRecord). found_entry (get_or l c.in-Some.at any_found)) (sym c.as_slice.ensures.value) ∙ c.in-Some.ensures.some.1 any_found ∙ ap (λ (k : ℕ). (p.device.0, p.line, p.first / k)) sectors in
+    let len : length c.args.out.now ≡ 512 * n = omega (arith, c.requires.fits.sectors.whole) in
+    let is : c.copy_part.new.out ≡ take (512 * n) (drop (512 * (p.first % block_sectors v)) x.chain.content) =
+    c.copy_part.ensures any_found
+    ∙ ap (λ (l : List FoundRecord). take (length c.args.out.now) (drop (512 * (p.first % c.from-sectors.result)) ((get_or l c.in-Some.at any_found).chain.content))) c.as_slice-in-Some.ensures.value
+    ∙ ap (λ (k : ℕ). take k (drop (512 * (p.first % c.from-sectors.result)) x.chain.content)) len
+    ∙ ap (λ (k : ℕ). take (512 * n) (drop (512 * (p.first % k)) x.chain.content)) sectors in
+    let one = kept_for config leaves p.device.0 p.line (p.first / block_sectors v) v x (block-at c.requires).line at (kept_at config leaves found x c.requires.kept (contains_at found c.in-Some.at any_found there)) in
+    chain-given p n x.chain is (ap (λ (e : Entry). e.2) at) one.good
+
+pub read_block-returns-in-Err-clause-given : goal.read_block-returns-in-Err-clause-given
+read_block-returns-in-Err-clause-given g t c =
+    let tree = c.tree_of-tree in
+    data-ungiven c.args.part (length c.args.out.now / 512) c.from-sectors.ensures (place-same c.args.part tree.result (c.args.part.first / c.from-sectors.result) tree.ensures.tree.on_hash c.requires.fits.holds.of.on_hash tree.ensures.data) c.in-Err.ensures.given
+
+pub read_block-returns-in-Err-push-clause-given : goal.read_block-returns-in-Err-push-clause-given
+read_block-returns-in-Err-push-clause-given g t c =
+    let tree = c.tree_of-tree in
+    data-short c.args.part (length c.args.out.now / 512) c.from-sectors.ensures (place-same c.args.part tree.result (c.args.part.first / c.from-sectors.result) tree.ensures.tree.on_hash c.requires.fits.holds.of.on_hash tree.ensures.data) c.in-Ok.ensures.given
+
+pub read_block-returns-in-Ok-push-clause-given : goal.read_block-returns-in-Ok-push-clause-given
+read_block-returns-in-Ok-push-clause-given g t c =
+    let v = c.args.part.verity.now in
+    let p = c.args.part in
+    let n : ℕ = length c.args.out.now / 512 in
+    let found = c.args.found.now.items in
+    let tree = c.tree_of-tree in
+    let sectors : c.from-sectors.result ≡ block_sectors v = c.from-sectors.ensures in
+    let one : FoundRecord = record { device = p.device.0; line = p.line; chain = c.in-Ok.chain } in
+    let value : c.as_slice-in-Ok-push.result.now ≡ found ++ (one ∷ []) = c.as_slice-in-Ok-push.ensures.value ∙ c.in-Ok-push.ensures.ok in
+    let at : c.len-at.result ≡ length found = c.len-at.ensures ∙ c.args.found.now.ok.0 in
+    let here : get_or c.as_slice-in-Ok-push.result.now c.len-at.result any_found ≡ one =
+    ap (λ (l : List FoundRecord). get_or l c.len-at.result any_found) value ∙ ap (λ (k : ℕ). get_or (found ++ (one ∷ [])) k any_found) at ∙ get_or-append_seam found one [] any_found in
+    let len : length c.args.out.now ≡ 512 * n = omega (arith, c.requires.fits.sectors.whole) in
+    let is : c.copy_part-in-Ok-push.new.out ≡ take (512 * n) (drop (512 * (p.first % block_sectors v)) c.in-Ok.chain.content) =
+    c.copy_part-in-Ok-push.ensures any_found
+    ∙ ap (λ (y : FoundRecord). take (length c.args.out.now) (drop (512 * (p.first % c.from-sectors.result)) y.chain.content)) here
+    ∙ ap (λ (k : ℕ). take k (drop (512 * (p.first % c.from-sectors.result)) c.in-Ok.chain.content)) len
+    ∙ ap (λ (k : ℕ). take (512 * n) (drop (512 * (p.first % k)) c.in-Ok.chain.content)) sectors in
+    data-given p n sectors (place-same p tree.result (p.first / c.from-sectors.result) tree.ensures.tree.on_hash c.requires.fits.holds.of.on_hash tree.ensures.data) is c.in-Ok.ensures.given
+
+pub path_block-returns-then-stands-clause-given : goal.path_block-returns-then-stands-clause-given
+path_block-returns-then-stands-clause-given g t c x =
+    let config = c.args.config.now in
+    let v = c.args.verity.now in
+    let tree = c.args.tree.now in
+    let w = c.args.wanted.now in
+    let stands = c.stands.ensures c.if-stands.true in
+    let value = c.as_slice.ensures.value in
+    let there = subst (λ (l : List CachedBlock). w.at < length l) value stands.0 in
+    let key = subst (λ (l : List CachedBlock). (get_or l w.at x).key ≡ c.hash_key-key.result) value (stands.1 x).0 in
+    let digest = subst (λ (l : List CachedBlock). (get_or l w.at x).digest ≡ w.digest) value (stands.1 x).1 in
+    let at = hash-lies config v tree w.level w.block c.requires.stack.sound.loaded c.requires.block.lies c.requires.block.there c.requires.level in
+    let place = place_key config v tree w.level w.block c.hash_key-key.result (hash_place_of v tree w.level w.block) c.requires.block.lies c.hash_key-key.ensures at in
+    makes-none (hash_kept (expected_hash (place_in v tree w.block) w.level w.digest) _ (path-hit config place _ c.args.path.now.items w.at x w.digest c.requires.held there key digest).may)
+
+pub path_block-returns-in-Err-clause-given : goal.path_block-returns-in-Err-clause-given
+path_block-returns-in-Err-clause-given g t c x =
+    reads-expected hash_of (ap (λ (e : Extent). expected_in e c.args.verity.now.salt c.args.wanted.now.digest) c.hash_extent-extent.ensures.value) c.in-Err.ensures.given
+
+pub path_block-returns-in-Err-put-clause-given : goal.path_block-returns-in-Err-put-clause-given
+path_block-returns-in-Err-put-clause-given g t c x =
+    hash-ungiven (reads-expected hash_of (ap (λ (e : Extent). expected_in e c.args.verity.now.salt c.args.wanted.now.digest) c.hash_extent-extent.ensures.value) c.in-Ok.ensures.given)
+
+pub path_block-returns-in-Ok-put-clause-given : goal.path_block-returns-in-Ok-put-clause-given
+path_block-returns-in-Ok-put-clause-given g t c x =
+    let v = c.args.verity.now in
+    let w = c.args.wanted.now in
+    let path = c.args.path.now.items in
+    let one : CachedBlock = record { key = c.hash_key-key.result; digest = w.digest; bytes = bytes c.in-Ok.bytes } in
+    let front : w.at ≡ length (take w.at path) = sym (length-take-le w.at path c.requires.at) in
+    let here : get_or c.put.new.path.items w.at x ≡ one =
+    ap (λ (l : List CachedBlock). get_or l w.at x) c.in-Ok-put.ensures.ok ∙ ap (λ (k : ℕ). get_or (take w.at path ++ (one ∷ [])) k x) front ∙ get_or-append_seam (take w.at path) one [] x in
+    subst (λ (b : List ℕ). ReadsBy (DeviceDoes g.D.BlockDev.state g.D.BlockDev.does) c.args.config.now (hash_of (expected_hash (place_in v c.args.tree.now w.block) w.level w.digest)) c.args.backing.now.devices.items c.hash_block.new.backing.devices.items (Ok b))
+    (sym (ap (λ (b : CachedBlock). b.bytes) here)) (reads-expected hash_of (ap (λ (e : Extent). expected_in e v.salt w.digest) c.hash_extent-extent.ensures.value) c.in-Ok.ensures.given)
+
+pub walk_path-returns-in-Err-clause-given : goal.walk_path-returns-in-Err-clause-given
+walk_path-returns-in-Err-clause-given g t c next = way-unled c.loop-left.left (c.loop-left.left - 1) (omega (arith, c.loop-left-test.true)) (c.loop-left.invariant.given next) (c.in-Err.ensures.given no_block)
+
+pub walk_path-returns-clause-given : goal.walk_path-returns-clause-given
+walk_path-returns-clause-given g t c next =
+    let v = c.args.verity.now in
+    let place = place_in v c.args.tree.now c.args.index in
+    let inv = c.loop-left.invariant in
+    let at : ℕ = c.loop-left.at in
+    let path = c.loop-left.path.items in
+    let none : c.loop-left.left ≡ 0 = omega (arith, c.loop-left-test.false) in
+    let all : at ≡ levels (tree_of v) = omega (arith, inv.walked.count, none, inv.within, length-map (take at path) block_bytes, length-take at path) in
+    let Leads : ℕ → ℕ → Type 0 = λ l k. LeadsTo (DeviceDoes g.D.BlockDev.state g.D.BlockDev.does) c.args.config.now (whole_data place next) (data_of place l c.loop-left.digest (last_bytes (take k path)) next) c.args.backing.now.devices.items c.loop-left.backing.devices.items in
+    subst (λ (k : ℕ). Leads 0 k) all (subst (λ (l : ℕ). Leads l at) none (inv.given next))
+
+pub read_beneath-returns-then-is_empty-clause-given : goal.read_beneath-returns-then-is_empty-clause-given
+read_beneath-returns-then-is_empty-clause-given g t c =
+    let empty = eqb-true (length c.args.out.now) 0 (sym c.if-is_empty.ensures) in
+    record { none = λ e. (refl, refl); some = λ more. absurd (omega (arith, more, empty)) }
+
+pub read_beneath-returns-clause-given : goal.read_beneath-returns-clause-given
+read_beneath-returns-clause-given g t c =
+    record {
+      none = λ e. absurd (let clash : false ≡ true = c.if-is_empty.ensures ∙ ap (λ (k : ℕ). eqb k 0) e in cc);
+      some = λ more. c.read_lower.ensures.given;
+    }
+
+pub read_blocks-returns-in-Err-clause-given : goal.read_blocks-returns-in-Err-clause-given
+read_blocks-returns-in-Err-clause-given g t c =
+    let turn = turn-at (blocks-at c.requires) c.checks.invariant.checked c.requires.fits.sectors.whole c.from.ensures c.checks-test.true in
+    let tree = c.tree_of-tree in
+    blocks-unled c.checks.invariant.given turn.inside (place-turn c.args.part tree.result (c.args.part.first / c.from.result + c.checks.at) c.checks.at tree.ensures.tree.on_hash c.requires.fits.holds.of.on_hash tree.ensures.data turn.index) c.in-Err.ensures.given
+
+pub read_blocks-returns-in-Err-read_beneath-clause-given : goal.read_blocks-returns-in-Err-read_beneath-clause-given
+read_blocks-returns-in-Err-read_beneath-clause-given g t c =
+    let b = blocks-at c.requires in
+    let v = c.args.part.verity.now in
+    let tree = c.tree_of-tree in
+    let many = c.row_len-many in
+    let given = c.in-Err-read_beneath.ensures.given in
+    let turn = turn-at b c.checks.invariant.checked c.requires.fits.sectors.whole c.from.ensures c.checks-test.true in
+    let row = row-at b turn many.result many.ensures.most in
+    let same = place-turn c.args.part tree.result (c.args.part.first / c.from.result + c.checks.at) c.checks.at tree.ensures.tree.on_hash c.requires.fits.holds.of.on_hash tree.ensures.data turn.index in
+    let walked = blocks-way c.checks.invariant.given turn.inside same c.in-Ok.ensures.given in
+    let goes = path-last c.as_slice.ensures.value (c.levels-levels.ensures.value ∙ ap levels tree.ensures.tree.shape_is) in
+    let some : 0 < many.result = row-asked many.result v.data_block _ row.len (λ none. let clash : false ≡ true = (given.none none).1 in cc) in
+    let low : c.checks.read ≤ c.checks.at = elim many.ensures.fresh [ inl none ↦ absurd (omega (arith, none, some)) | inr old ↦ old ] in
+    let j : ℕ = c.checks.at in
+    row-ungiven walked many.result low (together-at c.args.part (length c.args.out.now / 512) j many.result _ same turn.count goes c.is_ignored-ignored.ensures (many.ensures.together some))
+    (gives-at c.args.part j many.result tree.ensures.data (row-begins (block_sectors v) (c.args.part.first / c.from.result + j) (c.args.part.first / block_sectors v + j) c.data_extent-extent.ensures.value turn.index) row.sectors (row-some many.result v.data_block (block_sectors v) _ row.len b.size.whole b.size.some some) given)
+
+pub read_blocks-returns-then-not-settle-clause-given : goal.read_blocks-returns-then-not-settle-clause-given
+read_blocks-returns-then-not-settle-clause-given g t c =
+    let v = c.args.part.verity.now in
+    let j : ℕ = c.checks.at in
+    let tree = c.tree_of-tree in
+    let inv = c.checks.invariant.checked in
+    let many = c.row_len-many in
+    let b = blocks-at c.requires in
+    let turn = turn-at b inv c.requires.fits.sectors.whole c.from.ensures c.checks-test.true in
+    let row = row-at b turn many.result many.ensures.most in
+    let put = put-at b turn row c.read_beneath.new.out c.read_beneath.auto.out in
+    let gets = row-got b turn row c.tree_of-tree.ensures.data c.data_extent-extent.ensures c.in-Ok-read_beneath.ensures.reads in
+    let next = row-next b turn row many.ensures.fresh inv.had c.in-Ok.ensures.moved c.in-Ok.ensures.ok gets in
+    let far_to = far b turn row many.ensures.fresh inv.had c.in-Ok.ensures.moved c.in-Ok.ensures.ok gets in
+    let ahead = row-ahead b turn row many.ensures.fresh c.checks.made inv.had c.in-Ok.ensures.moved gets (all-whole g.D.BlockDev.state g.met.D.BlockDev.whole c.walk_path.new.backing.devices.items) inv.room inv.ahead put c.digest_blocks.ensures in
+    let made : List (List ℕ) = put_mid j (j + many.result - j) c.checks.made c.digest_blocks.new.out in
+    let same = place-turn c.args.part tree.result (c.args.part.first / c.from.result + c.checks.at) c.checks.at tree.ensures.tree.on_hash c.requires.fits.holds.of.on_hash tree.ensures.data turn.index in
+    let walked = blocks-way c.checks.invariant.given turn.inside same c.in-Ok.ensures.given in
+    let goes = path-last c.as_slice.ensures.value (c.levels-levels.ensures.value ∙ ap levels tree.ensures.tree.shape_is) in
+    let given = c.in-Ok-read_beneath.ensures.given in
+    let rowed = row-given walked many.result (j * v.data_block + many.result * v.data_block - j * v.data_block) (sub-same (j * v.data_block) (many.result * v.data_block)) put.wide row.end many.ensures.fresh
+    (λ some. together-at c.args.part (length c.args.out.now / 512) j many.result _ same turn.count goes c.is_ignored-ignored.ensures (many.ensures.together some)) (row-stays c.args.part v.data_block many.result row.len given)
+    (λ some. gives-at c.args.part j many.result tree.ensures.data (row-begins (block_sectors v) (c.args.part.first / c.from.result + j) (c.args.part.first / block_sectors v + j) c.data_extent-extent.ensures.value turn.index) row.sectors (row-some many.result v.data_block (block_sectors v) _ row.len b.size.whole b.size.some some) given) in
+    let near : j * v.data_block + v.data_block - j * v.data_block ≡ v.data_block = sub-same (j * v.data_block) v.data_block in
+    let other = c.if-not-settle.ensures.other refl in
+    block-unlike rowed (j * v.data_block + v.data_block - j * v.data_block) near turn.inside (sym b.size.whole) put.end (sym c.is_ignored-ignored.ensures ∙ other.0) (row-covers many.ensures.some other.0)
+    (λ same_digest. other.1 (digest-made b _ turn.inside far_to next put.len put.end made c.index-made-at.result ahead (row-covers many.ensures.some other.0) ∙ same_digest))
+
+pub read_blocks-returns-in-Err-keep-clause-given : goal.read_blocks-returns-in-Err-keep-clause-given
+read_blocks-returns-in-Err-keep-clause-given g t c =
+    let v = c.args.part.verity.now in
+    let j : ℕ = c.checks.at in
+    let tree = c.tree_of-tree in
+    let inv = c.checks.invariant.checked in
+    let many = c.row_len-many in
+    let b = blocks-at c.requires in
+    let turn = turn-at b inv c.requires.fits.sectors.whole c.from.ensures c.checks-test.true in
+    let row = row-at b turn many.result many.ensures.most in
+    let put = put-at b turn row c.read_beneath.new.out c.read_beneath.auto.out in
+    let gets = row-got b turn row c.tree_of-tree.ensures.data c.data_extent-extent.ensures c.in-Ok-read_beneath.ensures.reads in
+    let next = row-next b turn row many.ensures.fresh inv.had c.in-Ok.ensures.moved c.in-Ok.ensures.ok gets in
+    let far_to = far b turn row many.ensures.fresh inv.had c.in-Ok.ensures.moved c.in-Ok.ensures.ok gets in
+    let ahead = row-ahead b turn row many.ensures.fresh c.checks.made inv.had c.in-Ok.ensures.moved gets (all-whole g.D.BlockDev.state g.met.D.BlockDev.whole c.walk_path.new.backing.devices.items) inv.room inv.ahead put c.digest_blocks.ensures in
+    let made : List (List ℕ) = put_mid j (j + many.result - j) c.checks.made c.digest_blocks.new.out in
+    let same = place-turn c.args.part tree.result (c.args.part.first / c.from.result + c.checks.at) c.checks.at tree.ensures.tree.on_hash c.requires.fits.holds.of.on_hash tree.ensures.data turn.index in
+    let walked = blocks-way c.checks.invariant.given turn.inside same c.in-Ok.ensures.given in
+    let goes = path-last c.as_slice.ensures.value (c.levels-levels.ensures.value ∙ ap levels tree.ensures.tree.shape_is) in
+    let given = c.in-Ok-read_beneath.ensures.given in
+    let rowed = row-given walked many.result (j * v.data_block + many.result * v.data_block - j * v.data_block) (sub-same (j * v.data_block) (many.result * v.data_block)) put.wide row.end many.ensures.fresh
+    (λ some. together-at c.args.part (length c.args.out.now / 512) j many.result _ same turn.count goes c.is_ignored-ignored.ensures (many.ensures.together some)) (row-stays c.args.part v.data_block many.result row.len given)
+    (λ some. gives-at c.args.part j many.result tree.ensures.data (row-begins (block_sectors v) (c.args.part.first / c.from.result + j) (c.args.part.first / block_sectors v + j) c.data_extent-extent.ensures.value turn.index) row.sectors (row-some many.result v.data_block (block_sectors v) _ row.len b.size.whole b.size.some some) given) in
+    let near : j * v.data_block + v.data_block - j * v.data_block ≡ v.data_block = sub-same (j * v.data_block) v.data_block in
+    let settled = block-settled rowed (j * v.data_block + v.data_block - j * v.data_block) near turn.inside (sym b.size.whole) put.end c.is_ignored-ignored.result c.settle.new.block c.is_ignored-ignored.ensures (row-covers many.ensures.some) (c.if-not-settle.ensures.zeros refl)
+    (λ used. (sym (digest-made b _ turn.inside far_to next put.len put.end made c.index-made-at.result ahead (row-covers many.ensures.some used)) ∙ (c.if-not-settle.ensures.same refl used).0, (c.if-not-settle.ensures.same refl used).1)) in
+    blocks-short settled
+
+pub read_blocks-returns-clause-given : goal.read_blocks-returns-clause-given
+read_blocks-returns-clause-given g t c =
+    let inv = c.checks.invariant in
+    let b = blocks-at c.requires in
+    let whole = c.requires.fits.sectors.whole in
+    let all : c.checks.at ≡ length c.args.out.now / 512 / block_sectors c.args.part.verity.now = omega (arith, c.checks-test.false, inv.checked.within, digest-count b c.args.out.now (omega (arith, whole))) in
+    blocks-given inv.given (omega (arith, all)) (blocks-long c.args.out.now _ _ b inv.checked.size whole all)

@@ -1,9 +1,9 @@
-use Rattle.std.proofs.Common.{All, length, take, map, ◌-◌, ◌≡◌, ◌≤◌, ◌+◌, ◌/◌, ◌*◌, ◌%◌, Ok}
+use Rattle.std.proofs.Common.{All, length, take, map, ◌-◌, ◌≡◌, ◌≤◌, ◌+◌, ◌/◌, ◌*◌, ◌%◌, ℕ, List, Ok}
 use Rattle.stack_rules.specs.Names.{mapped}
 use Rattle.stack_rules.specs.Descend.{depth}
 use Rattle.block_device.specs.Call.{DeviceDoes}
-use Rattle.stack_meaning.specs.Meaning.{said_at}
-use Rattle.stack_meaning.specs.Reading.{MeetVerity}
+use Rattle.stack_engine.specs.SectorCalls.{DataRead, LeadsTo, data_of, last_bytes, one_block, place_in, whole_data}
+use Rattle.stack_engine.proofs.BlockCallLemmas.{BlocksUpTo}
 use Rattle.stack_engine.proofs.SectorCallLemmas.{GivesUpTo}
 use Rattle.stack_lines.specs.Sources.{source_depth}
 use Rattle.stack_lines.specs.Walks.{block_in, IsWalked}
@@ -36,8 +36,7 @@ invariant-read_device-loop-at g l = record {
   within : l.at ≤ length l.out;
   so_far : ReadsAs l.chains l.config (mapped l.from.0.0) l.from.1 (l.at / 512)
       (record { old = map g.D.BlockDev.state l.fn.backing.devices.items; new = map g.D.BlockDev.state l.backing.devices.items; before = l.fn.found.items; after = l.found.items }) (Ok (take l.at l.out));
-  given : (MeetVerity (said_at l.config (mapped l.from.0.0)) l.from.1 (length l.fn.out / 512) → ⊥)
-      → GivesUpTo (DeviceDoes g.D.BlockDev.state g.D.BlockDev.does) l.config l.from.0.0 l.from.1 (length l.fn.out / 512) (l.at / 512) (take l.at l.out) l.fn.backing.devices.items l.backing.devices.items;
+  given : GivesUpTo (DeviceDoes g.D.BlockDev.state g.D.BlockDev.does) l.config l.from.0.0 l.from.1 (length l.fn.out / 512) (l.at / 512) (take l.at l.out) l.fn.backing.devices.items l.backing.devices.items;
   step : IsReadStep l.config (run_beneath l.config (mapped l.from.0.0) l.from.1 (l.at / 512)) (backing_of g.D.BlockDev.state l.fn.backing) (backing_of g.D.BlockDev.state l.backing) (Ok tt);
   cut : IsCutBehind l.config l.from.0.0 l.from.1 (l.at / 512) (length l.fn.out / 512);
 }
@@ -73,6 +72,8 @@ invariant-walk-loop-level g l = record {
       (map g.D.BlockDev.state l.fn.backing.devices.items) (map g.D.BlockDev.state l.backing.devices.items);
   cached : KeepsCache l.config (map g.D.BlockDev.state l.backing.devices.items) l.fn.backing.cache l.backing.cache;
   touches : AsksOnly {A = Unit {0}} (leaves_of l.config (mapped l.tree.device.0)) (map g.D.BlockDev.state l.fn.backing.devices.items) (map g.D.BlockDev.state l.backing.devices.items) (Ok tt);
+  given : (last : List ℕ) × LeadsTo (DeviceDoes g.D.BlockDev.state g.D.BlockDev.does) l.config (whole_data (place_in l.verity l.tree l.index) one_block) (data_of (place_in l.verity l.tree l.index) l.level l.expected last one_block)
+      l.fn.backing.devices.items l.backing.devices.items;
 }
 
 abbrev pub decreases-walk-loop-level : goal.decreases-walk-loop-level
@@ -96,6 +97,8 @@ invariant-walk_path-loop-left g l = record {
   held : All (IsCached l.config (map g.D.BlockDev.state l.backing.devices.items)) l.path.items;
   cached : KeepsCache l.config (map g.D.BlockDev.state l.backing.devices.items) l.fn.backing.cache l.backing.cache;
   touches : AsksOnly {A = Unit {0}} (leaves_of l.config l.tree.hash) (map g.D.BlockDev.state l.fn.backing.devices.items) (map g.D.BlockDev.state l.backing.devices.items) (Ok tt);
+  given : (next : DataRead) → LeadsTo (DeviceDoes g.D.BlockDev.state g.D.BlockDev.does) l.config (whole_data (place_in l.verity l.tree l.index) next)
+      (data_of (place_in l.verity l.tree l.index) l.left l.digest (last_bytes (take l.at l.path.items)) next) l.fn.backing.devices.items l.backing.devices.items;
 }
 
 abbrev pub decreases-walk_path-loop-left : goal.decreases-walk_path-loop-left
@@ -111,6 +114,7 @@ invariant-read_blocks-checks g l = record {
       (map g.D.BlockDev.state l.fn.backing.devices.items) (map g.D.BlockDev.state l.backing.devices.items) l.fn.found.items l.found.items;
   cached : KeepsCache l.config (map g.D.BlockDev.state l.backing.devices.items) l.fn.backing.cache l.backing.cache;
   touches : AsksOnly {A = Unit {0}} (leaves_of l.config (mapped l.fn.part.device.0)) (map g.D.BlockDev.state l.fn.backing.devices.items) (map g.D.BlockDev.state l.backing.devices.items) (Ok tt);
+  given : BlocksUpTo (DeviceDoes g.D.BlockDev.state g.D.BlockDev.does) l.config l.fn.part (length l.fn.out / 512) l.read l.at l.out l.fn.backing.devices.items l.backing.devices.items;
 }
 
 abbrev pub decreases-read_blocks-checks : goal.decreases-read_blocks-checks

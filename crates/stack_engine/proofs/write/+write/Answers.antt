@@ -34,13 +34,12 @@ use Rattle.stack_meaning.specs.Places.{LeafRead}
 use Rattle.stack_meaning.specs.Reading.{IsPlain}
 use Rattle.stack_lines.specs.Sources.{ReadsSource}
 use Rattle.stack_meaning.proofs.lemmas.LeafLemmas.{all-whole}
-use Rattle.stack_engine.proofs.UnitChangeLemmas.{part-ended, part-written, none-meets}
+use Rattle.stack_engine.proofs.UnitChangeLemmas.{part-ended, part-written}
 use Rattle.stack_engine.proofs.UnitWriteLemmas.{lower-written, units-none, units-more, units-ended}
 use Rattle.stack_engine.proofs.RunBytesLemmas.{room_length, room_sectors, front_whole, with_run, with_rest, run_served, ends_before, ends_after, ends_behind, IsNextRun, next-run, run-fits}
 use Rattle.stack_engine.proofs.UnitStepLemmas.{step-at, step-width, step-written}
 use Rattle.stack_engine.proofs.HeldLemmas.{rest-later, one-none, none-of_units, none-of_part, IsCut, cut-bytes, cut-rest, cut-held}
 use Rattle.block_device.specs.Call.{DeviceDoes}
-use Rattle.stack_meaning.specs.Reading.{MeetVerity}
 use Rattle.stack_engine.specs.SectorCalls.{Hands, in_steps, zeros_written, fails_written}
 use Rattle.stack_engine.proofs.LeafCallLemmas.{makes-none}
 use Rattle.stack_engine.proofs.SectorCallLemmas.{runs_of, run-piece, step-piece, writes-begin, leaf-handed, run-handed, run-unhanded, all-handed, step-handed, step-unhanded, steps-handed, each-handed, units-handed, part-handed, part-lost}
@@ -693,23 +692,19 @@ write_units-returns-clause-handed g t c =
 
 pub write_unit_part-returns-in-Err-clause-handed : goal.write_unit_part-returns-in-Err-clause-handed
 write_unit_part-returns-in-Err-clause-handed g t c =
-    let config = c.args.config.now in
     let bytes = c.args.bytes.now in
     let n : ℕ = length bytes / 512 in
     let whole = c.whole_unit-whole in
     let count = room_sectors c.as_mut_slice-all.result.now whole.result.sectors (ap (λ (l : List ℕ). length l) c.as_mut_slice-all.ensures.value) whole.ensures.few in
-    let none = none-meets config c.args.part whole.result bytes n c.requires.stack.sound.loaded whole.ensures.whole c.requires.fits.holds (omega (arith, c.requires.fits.sectors.some, c.requires.fits.sectors.whole)) (omega (arith, c.requires.fits.sectors.whole)) c.requires.allowed in
-    part-lost c.args.part whole.result _ bytes c.in-Err.fault whole.ensures.whole count (c.in-Err.ensures.given (subst (λ (k : ℕ). MeetVerity (source_said config (Units whole.result.from)) 0 k → ⊥) (sym count) none))
+    part-lost c.args.part whole.result _ bytes c.in-Err.fault whole.ensures.whole count c.in-Err.ensures.given
 
 pub write_unit_part-returns-clause-handed : goal.write_unit_part-returns-clause-handed
 write_unit_part-returns-clause-handed g t c =
-    let config = c.args.config.now in
     let bytes = c.args.bytes.now in
     let n : ℕ = length bytes / 512 in
     let whole = c.whole_unit-whole in
     let count = room_sectors c.as_mut_slice-all.result.now whole.result.sectors (ap (λ (l : List ℕ). length l) c.as_mut_slice-all.ensures.value) whole.ensures.few in
-    let none = none-meets config c.args.part whole.result bytes n c.requires.stack.sound.loaded whole.ensures.whole c.requires.fits.holds (omega (arith, c.requires.fits.sectors.some, c.requires.fits.sectors.whole)) (omega (arith, c.requires.fits.sectors.whole)) c.requires.allowed in
-    part-handed c.args.part whole.result _ bytes c.read_units.new.out c.put_sectors.new.unit whole.ensures.whole count c.put_sectors.ensures (c.in-Ok.ensures.given (subst (λ (k : ℕ). MeetVerity (source_said config (Units whole.result.from)) 0 k → ⊥) (sym count) none)) c.write_units.ensures.handed
+    part-handed c.args.part whole.result _ bytes c.read_units.new.out c.put_sectors.new.unit whole.ensures.whole count c.put_sectors.ensures c.in-Ok.ensures.given c.write_units.ensures.handed
 
 pub write_device-returns-in-Err-clause-handed : goal.write_device-returns-in-Err-clause-handed
 write_device-returns-in-Err-clause-handed g t c =

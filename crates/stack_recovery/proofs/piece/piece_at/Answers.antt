@@ -6,7 +6,8 @@ use Rattle.std.proofs.lemmas.Option.{slice_get_read, slice_get_within}
 use Rattle.dm_table.specs.declared.table.Line.{Line}
 use Rattle.alignment.specs.Lengths.{aligned_len}
 use Rattle.stack_rules.specs.Names.{lines_of}
-use Rattle.stack_recovery.specs.Pieces.{AreLostTogether, longest_piece, rest_of_unit, whole_unit}
+use Rattle.stack_recovery.specs.Alike.{AreLostTogether}
+use Rattle.stack_recovery.specs.Pieces.{longest_piece, rest_of_unit, whole_unit}
 use Rattle.stack_recovery.proofs.AlikeLemmas.{alike-at, fewer-together}
 use Rattle.stack_recovery.proofs.piece.piece_at.Goals as goal
 

@@ -1,49 +1,102 @@
-use Rattle.std.proofs.Common.{◌≡◌, ℕ, Bool, false, List, [], Option, is_some, subst}
+use Rattle.std.proofs.Common.{◌≤◌, ◌<◌, ℕ, Bool, false, IsTrue, length, inl, inr, refl, sym, ap, ◌∙◌, subst}
+use Rattle.std.proofs.lemmas.List.{length-replicate}
 use Rattle.block_device.specs.Call.{DeviceDoes}
+use Rattle.block_device.specs.Device.{Device}
 use Rattle.rescue_map.specs.Aheads.{marks_ahead}
-use Rattle.rescue_map.specs.declared.map.Run.{Run}
-use Rattle.stack_recovery.specs.declared.recovery.Counts.{Counts}
-use Rattle.stack_recovery.specs.declared.fault.RecoveryFault.{RecoveryFault}
-use Rattle.stack_recovery.specs.Handing.{HandsOver, HandsOverPart}
-use Rattle.stack_recovery.specs.Recoveries.{EndsEarly, GoesOver, IsRecoveryEnd, Recovers, Sides, parties, sides}
-use Rattle.stack_recovery.proofs.HandingLemmas.{hands-none, part-none}
-use Rattle.stack_recovery.proofs.UnderwayLemmas.{ends-none, recovers-none}
-use Rattle.stack_recovery.proofs.WritingLemmas.{err-as, ok-so, on-ok-as}
+use Rattle.rescue_map.specs.Maps.{marks}
+use Rattle.stack_rules.specs.Names.{mapped, size}
+use Rattle.stack_rules.specs.Records.{Configuration}
+use Rattle.stack_recovery.specs.FirstPasses.{Transfer, transfer}
+use Rattle.stack_recovery.proofs.SkimEndLemmas.{ends-unread, hands-unread, part-unread, skims-config, skims-sectors, skims-unread}
+use Rattle.stack_recovery.proofs.WritingLemmas.{err-from}
 use Rattle.stack_recovery.proofs.recovery.recover_with.Goals as goal
+
+pub skim_ahead-requires-clause-fits : goal.skim_ahead-requires-clause-fits
+skim_ahead-requires-clause-fits g c =
+    ap length c.unread-ahead.ensures.marks ∙ length-replicate {A = Bool} c.sectors.result false ∙ c.sectors.ensures ∙ ap (λ (x : Configuration). size x (mapped c.args.d.0)) c.config.ensures.value
+
+pub rescue-requires-clause-device : goal.rescue-requires-clause-device
+rescue-requires-clause-device g c =
+    let p = c.in_ok-map.ensures.ok in
+    subst (λ (x : Configuration). c.args.d.0 < length x.devices) (sym (skims-config _ _ _ _ _ _ p)) c.requires.device
+
+pub rescue-requires-clause-fits : goal.rescue-requires-clause-fits
+rescue-requires-clause-fits g c =
+    let p = c.in_ok-map.ensures.ok in
+    skims-sectors _ _ _ _ _ _ p ∙ ap (λ (x : Configuration). size x (mapped c.args.d.0)) (sym (skims-config _ _ _ _ _ _ p))
+
+pub rescue-requires-clause-room : goal.rescue-requires-clause-room
+rescue-requires-clause-room g c =
+    let p = c.in_ok-map.ensures.ok in
+    subst (λ (x : Configuration). size x (mapped c.args.d.0) ≤ (g.O.BlockDev.state c.skim_ahead.new.out).size) (sym (skims-config _ _ _ _ _ _ p))
+    (subst (λ (m : ℕ). size c.args.stack.now.config (mapped c.args.d.0) ≤ m) (sym p.copied.same.size) c.requires.room)
+
+pub rescue-requires-clause-allowed : goal.rescue-requires-clause-allowed
+rescue-requires-clause-allowed g c = subst IsTrue (sym c.in_ok-map.ensures.ok.copied.same.may_write) c.requires.allowed
+
+pub returns-in_err-map-clause-err : goal.returns-in_err-map-clause-err
+returns-in_err-map-clause-err g c =
+    let old : Transfer Device = transfer c.args.stack.now (g.O.BlockDev.state c.args.out.now) in
+    let new : Transfer Device = transfer c.skim_ahead.new.stack (g.O.BlockDev.state c.skim_ahead.new.out) in
+    let all = c.sectors.ensures ∙ ap (λ (x : Configuration). size x (mapped c.args.d.0)) c.config.ensures.value in
+    err-from c.from_residual.result _ c.in_err-map.field-0.0 c.from_residual.ensures.1
+    (inl (ends-unread c.unread-ahead.result c.sectors.result c.args.d.0 old new c.in_err-map.field-0.0 c.unread-ahead.ensures.marks c.unread-ahead.ensures.single all c.in_err-map.ensures.err, refl))
+
+pub returns-in_err-map-clause-stopped : goal.returns-in_err-map-clause-stopped
+returns-in_err-map-clause-stopped g c =
+    let Did = DeviceDoes g.O.BlockDev.state g.O.BlockDev.does in
+    let all = c.sectors.ensures ∙ ap (λ (x : Configuration). size x (mapped c.args.d.0)) c.config.ensures.value in
+    err-from c.from_residual.result _ c.in_err-map.field-0.0 c.from_residual.ensures.1
+    (inl (part-unread Did (marks_ahead c.unread-ahead.result) c.sectors.result c.args.d.0 (transfer c.args.stack.now c.args.out.now) (transfer c.skim_ahead.new.stack c.skim_ahead.new.out) c.in_err-map.field-0.0 c.unread-ahead.ensures.marks all c.in_err-map.ensures.stopped))
+
+pub returns-in_err-rescued-clause-err : goal.returns-in_err-rescued-clause-err
+returns-in_err-rescued-clause-err g c =
+    let old : Transfer Device = transfer c.args.stack.now (g.O.BlockDev.state c.args.out.now) in
+    let between : Transfer Device = transfer c.skim_ahead.new.stack (g.O.BlockDev.state c.skim_ahead.new.out) in
+    let all = c.sectors.ensures ∙ ap (λ (x : Configuration). size x (mapped c.args.d.0)) c.config.ensures.value in
+    err-from c.from_residual-in_err-rescued.result _ c.in_err-rescued.field-0.0 c.from_residual-in_err-rescued.ensures.1
+    (inr (record {
+      between = between;
+      map = c.in_ok-map.map;
+      skims = skims-unread c.unread-ahead.result c.sectors.result c.args.d.0 old c.in_ok-map.map between c.unread-ahead.ensures.marks c.unread-ahead.ensures.single all c.in_ok-map.ensures.ok;
+      ends = c.in_err-rescued.ensures.err;
+    }))
+
+pub returns-in_err-rescued-clause-stopped : goal.returns-in_err-rescued-clause-stopped
+returns-in_err-rescued-clause-stopped g c =
+    let Did = DeviceDoes g.O.BlockDev.state g.O.BlockDev.does in
+    let between = transfer c.skim_ahead.new.stack c.skim_ahead.new.out in
+    let all = c.sectors.ensures ∙ ap (λ (x : Configuration). size x (mapped c.args.d.0)) c.config.ensures.value in
+    err-from c.from_residual-in_err-rescued.result _ c.in_err-rescued.field-0.0 c.from_residual-in_err-rescued.ensures.1
+    (inr (record {
+      between = between;
+      after = marks c.in_ok-map.map;
+      first = hands-unread Did (marks_ahead c.unread-ahead.result) c.sectors.result c.args.d.0 (transfer c.args.stack.now c.args.out.now) (marks c.in_ok-map.map) between c.unread-ahead.ensures.marks all c.in_ok-map.ensures.handed;
+      second = c.in_err-rescued.ensures.stopped;
+    }))
 
 pub returns-clause-ok : goal.returns-clause-ok
 returns-clause-ok g c =
-    let d : ℕ = c.args.d.0 in
-    let old : Sides = sides c.args.stack.now (g.O.BlockDev.state c.args.out.now) (g.L.Listing.told c.args.listing.now) in
-    let new : Sides = sides c.go_over.new.stack (g.O.BlockDev.state c.go_over.new.out) (g.L.Listing.told c.go_over.new.listing) in
-    let noted : Option (List Run) = c.go_over.new.noted in
-    ok-so c.go_over.result (λ (counts : Counts). GoesOver (marks_ahead c.unread-ahead.result) d old counts noted new) (λ (counts : Counts). Recovers d old counts new) (is_some noted ≡ false)
-    (λ counts p none. recovers-none c.sectors.result d old counts noted new (subst (λ (m : List Bool). GoesOver m d old counts noted new) c.unread-ahead.ensures.marks p) none)
-    c.go_over.ensures.ok c.go_over.ensures.noted
-
-pub returns-clause-err : goal.returns-clause-err
-returns-clause-err g c =
-    let d : ℕ = c.args.d.0 in
-    let old : Sides = sides c.args.stack.now (g.O.BlockDev.state c.args.out.now) (g.L.Listing.told c.args.listing.now) in
-    let new : Sides = sides c.go_over.new.stack (g.O.BlockDev.state c.go_over.new.out) (g.L.Listing.told c.go_over.new.listing) in
-    err-as c.go_over.result (EndsEarly false (marks_ahead c.unread-ahead.result) d old new) (IsRecoveryEnd d old new)
-    (λ fault p. ends-none c.sectors.result d old new fault (subst (λ (m : List Bool). EndsEarly false m d old new fault) c.unread-ahead.ensures.marks p))
-    c.go_over.ensures.err
+    let old : Transfer Device = transfer c.args.stack.now (g.O.BlockDev.state c.args.out.now) in
+    let between : Transfer Device = transfer c.skim_ahead.new.stack (g.O.BlockDev.state c.skim_ahead.new.out) in
+    let all = c.sectors.ensures ∙ ap (λ (x : Configuration). size x (mapped c.args.d.0)) c.config.ensures.value in
+    record {
+      between = between;
+      map = c.in_ok-map.map;
+      rescued = c.in_ok-rescued.rescued;
+      skims = skims-unread c.unread-ahead.result c.sectors.result c.args.d.0 old c.in_ok-map.map between c.unread-ahead.ensures.marks c.unread-ahead.ensures.single all c.in_ok-map.ensures.ok;
+      rescues = c.in_ok-rescued.ensures.ok;
+      counted = refl;
+    }
 
 pub returns-clause-handed : goal.returns-clause-handed
 returns-clause-handed g c =
-    let old = parties c.args.stack.now c.args.out.now c.args.listing.now in
-    let new = parties c.go_over.new.stack c.go_over.new.out c.go_over.new.listing in
     let Did = DeviceDoes g.O.BlockDev.state g.O.BlockDev.does in
-    on-ok-as c.go_over.result (HandsOver Did (marks_ahead c.unread-ahead.result) c.args.d.0 old new) (HandsOver Did [] c.args.d.0 old new)
-    (λ p. hands-none Did c.sectors.result c.args.d.0 old new (subst (λ (m : List Bool). HandsOver Did m c.args.d.0 old new) c.unread-ahead.ensures.marks p))
-    c.go_over.ensures.handed
-
-pub returns-clause-stopped : goal.returns-clause-stopped
-returns-clause-stopped g c =
-    let old = parties c.args.stack.now c.args.out.now c.args.listing.now in
-    let new = parties c.go_over.new.stack c.go_over.new.out c.go_over.new.listing in
-    let Did = DeviceDoes g.O.BlockDev.state g.O.BlockDev.does in
-    err-as c.go_over.result (HandsOverPart Did (marks_ahead c.unread-ahead.result) c.args.d.0 old new) (HandsOverPart Did [] c.args.d.0 old new)
-    (λ fault p. part-none Did c.sectors.result c.args.d.0 old new fault (subst (λ (m : List Bool). HandsOverPart Did m c.args.d.0 old new fault) c.unread-ahead.ensures.marks p))
-    c.go_over.ensures.stopped
+    let between = transfer c.skim_ahead.new.stack c.skim_ahead.new.out in
+    let all = c.sectors.ensures ∙ ap (λ (x : Configuration). size x (mapped c.args.d.0)) c.config.ensures.value in
+    record {
+      between = between;
+      after = marks c.in_ok-map.map;
+      first = hands-unread Did (marks_ahead c.unread-ahead.result) c.sectors.result c.args.d.0 (transfer c.args.stack.now c.args.out.now) (marks c.in_ok-map.map) between c.unread-ahead.ensures.marks all c.in_ok-map.ensures.handed;
+      second = c.in_ok-rescued.ensures.handed;
+    }

@@ -12,7 +12,7 @@ unfolding verity_words
 returns-clause-ok c =
     let v = c.args.verity.now in
     let last = c.print_options.new.text.items in
-    let w11 : List Word = options_words (verity_options v.ignore_zero_blocks) in
+    let w11 : List Word = options_words (verity_options v) in
     let w10 = (salt_word v.salt) ∷ w11 in
     let w9 = (encode_lower v.root) ∷ w10 in
     let w8 = (codes "sha256") ∷ w9 in
@@ -40,7 +40,7 @@ pub returns-in_err-push_spaced-3-clause-err : goal.returns-in_err-push_spaced-3-
 unfolding verity_words
 returns-in_err-push_spaced-3-clause-err c =
     let v = c.args.verity.now in
-    let w11 : List Word = options_words (verity_options v.ignore_zero_blocks) in
+    let w11 : List Word = options_words (verity_options v) in
     let w10 : List Word = (salt_word v.salt) ∷ w11 in
     let w9 : List Word = (encode_lower v.root) ∷ w10 in
     let w8 : List Word = (codes "sha256") ∷ w9 in
@@ -55,7 +55,7 @@ pub returns-in_err-push_spaced-4-clause-err : goal.returns-in_err-push_spaced-4-
 unfolding verity_words
 returns-in_err-push_spaced-4-clause-err c =
     let v = c.args.verity.now in
-    let w11 : List Word = options_words (verity_options v.ignore_zero_blocks) in
+    let w11 : List Word = options_words (verity_options v) in
     let w10 : List Word = (salt_word v.salt) ∷ w11 in
     let w9 : List Word = (encode_lower v.root) ∷ w10 in
     let w8 : List Word = (codes "sha256") ∷ w9 in
@@ -69,7 +69,7 @@ pub returns-in_err-push_spaced_number-clause-err : goal.returns-in_err-push_spac
 unfolding verity_words
 returns-in_err-push_spaced_number-clause-err c =
     let v = c.args.verity.now in
-    let w11 : List Word = options_words (verity_options v.ignore_zero_blocks) in
+    let w11 : List Word = options_words (verity_options v) in
     let w10 : List Word = (salt_word v.salt) ∷ w11 in
     let w9 : List Word = (encode_lower v.root) ∷ w10 in
     let w8 : List Word = (codes "sha256") ∷ w9 in
@@ -82,7 +82,7 @@ pub returns-in_err-push_spaced_number-2-clause-err : goal.returns-in_err-push_sp
 unfolding verity_words
 returns-in_err-push_spaced_number-2-clause-err c =
     let v = c.args.verity.now in
-    let w11 : List Word = options_words (verity_options v.ignore_zero_blocks) in
+    let w11 : List Word = options_words (verity_options v) in
     let w10 : List Word = (salt_word v.salt) ∷ w11 in
     let w9 : List Word = (encode_lower v.root) ∷ w10 in
     let w8 : List Word = (codes "sha256") ∷ w9 in
@@ -94,7 +94,7 @@ pub returns-in_err-push_spaced_number-3-clause-err : goal.returns-in_err-push_sp
 unfolding verity_words
 returns-in_err-push_spaced_number-3-clause-err c =
     let v = c.args.verity.now in
-    let w11 : List Word = options_words (verity_options v.ignore_zero_blocks) in
+    let w11 : List Word = options_words (verity_options v) in
     let w10 : List Word = (salt_word v.salt) ∷ w11 in
     let w9 : List Word = (encode_lower v.root) ∷ w10 in
     let w8 : List Word = (codes "sha256") ∷ w9 in
@@ -105,7 +105,7 @@ pub returns-in_err-push_spaced_number-4-clause-err : goal.returns-in_err-push_sp
 unfolding verity_words
 returns-in_err-push_spaced_number-4-clause-err c =
     let v = c.args.verity.now in
-    let w11 : List Word = options_words (verity_options v.ignore_zero_blocks) in
+    let w11 : List Word = options_words (verity_options v) in
     let w10 : List Word = (salt_word v.salt) ∷ w11 in
     let w9 : List Word = (encode_lower v.root) ∷ w10 in
     let w8 : List Word = (codes "sha256") ∷ w9 in
@@ -115,7 +115,7 @@ pub returns-in_err-push_digits-clause-err : goal.returns-in_err-push_digits-clau
 unfolding verity_words
 returns-in_err-push_digits-clause-err c =
     let v = c.args.verity.now in
-    let w11 : List Word = options_words (verity_options v.ignore_zero_blocks) in
+    let w11 : List Word = options_words (verity_options v) in
     let w10 : List Word = (salt_word v.salt) ∷ w11 in
     exit_word (codes "verity" ∷ codes "1" ∷ v.data ∷ v.hash ∷ decimal v.data_block ∷ decimal v.hash_block ∷ decimal v.blocks ∷ decimal v.start ∷ codes "sha256" ∷ []) (encode_lower v.root) w10 c.from_residual-in_err-push_digits.result c.in_err-push_digits.field-0.0 (encode_lower c.as_bytes.result.now) c.from_residual-in_err-push_digits.ensures.1 (ap encode_lower c.as_bytes.ensures.value) c.in_err-push_digits.ensures.err
 
@@ -123,12 +123,12 @@ pub returns-in_err-print_salt-clause-err : goal.returns-in_err-print_salt-clause
 unfolding verity_words
 returns-in_err-print_salt-clause-err c =
     let v = c.args.verity.now in
-    let w11 : List Word = options_words (verity_options v.ignore_zero_blocks) in
+    let w11 : List Word = options_words (verity_options v) in
     exit_word (codes "verity" ∷ codes "1" ∷ v.data ∷ v.hash ∷ decimal v.data_block ∷ decimal v.hash_block ∷ decimal v.blocks ∷ decimal v.start ∷ codes "sha256" ∷ encode_lower v.root ∷ []) (salt_word v.salt) w11 c.from_residual-in_err-print_salt.result c.in_err-print_salt.field-0.0 (salt_word c.bytes.result.now) c.from_residual-in_err-print_salt.ensures.1 (ap salt_word c.bytes.ensures.value) c.in_err-print_salt.ensures.err
 
 pub returns-in_err-print_options-clause-err : goal.returns-in_err-print_options-clause-err
 unfolding verity_words
 returns-in_err-print_options-clause-err c =
     let v = c.args.verity.now in
-    let w11 : List Word = options_words (verity_options v.ignore_zero_blocks) in
+    let w11 : List Word = options_words (verity_options v) in
     exit_rest (codes "verity" ∷ codes "1" ∷ v.data ∷ v.hash ∷ decimal v.data_block ∷ decimal v.hash_block ∷ decimal v.blocks ∷ decimal v.start ∷ codes "sha256" ∷ encode_lower v.root ∷ salt_word v.salt ∷ []) w11 c.from_residual-in_err-print_options.result c.in_err-print_options.field-0.0 c.from_residual-in_err-print_options.ensures.1 c.in_err-print_options.ensures.err

@@ -64,6 +64,11 @@ unfolding verity_at
 returns-in_err-options c =
     exit_part _ _ _ _ c.from_residual-in_err-options.ensures.1 c.in_err-options.ensures (λ kind e. rw (c.in_ok-words.ensures, sym c.in_ok-check_version.ensures, c.in_ok-check_device.ensures, c.in_ok-check_device-2.ensures, sym c.in_ok-data_block.ensures, sym c.in_ok-hash_block.ensures, sym c.in_ok-blocks.ensures, sym c.in_ok-start.ensures, sym c.in_ok-algorithm.ensures, sym c.in_ok-root.ensures, sym c.in_ok-salt.ensures, e) refl)
 
+pub returns-in_err-corruption : goal.returns-in_err-corruption
+unfolding verity_at
+returns-in_err-corruption c =
+    exit_kind _ _ _ c.from_residual-in_err-corruption.ensures.1 (rw (c.in_ok-words.ensures, sym c.in_ok-check_version.ensures, c.in_ok-check_device.ensures, c.in_ok-check_device-2.ensures, sym c.in_ok-data_block.ensures, sym c.in_ok-hash_block.ensures, sym c.in_ok-blocks.ensures, sym c.in_ok-start.ensures, sym c.in_ok-algorithm.ensures, sym c.in_ok-root.ensures, sym c.in_ok-salt.ensures, c.in_ok-options.ensures, sym c.in_err-corruption.ensures) refl)
+
 pub returns-in_err-data : goal.returns-in_err-data
 returns-in_err-data c =
     let short = device_at-length _ c.in_ok-check_device.ensures in
@@ -76,4 +81,4 @@ returns-in_err-hash c =
 
 pub returns : goal.returns
 unfolding verity_at
-returns c = rw (c.in_ok-words.ensures, sym c.in_ok-check_version.ensures, c.in_ok-check_device.ensures, c.in_ok-check_device-2.ensures, sym c.in_ok-data_block.ensures, sym c.in_ok-hash_block.ensures, sym c.in_ok-blocks.ensures, sym c.in_ok-start.ensures, sym c.in_ok-algorithm.ensures, sym c.in_ok-root.ensures, sym c.in_ok-salt.ensures, c.in_ok-options.ensures, c.in_ok-data.ensures.ok, c.in_ok-hash.ensures.ok, c.is_kept-ignore_zero_blocks.ensures) refl
+returns c = rw (c.in_ok-words.ensures, sym c.in_ok-check_version.ensures, c.in_ok-check_device.ensures, c.in_ok-check_device-2.ensures, sym c.in_ok-data_block.ensures, sym c.in_ok-hash_block.ensures, sym c.in_ok-blocks.ensures, sym c.in_ok-start.ensures, sym c.in_ok-algorithm.ensures, sym c.in_ok-root.ensures, sym c.in_ok-salt.ensures, c.in_ok-options.ensures, sym c.in_ok-corruption.ensures, c.in_ok-data.ensures.ok, c.in_ok-hash.ensures.ok, c.is_kept-ignore_zero_blocks.ensures, c.is_kept-in_tasklet.ensures) refl

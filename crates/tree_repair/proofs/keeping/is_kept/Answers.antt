@@ -1,6 +1,8 @@
 use Rattle.std.proofs.Common.{◌∙◌, sym}
 use Rattle.std.proofs.lemmas.Bool.{true≢false}
-use Rattle.tree_repair.proofs.KeepLemmas.{unread}
+use Rattle.tree_repair.specs.Jobs.{job}
+use Rattle.tree_repair.specs.Noting.{was_put}
+use Rattle.tree_repair.proofs.KeepLemmas.{read-due, unread}
 use Rattle.tree_repair.proofs.RunLemmas.{world-none}
 use Rattle.tree_repair.proofs.keeping.is_kept.Goals as goal
 
@@ -8,10 +10,11 @@ pub returns-then-not-was_put-clause-read : goal.returns-then-not-was_put-clause-
 returns-then-not-was_put-clause-read g c = world-none c.args.image.now
 
 pub returns-then-not-was_put-clause-kept : goal.returns-then-not-was_put-clause-kept
-returns-then-not-was_put-clause-kept g c = λ kept put. absurd (true≢false (sym put ∙ sym c.was_put.ensures ∙ c.if-not-was_put.true))
+returns-then-not-was_put-clause-kept g c = λ put. absurd (true≢false (sym put ∙ sym c.was_put.ensures ∙ c.if-not-was_put.true))
 
 pub returns-then-not-was_put-clause-asked : goal.returns-then-not-was_put-clause-asked
 returns-then-not-was_put-clause-asked g c = unread c.args.repair.now.shape c.args.place.height c.args.image.now
 
 pub returns-clause-kept : goal.returns-clause-kept
-returns-clause-kept g c = λ kept put. c.is_read_back.ensures.good kept
+returns-clause-kept g c =
+    read-due (job c.args.repair.now) c.args.place.height c.args.place.index (was_put c.args.repair.now.write c.args.mended) c.args.image.now c.is_read_back.new.image c.is_read_back.result c.is_read_back.ensures.kept

@@ -2,11 +2,12 @@ use Rattle.std.proofs.Common.{◌≡◌, ◌≤◌, ◌-◌, ℕ, suc, length, m
 use Rattle.std.proofs.lemmas.List.{length-take-le}
 use Rattle.tree_shape.specs.Shape.{levels}
 use Rattle.tree_repair.specs.AccessBudgets.{LeavesWorld, block_read, nothing_due}
+use Rattle.tree_repair.specs.Flaws.{IsNotRead}
 use Rattle.tree_repair.specs.Jobs.{job}
 use Rattle.tree_repair.specs.Parity.{IsGoodNow, end_at}
 use Rattle.tree_repair.specs.Runs.{CanRun, size_at}
 use Rattle.tree_repair.specs.Worlds.{IsWorldRead, RepairWorld, repair_world}
-use Rattle.tree_repair.proofs.KeepLemmas.{data-back, hash-back}
+use Rattle.tree_repair.proofs.KeepLemmas.{data-back, hash-back, lost-data, lost-hash, read-by}
 use Rattle.tree_repair.proofs.ParityLemmas.{good-data, good-hash, inside-place}
 use Rattle.tree_repair.proofs.RunLemmas.{data-read, tree-read}
 use Rattle.tree_repair.proofs.keeping.is_read_back.Goals as goal
@@ -57,29 +58,6 @@ returns-clause-read g c =
     let d' = g.H.BlockDev.state c.is_there-2.new.device in
     subst (λ (w : RepairWorld). IsWorldRead w (repair_world a.data_dev d' a.data_copies a.hash_copies)) c.image.view_is (tree-read a d' c.is_there-2.ensures.read c.is_there-2.ensures.counted)
 
-pub returns-then-height-eq0-clause-good : goal.returns-then-height-eq0-clause-good
-returns-then-height-eq0-clause-good g c =
-    let s = c.args.repair.now.shape in
-    let long : length (take c.block_size-size.result c.args.memory.now) ≡ size_at s c.args.place.height =
-    length-take-le c.block_size-size.result c.args.memory.now (omega (arith, c.block_size-size.ensures, c.requires.room)) ∙ c.block_size-size.ensures in
-    let i = c.image.inside in
-    let a = repair_world (g.D.BlockDev.state i.data) (g.H.BlockDev.state i.hash) (map g.C.BlockDev.state i.data_copies.items) (map g.C.BlockDev.state i.hash_copies.items) in
-    λ good. subst (λ (w : RepairWorld). IsGoodNow (job c.args.repair.now) c.args.place.height c.args.place.index w) c.image.view_is
-    (good-data (job c.args.repair.now) c.args.path.now c.args.place.height c.args.place.index a.data_dev a.hash_dev a.data_copies a.hash_copies c.requires.way c.if-height-eq0.true
-    (_, (rw (c.digest_at-digest.ensures, c.first_sector-first.ensures.value, long) at (c.is_there.ensures.good good))))
-
-pub returns-clause-good : goal.returns-clause-good
-returns-clause-good g c =
-    let s = c.args.repair.now.shape in
-    let long : length (take c.block_size-size.result c.args.memory.now) ≡ size_at s c.args.place.height =
-    length-take-le c.block_size-size.result c.args.memory.now (omega (arith, c.block_size-size.ensures, c.requires.room)) ∙ c.block_size-size.ensures in
-    let i = c.image.inside in
-    let a = repair_world (g.D.BlockDev.state i.data) (g.H.BlockDev.state i.hash) (map g.C.BlockDev.state i.data_copies.items) (map g.C.BlockDev.state i.hash_copies.items) in
-    let some : c.args.place.height ≡ suc (c.args.place.height - 1) = omega (arith, c.if-height-eq0.false) in
-    λ good. subst (λ (w : RepairWorld). IsGoodNow (job c.args.repair.now) c.args.place.height c.args.place.index w) c.image.view_is
-    (good-hash (job c.args.repair.now) c.args.path.now c.args.place.height c.args.place.index a.hash_dev a.data_dev a.hash_copies a.data_copies c.requires.way (c.args.place.height - 1) some
-    (_, (rw (c.digest_at-digest.ensures, c.first_sector-first.ensures.value, long) at (c.is_there-2.ensures.good good))))
-
 pub returns-then-height-eq0-clause-asked : goal.returns-then-height-eq0-clause-asked
 returns-then-height-eq0-clause-asked g c =
     let s = c.args.repair.now.shape in
@@ -102,3 +80,36 @@ returns-clause-asked g c =
     let some : c.args.place.height ≡ suc (c.args.place.height - 1) = omega (arith, c.if-height-eq0.false) in
     subst (λ (w : RepairWorld). LeavesWorld (block_read s c.args.place.height) nothing_due w (repair_world a.data_dev d' a.data_copies a.hash_copies)) c.image.view_is
     (hash-back s c.args.place.height (c.args.place.height - 1) some a d' c.is_there-2.ensures.read (rw long at c.is_there-2.ensures.asked))
+
+pub returns-then-height-eq0-clause-kept : goal.returns-then-height-eq0-clause-kept
+returns-then-height-eq0-clause-kept g c =
+    let s = c.args.repair.now.shape in
+    let long : length (take c.block_size-size.result c.args.memory.now) ≡ size_at s c.args.place.height =
+    length-take-le c.block_size-size.result c.args.memory.now (omega (arith, c.block_size-size.ensures, c.requires.room)) ∙ c.block_size-size.ensures in
+    let i = c.image.inside in
+    let a = repair_world (g.D.BlockDev.state i.data) (g.H.BlockDev.state i.hash) (map g.C.BlockDev.state i.data_copies.items) (map g.C.BlockDev.state i.hash_copies.items) in
+    let d' = g.D.BlockDev.state c.is_there.new.device in
+    read-by (job c.args.repair.now) c.args.place.height c.args.place.index c.args.image.now (repair_world d' a.hash_dev a.data_copies a.hash_copies) c.is_there.result
+    (λ good. subst (λ (w : RepairWorld). IsGoodNow (job c.args.repair.now) c.args.place.height c.args.place.index w) c.image.view_is
+    (good-data (job c.args.repair.now) c.args.path.now c.args.place.height c.args.place.index a.data_dev a.hash_dev a.data_copies a.hash_copies c.requires.way c.if-height-eq0.true
+    (_, (rw (c.digest_at-digest.ensures, c.first_sector-first.ensures.value, long) at (c.is_there.ensures.good good)))))
+    (λ no. subst (λ (w : RepairWorld). IsNotRead (job c.args.repair.now) c.args.place.height c.args.place.index w (repair_world d' a.hash_dev a.data_copies a.hash_copies)) c.image.view_is
+    (lost-data (job c.args.repair.now) c.args.path.now c.args.place.height c.args.place.index a.data_dev d' a.hash_dev a.data_copies a.hash_copies c.requires.inside c.requires.way c.if-height-eq0.true
+    (rw (c.digest_at-digest.ensures, c.first_sector-first.ensures.value, long) at (c.is_there.ensures.bad no)) (data-read a d' c.is_there.ensures.read c.is_there.ensures.counted)))
+
+pub returns-clause-kept : goal.returns-clause-kept
+returns-clause-kept g c =
+    let s = c.args.repair.now.shape in
+    let long : length (take c.block_size-size.result c.args.memory.now) ≡ size_at s c.args.place.height =
+    length-take-le c.block_size-size.result c.args.memory.now (omega (arith, c.block_size-size.ensures, c.requires.room)) ∙ c.block_size-size.ensures in
+    let i = c.image.inside in
+    let a = repair_world (g.D.BlockDev.state i.data) (g.H.BlockDev.state i.hash) (map g.C.BlockDev.state i.data_copies.items) (map g.C.BlockDev.state i.hash_copies.items) in
+    let d' = g.H.BlockDev.state c.is_there-2.new.device in
+    let some : c.args.place.height ≡ suc (c.args.place.height - 1) = omega (arith, c.if-height-eq0.false) in
+    read-by (job c.args.repair.now) c.args.place.height c.args.place.index c.args.image.now (repair_world a.data_dev d' a.data_copies a.hash_copies) c.is_there-2.result
+    (λ good. subst (λ (w : RepairWorld). IsGoodNow (job c.args.repair.now) c.args.place.height c.args.place.index w) c.image.view_is
+    (good-hash (job c.args.repair.now) c.args.path.now c.args.place.height c.args.place.index a.hash_dev a.data_dev a.hash_copies a.data_copies c.requires.way (c.args.place.height - 1) some
+    (_, (rw (c.digest_at-digest.ensures, c.first_sector-first.ensures.value, long) at (c.is_there-2.ensures.good good)))))
+    (λ no. subst (λ (w : RepairWorld). IsNotRead (job c.args.repair.now) c.args.place.height c.args.place.index w (repair_world a.data_dev d' a.data_copies a.hash_copies)) c.image.view_is
+    (lost-hash (job c.args.repair.now) c.args.path.now c.args.place.height c.args.place.index (c.args.place.height - 1) a.hash_dev d' a.data_dev a.hash_copies a.data_copies c.requires.inside c.requires.way some
+    (rw (c.digest_at-digest.ensures, c.first_sector-first.ensures.value, long) at (c.is_there-2.ensures.bad no)) (tree-read a d' c.is_there-2.ensures.read c.is_there-2.ensures.counted)))

@@ -1,6 +1,9 @@
 use Rattle.std.proofs.Common.{List, length, refl, ap, arith}
 use Rattle.tree_repair.specs.declared.bad.BadBlock.{BadBlock}
-use Rattle.tree_repair.proofs.KeepLemmas.{leaves-checked, leaves-unchecked, noted-kept}
+use Rattle.tree_repair.specs.declared.bad.BadBlocks.{BadBlocks}
+use Rattle.tree_repair.specs.Jobs.{job}
+use Rattle.tree_repair.specs.Noting.{was_put}
+use Rattle.tree_repair.proofs.KeepLemmas.{kept-blocks, kept-true, leaves-checked, leaves-unchecked, noted-kept, read-good, read-lost}
 use Rattle.tree_repair.proofs.ParityLemmas.{size-block}
 use Rattle.tree_repair.proofs.PassLemmas.{noted-from, noted-not, noted-one}
 use Rattle.tree_repair.proofs.RunLemmas.{can-later, ends-unnoted, ends-unsaid, ends-unwritten, has-one, refused-within}
@@ -20,12 +23,12 @@ is_kept-kept-requires-clause-can g c = can-later (has-one c.in_ok-mended.ensures
 
 pub returns-clause-notes : goal.returns-clause-notes
 returns-clause-notes g c =
-    noted-kept
-    (noted-one {b = c.note.new.self} _ c.in_ok-mended.ensures.ok.1 refl c.in_ok-say_mended.ensures.ok c.note.ensures.asked c.in_ok-note.ensures.noted c.in_ok-note.ensures.any c.note.ensures.passed (λ h i due. record { height_is = due.0; same = due.1 }) (refl, refl))
-    c.is_kept-kept.ensures.read c.keep.ensures.asked c.keep.ensures.blocks c.keep.ensures.any c.keep.ensures.passed
+    noted-kept c.is_kept-kept.result
+    (noted-one {b = c.note.new.self} _ c.in_ok-mended.ensures.ok.1 refl c.in_ok-say_mended.ensures.ok c.note.ensures.asked c.in_ok-note.ensures.noted c.in_ok-note.ensures.any c.note.ensures.passed c.note.ensures.unkept (λ h i due. record { height_is = due.0; same = due.1 }) (refl, refl))
+    c.is_kept-kept.ensures.read c.keep.ensures (λ no. (c.args.place.height, (c.args.place.index, read-lost (job c.args.repair.now) c.args.place.height c.args.place.index (was_put c.args.repair.now.write c.in_ok-mended.mended) c.visit.new.image c.is_kept-kept.new.image c.is_kept-kept.result c.is_kept-kept.ensures.kept no)))
 
 pub returns-clause-few : goal.returns-clause-few
-returns-clause-few g c = omega (arith, c.in_ok-note.ensures.few, ap (λ (l : List BadBlock). length l) c.keep.ensures.blocks)
+returns-clause-few g c = omega (arith, c.in_ok-note.ensures.few, ap (λ (b : BadBlocks). length b.blocks.items) c.keep.ensures, ap (λ (l : List BadBlock). length l) (kept-blocks c.is_kept-kept.result c.note.new.self))
 
 pub returns-in_err-mended-clause-asked : goal.returns-in_err-mended-clause-asked
 returns-in_err-mended-clause-asked g c =
@@ -53,6 +56,6 @@ returns-clause-kept g c = λ kept. record {
   bytes = c.in_ok-mended.ensures.ok.0;
   behind = c.visit.new.image;
   visited = c.in_ok-mended.ensures.ok.1;
-  there = c.is_kept-kept.ensures.kept (c.keep.ensures.unkept kept).1;
+  there = read-good (job c.args.repair.now) c.args.place.height c.args.place.index (was_put c.args.repair.now.write c.in_ok-mended.mended) c.visit.new.image c.is_kept-kept.new.image c.is_kept-kept.result c.is_kept-kept.ensures.kept (kept-true c.is_kept-kept.result c.note.new.self c.keep.new.self c.keep.ensures kept);
   read_back = c.is_kept-kept.ensures.read;
 }

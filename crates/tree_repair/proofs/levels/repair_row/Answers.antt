@@ -15,6 +15,7 @@ pub returns-then-not-reach-clause-notes : goal.returns-then-not-reach-clause-not
 returns-then-not-reach-clause-notes g c =
     let j = job c.args.repair.now in
     noted-read c.pass_by.ensures c.reach.ensures.read
+    (record { height = c.args.row.height; index = c.args.row.first; inside = c.requires.some; read = c.reach.ensures.read; cut = rw c.if-not-reach.true at c.reach.ensures.way })
     (λ h i due.
     subst (λ (n : ℕ). IsLookedAt j n i [] c.args.image.now c.reach.new.image) due.0
     (looked-cut j c.args.row.height i c.args.row.first c.args.image.now c.reach.new.image c.reach.ensures.read (row-above c.args.repair.now.shape c.args.row i c.requires.can.valid c.requires.row due.1.0 due.1.1)

@@ -55,7 +55,7 @@ returns-clause-whole g c =
     subst (IsParityOutcome c.args.plan.now w y) (sym c.outcome_of.ensures)
     (parity-outcome c.args.plan.now (job c.repair_of-repair.result) w y c.repair_of-repair.ensures c.in_ok-check_room.ensures.ok
     c.in_ok-all.all c.none_since-sure.result c.blocks-blocks.result c.blocks-blocks.ensures.value c.in_ok-all.ensures.whole
-    (λ known. unfailed-since c.of-before.result w y c.of-before.ensures.data c.of-before.ensures.hash (c.none_since-sure.ensures known)))
+    (λ known. unfailed-since c.of-before.result w y c.of-before.ensures.data c.of-before.ensures.hash (c.none_since-sure.ensures.none known)))
 
 pub returns-clause-sought : goal.returns-clause-sought
 returns-clause-sought g c =

@@ -1,7 +1,9 @@
 use Rattle.std.proofs.Common.{IsTrue, refl, subst, arith}
 use Rattle.std.proofs.lemmas.Bool.{and_parts}
 use Rattle.tree_repair.specs.declared.mending.Mended.TheVariants as mended
-use Rattle.tree_repair.proofs.KeepLemmas.{has-kept, tells-kept}
+use Rattle.tree_repair.specs.Jobs.{job}
+use Rattle.tree_repair.specs.Noting.{was_put}
+use Rattle.tree_repair.proofs.KeepLemmas.{has-kept, read-good, tells-kept}
 use Rattle.tree_repair.proofs.ParityBillLemmas.{put-read, put-unread}
 use Rattle.tree_repair.proofs.RunLemmas.{can-later, ended-from, ends-unsaid, ends-unwritten, has-one, has-read}
 use Rattle.tree_repair.proofs.ParityPassLemmas.{tells-from, tells-none, tells-one}
@@ -72,6 +74,6 @@ returns-clause-there g c = λ back yes. record {
   bytes = c.args.bytes.now;
   behind = c.put_block.new.image;
   visited = rw c.if-not-back.false at c.in_ok-back.ensures.ok;
-  there = c.is_kept-there.ensures.kept (and_parts c.args.kept.now c.is_kept-there.result (subst IsTrue c.are_both.ensures yes)).1;
+  there = read-good (job c.args.missing.now.repair.now) c.args.missing.now.place.height c.args.missing.now.place.index (was_put c.args.missing.now.repair.now.write mended.Parity) c.put_block.new.image c.is_kept-there.new.image c.is_kept-there.result c.is_kept-there.ensures.kept (and_parts c.args.kept.now c.is_kept-there.result (subst IsTrue c.are_both.ensures yes)).1;
   read_back = c.is_kept-there.ensures.read;
 }

@@ -9,6 +9,7 @@ use Rattle.tree_repair.specs.Jobs.{job}
 use Rattle.tree_repair.proofs.RepairLemmas.{can-begin, err-from, is_err-from, looks-of, repairs-of, whole-err}
 use Rattle.tree_repair.proofs.RunLemmas.{ended-from}
 use Rattle.tree_repair.proofs.WholeLemmas.{outcome-of, unfailed-since}
+use Rattle.tree_repair.proofs.UnfailedLemmas.{uncounted-of}
 use Rattle.tree_repair.proofs.repair.repair_image.Goals as goal
 
 pub repair_heights-requires : goal.repair_heights-requires
@@ -58,7 +59,9 @@ pub returns-clause-whole : goal.returns-clause-whole
 returns-clause-whole g c =
     let w = c.args.image.now in
     let y = c.repair_heights.new.image in
+    let notes = c.in_ok-repair_heights.ensures.notes in
     subst (IsOutcomeOf c.args.plan.now w y) (sym c.outcome_of.ensures)
-    (outcome-of c.args.plan.now (job c.repair_of-repair.result) w y c.repair_of-repair.ensures c.in_ok-check_room.ensures.ok c.is_none-good.result c.none_since-sure.result
-    c.blocks-blocks.result c.blocks-blocks.ensures.value c.in_ok-repair_heights.ensures.notes c.in_ok-repair_heights.ensures.whole c.is_none-good.ensures
-    (λ known. unfailed-since c.of-before.result w y c.of-before.ensures.data c.of-before.ensures.hash (c.none_since-sure.ensures known)))
+    (outcome-of c.args.plan.now (job c.repair_of-repair.result) w y c.repair_of-repair.ensures c.in_ok-check_room.ensures.ok c.is_none-good.result c.none_since-sure.result c.new-bad.ensures.fresh c.is_none-good.ensures
+    (λ known. unfailed-since c.of-before.result w y c.of-before.ensures.data c.of-before.ensures.hash (c.none_since-sure.ensures.none known))
+    (λ no none. c.none_since-sure.ensures.some no (uncounted-of c.of-before.result (job c.repair_of-repair.result) notes.run.visits w y c.of-before.ensures.data c.of-before.ensures.hash notes.run.runs none))
+    c.blocks-blocks.result c.blocks-blocks.ensures.value notes c.in_ok-repair_heights.ensures.whole)

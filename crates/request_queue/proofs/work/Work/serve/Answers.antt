@@ -1,4 +1,4 @@
-use Rattle.request_queue.proofs.WriteLemmas.{part-bytes, read-unkept, write-called, write-done, write-failed, write-lost}
+use Rattle.request_queue.proofs.WriteLemmas.{err-from, part-bytes, read-unkept, write-called, write-done, write-failed, write-lost}
 use Rattle.request_queue.proofs.work.Work.serve.Goals as goal
 
 pub returns-in-Write-clause-ok : goal.returns-in-Write-clause-ok
@@ -24,3 +24,8 @@ returns-in-Write-clause-failed g c =
 pub returns-in-Err-clause-failed : goal.returns-in-Err-clause-failed
 returns-in-Err-clause-failed g c =
     rw c.in-Read.is (read-unkept g.D.BlockDev.state g.D.BlockDev.does c.args.stack.now c.read_piece.new.self c.args.piece c.args.done c.in-Read.got _ c.in_ok-more-in-Read.ensures.given)
+
+pub returns-in_err-more-in-Read-clause-err : goal.returns-in_err-more-in-Read-clause-err
+returns-in_err-more-in-Read-clause-err g c =
+    let read = c.in_err-more-in-Read.ensures in
+    rw c.in-Read.is (err-from c.from_residual.result _ c.in_err-more-in-Read.field-0.0 c.from_residual.ensures.1 (record { answered = record { any = read.any; steady = read.steady }; kept = read.kept }))

@@ -67,4 +67,4 @@ returns-clause-given g c =
     let new = c.read_device.new.backing.devices.items in
     let after : StackRecord = stack_with c.self.inside.config (map state new) c.read_device.new.backing.cache.blocks in
     subst (λ (w : StackRecord). PieceGives state does w (c.args.d.0, c.args.first) n answer after) c.self.view_is
-    (λ none. record { before = devices; after = new; was = refl; is = refl; made = makes-as (λ calls a. inr a) (c.read_device.ensures.given none) })
+    (record { before = devices; after = new; was = refl; is = refl; made = makes-as (λ calls a. inr a) c.read_device.ensures.given })

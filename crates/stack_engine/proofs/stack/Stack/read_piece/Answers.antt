@@ -137,7 +137,7 @@ returns-clause-given g c =
     let devices = c.self.inside.backing.devices.items in
     let new = c.read_device.new.backing.devices.items in
     let after : StackRecord = stack_with config (map state new) c.read_device.new.backing.cache.blocks in
-    let made = subst (λ (n : ℕ). (MeetVerity (said_at config (mapped c.args.d.0)) c.args.first n → ⊥) → Gives (DeviceDoes state does) config (Below (mapped c.args.d.0) c.args.first) n devices new (buffer_answer c.read_device.result c.read_device.new.out)) (count g c) c.read_device.ensures.given in
+    let made = subst (λ (n : ℕ). Gives (DeviceDoes state does) config (Below (mapped c.args.d.0) c.args.first) n devices new (buffer_answer c.read_device.result c.read_device.new.out)) (count g c) c.read_device.ensures.given in
     let held : length c.read_device.new.out ≡ c.in-Ok.bytes.len = c.read_device.auto.out ∙ ap (λ (l : List ℕ). length l) c.as_mut_slice.ensures.value ∙ sym c.in-Ok.bytes.ok.0 in
     let Same : Result AnswerRecord IoFault → Type 0 = λ r. buffer_answer c.read_device.result c.read_device.new.out ≡ answer_bytes r in
     let same : Same c.match-read_device.result = elim c.match-read_device.branch [
@@ -146,11 +146,10 @@ returns-clause-given g c =
     ] in
     subst (λ (answer : Result (List ℕ) IoFault). PieceGives state does c.args.self.now (c.args.d.0, c.args.first) c.args.n answer after) same
     (subst (λ (w : StackRecord). PieceGives state does w (c.args.d.0, c.args.first) c.args.n (buffer_answer c.read_device.result c.read_device.new.out) after) c.self.view_is
-    (λ none. record { before = devices; after = new; was = refl; is = refl; made = makes-as (λ calls a. inr a) (made none) }))
+    (record { before = devices; after = new; was = refl; is = refl; made = makes-as (λ calls a. inr a) made }))
 
 pub returns-in-Err-clause-given : goal.returns-in-Err-clause-given
 returns-in-Err-clause-given g c =
-    λ none.
     let devices = c.self.inside.backing.devices.items in
     let same = ap (λ (w : StackRecord). w.leaves) c.self.view_is in
     record { before = devices; after = devices; was = same; is = same; made = makes-none (inl (refl, refl)) }

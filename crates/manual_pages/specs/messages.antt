@@ -1,0 +1,10 @@
+pub mod Accesses
+pub mod Images
+pub mod Leaves
+pub mod Linux
+pub mod Loads
+pub mod Maps
+pub mod Opening
+pub mod Parity
+pub mod Pins
+pub mod Texts

@@ -1,0 +1,95 @@
+use Rattle.std.proofs.Common.{◌≡◌, ◌+◌, ◌≤◌, refl, sym, ap, ◌∙◌, arith}
+use Rattle.stack_rules.specs.Names.{mapped, size}
+use Rattle.stack_rules.specs.Records.{Configuration}
+use Rattle.stack_rules.proofs.lemmas.PassingLemmas.{out_of_memory-more}
+use Rattle.stack_meaning.specs.Memory.{largest_allocation}
+use Rattle.scan_commands.specs.declared.rescue_fault.PassFault.TheVariants.{NoMemory}
+use Rattle.stack_recovery.specs.Recoveries.{sides}
+use Rattle.scan_commands.specs.MapFiles.{map_path_of}
+use Rattle.scan_commands.specs.Turns.{begins, goes_on, passes}
+use Rattle.scan_commands.proofs.TurnLemmas.{ends-as, err-from, turn-config, turn-out, whole-as}
+use Rattle.scan_commands.proofs.turns.read_in_turns.Goals.{then-is_had, else-is_had+in_ok-map}
+use Rattle.scan_commands.proofs.turns.read_in_turns.Goals as goal
+
+pub turns-init : goal.turns-init
+turns-init g c =
+    let all = c.sectors-sectors.ensures ∙ ap (λ (x : Configuration). size x (mapped c.args.d.0)) c.config.ensures.value in
+    record {
+      turns = begins;
+      map = c.requires.fits ∙ sym all;
+      within = omega arith;
+      all = all;
+      config = refl;
+      size = refl;
+      allowed = c.requires.allowed;
+    }
+
+pub returns-in_err-wanted-clause-err : goal.returns-in_err-wanted-clause-err
+returns-in_err-wanted-clause-err g c =
+    let u = c.turns.invariant in
+    err-from c.from_residual.result _ NoMemory c.from_residual.ensures.1
+    (ends-as g.I.Images.relations.replaces (map_path_of c.args.kept.file) c.args.kept.phase c.args.d.0 c.sectors-sectors.result _ _ _ c.turns.images
+    (sides c.turns.stack (g.O.BlockDev.state c.turns.out) (g.L.Listing.told c.turns.listing)) NoMemory u.all u.turns (refl, refl, out_of_memory-more 1 largest_allocation (omega arith) c.in_err-wanted.ensures.err))
+
+pub returns-in_err-map-clause-err : goal.returns-in_err-map-clause-err
+returns-in_err-map-clause-err g c =
+    let u = c.turns.invariant in
+    err-from c.from_residual-in_err-map.result _ c.in_err-map.field-0.0 c.from_residual-in_err-map.ensures.1
+    (ends-as g.I.Images.relations.replaces (map_path_of c.args.kept.file) c.args.kept.phase c.args.d.0 c.sectors-sectors.result _ _ _ c.take_turn.new.images
+    (sides c.take_turn.new.stack (g.O.BlockDev.state c.take_turn.new.out) (g.L.Listing.told c.take_turn.new.listing)) c.in_err-map.field-0.0 u.all u.turns c.in_err-map.ensures.err)
+
+pub turns-preserved : goal.turns-preserved
+turns-preserved g c =
+    let u = c.turns.invariant in
+    let more : c.turns.at + c.min-count.result ≤ c.sectors-sectors.result = omega (arith, c.min-count.ensures, c.turns-test.true) in
+    elim c.if-is_had.branch [
+      | then-is_had w ↦ rw (w.images-is, w.stack-is, w.out-is, w.listing-is, w.map-is, w.at-is) (record {
+        turns = passes u.turns (record {
+          span = record { first = c.turns.at; count = c.min-count.result };
+          next = record {
+            first = refl;
+            some = omega (arith, c.min-count.ensures, c.turns-test.true, c.turn_len.ensures.some);
+            few = omega (arith, c.min-count.ensures, c.turn_len.ensures.value);
+            end = refl;
+            inside = more;
+          };
+          runs = c.in_ok-wanted.wanted;
+          asked = c.in_ok-wanted.ensures.ok;
+          none = sym c.is_had.ensures ∙ w.if-is_had.true;
+          same = refl;
+        });
+        map = u.map;
+        within = more;
+        all = u.all;
+        config = u.config;
+        size = u.size;
+        allowed = u.allowed;
+      })
+      | else-is_had+in_ok-map w ↦ let t = w.in_ok-map.ensures.ok in
+          rw (w.images-is, w.stack-is, w.out-is, w.listing-is, w.map-is, w.at-is) (record {
+            turns = goes_on u.turns t;
+            map = w.in_ok-map.ensures.sectors;
+            within = more;
+            all = u.all;
+            config = turn-config _ _ _ _ t ∙ u.config;
+            size = (turn-out _ _ _ _ t).0 ∙ u.size;
+            allowed = (turn-out _ _ _ _ t).1 u.allowed;
+          })
+    ]
+
+pub returns-clause-ok : goal.returns-clause-ok
+returns-clause-ok g c =
+    let u = c.turns.invariant in
+    let end : c.turns.at ≡ c.sectors-sectors.result = omega (arith, u.within, c.turns-test.false) in
+    whole-as g.I.Images.relations.replaces (map_path_of c.args.kept.file) c.args.kept.phase c.args.d.0 c.sectors-sectors.result _ c.turns.at _ c.turns.images
+    (sides c.turns.stack (g.O.BlockDev.state c.turns.out) (g.L.Listing.told c.turns.listing)) c.turns.map u.all end u.turns
+
+pub returns-clause-goes_on : goal.returns-clause-goes_on
+returns-clause-goes_on g c =
+    let u = c.turns.invariant in
+    record {
+      map = u.map ∙ u.all;
+      config = u.config;
+      same_size = u.size;
+      allowed = u.allowed;
+    }

@@ -1,0 +1,7 @@
+pub mod Stacks
+pub mod Streams
+pub mod Scans
+pub mod Images
+pub mod Partitions
+pub mod Trees
+pub mod Commands

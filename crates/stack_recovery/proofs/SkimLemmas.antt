@@ -1,0 +1,210 @@
+-- The first pass, while sectors are left.
+use Rattle.std.proofs.Common.{◌≡◌, ◌⊎◌, ℕ, ◌+◌, ◌≤◌, ◌^◌, Bool, true, false, IsTrue, List, [], ◌∷◌, ◌++◌, length, replicate, Ok, Err, refl, sym, ap, ◌∙◌, subst, arith}
+use Rattle.std.proofs.lemmas.List.{append-nil, length-append, length-replicate, replicate-append-replicate}
+use Rattle.allocation.specs.Refusal.{IsOutOfMemory}
+use Rattle.block_device.specs.Call.{Call, Calls, Write}
+use Rattle.block_device.specs.Device.{Device, HasFailed, IsWritten, sectors_of, spliced}
+use Rattle.block_device.proofs.lemmas.CallLemmas.{calls-last}
+use Rattle.stack_rules.specs.Names.{mapped, size}
+use Rattle.stack_meaning.specs.declared.fault.IoFault.{IoFault}
+use Rattle.stack_engine.specs.Bytes.{EachBytes}
+use Rattle.stack_engine.specs.Stacks.{StackRecord}
+use Rattle.rescue_map.specs.declared.map.Run.{Run}
+use Rattle.rescue_map.specs.Maps.{marks}
+use Rattle.stack_recovery.specs.declared.fault.RecoveryFault.TheVariants as recovery
+use Rattle.stack_recovery.specs.FirstPasses.{FailsSkimOutput, HandsSkims, HandsSkimsPart, IsSkimBegun, IsSkimCopied, Skims, SkimsShort, Transfer, seen_transfer, transfer}
+use Rattle.stack_recovery.specs.Handing.{calls_found}
+use Rattle.stack_recovery.specs.PassPieces.{IsNextPiece, pass_over}
+use Rattle.stack_recovery.specs.Recoveries.{FindsNoMemory}
+use Rattle.stack_recovery.specs.Skims.{AreSkims, IsSkimFound, IsSkimOver, Skim, marks_of, skim_calls, skim_marks, skip_from}
+use Rattle.stack_recovery.specs.Skips.{least_skip, longer_skip, most_skip, skip_after}
+use Rattle.stack_recovery.specs.Surveys.{AreMarked, IsPieceSurveyed, again, had, kept}
+use Rattle.stack_recovery.proofs.SkimPieceLemmas.{marks-push, skim-calls-push, skim-copied-had, skim-copied-lost, skim-copied-none, skim-push, skims-push, skip-push}
+
+-- The sectors before `at` were read or left, and the map marks those that were read. After the next failed read `wanted` sectors
+-- are skipped.
+pub record IsSkimming {O : Type 0} (state : O → Device) (Did : O → Call → O → Type 0) (by_map : Bool) (before : List Bool) (d : ℕ) (old new : Transfer O) (at : ℕ) (made : List Run) (wanted : ℕ) : Type 0 where
+  pub skims : List Skim
+  pub survey : IsSkimOver before d 0 old.stack skims new.stack
+  pub here : at ≡ length (skim_marks skims)
+  pub copied : IsSkimCopied skims (state old.out) (state new.out)
+  pub noted : marks made ≡ skim_marks skims
+  pub pieces : AreSkims (pass_over old.stack.config d before by_map) 0 least_skip skims
+  pub skipping : wanted ≡ skip_from (most_skip (size old.stack.config (mapped d))) least_skip skims
+  pub did : Calls Did old.out (skim_calls 0 skims) new.out
+
+pub skimming-none : {O : Type 0} (state : O → Device) (Did : O → Call → O → Type 0) (by_map : Bool) (before : List Bool) (d : ℕ) (old : Transfer O) → IsSkimming state Did by_map before d old old 0 [] least_skip
+skimming-none state Did by_map before d old = record {
+  skims = [];
+  survey = refl;
+  here = refl;
+  copied = skim-copied-none (state old.out);
+  noted = refl;
+  pieces = tt;
+  skipping = refl;
+  did = refl;
+}
+
+module _ {O : Type 0} (state : O → Device) (Did : O → Call → O → Type 0) (by_map : Bool) (before : List Bool) (d : ℕ) (old now : Transfer O) (at : ℕ) (made : List Run) (wanted : ℕ) (u : IsSkimming state Did by_map before d old now at made wanted) where
+  next-survey : (s : Skim) → IsPieceSurveyed before d at now.stack s.piece → IsSkimOver before d 0 old.stack (u.skims ++ s ∷ []) s.piece.after
+  next-survey s p =
+      let here : at ≡ 0 + length (skim_marks u.skims) = omega (arith, u.here) in
+      skim-push before d 0 old.stack u.skims now.stack s u.survey (subst (λ (k : ℕ). IsPieceSurveyed before d k now.stack s.piece) here p)
+
+  next-skims : (s : Skim) → IsSkimFound (pass_over old.stack.config d before by_map) at wanted s.piece.count s.piece.found s.skip → AreSkims (pass_over old.stack.config d before by_map) 0 least_skip (u.skims ++ s ∷ [])
+  next-skims s h =
+      let here : at ≡ 0 + length (skim_marks u.skims) = omega (arith, u.here) in
+      skims-push (pass_over old.stack.config d before by_map) 0 least_skip u.skims s u.pieces
+      (subst (λ (w : ℕ). IsSkimFound (pass_over old.stack.config d before by_map) (0 + length (skim_marks u.skims)) w s.piece.count s.piece.found s.skip) u.skipping
+      (subst (λ (k : ℕ). IsSkimFound (pass_over old.stack.config d before by_map) k wanted s.piece.count s.piece.found s.skip) here h))
+
+  next-skip : (s : Skim) → skip_after (most_skip (size old.stack.config (mapped d))) wanted s.piece.found ≡ skip_from (most_skip (size old.stack.config (mapped d))) least_skip (u.skims ++ s ∷ [])
+  next-skip s =
+      let most : ℕ = most_skip (size old.stack.config (mapped d)) in
+      ap (λ (w : ℕ). skip_after most w s.piece.found) u.skipping ∙ sym (skip-push most least_skip u.skims s)
+
+  next-calls : (s : Skim) → skim_calls 0 u.skims ++ calls_found at s.piece.found ≡ skim_calls 0 (u.skims ++ s ∷ [])
+  next-calls s =
+      let here : at ≡ 0 + length (skim_marks u.skims) = omega (arith, u.here) in
+      ap (λ (k : ℕ). skim_calls 0 u.skims ++ calls_found k s.piece.found) here ∙ sym (skim-calls-push 0 u.skims s)
+
+  next-here : (s : Skim) (n : ℕ) → n ≡ length (marks_of s) → at + n ≡ length (skim_marks (u.skims ++ s ∷ []))
+  next-here s n is = omega (arith, u.here, is, ap length (marks-push u.skims s), length-append {A = Bool} (skim_marks u.skims) (marks_of s))
+
+  next-noted : (s : Skim) (more : List Run) (l : List Bool) → marks more ≡ marks made ++ l → l ≡ marks_of s → marks more ≡ skim_marks (u.skims ++ s ∷ [])
+  next-noted s more l noting is = noting ∙ ap (λ (m : List Bool). m ++ l) u.noted ∙ ap (λ (m : List Bool). skim_marks u.skims ++ m) is ∙ sym (marks-push u.skims s)
+
+  -- a piece that was read, and written
+  pub skimming-had : (n : ℕ) (bytes : List ℕ) (stack : StackRecord) (k : ℕ) (ok : Bool) (out : O) (more : List Run) → IsNextPiece (pass_over old.stack.config d before by_map) at 128 n
+      → EachBytes now.stack d at n (Ok bytes) stack → AreMarked before at n false → marks more ≡ marks made ++ replicate n true → k ≡ n
+      → IsWritten (state now.out) at k ok (state out) → (IsTrue (state now.out).steady → (state out).image ≡ spliced (state now.out).image at (sectors_of k bytes)) → Did now.out (Write at bytes true) out
+      → IsSkimming state Did by_map before d old (transfer stack out) (at + n) more least_skip
+  skimming-had n bytes stack k ok out more piece p marked noting count w image call =
+      let s : Skim = record { piece = record { count = n; found = had bytes; after = stack }; skip = 0 } in
+      let none : replicate n true ≡ marks_of s = sym (append-nil (replicate n true)) in
+      let all : n ≡ length (marks_of s) = sym (length-replicate {A = Bool} n true) ∙ ap length none in
+      record {
+        skims = u.skims ++ s ∷ [];
+        survey = next-survey s (record { answered = p; may = tt; marked = marked });
+        here = next-here s n all;
+        copied = skim-copied-had u.skims n at k bytes stack ok (state old.out) (state now.out) (state out) u.here count u.copied w image;
+        noted = next-noted s more (replicate n true) noting none;
+        pieces = next-skims s (piece, refl);
+        skipping = next-skip s;
+        did = subst (λ (l : List Call). Calls Did old.out l out) (next-calls s) (calls-last Did old.out now.out out (skim_calls 0 u.skims) (Write at bytes true) u.did call);
+      }
+
+  -- sectors that were read before
+  pub skimming-kept : (n : ℕ) (more : List Run) → 1 ≤ n → AreMarked before at n true → marks more ≡ marks made ++ replicate n true → IsSkimming state Did by_map before d old now (at + n) more wanted
+  skimming-kept n more some marked noting =
+      let s : Skim = record { piece = record { count = n; found = kept; after = now.stack }; skip = 0 } in
+      let none : replicate n true ≡ marks_of s = sym (append-nil (replicate n true)) in
+      let all : n ≡ length (marks_of s) = sym (length-replicate {A = Bool} n true) ∙ ap length none in
+      record {
+        skims = u.skims ++ s ∷ [];
+        survey = next-survey s (record { answered = refl; may = some; marked = marked });
+        here = next-here s n all;
+        copied = skim-copied-lost u.skims s (state old.out) (state now.out) (λ first m image. refl) u.copied;
+        noted = next-noted s more (replicate n true) noting none;
+        pieces = next-skims s refl;
+        skipping = next-skip s;
+        did = subst (λ (l : List Call). Calls Did old.out l now.out) (sym (append-nil (skim_calls 0 u.skims)) ∙ next-calls s) u.did;
+      }
+
+  -- a piece whose read failed, and the sectors that are skipped after it
+  pub skimming-skipped : (n skip : ℕ) (fault : IoFault) (stack : StackRecord) (more : List Run) → IsSkimFound (pass_over old.stack.config d before by_map) at wanted n (again fault) skip
+      → EachBytes now.stack d at n (Err fault) stack → AreMarked before at n false → marks more ≡ marks made ++ replicate (n + skip) false
+      → IsSkimming state Did by_map before d old (transfer stack now.out) (at + (n + skip)) more (longer_skip (most_skip (size old.stack.config (mapped d))) wanted)
+  skimming-skipped n skip fault stack more piece p marked noting =
+      let s : Skim = record { piece = record { count = n; found = again fault; after = stack }; skip = skip } in
+      let both : replicate (n + skip) false ≡ marks_of s = sym (replicate-append-replicate n skip false) in
+      record {
+        skims = u.skims ++ s ∷ [];
+        survey = next-survey s (record { answered = p; may = tt; marked = marked });
+        here = next-here s (n + skip) (sym (length-replicate {A = Bool} (n + skip) false) ∙ ap length both);
+        copied = skim-copied-lost u.skims s (state old.out) (state now.out) (λ first m image. refl) u.copied;
+        noted = next-noted s more (replicate (n + skip) false) noting both;
+        pieces = next-skims s piece;
+        skipping = next-skip s;
+        did = subst (λ (l : List Call). Calls Did old.out l now.out) (sym (append-nil (skim_calls 0 u.skims)) ∙ next-calls s) u.did;
+      }
+
+  -- there is room for more sectors in the map
+  pub skim-room : (n : ℕ) → at + n ≤ 2 ^ 54 → length (marks made) + n ≤ 2 ^ 54
+  skim-room n room = omega (arith, room, u.here, ap length u.noted)
+
+  -- ---- its end
+
+  begun : IsSkimBegun by_map before d old.stack
+  begun = record { skims = u.skims; left = now.stack; survey = u.survey; pieces = u.pieces }
+
+  -- memory ran out
+  pub skims-short : (stack : StackRecord) → (state now.out).failures ≡ (state old.out).failures → FindsNoMemory d at now.stack stack ⊎ IsOutOfMemory 1
+      → SkimsShort by_map before d (seen_transfer state old) (transfer stack (state now.out))
+  unfolding begun
+  skims-short stack unfailed refused = record {
+    begun = begun;
+    copied = u.copied;
+    unfailed = unfailed;
+    refused = subst (λ (k : ℕ). FindsNoMemory d k now.stack stack ⊎ IsOutOfMemory 1) u.here refused;
+  }
+
+  -- a write of the output device failed
+  pub fails-skim : (n : ℕ) (bytes : List ℕ) (stack : StackRecord) (out : Device) → EachBytes now.stack d at n (Ok bytes) stack → IsWritten (state now.out) at n false out → HasFailed (state old.out) out
+      → (IsTrue (state old.out).never_fails → ⊥) → FailsSkimOutput by_map before d (seen_transfer state old) (transfer stack out)
+  unfolding begun
+  fails-skim n bytes stack out read writing failed sure = record {
+    begun = begun;
+    out = state now.out;
+    n = n;
+    bytes = bytes;
+    read = subst (λ (k : ℕ). EachBytes now.stack d k n (Ok bytes) stack) u.here read;
+    copied = u.copied;
+    writing = subst (λ (k : ℕ). IsWritten (state now.out) k n false out) u.here writing;
+    failed = failed;
+    sure = sure;
+  }
+
+  -- all sectors were read or left
+  pub skims-all : at ≡ size old.stack.config (mapped d) → (state now.out).failures ≡ (state old.out).failures → Skims by_map before d (seen_transfer state old) made (seen_transfer state now)
+  skims-all all unfailed = record {
+    skims = u.skims;
+    survey = u.survey;
+    whole = sym u.here ∙ all;
+    pieces = u.pieces;
+    copied = u.copied;
+    unfailed = unfailed;
+    noted = u.noted;
+  }
+
+  pub hands-skims : at ≡ size old.stack.config (mapped d) → HandsSkims Did before d old (marks made) now
+  hands-skims all = record {
+    skims = u.skims;
+    survey = u.survey;
+    whole = sym u.here ∙ all;
+    noted = u.noted;
+    made = u.did;
+  }
+
+  -- memory ran out
+  pub hands-short : (stack : StackRecord) → HandsSkimsPart Did before d old (transfer stack now.out) recovery.NoMemory
+  hands-short stack = record {
+    skims = u.skims;
+    left = now.stack;
+    last = [];
+    survey = u.survey;
+    made = subst (λ (l : List Call). Calls Did old.out l now.out) (sym (append-nil (skim_calls 0 u.skims))) u.did;
+    ends = refl;
+  }
+
+  -- a write failed
+  pub hands-unwritten : (stack : StackRecord) (out : O) (n : ℕ) (bytes : List ℕ) → EachBytes now.stack d at n (Ok bytes) stack → Did now.out (Write at bytes false) out
+      → HandsSkimsPart Did before d old (transfer stack out) recovery.Output
+  hands-unwritten stack out n bytes read call = record {
+    skims = u.skims;
+    left = now.stack;
+    last = Write (length (skim_marks u.skims)) bytes false ∷ [];
+    survey = u.survey;
+    made = calls-last Did old.out now.out out (skim_calls 0 u.skims) (Write (length (skim_marks u.skims)) bytes false) u.did (subst (λ (k : ℕ). Did now.out (Write k bytes false) out) u.here call);
+    ends = (n, bytes, subst (λ (k : ℕ). EachBytes now.stack d k n (Ok bytes) stack) u.here read, refl);
+  }

@@ -1,0 +1,292 @@
+use Rattle.std.proofs.Common.{◌≡◌, ◌⊎◌, ◌+◌, ◌-◌, ◌≤◌, ◌<◌, ◌*◌, ◌/◌, ◌^◌, ℕ, min, Bool, true, false, List, ◌++◌, replicate, Ok, Err, IsErrAnd, arith, refl, sym, ◌∙◌, ap, subst, length, take, inl, inr}
+use Rattle.std.proofs.lemmas.Bool.{false≢true}
+use Rattle.std.proofs.lemmas.List.{length-take-le}
+use Rattle.block_device.specs.Call.{DeviceDoes}
+use Rattle.block_device.specs.Device.{IsWritten}
+use Rattle.stack_rules.specs.Names.{mapped, size}
+use Rattle.stack_rules.specs.Records.{Configuration}
+use Rattle.stack_engine.specs.Bytes.{EachBytes}
+use Rattle.stack_meaning.specs.declared.fault.IoFault.{IoFault}
+use Rattle.rescue_map.specs.Aheads.{marks_ahead}
+use Rattle.rescue_map.specs.Maps.{marks}
+use Rattle.rescue_map.specs.declared.map.Run.{Run}
+use Rattle.stack_recovery.specs.declared.fault.RecoveryFault.{RecoveryFault}
+use Rattle.stack_recovery.specs.declared.fault.RecoveryFault.TheVariants.{NoMemory, Output}
+use Rattle.stack_recovery.specs.FirstPasses.{has_more, transfer}
+use Rattle.stack_recovery.specs.PassPieces.{IsNextPiece, pass_over}
+use Rattle.stack_recovery.specs.Pieces.{EndsAligned}
+use Rattle.stack_recovery.specs.Skims.{IsSkimFound}
+use Rattle.stack_recovery.specs.Skips.{least_skip, longer_skip, most_skip}
+use Rattle.stack_recovery.specs.Surveys.{AreMarked, again}
+use Rattle.stack_recovery.proofs.AheadLemmas.{ahead-inside, ahead-next, first-run, marked-next}
+use Rattle.stack_recovery.proofs.PieceLemmas.{next-piece, skipped-piece}
+use Rattle.stack_recovery.proofs.SkimLemmas.{IsSkimming, fails-skim, hands-short, hands-skims, hands-unwritten, skim-room, skimming-had, skimming-kept, skimming-none, skimming-skipped, skims-all, skims-short}
+use Rattle.stack_recovery.proofs.SkimPieceLemmas.{no-more}
+use Rattle.stack_recovery.proofs.WritingLemmas.{err-from}
+use Rattle.stack_recovery.proofs.skimming.skim_by.Goals as goal
+
+pub pieces-init : goal.pieces-init
+pieces-init g c =
+    let all = c.sectors-sectors.ensures ∙ ap (λ (x : Configuration). size x (mapped c.args.d.0)) c.config.ensures.value in
+    record {
+      so_far = subst (λ (m : List Run). IsSkimming g.O.BlockDev.state (DeviceDoes g.O.BlockDev.state g.O.BlockDev.does) (has_more c.args.ahead.rest.now) (marks_ahead c.args.ahead) c.args.d.0 (transfer c.args.stack.now c.args.out.now) (transfer c.args.stack.now c.args.out.now) 0 m least_skip) (sym c.requires.begun)
+          (skimming-none g.O.BlockDev.state (DeviceDoes g.O.BlockDev.state g.O.BlockDev.does) (has_more c.args.ahead.rest.now) (marks_ahead c.args.ahead) c.args.d.0 (transfer c.args.stack.now c.args.out.now));
+      ahead = refl;
+      config = refl;
+      within = omega arith;
+      all = all;
+      few = omega (arith, all, c.requires.few);
+      short = omega arith;
+      unfailed = refl;
+      single = no-more c.args.ahead.rest.now;
+    }
+
+pub mark-requires-clause-room : goal.mark-requires-clause-room
+mark-requires-clause-room g c =
+    let u = c.pieces.invariant in
+    let first = first-run c.pieces.ahead c.next_run-run.new.self c.next_run-run.result c.next_run-run.ensures.same c.next_run-run.ensures.first in
+    let inside = ahead-inside (marks_ahead c.args.ahead) c.pieces.at c.sectors-sectors.result c.next_run-run.result.count c.next_run-run.result.had _ _ (c.requires.fits ∙ sym u.all) u.ahead first u.within in
+    skim-room _ _ _ _ _ _ _ _ _ _ u.so_far c.next_run-run.result.count (omega (arith, inside, u.few))
+
+pub returns-in_err-mark-clause-err : goal.returns-in_err-mark-clause-err
+returns-in_err-mark-clause-err g c =
+    let u = c.pieces.invariant in
+    err-from c.from_residual.result _ NoMemory (subst (λ (e : RecoveryFault). IsErrAnd c.from_residual.result (λ f. f ≡ e)) c.in_err-mark.ensures.err.0 c.from_residual.ensures.1)
+    (skims-short _ _ _ _ _ _ _ _ _ _ u.so_far c.pieces.stack u.unfailed (inr c.in_err-mark.ensures.err.1))
+
+pub returns-in_err-mark-clause-stopped : goal.returns-in_err-mark-clause-stopped
+returns-in_err-mark-clause-stopped g c =
+    err-from c.from_residual.result _ NoMemory (subst (λ (e : RecoveryFault). IsErrAnd c.from_residual.result (λ f. f ≡ e)) c.in_err-mark.ensures.err.0 c.from_residual.ensures.1)
+    (hands-short _ _ _ _ _ _ _ _ _ _ c.pieces.invariant.so_far c.pieces.stack)
+
+pub overflow_add-at : goal.overflow_add-at
+overflow_add-at g c =
+    let u = c.pieces.invariant in
+    let first = first-run c.pieces.ahead c.next_run-run.new.self c.next_run-run.result c.next_run-run.ensures.same c.next_run-run.ensures.first in
+    let inside = ahead-inside (marks_ahead c.args.ahead) c.pieces.at c.sectors-sectors.result c.next_run-run.result.count c.next_run-run.result.had _ _ (c.requires.fits ∙ sym u.all) u.ahead first u.within in
+    omega (arith, inside, u.few)
+
+pub pieces-preserved-then-run : goal.pieces-preserved-then-run
+pieces-preserved-then-run g c =
+    let u = c.pieces.invariant in
+    let before : List Bool = marks_ahead c.args.ahead in
+    let here : Run = c.next_run-run.result in
+    let first = first-run c.pieces.ahead c.next_run-run.new.self here c.next_run-run.ensures.same c.next_run-run.ensures.first in
+    let inside = ahead-inside before c.pieces.at c.sectors-sectors.result here.count here.had _ _ (c.requires.fits ∙ sym u.all) u.ahead first u.within in
+    let marked : AreMarked before c.pieces.at here.count true = subst (AreMarked before c.pieces.at here.count) c.if-run.true (marked-next before c.pieces.at here.count here.count here.had _ (omega arith) (u.ahead ∙ first)) in
+    record {
+      so_far = skimming-kept _ _ _ _ _ _ _ _ _ _ u.so_far here.count c.mark.new.map c.next_run-run.ensures.some marked c.in_ok-mark.ensures.ok;
+      ahead = ahead-next before c.pieces.at here.count _ _ _ (u.ahead ∙ sym c.next_run-run.ensures.same) c.pass.ensures.marks;
+      config = u.config;
+      within = inside;
+      all = u.all;
+      few = u.few;
+      short = u.short;
+      unfailed = u.unfailed;
+      single = λ none. c.pass.ensures.rest ∙ c.next_run-run.ensures.single (u.single none);
+    }
+
+pub overflow_add-at-else-run : goal.overflow_add-at-else-run
+overflow_add-at-else-run g c =
+    let u = c.pieces.invariant in
+    let first = first-run c.pieces.ahead c.next_run-run.new.self c.next_run-run.result c.next_run-run.ensures.same c.next_run-run.ensures.first in
+    let inside = ahead-inside (marks_ahead c.args.ahead) c.pieces.at c.sectors-sectors.result c.next_run-run.result.count c.next_run-run.result.had _ _ (c.requires.fits ∙ sym u.all) u.ahead first u.within in
+    omega (arith, inside, u.few)
+
+pub piece_at-piece-requires-clause-inside : goal.piece_at-piece-requires-clause-inside
+piece_at-piece-requires-clause-inside g c =
+    let u = c.pieces.invariant in
+    let count : ℕ = c.next_run-run.result.count in
+    let first = first-run c.pieces.ahead c.next_run-run.new.self c.next_run-run.result c.next_run-run.ensures.same c.next_run-run.ensures.first in
+    let inside = ahead-inside (marks_ahead c.args.ahead) c.pieces.at c.sectors-sectors.result count c.next_run-run.result.had _ _ (c.requires.fits ∙ sym u.all) u.ahead first u.within in
+    subst (λ (x : Configuration). c.pieces.at + count ≤ size x (mapped c.args.d.0)) (sym (c.config-else-run.ensures.value ∙ u.config)) (subst (λ (m : ℕ). c.pieces.at + count ≤ m) u.all inside)
+
+pub read_bytes-requires-clause-inside : goal.read_bytes-requires-clause-inside
+read_bytes-requires-clause-inside g c =
+    let u = c.pieces.invariant in
+    let count : ℕ = c.next_run-run.result.count in
+    let n : ℕ = c.piece_at-piece.result.count in
+    let first = first-run c.pieces.ahead c.next_run-run.new.self c.next_run-run.result c.next_run-run.ensures.same c.next_run-run.ensures.first in
+    let inside = ahead-inside (marks_ahead c.args.ahead) c.pieces.at c.sectors-sectors.result count c.next_run-run.result.had _ _ (c.requires.fits ∙ sym u.all) u.ahead first u.within in
+    let wide : length (take (n * 512) c.pieces.room) ≡ n * 512 = length-take-le (n * 512) c.pieces.room (omega (arith, c.requires.buffer, c.pieces.auto.room, c.piece_at-piece.ensures.few)) in
+    let within : c.pieces.at + length (take (n * 512) c.pieces.room) / 512 ≤ c.sectors-sectors.result = omega (arith, wide, inside, c.piece_at-piece.ensures.inside) in
+    subst (λ (x : Configuration). c.pieces.at + length (take (n * 512) c.pieces.room) / 512 ≤ size x (mapped c.args.d.0)) (sym u.config) (subst (λ (m : ℕ). c.pieces.at + length (take (n * 512) c.pieces.room) / 512 ≤ m) u.all within)
+
+pub mark-requires-in-Ok-clause-room : goal.mark-requires-in-Ok-clause-room
+mark-requires-in-Ok-clause-room g c =
+    let u = c.pieces.invariant in
+    let first = first-run c.pieces.ahead c.next_run-run.new.self c.next_run-run.result c.next_run-run.ensures.same c.next_run-run.ensures.first in
+    let inside = ahead-inside (marks_ahead c.args.ahead) c.pieces.at c.sectors-sectors.result c.next_run-run.result.count c.next_run-run.result.had _ _ (c.requires.fits ∙ sym u.all) u.ahead first u.within in
+    skim-room _ _ _ _ _ _ _ _ _ _ u.so_far c.from-count.result (omega (arith, inside, u.few, c.from-count.ensures, c.piece_at-piece.ensures.inside))
+
+pub returns-in_err-mark-in-Ok-clause-err : goal.returns-in_err-mark-in-Ok-clause-err
+returns-in_err-mark-in-Ok-clause-err g c =
+    let u = c.pieces.invariant in
+    err-from c.from_residual-in_err-mark-in-Ok.result _ NoMemory (subst (λ (e : RecoveryFault). IsErrAnd c.from_residual-in_err-mark-in-Ok.result (λ f. f ≡ e)) c.in_err-mark-in-Ok.ensures.err.0 c.from_residual-in_err-mark-in-Ok.ensures.1)
+    (skims-short _ _ _ _ _ _ _ _ _ _ u.so_far c.read_bytes.new.self u.unfailed (inr c.in_err-mark-in-Ok.ensures.err.1))
+
+pub returns-in_err-mark-in-Ok-clause-stopped : goal.returns-in_err-mark-in-Ok-clause-stopped
+returns-in_err-mark-in-Ok-clause-stopped g c =
+    err-from c.from_residual-in_err-mark-in-Ok.result _ NoMemory (subst (λ (e : RecoveryFault). IsErrAnd c.from_residual-in_err-mark-in-Ok.result (λ f. f ≡ e)) c.in_err-mark-in-Ok.ensures.err.0 c.from_residual-in_err-mark-in-Ok.ensures.1)
+    (hands-short _ _ _ _ _ _ _ _ _ _ c.pieces.invariant.so_far c.read_bytes.new.self)
+
+pub write-requires-clause-range : goal.write-requires-clause-range
+write-requires-clause-range g c =
+    let u = c.pieces.invariant in
+    let n : ℕ = c.piece_at-piece.result.count in
+    let first = first-run c.pieces.ahead c.next_run-run.new.self c.next_run-run.result c.next_run-run.ensures.same c.next_run-run.ensures.first in
+    let inside = ahead-inside (marks_ahead c.args.ahead) c.pieces.at c.sectors-sectors.result c.next_run-run.result.count c.next_run-run.result.had _ _ (c.requires.fits ∙ sym u.all) u.ahead first u.within in
+    let wide : length (take (n * 512) c.pieces.room) ≡ n * 512 = length-take-le (n * 512) c.pieces.room (omega (arith, c.requires.buffer, c.pieces.auto.room, c.piece_at-piece.ensures.few)) in
+    let number : length (take (n * 512) c.pieces.room) / 512 ≡ n = omega (arith, wide) in
+    let piece = subst (λ (m : ℕ). EachBytes c.pieces.stack c.args.d.0 c.pieces.at m (Ok c.read_bytes.new.out) c.read_bytes.new.self) number (record { any = c.in-Ok.ensures.any; steady = c.in-Ok.ensures.steady }) in
+    let len : length c.read_bytes.new.out ≡ 512 * n = piece.any.may.read.run.len in
+    record {
+      some = omega (arith, len, c.piece_at-piece.ensures.some);
+      whole = omega (arith, len);
+      inside = omega (arith, len, inside, c.piece_at-piece.ensures.inside, u.all, c.requires.room, u.so_far.copied.same.size);
+    }
+
+pub returns-in_err-write-in-Ok-clause-err : goal.returns-in_err-write-in-Ok-clause-err
+returns-in_err-write-in-Ok-clause-err g c =
+    let u = c.pieces.invariant in
+    let n : ℕ = c.piece_at-piece.result.count in
+    let wide : length (take (n * 512) c.pieces.room) ≡ n * 512 = length-take-le (n * 512) c.pieces.room (omega (arith, c.requires.buffer, c.pieces.auto.room, c.piece_at-piece.ensures.few)) in
+    let number : length (take (n * 512) c.pieces.room) / 512 ≡ n = omega (arith, wide) in
+    let bytes : List ℕ = c.read_bytes.new.out in
+    let piece = subst (λ (m : ℕ). EachBytes c.pieces.stack c.args.d.0 c.pieces.at m (Ok bytes) c.read_bytes.new.self) number (record { any = c.in-Ok.ensures.any; steady = c.in-Ok.ensures.steady }) in
+    let len : length bytes ≡ 512 * n = piece.any.may.read.run.len in
+    let count : length bytes / 512 ≡ n = omega (arith, len) in
+    err-from c.from_residual-in_err-write-in-Ok.result _ Output c.from_residual-in_err-write-in-Ok.ensures.1
+    (fails-skim _ _ _ _ _ _ _ _ _ _ u.so_far n bytes c.read_bytes.new.self (g.O.BlockDev.state c.write.new.self) piece
+    (subst (λ (m : ℕ). IsWritten (g.O.BlockDev.state c.pieces.out) c.pieces.at m false (g.O.BlockDev.state c.write.new.self)) count c.in_err-write-in-Ok.ensures.moved)
+    (subst (λ (m : ℕ). (m < (g.O.BlockDev.state c.write.new.self).failures) ⊎ (m ≡ 2 ^ 64 - 1)) u.unfailed c.in_err-write-in-Ok.ensures.fault)
+    (λ h. false≢true (c.in_err-write-in-Ok.ensures.sure (u.so_far.copied.same.never_fails h))))
+
+pub returns-in_err-write-in-Ok-clause-stopped : goal.returns-in_err-write-in-Ok-clause-stopped
+returns-in_err-write-in-Ok-clause-stopped g c =
+    let n : ℕ = c.piece_at-piece.result.count in
+    let wide : length (take (n * 512) c.pieces.room) ≡ n * 512 = length-take-le (n * 512) c.pieces.room (omega (arith, c.requires.buffer, c.pieces.auto.room, c.piece_at-piece.ensures.few)) in
+    let number : length (take (n * 512) c.pieces.room) / 512 ≡ n = omega (arith, wide) in
+    let bytes : List ℕ = c.read_bytes.new.out in
+    let piece = subst (λ (m : ℕ). EachBytes c.pieces.stack c.args.d.0 c.pieces.at m (Ok bytes) c.read_bytes.new.self) number (record { any = c.in-Ok.ensures.any; steady = c.in-Ok.ensures.steady }) in
+    err-from c.from_residual-in_err-write-in-Ok.result _ Output c.from_residual-in_err-write-in-Ok.ensures.1
+    (hands-unwritten _ _ _ _ _ _ _ _ _ _ c.pieces.invariant.so_far c.read_bytes.new.self c.write.new.self n bytes piece c.in_err-write-in-Ok.ensures.call)
+
+pub pieces-preserved-in-Ok : goal.pieces-preserved-in-Ok
+pieces-preserved-in-Ok g c =
+    let u = c.pieces.invariant in
+    let before : List Bool = marks_ahead c.args.ahead in
+    let by_map : Bool = has_more c.args.ahead.rest.now in
+    let here : Run = c.next_run-run.result in
+    let n : ℕ = c.piece_at-piece.result.count in
+    let first = first-run c.pieces.ahead c.next_run-run.new.self here c.next_run-run.ensures.same c.next_run-run.ensures.first in
+    let inside = ahead-inside before c.pieces.at c.sectors-sectors.result here.count here.had _ _ (c.requires.fits ∙ sym u.all) u.ahead first u.within in
+    let marked : AreMarked before c.pieces.at n false = subst (AreMarked before c.pieces.at n) c.if-run.false (marked-next before c.pieces.at n here.count here.had _ (omega (arith, c.piece_at-piece.ensures.inside)) (u.ahead ∙ first)) in
+    let wide : length (take (n * 512) c.pieces.room) ≡ n * 512 = length-take-le (n * 512) c.pieces.room (omega (arith, c.requires.buffer, c.pieces.auto.room, c.piece_at-piece.ensures.few)) in
+    let number : length (take (n * 512) c.pieces.room) / 512 ≡ n = omega (arith, wide) in
+    let bytes : List ℕ = c.read_bytes.new.out in
+    let piece = subst (λ (m : ℕ). EachBytes c.pieces.stack c.args.d.0 c.pieces.at m (Ok bytes) c.read_bytes.new.self) number (record { any = c.in-Ok.ensures.any; steady = c.in-Ok.ensures.steady }) in
+    let len : length bytes ≡ 512 * n = piece.any.may.read.run.len in
+    let k : ℕ = length bytes / 512 in
+    let count : length bytes / 512 ≡ n = omega (arith, len) in
+    let same : c.from-count.result ≡ n = c.from-count.ensures in
+    let next : IsNextPiece (pass_over c.args.stack.now.config c.args.d.0 before by_map) c.pieces.at 128 n =
+    next-piece c.args.stack.now.config c.args.d.0 before by_map c.pieces.at here.count c.sectors-sectors.result 128 n (marks c.next_run-run.new.self.rest.now)
+    (u.ahead ∙ subst (λ (h : Bool). marks_ahead c.pieces.ahead ≡ replicate here.count h ++ marks c.next_run-run.new.self.rest.now) c.if-run.false first) (c.requires.fits ∙ sym u.all) u.within
+    inside u.all (λ none. ap marks (c.next_run-run.ensures.single (u.single none)))
+    (subst (λ (x : Configuration). EndsAligned x c.args.d.0 c.pieces.at (c.pieces.at + here.count) 128 n) (c.config-else-run.ensures.value ∙ u.config) c.piece_at-piece.ensures.ends) in
+    record {
+      so_far = subst (λ (m : ℕ). IsSkimming g.O.BlockDev.state (DeviceDoes g.O.BlockDev.state g.O.BlockDev.does) by_map before c.args.d.0 (transfer c.args.stack.now c.args.out.now) (transfer c.read_bytes.new.self c.write.new.self) (c.pieces.at + m) c.mark-in-Ok.new.map least_skip) (sym same)
+          (skimming-had _ _ _ _ _ _ _ _ _ _ u.so_far n bytes c.read_bytes.new.self k _ c.write.new.self c.mark-in-Ok.new.map next piece marked (rw same at c.in_ok-mark-in-Ok.ensures.ok) count
+          c.in_ok-write-in-Ok.ensures.moved c.in_ok-write-in-Ok.ensures.image c.in_ok-write-in-Ok.ensures.call);
+      ahead = ahead-next before c.pieces.at c.from-count.result _ _ _ (u.ahead ∙ sym c.next_run-run.ensures.same) c.pass-in-Ok.ensures.marks;
+      config = c.in-Ok.ensures.any.config ∙ u.config;
+      within = omega (arith, inside, same, c.piece_at-piece.ensures.inside);
+      all = u.all;
+      few = u.few;
+      short = omega arith;
+      unfailed = c.in_ok-write-in-Ok.ensures.moved.failures ∙ u.unfailed;
+      single = λ none. c.pass-in-Ok.ensures.rest ∙ c.next_run-run.ensures.single (u.single none);
+    }
+
+pub returns-in_err-check_memory-in-Err-clause-err : goal.returns-in_err-check_memory-in-Err-clause-err
+returns-in_err-check_memory-in-Err-clause-err g c =
+    let u = c.pieces.invariant in
+    let count : ℕ = length (take (c.piece_at-piece.result.count * 512) c.pieces.room) / 512 in
+    let is = c.in_err-check_memory-in-Err.ensures.memory in
+    err-from c.from_residual-in_err-check_memory-in-Err.result _ NoMemory (subst (λ (e : RecoveryFault). IsErrAnd c.from_residual-in_err-check_memory-in-Err.result (λ f. f ≡ e)) c.in_err-check_memory-in-Err.ensures.err c.from_residual-in_err-check_memory-in-Err.ensures.1)
+    (skims-short _ _ _ _ _ _ _ _ _ _ u.so_far c.read_bytes.new.self u.unfailed (inl (record {
+      count = count;
+      answered = subst (λ (f : IoFault). EachBytes c.pieces.stack c.args.d.0 c.pieces.at count (Err f) c.read_bytes.new.self) is (record { any = c.in-Err.ensures.any; steady = c.in-Err.ensures.steady });
+      met = c.in-Err.ensures.memory (ap Err is);
+    })))
+
+pub returns-in_err-check_memory-in-Err-clause-stopped : goal.returns-in_err-check_memory-in-Err-clause-stopped
+returns-in_err-check_memory-in-Err-clause-stopped g c =
+    err-from c.from_residual-in_err-check_memory-in-Err.result _ NoMemory (subst (λ (e : RecoveryFault). IsErrAnd c.from_residual-in_err-check_memory-in-Err.result (λ f. f ≡ e)) c.in_err-check_memory-in-Err.ensures.err c.from_residual-in_err-check_memory-in-Err.ensures.1)
+    (hands-short _ _ _ _ _ _ _ _ _ _ c.pieces.invariant.so_far c.read_bytes.new.self)
+
+pub mark-requires-in-Err-clause-room : goal.mark-requires-in-Err-clause-room
+mark-requires-in-Err-clause-room g c =
+    let u = c.pieces.invariant in
+    let first = first-run c.pieces.ahead c.next_run-run.new.self c.next_run-run.result c.next_run-run.ensures.same c.next_run-run.ensures.first in
+    let inside = ahead-inside (marks_ahead c.args.ahead) c.pieces.at c.sectors-sectors.result c.next_run-run.result.count c.next_run-run.result.had _ _ (c.requires.fits ∙ sym u.all) u.ahead first u.within in
+    skim-room _ _ _ _ _ _ _ _ _ _ u.so_far (c.from-count.result + c.min.result) (omega (arith, inside, u.few, c.from-count.ensures, c.min.ensures, c.piece_at-piece.ensures.inside))
+
+pub returns-in_err-mark-in-Err-clause-err : goal.returns-in_err-mark-in-Err-clause-err
+returns-in_err-mark-in-Err-clause-err g c =
+    let u = c.pieces.invariant in
+    err-from c.from_residual-in_err-mark-in-Err.result _ NoMemory (subst (λ (e : RecoveryFault). IsErrAnd c.from_residual-in_err-mark-in-Err.result (λ f. f ≡ e)) c.in_err-mark-in-Err.ensures.err.0 c.from_residual-in_err-mark-in-Err.ensures.1)
+    (skims-short _ _ _ _ _ _ _ _ _ _ u.so_far c.read_bytes.new.self u.unfailed (inr c.in_err-mark-in-Err.ensures.err.1))
+
+pub returns-in_err-mark-in-Err-clause-stopped : goal.returns-in_err-mark-in-Err-clause-stopped
+returns-in_err-mark-in-Err-clause-stopped g c =
+    err-from c.from_residual-in_err-mark-in-Err.result _ NoMemory (subst (λ (e : RecoveryFault). IsErrAnd c.from_residual-in_err-mark-in-Err.result (λ f. f ≡ e)) c.in_err-mark-in-Err.ensures.err.0 c.from_residual-in_err-mark-in-Err.ensures.1)
+    (hands-short _ _ _ _ _ _ _ _ _ _ c.pieces.invariant.so_far c.read_bytes.new.self)
+
+pub pieces-preserved : goal.pieces-preserved
+pieces-preserved g c =
+    let u = c.pieces.invariant in
+    let before : List Bool = marks_ahead c.args.ahead in
+    let by_map : Bool = has_more c.args.ahead.rest.now in
+    let here : Run = c.next_run-run.result in
+    let n : ℕ = c.piece_at-piece.result.count in
+    let first = first-run c.pieces.ahead c.next_run-run.new.self here c.next_run-run.ensures.same c.next_run-run.ensures.first in
+    let inside = ahead-inside before c.pieces.at c.sectors-sectors.result here.count here.had _ _ (c.requires.fits ∙ sym u.all) u.ahead first u.within in
+    let marked : AreMarked before c.pieces.at n false = subst (AreMarked before c.pieces.at n) c.if-run.false (marked-next before c.pieces.at n here.count here.had _ (omega (arith, c.piece_at-piece.ensures.inside)) (u.ahead ∙ first)) in
+    let wide : length (take (n * 512) c.pieces.room) ≡ n * 512 = length-take-le (n * 512) c.pieces.room (omega (arith, c.requires.buffer, c.pieces.auto.room, c.piece_at-piece.ensures.few)) in
+    let number : length (take (n * 512) c.pieces.room) / 512 ≡ n = omega (arith, wide) in
+    let piece = subst (λ (m : ℕ). EachBytes c.pieces.stack c.args.d.0 c.pieces.at m (Err c.in-Err.fault) c.read_bytes.new.self) number (record { any = c.in-Err.ensures.any; steady = c.in-Err.ensures.steady }) in
+    let same : c.from-count.result ≡ n = c.from-count.ensures in
+    let skip : ℕ = c.min.result in
+    let skipped : skip ≡ min c.pieces.skip (here.count - n) = c.min.ensures ∙ ap (λ (m : ℕ). min c.pieces.skip (here.count - m)) same in
+    let found : IsSkimFound (pass_over c.args.stack.now.config c.args.d.0 before by_map) c.pieces.at c.pieces.skip n (again c.in-Err.fault) skip =
+    skipped-piece c.args.stack.now.config c.args.d.0 before by_map c.pieces.at here.count c.sectors-sectors.result n c.pieces.skip skip c.in-Err.fault (marks c.next_run-run.new.self.rest.now) c.in_ok-check_memory-in-Err.ensures.ok
+    (u.ahead ∙ subst (λ (h : Bool). marks_ahead c.pieces.ahead ≡ replicate here.count h ++ marks c.next_run-run.new.self.rest.now) c.if-run.false first) (c.requires.fits ∙ sym u.all) u.within
+    inside u.all (λ none. ap marks (c.next_run-run.ensures.single (u.single none)))
+    (subst (λ (x : Configuration). EndsAligned x c.args.d.0 c.pieces.at (c.pieces.at + here.count) 128 n) (c.config-else-run.ensures.value ∙ u.config) c.piece_at-piece.ensures.ends) skipped in
+    let most : c.most_skip-most.result ≡ most_skip (size c.args.stack.now.config (mapped c.args.d.0)) = c.most_skip-most.ensures.value ∙ ap most_skip u.all in
+    let longer : c.longer_skip-skip.result ≡ longer_skip (most_skip (size c.args.stack.now.config (mapped c.args.d.0))) c.pieces.skip = c.longer_skip-skip.ensures ∙ ap (λ (m : ℕ). longer_skip m c.pieces.skip) most in
+    record {
+      so_far = rw (same, longer) (skimming-skipped _ _ _ _ _ _ _ _ _ _ u.so_far n skip c.in-Err.fault c.read_bytes.new.self c.mark-in-Err.new.map found piece marked (rw same at c.in_ok-mark-in-Err.ensures.ok));
+      ahead = ahead-next before c.pieces.at (c.from-count.result + skip) _ _ _ (u.ahead ∙ sym c.next_run-run.ensures.same) c.pass-in-Err.ensures.marks;
+      config = c.in-Err.ensures.any.config ∙ u.config;
+      within = omega (arith, inside, same, skipped, c.piece_at-piece.ensures.inside);
+      all = u.all;
+      few = u.few;
+      short = omega (arith, c.longer_skip-skip.ensures, c.most_skip-most.ensures.few);
+      unfailed = u.unfailed;
+      single = λ none. c.pass-in-Err.ensures.rest ∙ c.next_run-run.ensures.single (u.single none);
+    }
+
+pub returns-clause-ok : goal.returns-clause-ok
+returns-clause-ok g c =
+    let u = c.pieces.invariant in
+    let all : c.sectors-sectors.result ≡ c.pieces.at = omega (arith, u.within, c.pieces-test.false) in
+    skims-all _ _ _ _ _ _ _ _ _ _ u.so_far (sym all ∙ u.all) u.unfailed
+
+pub returns-clause-handed : goal.returns-clause-handed
+returns-clause-handed g c =
+    let u = c.pieces.invariant in
+    let all : c.sectors-sectors.result ≡ c.pieces.at = omega (arith, u.within, c.pieces-test.false) in
+    hands-skims _ _ _ _ _ _ _ _ _ _ u.so_far (sym all ∙ u.all)

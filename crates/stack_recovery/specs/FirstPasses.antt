@@ -1,0 +1,114 @@
+-- The effects of the first pass over a mapped device.
+use Rattle.std.specs.Prelude.{◌≡◌, ◌⊎◌, ℕ, Bool, true, false, IsTrue, List, [], ◌∷◌, ◌++◌, length, replicate, Ok}
+use Rattle.allocation.specs.Refusal.{IsOutOfMemory}
+use Rattle.block_device.specs.Call.{Call, Calls}
+use Rattle.block_device.specs.Device.{Device, HasFailed, IsSameDevice, IsWritten}
+use Rattle.stack_rules.specs.Names.{mapped, size}
+use Rattle.stack_rules.specs.Records.{Configuration}
+use Rattle.stack_engine.specs.Bytes.{EachBytes}
+use Rattle.stack_engine.specs.Stacks.{StackRecord}
+use Rattle.rescue_map.specs.declared.map.Run.{Run}
+use Rattle.rescue_map.specs.Maps.{marks}
+use Rattle.stack_recovery.specs.declared.fault.RecoveryFault.{RecoveryFault}
+use Rattle.stack_recovery.specs.declared.fault.RecoveryFault.TheVariants.{NoMemory, Output}
+use Rattle.stack_recovery.specs.Handing.{IsLastCall}
+use Rattle.stack_recovery.specs.PassPieces.{pass_over}
+use Rattle.stack_recovery.specs.Recoveries.{FindsNoMemory}
+use Rattle.stack_recovery.specs.Skims.{AreSkims, IsSkimOver, Skim, skim_calls, skim_image, skim_marks}
+use Rattle.stack_recovery.specs.Skips.{least_skip}
+
+-- a stack, and the output device that its sectors are copied to
+pub record Transfer (O : Type 0) : Type 0 where
+  pub stack : StackRecord
+  pub out : O
+
+abbrev pub transfer : {O : Type 0} → StackRecord → O → Transfer O
+transfer stack out = record { stack = stack; out = out }
+
+-- the output device's state, as a proof sees it
+abbrev pub seen_transfer : {O : Type 0} → (O → Device) → Transfer O → Transfer Device
+seen_transfer state t = transfer t.stack (state t.out)
+
+-- no sector of device d was read before
+abbrev pub unread_marks : Configuration → ℕ → List Bool
+unread_marks c d = replicate (size c (mapped d)) false
+
+-- whether runs follow the first one
+abbrev pub has_more : List Run → Bool
+has_more [] = false
+has_more (run ∷ more) = true
+
+-- a device that the pieces were copied to; if it is steady, its image is known
+pub record IsSkimCopied (skims : List Skim) (old new : Device) : Type 0 where
+  pub same : IsSameDevice old new
+  pub image : IsTrue old.steady → new.image ≡ skim_image 0 skims old.image
+
+-- The first pass over all sectors of device d, in whose map `made` the sectors are marked that were read, now or before. The
+-- sectors that were read now were copied. If the marks aren't of several runs, pieces end only at the device's end.
+pub record Skims (by_map : Bool) (before : List Bool) (d : ℕ) (old : Transfer Device) (made : List Run) (new : Transfer Device) : Type 0 where
+  pub skims : List Skim
+  pub survey : IsSkimOver before d 0 old.stack skims new.stack
+  pub whole : length (skim_marks skims) ≡ size old.stack.config (mapped d)
+  pub pieces : AreSkims (pass_over old.stack.config d before by_map) 0 least_skip skims
+  pub copied : IsSkimCopied skims old.out new.out
+  pub unfailed : new.out.failures ≡ old.out.failures
+  pub noted : marks made ≡ skim_marks skims
+
+-- the first pieces of the pass were read
+pub record IsSkimBegun (by_map : Bool) (before : List Bool) (d : ℕ) (old : StackRecord) : Type 0 where
+  pub skims : List Skim
+  pub left : StackRecord
+  pub survey : IsSkimOver before d 0 old skims left
+  pub pieces : AreSkims (pass_over old.config d before by_map) 0 least_skip skims
+
+-- Memory ran out for a read or for the map. The sectors read so far are copied, and the output device didn't fail.
+pub record SkimsShort (by_map : Bool) (before : List Bool) (d : ℕ) (old new : Transfer Device) : Type 0 where
+  pub begun : IsSkimBegun by_map before d old.stack
+  pub copied : IsSkimCopied begun.skims old.out new.out
+  pub unfailed : new.out.failures ≡ old.out.failures
+  pub refused : FindsNoMemory d (length (skim_marks begun.skims)) begun.left new.stack ⊎ IsOutOfMemory 1
+
+-- A write of the output device failed. The sectors read before are copied. Of a steady device no sector differs from that but
+-- those of the piece that was being written.
+pub record FailsSkimOutput (by_map : Bool) (before : List Bool) (d : ℕ) (old new : Transfer Device) : Type 0 where
+  pub begun : IsSkimBegun by_map before d old.stack
+  pub out : Device
+  pub n : ℕ
+  pub bytes : List ℕ
+  pub read : EachBytes begun.left d (length (skim_marks begun.skims)) n (Ok bytes) new.stack
+  pub copied : IsSkimCopied begun.skims old.out out
+  pub writing : IsWritten out (length (skim_marks begun.skims)) n false new.out
+  pub failed : HasFailed old.out new.out
+  pub sure : IsTrue old.out.never_fails → ⊥
+
+-- why the pass ended early
+abbrev pub EndsSkim : Bool → List Bool → ℕ → Transfer Device → Transfer Device → RecoveryFault → Type 0
+EndsSkim by_map before d old new NoMemory = SkimsShort by_map before d old new
+EndsSkim by_map before d old new Output = FailsSkimOutput by_map before d old new
+
+-- ---- the calls on the output device
+
+-- the calls of a whole pass, after which these sectors are marked as read
+pub record HandsSkims {O : Type 0} (Did : O → Call → O → Type 0) (before : List Bool) (d : ℕ) (old : Transfer O) (after : List Bool) (new : Transfer O) : Type 0 where
+  pub skims : List Skim
+  pub survey : IsSkimOver before d 0 old.stack skims new.stack
+  pub whole : length (skim_marks skims) ≡ size old.stack.config (mapped d)
+  pub noted : after ≡ skim_marks skims
+  pub made : Calls Did old.out (skim_calls 0 skims) new.out
+
+-- the pass ended early; a write that failed is the last call
+pub record HandsSkimsPart {O : Type 0} (Did : O → Call → O → Type 0) (before : List Bool) (d : ℕ) (old new : Transfer O) (fault : RecoveryFault) : Type 0 where
+  pub skims : List Skim
+  pub left : StackRecord
+  pub last : List Call
+  pub survey : IsSkimOver before d 0 old.stack skims left
+  pub made : Calls Did old.out (skim_calls 0 skims ++ last) new.out
+  pub ends : IsLastCall d (length (skim_marks skims)) left new.stack fault last
+
+-- ---- in terms of the arguments of a call
+
+abbrev pub SkimsBy : {O : Type 0} → (O → Device) → Bool → List Bool → ℕ → Transfer O → Transfer O → List Run → Type 0
+SkimsBy state by_map before d old new made = Skims by_map before d (seen_transfer state old) made (seen_transfer state new)
+
+abbrev pub EndsSkimBy : {O : Type 0} → (O → Device) → Bool → List Bool → ℕ → Transfer O → Transfer O → RecoveryFault → Type 0
+EndsSkimBy state by_map before d old new fault = EndsSkim by_map before d (seen_transfer state old) (seen_transfer state new) fault

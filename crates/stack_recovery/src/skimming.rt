@@ -1,0 +1,153 @@
+//! The first pass over a mapped device, which skips ahead after failed reads.
+ghost use Rattle.std.specs.Prelude.{◌≡◌, ◌≢◌, ◌+◌, ◌≤◌, ◌<◌, ◌^◌, [], length, true, IsTrue, IfOk, IfErr, OnErr, OnOk};
+ghost use Rattle.block_device.specs.Call.{DeviceDoes};
+ghost use Rattle.stack_rules.specs.Names.{mapped, size};
+ghost use Rattle.rescue_map.specs.Aheads.{marks_ahead};
+ghost use Rattle.rescue_map.specs.Maps.{marks};
+ghost use Rattle.stack_recovery.specs.FirstPasses.{EndsSkimBy, HandsSkims, HandsSkimsPart, SkimsBy, has_more, transfer};
+ghost use Rattle.stack_recovery.specs.declared.fault.RecoveryFault.TheVariants as recovery_fault;
+
+use crate::fault::RecoveryFault;
+use crate::lost_run::is_same;
+use crate::notes::mark;
+use crate::piece::piece_at;
+use crate::piece_limit::MOST_PIECE;
+use crate::recovery::{ROOM, tell};
+use crate::skip::{LEAST_SKIP, longer_skip, most_skip};
+use block_device::BlockDev;
+use device_adapters::Progress;
+use rescue_map::{Ahead, Map};
+use stack_config::DevId;
+use stack_engine::{IoFault, Stack};
+use std::alloc::Global;
+
+/// Reads the sectors of a mapped device that the map doesn't mark as read, from the first to the last, and returns the map of
+/// what is read afterwards. Each piece of at most 128 sectors that can be read is written to the same offset of `out`, by one
+/// call.
+///
+/// After a failed read the pass skips ahead, so that a device that is about to fail is first read where it can be: 128 sectors
+/// after the piece, and twice as many after each further failed read, up to a 128th of the device, but at least 128 sectors and
+/// at most 1 GiB. After a piece that can be read it begins with 128 sectors again. A skip ends before the next sector that was
+/// read before. Nothing is lost by this pass: `rescue` reads what it left.
+///
+/// # Errors
+///
+/// - `NoMemory` if an allocation was refused.
+/// - `Output` if `out` failed.
+pub fn skim<D: BlockDev, O: BlockDev, P: Progress>(
+    alloc: Global,
+    stack: &mut Stack<D>,
+    d: DevId,
+    out: &mut O,
+    map: &Map,
+    progress: &mut P,
+) -> Result<Map, RecoveryFault>
+    requires device { d.0 < length stack.old.config.devices }
+    requires fits { length (marks map.now) ≡ size stack.old.config (mapped d.0) }
+    requires room { size stack.old.config (mapped d.0) ≤ (O.state out.old).size }
+    requires allowed { IsTrue (O.state out.old).may_write }
+    ensures ok { IfOk result (SkimsBy O.state true (marks map.now) d.0 (transfer stack.old out.old) (transfer stack.new out.new)) }
+    ensures err { IfErr result (EndsSkimBy O.state true (marks map.now) d.0 (transfer stack.old out.old) (transfer stack.new out.new)) }
+    ensures handed { IfOk result (λ made. HandsSkims (DeviceDoes O.state O.does) (marks map.now) d.0 (transfer stack.old out.old) (marks made) (transfer stack.new out.new)) }
+    ensures stopped { IfErr result (HandsSkimsPart (DeviceDoes O.state O.does) (marks map.now) d.0 (transfer stack.old out.old) (transfer stack.new out.new)) }
+{
+    skim_ahead(alloc, stack, d, out, Ahead::of_map(map), progress)
+}
+
+/// Runs the first pass by the marks ahead.
+pub(crate) fn skim_ahead<D: BlockDev, O: BlockDev, P: Progress>(
+    alloc: Global,
+    stack: &mut Stack<D>,
+    d: DevId,
+    out: &mut O,
+    ahead: Ahead<'_>,
+    progress: &mut P,
+) -> Result<Map, RecoveryFault>
+    requires device { d.0 < length stack.old.config.devices }
+    requires fits { length (marks_ahead ahead) ≡ size stack.old.config (mapped d.0) }
+    requires room { size stack.old.config (mapped d.0) ≤ (O.state out.old).size }
+    requires allowed { IsTrue (O.state out.old).may_write }
+    ensures ok { IfOk result (SkimsBy O.state (has_more ahead.entry.rest.now) (marks_ahead ahead.entry) d.0 (transfer stack.old out.old) (transfer stack.new out.new)) }
+    ensures err { IfErr result (EndsSkimBy O.state (has_more ahead.entry.rest.now) (marks_ahead ahead.entry) d.0 (transfer stack.old out.old) (transfer stack.new out.new)) }
+    ensures handed { IfOk result (λ made. HandsSkims (DeviceDoes O.state O.does) (marks_ahead ahead.entry) d.0 (transfer stack.old out.old) (marks made) (transfer stack.new out.new)) }
+    ensures stopped { IfErr result (HandsSkimsPart (DeviceDoes O.state O.does) (marks_ahead ahead.entry) d.0 (transfer stack.old out.old) (transfer stack.new out.new)) }
+{
+    // The call provides the bound on a device's sectors.
+    let _fits = out.sectors();
+    let mut map = Map::new(alloc);
+    let mut room = [0u8; ROOM];
+    let bytes = room.as_mut_slice();
+    skim_by(stack, d, out, ahead, &mut map, progress, bytes)?;
+    Ok(map)
+}
+
+/// Runs the first pass through the buffer `room`.
+fn skim_by<D: BlockDev, O: BlockDev, P: Progress>(
+    stack: &mut Stack<D>,
+    d: DevId,
+    out: &mut O,
+    mut ahead: Ahead<'_>,
+    map: &mut Map,
+    progress: &mut P,
+    room: &mut [u8],
+) -> Result<(), RecoveryFault>
+    requires device { d.0 < length stack.old.config.devices }
+    requires fits { length (marks_ahead ahead) ≡ size stack.old.config (mapped d.0) }
+    requires room { size stack.old.config (mapped d.0) ≤ (O.state out.old).size }
+    requires allowed { IsTrue (O.state out.old).may_write }
+    requires begun { map.old ≡ [] }
+    requires buffer { length room.old ≡ 65536 }
+    requires few { size stack.old.config (mapped d.0) ≤ 2 ^ 54 }
+    ensures ok { OnOk result (SkimsBy O.state (has_more ahead.entry.rest.now) (marks_ahead ahead.entry) d.0 (transfer stack.old out.old) (transfer stack.new out.new) map.new) }
+    ensures err { IfErr result (EndsSkimBy O.state (has_more ahead.entry.rest.now) (marks_ahead ahead.entry) d.0 (transfer stack.old out.old) (transfer stack.new out.new)) }
+    ensures handed { OnOk result (HandsSkims (DeviceDoes O.state O.does) (marks_ahead ahead.entry) d.0 (transfer stack.old out.old) (marks map.new) (transfer stack.new out.new)) }
+    ensures stopped { IfErr result (HandsSkimsPart (DeviceDoes O.state O.does) (marks_ahead ahead.entry) d.0 (transfer stack.old out.old) (transfer stack.new out.new)) }
+{
+    let sectors = stack.config().sectors(d);
+    let most = most_skip(sectors);
+    let mut skip = LEAST_SKIP;
+    let mut at = 0;
+    'pieces: while at < sectors {
+        let run = ahead.next_run();
+        if run.had {
+            mark(map, run.count, true)?;
+            ahead.pass(run.count);
+            at += run.count;
+        } else {
+            tell(progress, at, sectors);
+            let piece = piece_at(stack.config(), d, at, at + run.count, MOST_PIECE);
+            let count = u64::from(piece.count);
+            let bytes = &mut room[..piece.count as usize * 512];
+            match stack.read_bytes(d, at, bytes) {
+                Ok(()) => {
+                    mark(map, count, true)?;
+                    out.write(at, bytes)?;
+                    ahead.pass(count);
+                    at += count;
+                    skip = LEAST_SKIP;
+                }
+                Err(fault) => {
+                    check_memory(fault)?;
+                    let left = count + skip.min(run.count - count);
+                    mark(map, left, false)?;
+                    ahead.pass(left);
+                    at += left;
+                    skip = longer_skip(skip, most);
+                }
+            }
+        }
+    }
+    Ok(())
+}
+
+// Returns `NoMemory` if a read ran out of memory, which no other pass mends.
+fn check_memory(fault: IoFault) -> Result<(), RecoveryFault>
+    ensures ok { OnOk result (fault ≢ IoFault.NoMemory) }
+    ensures err { IfErr result (λ error. error ≡ recovery_fault.NoMemory) }
+    ensures memory { OnErr result (fault ≡ IoFault.NoMemory) }
+{
+    if is_same(fault, IoFault::NoMemory) {
+        return Err(RecoveryFault::NoMemory);
+    }
+    Ok(())
+}

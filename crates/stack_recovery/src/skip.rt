@@ -1,0 +1,26 @@
+//! How many sectors the first pass skips after a read that failed.
+ghost use Rattle.std.specs.Prelude.{◌≡◌, ◌≤◌, ◌^◌};
+ghost use Rattle.stack_recovery.specs.Skips.{longer_skip, most_skip};
+
+/// The first skip, 64 KiB.
+pub(crate) const LEAST_SKIP: u64 = 128;
+
+/// The longest skip of any device, 1 GiB.
+const MOST_SKIP: u64 = 2_097_152;
+
+/// Returns the most sectors that are skipped at once on a device of so many.
+#[tactic(auto, unfolding(crate::specs::Skips::most_skip))]
+pub(crate) fn most_skip(sectors: u64) -> u64
+    ensures value { result ≡ most_skip sectors }
+    ensures few { result ≤ 2 ^ 21 }
+{
+    (sectors / 128).max(LEAST_SKIP).min(MOST_SKIP)
+}
+
+/// Returns how many sectors are skipped after the next failed read, if `skip` were after this one.
+pub(crate) fn longer_skip(skip: u64, most: u64) -> u64
+    requires { skip ≤ 2 ^ 21 }
+    ensures { result ≡ longer_skip most skip }
+{
+    (skip * 2).min(most)
+}

@@ -1,0 +1,101 @@
+//! The command `diff` on the files of two hash images.
+ghost use Rattle.std.specs.Prelude.{OnOk, IfErr};
+ghost use Rattle.verity_commands.specs.DiffImages.{DiffsBehind, DiffsDevices, DiffsImages, FailsBehind, FailsDevices, FailsToDiff, FailsToFind, FindsNoDifference};
+ghost use Rattle.verity_commands.specs.Diffs.{CanCompareTwo};
+
+use crate::checked_diff::check;
+use crate::diff::{DiffForm, diff};
+use crate::paths::{HashPlaces, TwoHashes, close_both, open_both, place_both, whole_files};
+use crate::tree_fault::TreeFault;
+use block_device::BlockDev;
+use image_files::Images;
+use program_io::Counted;
+use std::alloc::Global;
+use std::io::Write;
+use tree_difference::{TreePair, TreeStarts, TrustedTrees, read_trees};
+
+/// `diff [--all] [--runs N] [--json] [--old-hash-offset BYTES] [--hash-offset BYTES] HASH1 HASH2`, with the root hashes or the pins
+/// that are trusted: a line for each longest run of data blocks that differ, and the totals; or one JSON object of both. With
+/// `--all` each invalid hash block of the second tree comes first, since the comparison ends at an invalid one that it reads.
+/// Both files are open before a superblock is read. Each superblock is read once, and nothing is printed before both were
+/// compared. Both files are closed at the end.
+///
+/// # Errors
+///
+/// - `Open` if a file isn't opened.
+/// - `Trees` if a superblock isn't read, differs from its pin, is stored where no hash block begins, or makes the trees
+///   incomparable; or if the comparison ends early.
+/// - `Damaged` if a hash block is invalid, else `Differs` if data blocks differ.
+pub fn diff_images<'a, I: Images, W: Write>(
+    alloc: Global,
+    images: &mut I,
+    places: &HashPlaces<'a>,
+    trusted: &TrustedTrees,
+    form: DiffForm,
+    writer: &mut Counted<W>,
+) -> Result<(), TreeFault<'a>>
+    ensures ok { OnOk result (DiffsImages I.relations I.Dev.state images.old images.new W.contents writer.old writer.new places.now trusted.now form) }
+    ensures err { IfErr result (FailsToDiff I.relations I.Dev.state images.old images.new W.contents writer.old writer.new places.now trusted.now form) }
+{
+    let opened = open_both(images, places)?;
+    let starts = TreeStarts {
+        first: places.first.first,
+        second: places.second.first,
+    };
+    let (two, ended) = diff_behind(alloc, opened, &starts, trusted, form, writer);
+    close_both(images, places, two);
+    ended
+}
+
+// Compares the hash images that begin at those sectors of two devices, and returns the devices too.
+fn diff_behind<'a, D: BlockDev, W: Write>(
+    alloc: Global,
+    two: TwoHashes<D>,
+    starts: &TreeStarts,
+    trusted: &TrustedTrees,
+    form: DiffForm,
+    writer: &mut Counted<W>,
+) -> (TwoHashes<D>, Result<(), TreeFault<'a>>)
+    ensures ok { OnOk result.1 (DiffsBehind D.state two result.0 W.contents writer.old writer.new starts.now trusted.now form) }
+    ensures err { IfErr result.1 (FailsBehind D.state two result.0 W.contents writer.old writer.new starts.now trusted.now form) }
+{
+    let mut placed = place_both(two, starts);
+    let ended = diff_devices(alloc, &mut placed, starts, trusted, form, writer);
+    (whole_files(placed), ended)
+}
+
+// Compares two hash images, of which the superblocks are read first.
+fn diff_devices<'a, D: BlockDev, W: Write>(
+    alloc: Global,
+    two: &mut TwoHashes<D>,
+    starts: &TreeStarts,
+    trusted: &TrustedTrees,
+    form: DiffForm,
+    writer: &mut Counted<W>,
+) -> Result<(), TreeFault<'a>>
+    ensures ok { OnOk result (DiffsDevices D.state two.old two.new W.contents writer.old writer.new starts.now trusted.now form) }
+    ensures err { IfErr result (FailsDevices D.state two.old two.new W.contents writer.old writer.new starts.now trusted.now form) }
+{
+    let first = &mut two.first.device;
+    let second = &mut two.second.device;
+    let pair = read_trees(first, second, starts, trusted)?;
+    find_difference(alloc, two, &pair, form, writer)
+}
+
+// Compares two trees; with `--all` the hash blocks of the second tree are checked before.
+fn find_difference<'a, D: BlockDev, W: Write>(
+    alloc: Global,
+    two: &mut TwoHashes<D>,
+    pair: &TreePair,
+    form: DiffForm,
+    writer: &mut Counted<W>,
+) -> Result<(), TreeFault<'a>>
+    requires { CanCompareTwo D.state two.old pair.now }
+    ensures ok { OnOk result (FindsNoDifference form.all D.state two.old two.new W.contents writer.old writer.new pair.now form) }
+    ensures err { IfErr result (FailsToFind form.all D.state two.old two.new W.contents writer.old writer.new pair.now form) }
+{
+    if form.all {
+        return check(alloc, two, pair, form, writer);
+    }
+    diff(alloc, two, pair, form, writer)
+}
