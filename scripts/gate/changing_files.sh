@@ -315,11 +315,13 @@ check 'a link to nothing stays one' test "$(readlink hanging)" = missing
 check 'the map is written to the target of the link' test -f missing
 ran 1 'refused 4 OtherFault around' "$program" scan --map around lossy a A=ro:a
 check 'nothing is left beside the links' test "$(echo folder/* linked* hanging* missing*)" = 'folder/target folder/twice linked hanging missing'
-# The process is killed before each call in turn: the file has the old map or the new one, and a draft that is left does no harm.
+# The process is killed before each call in turn: the file has the old map, that of the first pass or the new one, and a draft that is
+# left does no harm.
 cc -shared -fPIC -O2 -o "$room/fail.so" "$top/scripts/gate/fail_calls.c" -ldl
 mkdir killed
+printf '# dmstack scan\n0 ?\n0 2048 +\n2048 2048 ?\n' > skimmed
 calls=''
-for number in 1 2 3 4 5 6 7 8 9; do
+for number in 1 2 3 4 5 6 7 8 9 10 11 12 13; do
     rm -rf killed/* met
     cp unread killed/map
     status=0
@@ -329,15 +331,19 @@ for number in 1 2 3 4 5 6 7 8 9; do
     read -r call _ _ path < met
     calls+=" $call:${path#"$room/"}"
     check "killed before call $number: the status" test "$status" = 137
-    # the map takes the place of the old one by the fourth call
-    wanted=unread && [ "$number" -le 4 ] || wanted=tried
+    # a map takes the place of the one before by the fourth of its five calls, and has a draft before the second to the fourth
+    wanted=unread draft='killed/*.dmstack-new*'
+    [ "$number" -le 4 ] || wanted=skimmed
+    [ "$number" -le 9 ] || wanted=tried
+    case $number in 2 | 3 | 4 | 7 | 8 | 9) draft=killed/map.dmstack-new ;; esac
     check "killed before call $number: the map" cmp killed/map $wanted
-    check "killed before call $number: the draft" test "$(echo killed/*.dmstack-new*)" = "$([ "$number" = 1 ] || [ "$number" -gt 4 ] && echo 'killed/*.dmstack-new*' || echo killed/map.dmstack-new)"
+    check "killed before call $number: the draft" test "$(echo killed/*.dmstack-new*)" = "$draft"
     cp unread killed/map
     is_scanned killed/map
 done
 draft=killed/map.dmstack-new
-check "the calls by which a map is replaced, and not$calls" test "$calls" = " create:$draft write:$draft sync:$draft rename:$draft sync:killed"
+replaces=" create:$draft write:$draft sync:$draft rename:$draft sync:killed"
+check "the calls by which maps are replaced, and not$calls" test "$calls" = "$replaces$replaces"
 
 # The superblock of HASH changes before each read of a repair in turn, to one under which no block verifies. Either the pin refuses
 # that superblock, and nothing is written; or the one that was compared with the pin is the one by which the image is repaired.
