@@ -15,7 +15,7 @@ import time
 TOP = os.path.dirname(os.path.dirname(os.path.dirname(os.path.realpath(__file__))))
 SESSION = b"load a,,,rw,0 4 linear D 2,4 4 zero\nread a 3 2\n"
 REPLIES = b"loaded 1\n3 all 05\n4 all 00\n"
-COMPILING = r"dmstack: compiling the program without its proofs, in about two minutes; \./prove proves it\n"
+COMPILING = r"dmstack: compiling the program without its proofs, in about three minutes; \./prove proves it\n"
 COMPILED = r"dmstack: half way, [^\n]*\ndmstack: compiled in \d+ s: its proofs haven't been run on this machine; \./prove runs them\n"
 FAILED = []
 

@@ -58,7 +58,7 @@ def compiled(made, cpu):
     free = shutil.disk_usage(folder).free >> 20
     if free < ROOM:
         return f"{folder} has {free} MB free, and {ROOM} are needed"
-    tell("compiling the program without its proofs, in about two minutes; ./prove proves it")
+    tell("compiling the program without its proofs, in about three minutes; ./prove proves it")
     with tempfile.TemporaryDirectory(prefix="making-", dir=folder) as room:
         crate = crate_of(PROGRAM, unproved(room))
         kept, why = module(crate, room)
