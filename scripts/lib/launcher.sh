@@ -1,7 +1,7 @@
 #!/bin/sh
 # The program of a package for every machine: runs the build for processors with AVX2 where this one has it, else the other.
 flags=
-while read -r name _ rest; do
+[ ! -r /proc/cpuinfo ] || while read -r name _ rest; do
     [ "$name" != flags ] || { flags=" $rest "; break; }
 done < /proc/cpuinfo
 build=x86-64-v3

@@ -19,7 +19,7 @@ MOST_OF_A_TEXT = 1024 * 1024
 TARGETS = ("linear", "striped", "zero", "error", "crypt", "verity", "zero_blocks", "sector_size",
            "unstriped")
 # Options and forms of words that a program may not have yet; without them they are wrong words.
-FORMS = ("all", "grow", "json", "map", "differing", "progress", "pass-cache", "parts", "input-stack", "store-file",
+FORMS = ("all", "grow", "json", "map", "retries", "differing", "progress", "pass-cache", "parts", "input-stack", "store-file",
          "exports", "fec")
 # Commands whose output is data for another program: their refusals go to standard error.
 OUTPUT_IS_DATA = ("cat", "nbd")

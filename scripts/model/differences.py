@@ -2,27 +2,30 @@
 
 from files import Stop
 from protection import check_aligned
-from verity import ImageFault, digest, read_superblock, SUPERBLOCK_FAULTS
+from verity import ImageFault, SUPERBLOCK_FAULTS, bare_tree, digest, read_superblock
 
 
 class Stored:
-    """A hash image at a place of its file: its superblock, its tree as it stands there, and the root digest that is known of it, by
-    itself or in a pin."""
+    """A hash image at a place of its file: its tree as it stands there, by its superblock or by options, and the root digest that is
+    known of it, by itself or in a pin."""
 
-    def __init__(self, image, first, root, pin, which):
+    def __init__(self, image, first, root, pin, which, said=None):
         image = image[first * 512:]
         self.image, self.root, self.which = image, pin.root if pin else root, which
         rest = b" " + which.encode()
         if pin:
             check_aligned(first, pin.hash_block, rest)
+        if said:
+            self.tree, self.salt = bare_tree(said, 0), said[3]
         try:
-            self.superblock = read_superblock(image)
-            mismatch = pin and pin.mismatch(self.superblock)
-            if mismatch:
-                raise Stop(b"refused %s %s" % (mismatch.encode(), which.encode()))
-            check_aligned(first, self.superblock.hash_block, rest)
-            self.tree = self.superblock.tree()
-            if max(self.tree.end_sectors(), 1) > len(image) // 512:
+            if not said:
+                superblock = read_superblock(image)
+                mismatch = pin and pin.mismatch(superblock)
+                if mismatch:
+                    raise Stop(b"refused %s %s" % (mismatch.encode(), which.encode()))
+                check_aligned(first, superblock.hash_block, rest)
+                self.tree, self.salt = superblock.tree(), superblock.salt
+            if max(self.tree.end_sectors(), self.tree.start) > len(image) // 512:
                 raise ImageFault("TooSmall", SUPERBLOCK_FAULTS)
         except ImageFault as fault:
             fault.needed = " " + which
@@ -49,11 +52,11 @@ class Stored:
     def is_good(self, level, index):
         beneath = self.tree.levels[level - 1] if level else self.tree.blocks
         used = min(self.tree.slots, beneath - index * self.tree.slots)
-        return (digest(self.superblock.salt, self.block(level, index)) == self.digest(level + 1, index)
+        return (digest(self.salt, self.block(level, index)) == self.digest(level + 1, index)
                 and not any(self.block(level, index)[32 * used:]))
 
     def check(self, level, index):
-        if digest(self.superblock.salt, self.block(level, index)) != self.digest(level + 1, index):
+        if digest(self.salt, self.block(level, index)) != self.digest(level + 1, index):
             raise Bad("fault hash %s %d %d" % (self.which, level, index))
 
 
@@ -62,10 +65,11 @@ class Bad(Exception):
 
 
 def unlike(first, second):
-    """The first field in which two superblocks differ, so that their digests can't be compared."""
-    a, b = first.superblock, second.superblock
-    for field, kind in (("data_block", "20 OtherDataBlockSize"), ("hash_block", "21 OtherHashBlockSize"), ("salt", "22 OtherSalt")):
-        if getattr(a, field) != getattr(b, field):
+    """The first field in which two trees differ, so that their digests can't be compared."""
+    a, b = first.tree, second.tree
+    for differs, kind in ((a.data_block != b.data_block, "20 OtherDataBlockSize"), (a.hash_block != b.hash_block, "21 OtherHashBlockSize"),
+                          (first.salt != second.salt, "22 OtherSalt")):
+        if differs:
             return "refused " + kind
     return None
 

@@ -97,9 +97,10 @@ def run_format(options, words, files, _given, _features):
 def run_verify(options, words, files, _given, _features):
     *paths, root, said, first = read_verify(options, words)
     root = told_root(root, files)
+    is_bare = b"no-superblock" in options
     if b"fec" in options:
-        check_parity_of(files, paths, read_fec(options), first)
-    if b"no-superblock" in options:
+        check_parity_of(files, paths, read_fec(options), first, said if is_bare else None)
+    if is_bare:
         check_aligned(first, said[1])
         data, image = two_images(files, paths, first, False)
         tree, salt = bare_tree(said, len(data) // SECTOR), said[3]
@@ -115,7 +116,7 @@ def run_verify(options, words, files, _given, _features):
     if verdict != "matches":
         return [verdict.encode()], FAULT
     if b"fec" in options:
-        line, status = compared_parity(files, paths, read_fec(options), first)
+        line, status = compared_parity(files, paths, read_fec(options), first, said if is_bare else None)
         return [verdict.encode(), line], status
     return [verdict.encode()], DONE
 
@@ -168,14 +169,18 @@ def run_table(options, words, files, _given, _features):
 
 
 def run_diff(options, words, files, _given, _features):
-    paths, firsts, roots, most = read_diff(options, words)
+    paths, firsts, roots, said, most = read_diff(options, words)
+    said = said if b"no-superblock" in options else None
     known = [read_pin(files, options[name]) if name in options else told_root(root, files)
              for root, name in zip(roots, (b"old-pin", b"pin"))]
     pins = [it if isinstance(it, Pin) else None for it in known]
     roots = [it.root if isinstance(it, Pin) else it for it in known]
+    if said:
+        for first, which in zip(firsts, (b" first", b" second")):
+            check_aligned(first, said[1], which)
     images = [files.image(path, False) for path in paths]
-    # both superblocks are read and compared before a hash block is read
-    first, second = (Stored(*it) for it in zip(images, firsts, roots, pins, ("first", "second")))
+    # both trees are found and compared before a hash block is read
+    first, second = (Stored(*it, said) for it in zip(images, firsts, roots, pins, ("first", "second")))
     refusal = unlike(first, second)
     if refusal:
         return [ending_object(refusal.encode()) if b"json" in options else refusal.encode()], REFUSED

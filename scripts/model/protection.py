@@ -3,7 +3,7 @@
 from files import REFUSED, Stop, not_opened
 from parity import WORD, covered, parity_of, sectors_of_parity
 from stack import SECTOR
-from verity import has_shape, read_superblock
+from verity import bare_tree, has_shape, read_superblock
 
 FAULT = 3
 
@@ -27,15 +27,17 @@ def check_one_size(data_block, hash_block):
         raise Stop(b"refused 47 OtherBlockSizes")
 
 
-def laid_out(files, paths, fec, first, writable):
-    """The tree of an image that is there, what its parity covers, and the parity's file."""
+def laid_out(files, paths, fec, first, writable, said=None):
+    """The tree of an image that is there, what its parity covers, and the parity's file. Without a superblock options say the tree."""
+    if said:
+        check_aligned(first, said[1])
     files.opened.clear()
     data, image = (files.image(path, False) for path in paths)
     parity = files.image(fec[0], writable)
     if first and image is data:
         data = data[:first * SECTOR]
     image = image[first * SECTOR:]
-    tree = read_superblock(image).tree()
+    tree = bare_tree(said, len(data) // SECTOR) if said else read_superblock(image).tree()
     check_aligned(first, tree.hash_block)
     if tree.data_sectors() > len(data) // SECTOR:
         raise Stop(b"refused 9 TooSmall")
@@ -90,17 +92,17 @@ def measured(files, paths, fec, first, options):
         raise Stop(b"refused 48 FecTooSmall needed %d" % needed)
 
 
-def check_parity_of(files, paths, fec, first):
+def check_parity_of(files, paths, fec, first, said=None):
     """The parity's file is there and large enough, before anything is said of the image."""
-    tree, area, parity = laid_out(files, paths, fec, first, False)
+    tree, area, parity = laid_out(files, paths, fec, first, False, said)
     check_parity(tree, area, parity, fec[1])
     files.opened.clear()
 
 
-def compared_parity(files, paths, fec, first):
+def compared_parity(files, paths, fec, first, said=None):
     """What is said of the parity in a file, and the status."""
     try:
-        tree, area, parity = laid_out(files, paths, fec, first, False)
+        tree, area, parity = laid_out(files, paths, fec, first, False, said)
         check_parity(tree, area, parity, fec[1])
     except Stop as stop:
         return stop.line, REFUSED

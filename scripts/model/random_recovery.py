@@ -80,6 +80,8 @@ class Recoveries(Sessions):
             words += [b"--cache", self.pick([b"0", b"1", b"64", b"65536", b"65537"])]
         if self.has("forms", "map") and self.chance(0.3):
             words += [b"--map", b"map"]
+        if self.has("forms", "retries") and self.chance(0.1):
+            words += [b"--retries", self.pick([b"0", b"1", b"3", b"x"])]
         return words
 
     def readable(self):

@@ -60,7 +60,7 @@ class Trees(Dice):
         return self.pick(cases + [self.repaired_tree] if self.has("commands", "repair") else cases)()
 
     def bare_words(self, it, with_blocks=False):
-        """What `verify` and `table` are told of a tree without a superblock."""
+        """What `verify`, `repair`, `table` and `diff` are told of a tree without a superblock."""
         if not it.is_bare:
             return []
         words = [b"--no-superblock", b"--salt", it.salt.hex().encode() or b"-"] + it.sizes()
@@ -99,7 +99,7 @@ class Trees(Dice):
         if self.has("forms", "fec") and self.chance(0.3):
             fec = [b"--fec", self.pick([b"parity"] * 9 + names), b"--fec-roots=%d" % self.pick([2, 2, 8, 23, 24, 25, 1])]
             self.files[b"parity"] = bytes(self.pick([0, 512, 4096, 40000]))
-            checked = [b"verify"] + fec + self.offset_words(offset) + names + [root.hex().encode()]
+            checked = [b"verify"] + fec + self.bare_words(it) + self.offset_words(offset) + names + [root.hex().encode()]
             runs = [Run([b"format"] + fec + words + names), Run(checked)]
         return runs + [self.tree_run(it, names, root, offset) for _ in range(2)]
 
@@ -121,12 +121,16 @@ class Trees(Dice):
         if self.chance(0.1):
             name = self.pick(names)
             self.files[name] = self.files[name][:-self.pick([1, 512, 513])]
-        return [self.tree_run(it, names, root, offset) for _ in range(self.pick([1, 2, 3]))]
+        runs = [self.tree_run(it, names, root, offset) for _ in range(self.pick([1, 2, 3]))]
+        fec = self.parity_words(it, bytes(data), area, self.files[names[1]][offset + len(area):], names)
+        if fec:
+            said, rest = self.root_words(root)
+            runs.append(Run([b"verify"] + self.shuffled(fec, self.bare_words(it), self.offset_words(offset), said) + names + rest))
+        return runs
 
     def repaired_tree(self):
         """A damaged image, and copies of it that are damaged too."""
         it = Planted(self)
-        it.is_bare = False
         _, area, root = it.made()
         whole = b"".join(it.contents)
         is_one = self.chance(0.3)
@@ -144,7 +148,7 @@ class Trees(Dice):
         for _ in range(self.pick([1, 2, 3])):
             said, rest = self.root_words(root)
             check = [b"--check"] if self.chance(0.4) else []
-            words = self.shuffled(check, self.offset_words(offset), said, fec)
+            words = self.shuffled(check, self.offset_words(offset), self.bare_words(it), said, fec)
             runs.append(Run([b"repair"] + words + names + rest + copies))
         return runs
 
@@ -154,7 +158,7 @@ class Trees(Dice):
             return []
         roots, made = self.pick([2, 2, 3, 8, 24]), bytearray(4096)
         if it.data_block == it.hash_block:
-            made = bytearray(parity_of(covered(whole, area + behind, it.hash_block, it.blocks, 1), it.hash_block, roots))
+            made = bytearray(parity_of(covered(whole, area + behind, it.hash_block, it.blocks, 0 if it.is_bare else 1), it.hash_block, roots))
         if self.chance(0.2):
             made[self.random.randrange(len(made))] ^= 1 << self.random.randrange(8)
         self.files[b"parity"] = bytes(made[:-1] if self.chance(0.05) else made)
@@ -261,7 +265,7 @@ class Trees(Dice):
         """Two trees that mostly differ in some blocks, some with a hash block changed."""
         old = Planted(self)
         new = Planted(self, (old.data_block, old.hash_block, (old.blocks,)))
-        old.is_bare = new.is_bare = False
+        old.is_bare = new.is_bare = self.chance(0.25)
         new.salt = old.salt if self.chance(0.95) else new.salt
         if self.chance(0.95):
             blocks = list(old.contents)
@@ -276,16 +280,17 @@ class Trees(Dice):
             new.contents, new.blocks = blocks, len(blocks)
         if self.chance(0.03):
             new = Planted(self)
-            new.is_bare = False
+            new.is_bare = old.is_bare
         pair = [old, new] if self.chance(0.5) else [new, old]
         words, pins, places = [], [], []
         for it, name, option in zip(pair, (b"first", b"second"), (b"--old-pin", b"--pin")):
             offset = self.offset(it.hash_block) if self.chance(0.3) else 0
             places += self.offset_words(offset, option.replace(b"pin", b"hash-offset"))
             _, area, root = it.made()
-            pin = self.drawn_pin(it, root) if self.chance(0.25) else None
+            pin = self.drawn_pin(it, root) if self.chance(0.02 if it.is_bare else 0.25) else None
             digits = root.hex().encode() if pin is None and self.chance(0.25) else None
-            if self.chance(0.15):
+            # A tree of one data block without a superblock has no hash blocks.
+            if area and self.chance(0.15):
                 area[self.random.randrange(len(area))] ^= 1 << self.random.randrange(8)
             if self.chance(0.05):
                 del area[-self.pick([1, 512, 513]):]
@@ -304,4 +309,5 @@ class Trees(Dice):
             options.append(b"--json")
         if self.has("forms", "all") and self.chance(0.3):
             options.append(b"--all")
+        options += self.bare_words(self.pick([old, new]), True)
         return [Run([b"diff"] + self.shuffled(options) + words)]

@@ -2,11 +2,12 @@
 
 A hash block that no copy has is reconstructed from the blocks beneath it; if there is parity, what is lost is restored by it."""
 
+from files import Stop
 from images import check_aligned, surveyed, told_root
 from parity import covered, made_again
 from protection import check_parity
 from stack import SECTOR
-from verity import check_sizes, digest, read_superblock
+from verity import bare_tree, check_sizes, digest, read_superblock
 from words import read_repair
 
 
@@ -135,14 +136,36 @@ class Repair:
         return packed.ljust(self.tree.hash_block, b"\0")
 
 
+def check_unused(tree, salt, root, image):
+    """No hash block on the path to the last data block holds something after its last used entry, as far down as they are valid."""
+    if tree.end_sectors() > len(image) // SECTOR:
+        return
+    wanted, counts = root, [tree.blocks] + tree.levels
+    for level in reversed(range(len(tree.levels))):
+        at = (tree.first(level) + counts[level + 1] - 1) * tree.hash_block
+        block = bytes(image[at:at + tree.hash_block])
+        if digest(salt, block) != wanted:
+            return
+        last = (counts[level] - 1) % tree.slots * 32
+        if any(block[last + 32:]):
+            raise Stop(b"refused 60 UnusedEntries")
+        wanted = block[last:last + 32]
+
+
 def run_repair(options, words, files, _given, _features):
-    *paths, root, first, copies, fec = read_repair(options, words)
-    root, writes = told_root(root, files), b"check" not in options
+    *paths, root, said, first, copies, fec = read_repair(options, words)
+    root, writes, is_bare = told_root(root, files), b"check" not in options, b"no-superblock" in options
+    if is_bare:
+        check_aligned(first, said[1])
     whole, data_size, copies = opened(files, paths, first, copies, writes)
     parity = fec and files.image(fec[0], False)
-    superblock = read_superblock(whole[1][first * SECTOR:])
-    check_aligned(first, superblock.hash_block)
-    tree, salt = superblock.tree(), superblock.salt
+    if is_bare:
+        tree, salt = bare_tree(said, data_size // SECTOR), said[3]
+    else:
+        superblock = read_superblock(whole[1][first * SECTOR:])
+        check_aligned(first, superblock.hash_block)
+        tree, salt = superblock.tree(), superblock.salt
+    check_unused(tree, salt, root, whole[1][first * SECTOR:])
     check_sizes(tree, whole[0][:data_size], whole[1][first * SECTOR:])
     repair = Repair(tree, salt, root, first)
     if fec:

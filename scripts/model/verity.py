@@ -194,8 +194,9 @@ def verify_images(data, image, tree, salt, root, first=0):
 
 
 def survey(data, image, tree, salt, root, lost=(frozenset(), frozenset())):
-    """Of each data block None, `changed` or `unknown`, and the hash blocks whose digests don't stand above them. Data blocks and
-    hash blocks that are lost can't be read: these aren't good, and neither are hash blocks beneath one of them.
+    """Of each data block None, `changed` or `unknown`, and the hash blocks whose digests don't stand above them or that hold more
+    than zeros after the last used entry. Data blocks and hash blocks that are lost can't be read: these aren't good, and neither
+    are hash blocks beneath one of them.
 
     Block k of level l has the digest that stands in slot k mod s of block k / s of level l + 1, of s slots each; that of
     the top level is the root. Hash blocks come as they lie in the area: the top level first."""
@@ -215,8 +216,12 @@ def survey(data, image, tree, salt, root, lost=(frozenset(), frozenset())):
             return True
         return digest(salt, stored(level, index)) != above(level + 1, index)
 
-    bad = [(level, index) for level in reversed(range(top)) for index in range(tree.levels[level]) if is_bad(level, index)]
-    states, bad_ones = [], set(bad)
+    def holds_more(level, index):
+        used = min(([tree.blocks] + tree.levels)[level] - index * tree.slots, tree.slots)
+        return any(stored(level, index)[32 * used:])
+
+    blocks = [(level, index) for level in reversed(range(top)) for index in range(tree.levels[level])]
+    states, bad_ones = [], {it for it in blocks if is_bad(*it)}
     for at, block in enumerate(data_blocks(data, tree)):
         way, index = [], at
         for level in range(top):
@@ -224,7 +229,7 @@ def survey(data, image, tree, salt, root, lost=(frozenset(), frozenset())):
             way.append((level, index))
         state = None if at not in lost[0] and digest(salt, block) == above(0, at) else "changed"
         states.append("unknown" if bad_ones.intersection(way) else state)
-    return states, bad
+    return states, [it for it in blocks if it in bad_ones or holds_more(*it)]
 
 
 def spelled_uuid(uuid):

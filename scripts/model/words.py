@@ -18,12 +18,14 @@ OPTIONS = {
                b"fec", b"fec-roots", b"pin"),
     "dump": (b"hash-offset", b"json", b"pin"),
     "table": (*TREE, b"hash-offset", b"root-hash-file", b"name", b"no-superblock", b"pin"),
-    "repair": (b"hash-offset", b"root-hash-file", b"check", b"fec", b"fec-roots", b"pin"),
+    "repair": (*TREE, b"hash-offset", b"root-hash-file", b"no-superblock", b"check", b"fec", b"fec-roots", b"pin"),
     "load": (b"json", b"tree"), "read": (b"cache",), "write": (b"cache",), "session": (b"cache",), "nbd": (b"cache", b"all"),
-    "scan": (b"cache", b"map", b"progress", b"json", b"chart"), "copy": (b"cache", b"map", b"differing", b"progress"),
+    "scan": (b"cache", b"map", b"retries", b"progress", b"json", b"chart"),
+    "copy": (b"cache", b"map", b"retries", b"differing", b"progress"),
     "cat": (b"cache", b"first", b"count", b"progress"), "store": (b"cache", b"first", b"progress"),
     "partitions": (b"sector-size", b"stack", b"root", b"json", b"pin"),
-    "diff": (b"all", b"runs", b"json", b"old-hash-offset", b"hash-offset", b"old-root-hash-file", b"root-hash-file", b"old-pin", b"pin"),
+    "diff": (*TREE, b"no-superblock", b"all", b"runs", b"json", b"old-hash-offset", b"hash-offset", b"old-root-hash-file",
+             b"root-hash-file", b"old-pin", b"pin"),
     "manual": (), "version": (),
 }
 OPTIONS = {name: (b"quiet", *options) for name, options in OPTIONS.items()}
@@ -180,13 +182,13 @@ def check_tree_values(options, wanted):
         raise Usage
 
 
-def read_fec(options):
-    """The path of the parity's file and how many bytes of it a codeword has, or None."""
+def read_fec(options, refused=()):
+    """The path of the parity's file and how many bytes of it a codeword has, or None; these options don't go with it."""
     if b"fec" not in options:
         if b"fec-roots" in options:
             raise Usage
         return None
-    if b"no-superblock" in options or b"all" in options:
+    if any(name in options for name in refused):
         raise Usage
     roots = the_number(options.get(b"fec-roots", b"2"), 25)
     if roots < 2:
@@ -204,11 +206,13 @@ def read_copies(data_path, hash_path, words):
 
 
 def read_repair(options, words):
-    """DATA, HASH, the root, the place, the copies, and the parity or None."""
+    """DATA, HASH, the root, the sizes, the place, the copies, and the parity or None."""
+    check_tree_values(options, (b"salt",))
+    check_pin(options)
     (data_path, hash_path), rest = at_least(words, 2)
     root, rest = said_root(options, rest)
     copies = read_copies(data_path, hash_path, rest)
-    return data_path, hash_path, root, read_offset(options), copies, read_fec(options)
+    return data_path, hash_path, root, read_sizes(options), read_offset(options), copies, read_fec(options)
 
 
 def check_pin(options, name=b"pin"):
@@ -227,7 +231,7 @@ def read_format(options, words):
     written = [name for name in (b"pin", b"root-hash-file") if name in options]
     if written and (len(written) == 2 or b"fec" in options or b"fec-roots" in options):
         raise Usage
-    read_fec(options)
+    read_fec(options, (b"no-superblock",))
     return *exactly(words, 2), read_sizes(options), uuid, read_offset(options)
 
 
@@ -242,7 +246,7 @@ def read_verify(options, words):
     (data_path, hash_path), rest = at_least(words, 2)
     root, rest = said_root(options, rest)
     exactly(rest, 0)
-    read_fec(options)
+    read_fec(options, (b"all",))
     return data_path, hash_path, root, read_sizes(options), read_offset(options)
 
 
@@ -264,6 +268,8 @@ def read_on_stack(options, words, positional):
     read_cache(options)
     first = the_number(options.get(b"first", b"0"))
     count = the_number(options[b"count"]) if b"count" in options else None
+    # a sector of the model fails always or never, so that a retry finds nothing new
+    the_number(options.get(b"retries", b"0"))
     named, rest = at_least(words, positional)
     return named, bindings(rest), first, count
 
@@ -293,7 +299,8 @@ def read_tree(options, words, pin, file):
 
 
 def read_diff(options, words):
-    """Both paths, both places, both roots, and how many runs are printed at most, or None."""
+    """Both paths, both places, both roots, the sizes of both trees, and how many runs are printed at most, or None."""
+    check_tree_values(options, (b"salt", b"blocks"))
     old_path, old_root, words = read_tree(options, words, b"old-pin", b"old-root-hash-file")
     new_path, new_root, words = read_tree(options, words, b"pin", b"root-hash-file")
     exactly(words, 0)
@@ -301,4 +308,4 @@ def read_diff(options, words):
     if most == 0:
         raise Usage
     firsts = read_offset(options, b"old-hash-offset"), read_offset(options)
-    return (old_path, new_path), firsts, (old_root, new_root), most
+    return (old_path, new_path), firsts, (old_root, new_root), read_sizes(options), most

@@ -28,7 +28,7 @@ expansion_more nk key i h =
     let at : nk + (i - nk) ≡ i = omega arith in
     rw e (ap (with_word nk (expansion nk key (i - nk))) at)
 
--- the same, in an array that holds the words up to i
+-- one word more, in an array that holds the words up to i
 pub with_word-take : (nk : ℕ) (bytes words : List ℕ) (i : ℕ) → 0 < nk → nk ≤ i → take (4 * i) bytes ≡ words
     → take (4 * i) bytes ++ add_words (word bytes (i - nk)) (key_term nk (word bytes (i - 1)) i) ≡ with_word nk words i
 unfolding with_word

@@ -35,7 +35,7 @@ pub inverse_cipher-with : (key w b : List ℕ) (n : ℕ) → w ≡ key_schedule 
 unfolding inverse_cipher
 inverse_cipher-with key w b n same count = rw (same, count) refl
 
--- the n blocks from block m on, written where they stood
+-- the n blocks from block m on, written where they were
 module _ (f : List ℕ → List ℕ) (long : (x : List ℕ) → length (f x) ≡ 16) (old now : List ℕ) (m n a k : ℕ) (at : a ≡ 16 * m) (wide : k ≡ 16 * n) (fits : a + k ≤ length now) where
   block-part : drop (16 * m) now ≡ drop (16 * m) old → (j : ℕ) → j < n → block (take k (drop a now)) j ≡ block old (m + j)
   block-part rest j h =
@@ -74,7 +74,7 @@ rest_written key old now out i done whole same is written =
     IsWrittenTo-all 16 f old final (16 * i + n) total (part_written (cipher key) (length-cipher key) old now (16 * i) n a k (omega (arith, done)) wide fits out made written)
     ∙ ap (joined f) all
 
--- the same, deciphered
+-- the whole deciphered, once the blocks after the last sixteen are written too
 pub inverse_rest_written : (key old now out : List ℕ) (i : ℕ) → i ≡ length old / 256 → length old % 16 ≡ 0 → length now ≡ length old
     → out ≡ inverse_cipher_blocks key (take (length now - 256 * (length old / 256)) (drop (256 * (length old / 256)) now))
     → IsWrittenTo 16 (λ j. inverse_cipher key (block old j)) old now (16 * i)

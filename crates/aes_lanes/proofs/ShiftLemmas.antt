@@ -1,4 +1,4 @@
--- Blocks that are some ShiftRows ahead of how they stand in the planes.
+-- Blocks that are some ShiftRows ahead of how the planes have them.
 use Rattle.std.proofs.Common.{◌≡◌, ℕ, zero, suc, ◌+◌, ◌-◌, ◌*◌, ◌/◌, ◌%◌, ◌<◌, List, length, bit_xor, refl, sym, ap, ◌∙◌, arith}
 use Rattle.aes_block.specs.Field.{sub_byte, inv_sub_byte}
 use Rattle.aes_block.specs.Rounds.{sub_bytes, shift_rows, inv_shift_rows, inv_sub_bytes}

@@ -23,7 +23,7 @@ IsBytes-block bytes j fits i = elim (cases_lt i 16) [
   | inr h ↦ omega (arith, get_or_past (block bytes j) i 0 (omega (arith, h, length-take 16 (drop (16 * j) bytes))))
 ]
 
--- the planes to which vectors were turned have the block that stands in the vectors
+-- the planes to which vectors were turned have the block of the vectors
 module _ (vectors planes : List (List ℕ)) (bits : (p k i : ℕ) → p < 32 → k < 8 → i < 8 → bit_at (lane planes k p) i ≡ bit_at (lane vectors i p) k) where
   pub block_of-turned : (s : List ℕ) (j : ℕ) → j < 16 → length s ≡ 16 → ((i : ℕ) → slice_index s i < 256)
       → ((i : ℕ) → i < 16 → lane vectors (j / 2) (16 * (j % 2) + i) ≡ slice_index s i) → lane_block planes j ≡ s

@@ -75,7 +75,7 @@ module _ (c : Configuration) (d first rest most : ℕ) (some : 0 < most) where
     | inr few ↦ let is = len-all c d f r most few in omega (arith, is, left)
   ]
 
-  -- the second piece, behind one that ends units
+  -- the second piece, after one that ends units
   then-far : (m n : ℕ) → most < rest → 0 < m → m ≡ last_end (ends_units c (mapped d)) first most → aligned_len c d (first + m) (rest - m) most ≡ n → (m + n ≡ rest) ⊎ (most < m + n)
   then-far m n many begun is next =
       let few = last-few (ends_units c (mapped d)) first most in

@@ -42,11 +42,11 @@ is_last n s = s % n == n - 1
 abbrev pub line_ends : OnLine Bool
 line_ends at d l target s = is_last (unit_of_line target) s && said_or true at (data_beneath target s)
 
--- the same of sector s of a leaf or device
+-- sector s of a leaf or device is the last one of each unit and data block in which it lies
 abbrev pub ends_units : Configuration → Lower → ℕ → Bool
 ends_units c = by_sector c true (λ i s. true) line_ends
 
--- ---- the same of the first sector of a run
+-- ---- the first sector of a run is the last one of each unit and data block in which it lies
 
 abbrev pub unit_ends : Configuration → CryptPart → Bool
 unit_ends c u = is_last (per_unit u.units) u.first && ends_units c u.lower (u.units.offset + u.first)

@@ -9,7 +9,7 @@ unfoldable pub last_end : (ℕ → Bool) → ℕ → ℕ → ℕ
 last_end ends first zero = 0
 last_end ends first (suc n) = if ends (first + n) then suc n else last_end ends first n
 
--- that many, or the most where there is none
+-- that many, or the most if there is none
 abbrev pub or_most : ℕ → ℕ → ℕ
 or_most most zero = most
 or_most most (suc n) = suc n

@@ -46,7 +46,7 @@ fn lower_ends(config: &Config, lower: Lower, sector: u64) -> bool
     }
 }
 
-/// The same of the first sector of a part of a `crypt` line.
+/// Whether the first sector of a part of a `crypt` line is the last one of each unit and data block in which it lies.
 #[cycle(ends)]
 fn unit_ends(config: &Config, part: CryptPart<'_>) -> bool
     requires loaded { IsLoaded config.now }
@@ -59,7 +59,7 @@ fn unit_ends(config: &Config, part: CryptPart<'_>) -> bool
     lower_ends(config, part.lower, part.units.offset + part.first)
 }
 
-/// The same of the first sector of a part of a `verity` line.
+/// Whether the first sector of a part of a `verity` line is the last one of each unit and data block in which it lies.
 #[cycle(ends)]
 fn block_ends(config: &Config, part: VerityPart<'_>) -> bool
     requires loaded { IsLoaded config.now }
@@ -73,7 +73,7 @@ fn block_ends(config: &Config, part: VerityPart<'_>) -> bool
     lower_ends(config, part.data, part.first)
 }
 
-/// The same of the first sector of a run.
+/// Whether the first sector of a run is the last one of each unit and data block in which it lies.
 #[cycle(ends)]
 fn source_ends(config: &Config, source: Source<'_>) -> bool
     requires loaded { IsLoaded config.now }
@@ -90,7 +90,7 @@ fn source_ends(config: &Config, source: Source<'_>) -> bool
     }
 }
 
-/// The same of a sector of a mapped device.
+/// Whether a sector of a mapped device is the last one of each unit and data block in which it lies.
 #[cycle(ends)]
 fn device_ends(config: &Config, d: DevId, sector: u64) -> bool
     requires loaded { IsLoaded config.now }

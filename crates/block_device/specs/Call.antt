@@ -25,7 +25,7 @@ abbrev pub Calls : {D : Type 0} → (D → Call → D → Type 0) → D → List
 Calls does old [] new = new ≡ old
 Calls {D = D} does old (call ∷ more) new = (next : D) × does old call next × Calls does next more new
 
--- the same call that many sectors further
+-- a call that is moved that many sectors further
 abbrev pub moved_by : ℕ → Call → Call
 moved_by n (Read first bytes ok) = Read (n + first) bytes ok
 moved_by n (Write first bytes ok) = Write (n + first) bytes ok

@@ -14,7 +14,7 @@ is_read (Read first bytes ok) = true
 is_read (Write first bytes ok) = false
 is_read (Sync ok) = false
 
--- how many sectors a call asks to read, and how many to write
+-- how many sectors a call reads, and how many it writes, whether it succeeds or not
 abbrev pub sectors_read : Call → ℕ
 sectors_read (Read first bytes ok) = length bytes / 512
 sectors_read (Write first bytes ok) = 0

@@ -8,7 +8,7 @@ use Rattle.block_device.specs.declared.open_fault.OpenFault.{OpenFault}
 use Rattle.block_device.specs.declared.seal.Seal.{Seal}
 use Rattle.block_device.specs.Call.{Call}
 
--- the system opened this path as this file, for reading, and for writing too where that is true
+-- the system opened this path as this file, for reading, and for writing too if that is true
 pub Opened : List ℕ → Bool → File → Type 0
 Opened path writable file = Unit {0}
 

@@ -6,7 +6,7 @@ ghost use Rattle.block_device.specs.Device.{CountersFit, Device, IsInside, IsWho
 
 use thiserror::Error;
 
-/// The device failed in this call, and counted the failure unless its counter stood at its end.
+/// The device failed in this call, and counted the failure unless its counter was at its end.
 #[derive(Clone, Copy, Debug, PartialEq, Eq, Error)]
 #[error("the device failed")]
 pub struct DeviceFault;

@@ -15,7 +15,7 @@ use crate::{BlockDev, DeviceFault, SyncDev};
 pub struct FailAt<D> {
     /// The device that all other calls go to.
     pub inner: D,
-    /// The number of the call that fails, counted from the next one; 0 where none does.
+    /// The number of the call that fails, counted from the next one; 0 if none does.
     pub calls_to_failure: u64,
     /// What this device counts on top of what the inner one does.
     pub sectors_of_failed_reads: u64,

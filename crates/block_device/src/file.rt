@@ -21,7 +21,7 @@ use std::rt::Files;
 
 const MAX_SECTORS: u64 = 1 << 54;
 
-// The bits of a mode that tell what kind of file it is, and those of a block device.
+// The bits of a mode that state what kind of file it is, and those of a block device.
 const KIND_BITS: u32 = 0o170_000;
 
 const BLOCK_DEVICE: u32 = 0o060_000;
@@ -34,7 +34,7 @@ const BLOCK_DEVICE: u32 = 0o060_000;
 /// Reads and writes are positioned: no call moves a position that another one uses. Short ones are continued
 /// by the standard library. No contract says that a file returns what was written to it: the device is steady if the file is
 /// faithful (`specs/Faithful`), which is an assumption. Tests over real files show that bytes
-/// written are read back, that a trailing part stays as it is, and that no failure is counted where none came.
+/// written are read back, that a trailing part stays as it is, and that no failure is counted if none came.
 #[derive(Drop)]
 pub struct FileDev {
     file: File,
@@ -55,9 +55,12 @@ impl FileDev {
     ghost use Rattle.block_device.specs.FileId.{file_id, file_of};
     ghost use Rattle.block_device.specs.Identity.{IsLongEnough, IsOpenedAs};
 
-    /// Opens the file or block device for reading, and for writing too where `writable` says so. Anything else,
-    /// as a directory, a pipe or a character device, is `OtherFault`. What is opened is an image by what the system said
-    /// of it, and so are its size and identity.
+    /// Opens the file or block device for reading, and for writing too if `writable` is set. That it is an image, its size and its
+    /// identity are what the system reports of it.
+    ///
+    /// # Errors
+    ///
+    /// `OpenFault` by what the system reports; `OtherFault` for anything else, as a directory, a pipe or a character device.
     pub fn open<R: Files<File = File>>(
         rt: &R,
         path: &str,

@@ -77,7 +77,7 @@ pub(crate) fn open_at<R: Files<File = File>>(
     }
 }
 
-// What the system told of a file.
+// What the system reported of a file.
 pub(crate) fn numbers_of(metadata: &Metadata) -> FileNumbers
     ensures { Told metadata.now result }
 {

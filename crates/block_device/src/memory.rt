@@ -177,7 +177,7 @@ impl SyncDev for MemoryDev {
     }
 }
 
-// Puts bytes in the place of others.
+// Replaces bytes by others.
 fn put(bytes: &mut Vec<u8>, at: usize, part: &[u8])
     requires { at + length part.now ≤ length bytes.old.items }
     ensures { bytes.new.items ≡ take at bytes.old.items ++ part.now ++ drop (at + length part.now) bytes.old.items }

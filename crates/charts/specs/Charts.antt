@@ -1,4 +1,4 @@
--- A map of blocks or sectors: at most 16 rows of 64 characters, each of which stands for as many of them.
+-- A map of blocks or sectors: at most 16 rows of 64 characters, each of which is for as many of them.
 use Rattle.std.specs.Prelude.{ℕ, zero, suc, ◌+◌, ◌-◌, ◌*◌, ◌/◌, ◌%◌, ◌==◌, ◌&&◌, nat_lt, Bool, List, [], ◌++◌, codes, decimal, if◌then◌else◌}
 
 -- how a cell is drawn, by its first block and how many it has

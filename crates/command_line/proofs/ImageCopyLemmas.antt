@@ -6,7 +6,7 @@ use Rattle.command_line.specs.declared.image_copies.ImageCopy.{ImageCopy}
 use Rattle.command_line.specs.FormatOptions.{texts_of}
 use Rattle.command_line.specs.ImageCopies.{ImageCopyRecord, copies_in_pairs, image_copy_record, one_file}
 
--- copies, and more behind them
+-- copies, and more after them
 abbrev pub behind : List ImageCopy → Option (List ImageCopyRecord) → Option (List ImageCopyRecord)
 behind copies more = option_map (λ records. map image_copy_record copies ++ records) more
 

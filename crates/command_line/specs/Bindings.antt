@@ -9,7 +9,7 @@ use Rattle.command_line.specs.declared.bindings.Binding.{Binding}
 use Rattle.command_line.specs.Cuts.{cut_first}
 use Rattle.command_line.specs.PartBindings.{PartRecord, kind_part, part_record}
 
--- what stands behind a name
+-- what a name is bound to
 pub data BackingRecord : Type 0 where
   -- a file, which may be written or not
   file : List ℕ → Bool → BackingRecord
@@ -32,7 +32,7 @@ sectors_at word = number_if (λ n. nat_le 1 n && nat_le n 65536) (number word)
 abbrev pub part_backing : List ℕ → List ℕ → Option BackingRecord
 part_backing kind rest = option_map (λ found. part rest found.0 found.1) (kind_part kind)
 
--- `rw:FILE`, `ro:FILE`, `zero:N` or `ramp:N`, of which the kind stands before the colon, or a part of a file
+-- `rw:FILE`, `ro:FILE`, `zero:N` or `ramp:N`, of which the kind is before the colon, or a part of a file
 abbrev pub backing_by : List ℕ → List ℕ → Option BackingRecord
 backing_by kind rest =
     if bytes_eq kind (codes "rw") then Some (file rest true)

@@ -14,7 +14,7 @@ use Rattle.command_line.specs.Misuses.{MisuseRecord, Reading, misuse_record, mis
 abbrev pub is_option : List ℕ → Bool
 is_option word = nat_lt 1 (length word) && (slice_index word 0 == 45)
 
--- the first word after the first one that has the form of an option, unless `--` stands in front of them
+-- the first word after the first one that has the form of an option, unless `--` precedes them
 abbrev pub late_option : List (List ℕ) → Bool → Option (List ℕ)
 late_option words true = None
 late_option words false = find is_option (drop 1 words)

@@ -20,7 +20,7 @@ unfoldable pub fec_file_of : Option (List ℕ) → Option (List ℕ) → Reading
 fec_file_of None roots = misused (codes "--fec-roots") WithoutFec
 fec_file_of (Some path) roots = when (roots_of roots) (λ n. Ok (record { path = path; roots = n }))
 
--- the same, or no parity if neither option is given
+-- by the values of `--fec` and `--fec-roots`; no parity if neither option is given
 unfoldable pub fec_choice_of : Option (List ℕ) → Option (List ℕ) → Reading (Option FecRecord)
 fec_choice_of path roots =
     if not (is_some path) && not (is_some roots) then Ok None

@@ -21,7 +21,7 @@ salt_of word =
     else if length word == 0 then None
     else result_ok (decode_of word)
 
--- the values of the options, and which of those without a value stand in the words
+-- the values of the options, and which options without a value were given
 pub record OptionTexts : Type 0 where
   pub data_block : Option (List ℕ)
   pub hash_block : Option (List ℕ)
@@ -44,6 +44,7 @@ pub record OptionTexts : Type 0 where
   pub old_pin : Option (List ℕ)
   pub old_root_hash_file : Option (List ℕ)
   pub runs : Option (List ℕ)
+  pub retries : Option (List ℕ)
   pub all : Bool
   pub stack : Bool
   pub no_superblock : Bool
@@ -87,6 +88,7 @@ option_texts words = record {
   old_pin = text_of words.old_pin;
   old_root_hash_file = text_of words.old_root_hash_file;
   runs = text_of words.runs;
+  retries = text_of words.retries;
   all = words.all;
   stack = words.stack;
   no_superblock = words.no_superblock;
@@ -101,7 +103,7 @@ option_texts words = record {
   quiet = words.quiet;
 }
 
--- each value is the one that its text says; where there is no text, it is 4,096 for a block size, and none for the others
+-- each value is the one that its text says; if there is no text, it is 4,096 for a block size, and none for the others
 pub record AreSaid (texts : OptionTexts) (options : ImageOptions) : Type 0 where
   pub data_block : block_size_of texts.data_block ≡ Some options.data_block
   pub hash_block : block_size_of texts.hash_block ≡ Some options.hash_block

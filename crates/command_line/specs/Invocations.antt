@@ -71,15 +71,15 @@ tree_said name texts words =
     if bytes_eq name (codes "format") then said_as format_tree (tree_format_said texts words)
     else if bytes_eq name (codes "verify") then said_as verify_tree (tree_verify_said texts words)
     else if bytes_eq name (codes "table") then said_as table_tree (tree_table_said texts words)
+    else if bytes_eq name (codes "diff") then said_as diff (diff_said texts words)
     else misused (codes "--no-superblock") Unknown
 
--- the commands on images with parity, which have a superblock
+-- the commands on images with parity
 unfoldable pub fec_said : List ℕ → OptionTexts → List (List ℕ) → Reading InvocationRecord
 fec_said name texts words =
-    when (refuse_if texts.no_superblock (codes "--no-superblock") WithFec) (λ a.
     if bytes_eq name (codes "format") then said_as format_fec (fec_format_said texts words)
     else if bytes_eq name (codes "verify") then said_as verify_fec (fec_verify_said texts words)
-    else misused (codes "--fec") Unknown)
+    else misused (codes "--fec") Unknown
 
 -- an image with a pin has a superblock, and a format with parity writes no pin
 unfoldable pub pin_conflicts : List ℕ → OptionTexts → Reading (Unit {0})

@@ -1,6 +1,6 @@
 -- Options that belong together.
-use Rattle.std.specs.Prelude.{◌||◌, Bool, codes, is_some}
-use Rattle.command_line.specs.declared.misuse.Cause.TheVariants.{InSuperblock}
+use Rattle.std.specs.Prelude.{◌||◌, not, Bool, codes, is_some, if◌then◌else◌}
+use Rattle.command_line.specs.declared.misuse.Cause.TheVariants.{InSuperblock, Missing}
 use Rattle.command_line.specs.FormatOptions.{OptionTexts}
 use Rattle.command_line.specs.Misuses.{Reading, refuse_if, when}
 
@@ -15,3 +15,7 @@ in_superblock texts =
     when (refuse_if (is_some texts.hash_block) (codes "--hash-block") InSuperblock) (λ b.
     when (refuse_if (is_some texts.blocks) (codes "--blocks") InSuperblock) (λ c.
     refuse_if (is_some texts.salt) (codes "--salt") InSuperblock)))
+
+-- of a tree without a superblock the salt is given, of another one none of these options
+unfoldable pub tree_stated : OptionTexts → Reading (Unit {0})
+tree_stated texts = if texts.no_superblock then refuse_if (not (is_some texts.salt)) (codes "--salt") Missing else in_superblock texts

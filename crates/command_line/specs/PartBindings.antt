@@ -26,7 +26,7 @@ said_part place = option_and_then (λ parts. sectors_from parts.0 parts.1) (cut_
 abbrev pub access_of : List ℕ → Option Bool
 access_of access = if bytes_eq access (codes "rw") then Some true else if bytes_eq access (codes "ro") then Some false else None
 
--- what stands before the colon, cut at the first `@` (64)
+-- what is before the colon, split at the first `@` (64)
 abbrev pub kind_part : List ℕ → Option (Bool × PartRecord)
 kind_part kind =
     option_and_then (λ parts. option_and_then (λ writable. option_map (λ part. (writable, part)) (said_part parts.1)) (access_of parts.0)) (cut_first 64 kind)

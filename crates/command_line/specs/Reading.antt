@@ -10,6 +10,6 @@ use Rattle.command_line.specs.Misuses.{Reading, said_as}
 abbrev pub ReadsCommand : Reading InvocationRecord → Result Invocation WordsFault → Type 0
 ReadsCommand said result = MatchResult result (λ got. said ≡ Ok (invocation_record got)) (RefusesWords said)
 
--- the same of the words of one command
+-- it is the invocation of one command; a fault is the misuse, or an allocation was refused
 abbrev pub ReadsAs : {A : Type 0} → (A → InvocationRecord) → Reading A → Result Invocation WordsFault → Type 0
 ReadsAs command said result = ReadsCommand (said_as command said) result

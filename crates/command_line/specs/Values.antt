@@ -35,6 +35,11 @@ unfoldable pub count_said : Option (List ℕ) → Reading (Option ℕ)
 count_said None = Ok None
 count_said (Some word) = wanted (codes "--count") Number (option_map (λ n. Some n) (number word))
 
+-- lost sectors aren't read again unless the word says how many times
+unfoldable pub retries_said : Option (List ℕ) → Reading ℕ
+retries_said None = Ok 0
+retries_said (Some word) = wanted (codes "--retries") Number (number word)
+
 -- how many runs at most, which is at least one, or no word
 unfoldable pub runs_said : Option (List ℕ) → Reading (Option ℕ)
 runs_said None = Ok None

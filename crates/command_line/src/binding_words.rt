@@ -10,7 +10,12 @@ use crate::misuse::{Cause, Misuse};
 use allocation::push;
 use std::alloc::Global;
 
-/// The bindings, if all words are bindings.
+/// Returns the bindings, one for each word.
+///
+/// # Errors
+///
+/// - `Usage` with the first word that is no binding.
+/// - `NoMemory` if an allocation was refused.
 pub fn bindings_of<'a>(alloc: Global, words: &[&'a str]) -> Result<Vec<Binding<'a>>, WordsFault<'a>>
     ensures ok { IfOk result (λ v. AreBindings (bindings_of (texts_of words.now)) v.items) }
     ensures err { IfErr result (RefusesWords (bindings_of (texts_of words.now))) }

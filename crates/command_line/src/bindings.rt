@@ -7,7 +7,7 @@ use table_text::number;
 
 const MOST_SECTORS: u64 = 65536;
 
-/// What stands behind a name: a file or a part of one, or new sectors in memory.
+/// What a name is bound to: a file or a part of one, or new sectors in memory.
 #[derive(Clone, Copy)]
 pub enum Backing<'a> {
     File {
@@ -23,15 +23,16 @@ pub enum Backing<'a> {
     Ramp(u32),
 }
 
-/// A name and the device that it stands for.
+/// A name and the device that it is bound to.
 #[derive(Clone, Copy)]
 pub struct Binding<'a> {
     pub name: &'a str,
     pub backing: Backing<'a>,
 }
 
-/// `NAME=rw:FILE`, `NAME=ro:FILE`, `NAME=rw@FIRST+COUNT:FILE`, `NAME=ro@FIRST+COUNT:FILE`, `NAME=zero:N` or
-/// `NAME=ramp:N`, cut at the first `=`.
+/// Returns the binding of a word, or `None` if the word is none: `NAME=rw:FILE`, `NAME=ro:FILE`, `NAME=rw@FIRST+COUNT:FILE`,
+/// `NAME=ro@FIRST+COUNT:FILE`, `NAME=zero:N` or `NAME=ramp:N`, split at the first `=`. FIRST, COUNT and N count sectors of 512
+/// bytes.
 pub fn binding_of(word: &str) -> Option<Binding<'_>>
     ensures { option_map binding_record result ≡ binding_of word.now }
 {
@@ -40,7 +41,7 @@ pub fn binding_of(word: &str) -> Option<Binding<'_>>
     Some(Binding { name, backing })
 }
 
-// What stands behind the `=`, cut at the first `:`.
+// What the text after the `=` binds a name to, split at the first `:`.
 fn backing_of(text: &str) -> Option<Backing<'_>>
     ensures { option_map backing_record result ≡ backing_of text.now }
 {
@@ -48,7 +49,7 @@ fn backing_of(text: &str) -> Option<Backing<'_>>
     backing_by(kind, rest)
 }
 
-// What stands behind the colon, by the kind that stands before it.
+// What the text after the colon binds a name to, by the kind before the colon.
 fn backing_by<'a>(kind: &str, rest: &'a str) -> Option<Backing<'a>>
     ensures { option_map backing_record result ≡ backing_by kind.now rest.now }
 {

@@ -1,4 +1,4 @@
-//! What a command line invokes.
+//! The command that a command line invokes.
 ghost use Rattle.std.specs.Prelude.{◌≡◌, drop, find, option_copied};
 ghost use Rattle.command_line.specs.FormatOptions.{option_texts, text_of, texts_of};
 ghost use Rattle.command_line.specs.CommandWords.{invoked_by, is_option, late_option};
@@ -36,8 +36,12 @@ use crate::words::verify::verify_of;
 use crate::words::write::write_of;
 use std::alloc::Global;
 
-/// The command of that name with the values of its options and its positional words. Unless `--` stands in front of them, no
-/// positional word but the first may have the form of an option.
+/// Returns the command of that name with the values of its options and its positional arguments. Unless `--` precedes them, no
+/// positional argument but the first may have the form of an option.
+///
+/// # Errors
+///
+/// `Usage` with the misused argument, or `NoMemory` if an allocation was refused.
 #[tactic(auto, unfolding(crate::specs::CommandWords::invocation_of))]
 pub fn invocation_of<'a>(
     alloc: Global,
@@ -120,7 +124,7 @@ fn allow_root_file<'a>(name: &[u8], options: &OptionWords<'a>) -> Result<(), Mis
     }
 }
 
-// The command of that name on an image with parity, which has a superblock.
+// The command of that name on an image with parity.
 #[tactic(auto, unfolding(crate::specs::Invocations::fec_said))]
 fn fec_of<'a>(
     name: &[u8],
@@ -129,7 +133,6 @@ fn fec_of<'a>(
 ) -> Result<Invocation<'a>, WordsFault<'a>>
     ensures { ReadsCommand (fec_said name.now (option_texts options.now) (texts_of words.now)) result }
 {
-    refuse_if(options.no_superblock, "--no-superblock", Cause::WithFec)?;
     if name == b"format".as_slice() {
         fec_format_of(options, words)
     } else if name == b"verify".as_slice() {
@@ -154,6 +157,8 @@ fn tree_of<'a>(
         tree_verify_of(options, words)
     } else if name == b"table".as_slice() {
         tree_table_of(options, words)
+    } else if name == b"diff".as_slice() {
+        diff_of(options, words)
     } else {
         Err(WordsFault::Usage(Misuse::new("--no-superblock", Cause::Unknown)))
     }
@@ -268,7 +273,7 @@ fn formatted_of<'a>(
     }
 }
 
-/// Whether a word has the form of an option, as `-x`; `-` alone has not.
+/// Returns whether a word has the form of an option, as `-x`; `-` alone has not.
 pub fn is_option(word: &str) -> bool
     ensures { result ≡ is_option word.now }
 {

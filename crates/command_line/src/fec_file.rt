@@ -18,7 +18,12 @@ pub struct FecFile<'a> {
     pub roots: u32,
 }
 
-/// The parity that `--fec FILE` and `--fec-roots N` say.
+/// Returns the parity file of `--fec FILE`, with the bytes of parity of a codeword by `--fec-roots N`: 2 if it is missing.
+///
+/// # Errors
+///
+/// - `WithoutFec` of `--fec-roots` if `--fec` is missing.
+/// - `Roots` of `--fec-roots` if its value isn't a decimal number from 2 to 24.
 #[tactic(auto, unfolding(crate::specs::FecFiles::fec_file_of))]
 pub fn fec_file_of<'a>(
     path: Option<&'a str>,
@@ -33,7 +38,11 @@ pub fn fec_file_of<'a>(
     Ok(FecFile { path, roots })
 }
 
-/// The same, or no parity if neither option is given.
+/// Returns the parity file as `fec_file_of` does, or `None` if neither option is given.
+///
+/// # Errors
+///
+/// The misuse of `fec_file_of`.
 #[tactic(auto, unfolding(crate::specs::FecFiles::fec_choice_of))]
 pub fn fec_choice_of<'a>(
     path: Option<&'a str>,

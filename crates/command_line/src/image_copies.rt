@@ -10,14 +10,20 @@ use crate::misuse::{Cause, Misuse};
 use allocation::{OutOfMemory, push};
 use std::alloc::Global;
 
-/// The paths of a copy's data and of its hashes, which are the same where it has both in one file.
+/// The paths of a copy's data and of its hashes, which are the same if both are in one file.
 #[derive(Clone, Copy)]
 pub struct ImageCopy<'a> {
     pub data_path: &'a str,
     pub hash_path: &'a str,
 }
 
-/// The copies of an image with these paths: a word for each where data and hashes have the same path, else two.
+/// Returns the copies of an image with these paths. If its data and hashes have the same path, each word is the path of a copy;
+/// otherwise two words are, first that of its data and then that of its hashes.
+///
+/// # Errors
+///
+/// - `Usage` of `HASHCOPY` if the last copy lacks its second path.
+/// - `NoMemory` if an allocation was refused.
 #[tactic(auto, unfolding(crate::specs::ImageCopies::copies_of))]
 pub fn copies_of<'a>(
     alloc: Global,

@@ -1,4 +1,4 @@
-//! What the options that say what an image is say.
+//! The values of the options that describe an image.
 ghost use Rattle.std.specs.Prelude.{◌≡◌, ◌/◌, IfErr, IfOk, Ok, Some, codes, length, option_map};
 ghost use Rattle.std.specs.Result.{result_ok};
 ghost use Rattle.hex.specs.Hex.{decode_of};
@@ -26,7 +26,7 @@ const BLOCK_SIZES_END: u64 = 1 << 32;
 
 const MOST_SALT_DIGITS: usize = 512;
 
-/// What `format` is to make. Where there is no salt or identifier, one is drawn; where there is no number of
+/// What `format` is to make. If there is no salt or identifier, one is drawn; if there is no number of
 /// blocks, all whole blocks are taken.
 #[derive(Clone, Copy)]
 pub struct ImageOptions {
@@ -37,7 +37,13 @@ pub struct ImageOptions {
     pub uuid: Option<[u8; 16]>,
 }
 
-/// `[--data-block N] [--hash-block N] [--blocks N] [--salt HEX] [--uuid U]`
+/// Returns the values of `[--data-block N] [--hash-block N] [--blocks N] [--salt HEX] [--uuid U]`. Block sizes are in bytes,
+/// 4,096 if an option is missing.
+///
+/// # Errors
+///
+/// - `Usage` with the first option, in this order, whose value is invalid.
+/// - `NoMemory` if an allocation was refused.
 #[tactic(auto, unfolding(crate::specs::ImageValues::options_read))]
 pub fn options_of<'a>(
     alloc: Global,

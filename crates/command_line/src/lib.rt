@@ -14,6 +14,7 @@ mod misuse;
 mod option_words;
 mod part_bindings;
 mod positional;
+mod retries;
 mod values;
 mod words;
 

@@ -85,6 +85,7 @@ pub struct Misuse<'a> {
 }
 
 impl<'a> Misuse<'a> {
+    /// Returns a misuse of an argument.
     pub fn new(argument: &'a str, cause: Cause) -> Self
         ensures { misuse_record result ≡ record { argument = argument.now; cause = cause } }
     {

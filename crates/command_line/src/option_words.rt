@@ -1,12 +1,12 @@
 //! The options of a command line, as words.
 ghost use Rattle.std.specs.Prelude.{◌≡◌};
 ghost use Rattle.command_line.specs.FormatOptions.{option_texts};
-ghost use Rattle.command_line.specs.OptionGroups.{has_fec_value, in_superblock};
+ghost use Rattle.command_line.specs.OptionGroups.{has_fec_value, in_superblock, tree_stated};
 ghost use Rattle.command_line.specs.Misuses.{ReadsValue};
 
 use crate::misuse::{Cause, Misuse, refuse_if};
 
-/// The values of the options, as they stand in the words, and which of those without a value stand there.
+/// The values of the options, as they are in the words, and which options without a value were given.
 #[derive(Clone, Copy)]
 pub struct OptionWords<'a> {
     pub data_block: Option<&'a str>,
@@ -30,6 +30,7 @@ pub struct OptionWords<'a> {
     pub old_pin: Option<&'a str>,
     pub old_root_hash_file: Option<&'a str>,
     pub runs: Option<&'a str>,
+    pub retries: Option<&'a str>,
     pub all: bool,
     pub stack: bool,
     pub no_superblock: bool,
@@ -44,7 +45,7 @@ pub struct OptionWords<'a> {
     pub quiet: bool,
 }
 
-/// Whether an option of parity is there.
+/// Returns whether `--fec` or `--fec-roots` is given.
 #[tactic(auto, unfolding(crate::specs::OptionGroups::has_fec_value))]
 pub fn has_fec_value(options: &OptionWords<'_>) -> bool
     ensures { result ≡ has_fec_value (option_texts options.now) }
@@ -53,6 +54,10 @@ pub fn has_fec_value(options: &OptionWords<'_>) -> bool
 }
 
 /// Refuses the options of the tree whose values the superblock holds.
+///
+/// # Errors
+///
+/// `InSuperblock` of the first of `--data-block`, `--hash-block`, `--blocks` and `--salt` that is given.
 #[tactic(auto, unfolding(crate::specs::OptionGroups::in_superblock))]
 pub fn in_superblock<'a>(options: &OptionWords<'a>) -> Result<(), Misuse<'a>>
     ensures { ReadsValue (λ none. none) (in_superblock (option_texts options.now)) result }
@@ -69,4 +74,21 @@ pub fn in_superblock<'a>(options: &OptionWords<'a>) -> Result<(), Misuse<'a>>
     )?;
     refuse_if(options.blocks.is_some(), "--blocks", Cause::InSuperblock)?;
     refuse_if(options.salt.is_some(), "--salt", Cause::InSuperblock)
+}
+
+/// Refuses the options of the tree whose values the superblock holds. With `--no-superblock` they are allowed, and the salt is
+/// required.
+///
+/// # Errors
+///
+/// `Missing` of `--salt` if `--no-superblock` is given without it, or the misuse of `in_superblock`.
+#[tactic(auto, unfolding(crate::specs::OptionGroups::tree_stated))]
+pub fn tree_stated<'a>(options: &OptionWords<'a>) -> Result<(), Misuse<'a>>
+    ensures { ReadsValue (λ none. none) (tree_stated (option_texts options.now)) result }
+{
+    if options.no_superblock {
+        refuse_if(options.salt.is_none(), "--salt", Cause::Missing)
+    } else {
+        in_superblock(options)
+    }
 }

@@ -14,7 +14,8 @@ pub struct FilePart {
     pub count: u64,
 }
 
-/// `rw@FIRST+COUNT` or `ro@FIRST+COUNT`, cut at the first `@` and the first `+`.
+/// Returns whether `rw@FIRST+COUNT` or `ro@FIRST+COUNT` is writable, and its sectors of 512 bytes; `None` if the text is
+/// neither. It is split at the first `@` and the first `+`.
 pub fn kind_part(kind: &str) -> Option<(bool, FilePart)>
     ensures { option_map (λ found. (found.0, part_record found.1)) result ≡ kind_part kind.now }
 {

@@ -9,7 +9,11 @@ use crate::values::{RootOrPin, RootWord, path_of, root_said};
 use dm_table::is_device;
 use table_text::number;
 
-/// The next positional argument, whose name in the usage is `name`, and those after it.
+/// Returns the next positional argument, whose name in the usage is `name`, and the arguments after it.
+///
+/// # Errors
+///
+/// `Missing` of `name` if there is no argument.
 #[tactic(auto, unfolding(crate::specs::Positional::positional))]
 pub fn positional<'a, 'b>(
     name: &'a str,
@@ -24,6 +28,10 @@ pub fn positional<'a, 'b>(
 }
 
 /// Refuses a further positional argument.
+///
+/// # Errors
+///
+/// `Surplus` of the next argument if there is one.
 #[tactic(auto, unfolding(crate::specs::Positional::no_more))]
 pub fn no_more<'a>(words: &[&'a str]) -> Result<(), Misuse<'a>>
     ensures { ReadsValue (λ none. none) (no_more (texts_of words.now)) result }
@@ -34,7 +42,11 @@ pub fn no_more<'a>(words: &[&'a str]) -> Result<(), Misuse<'a>>
     }
 }
 
-/// The next positional argument, which is a number, and those after it.
+/// Returns the next positional argument, which is a decimal number, and the arguments after it.
+///
+/// # Errors
+///
+/// `Missing` of `name` if there is no argument, or `Number` of `name` if it isn't a decimal number.
 #[tactic(auto, unfolding(crate::specs::Positional::number_at))]
 pub fn number_at<'a, 'b>(
     name: &'a str,
@@ -49,7 +61,11 @@ pub fn number_at<'a, 'b>(
     }
 }
 
-/// The next positional argument, which is the device argument of a table line, and those after it.
+/// Returns the next positional argument, which is the device argument of a table line, and the arguments after it.
+///
+/// # Errors
+///
+/// `Missing` of `name` if there is no argument, or `DeviceName` of `name` if it isn't a device argument.
 #[tactic(auto, unfolding(crate::specs::Positional::device_at))]
 pub fn device_at<'a, 'b>(
     name: &'a str,
@@ -64,7 +80,11 @@ pub fn device_at<'a, 'b>(
     Err(Misuse::new(name, Cause::DeviceName))
 }
 
-/// The root, which is the next positional argument unless a file holds it, and the arguments after it.
+/// Returns the root hash, which is the next positional argument unless a file holds it, and the arguments after it.
+///
+/// # Errors
+///
+/// `Missing` of `ROOT` if there is neither a file nor an argument, or `RootHash` of `ROOT` if it isn't a root hash.
 #[tactic(auto, unfolding(crate::specs::Positional::root_first))]
 pub fn root_first<'a, 'b>(
     file: Option<&'a str>,
@@ -80,7 +100,11 @@ pub fn root_first<'a, 'b>(
     Ok((RootWord::Digest(root), rest))
 }
 
-/// The root, and no argument after it.
+/// Returns the root hash as `root_first` does; no argument is after it.
+///
+/// # Errors
+///
+/// The misuse of `root_first`, or `Surplus` of an argument after the root hash.
 #[tactic(auto, unfolding(crate::specs::Positional::root_alone))]
 pub fn root_alone<'a>(file: Option<&'a str>, words: &[&'a str]) -> Result<RootWord<'a>, Misuse<'a>>
     ensures { ReadsValue root_record (root_alone (text_of file.entry) (texts_of words.now)) result }
@@ -94,7 +118,14 @@ pub fn root_alone<'a>(file: Option<&'a str>, words: &[&'a str]) -> Result<RootWo
     }
 }
 
-/// The root, or the pin that holds it, and the arguments after them. The root is the next argument unless a file or the pin holds it.
+/// Returns the root hash or the pin that holds it, and the arguments after it. The root hash is the next argument unless a file
+/// or the pin holds it.
+///
+/// # Errors
+///
+/// - `WithPin` of `--root-hash-file` if a pin and a file are given.
+/// - `FilePath` of `--pin` if the path of the pin is empty or `-`.
+/// - The misuse of `root_first` if no pin is given.
 #[tactic(auto, unfolding(crate::specs::Positional::root_or_pin_first))]
 pub fn root_or_pin_first<'a, 'b>(
     pin: Option<&'a str>,
@@ -114,7 +145,11 @@ pub fn root_or_pin_first<'a, 'b>(
     Ok((RootOrPin::Pin(path), words))
 }
 
-/// The root, or the pin that holds it, and no argument after them.
+/// Returns the root hash or its pin as `root_or_pin_first` does; no argument is after it.
+///
+/// # Errors
+///
+/// The misuse of `root_or_pin_first`, or `Surplus` of an argument after the root hash.
 #[tactic(auto, unfolding(crate::specs::Positional::root_or_pin_alone))]
 pub fn root_or_pin_alone<'a>(
     pin: Option<&'a str>,
@@ -132,8 +167,12 @@ pub fn root_or_pin_alone<'a>(
     }
 }
 
-/// The next positional argument, whose name in the usage is `name`, unless the file of a pin or of a root hash is given in its place,
-/// and the arguments after it.
+/// Returns the path of a pin or of a root hash file, if one is given, and all arguments; otherwise the next positional
+/// argument, whose name in the usage is `name`, and the arguments after it.
+///
+/// # Errors
+///
+/// `Missing` of `name` if there is neither a path nor an argument.
 #[tactic(auto, unfolding(crate::specs::Positional::word_or_file))]
 pub fn word_or_file<'a, 'b>(
     pin: Option<&'a str>,
@@ -150,7 +189,11 @@ pub fn word_or_file<'a, 'b>(
     }
 }
 
-/// The device arguments of data and hashes, and no argument after them.
+/// Returns the device arguments of data and hashes; no argument is after them.
+///
+/// # Errors
+///
+/// `Missing` or `DeviceName` of `DATANAME` or `HASHNAME`, or `Surplus` of an argument after them.
 #[tactic(auto, unfolding(crate::specs::Positional::device_names))]
 pub fn device_names<'a>(words: &[&'a str]) -> Result<(&'a str, &'a str), Misuse<'a>>
     ensures { ReadsValue (λ names. (names.0.now, names.1.now)) (device_names (texts_of words.now)) result }

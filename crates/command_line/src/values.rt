@@ -1,4 +1,4 @@
-//! What the values of options say.
+//! The values of options.
 ghost use Rattle.std.specs.Prelude.{◌≡◌};
 ghost use Rattle.command_line.specs.FormatOptions.{text_of};
 ghost use Rattle.command_line.specs.Misuses.{ReadsValue};
@@ -43,7 +43,11 @@ pub enum PartitionForm<'a> {
     Pin(&'a str),
 }
 
-/// How many hash blocks are cached: 64 unless the word says another number up to 65,536.
+/// Returns how many hash blocks are cached: 64 unless the word is another number.
+///
+/// # Errors
+///
+/// `CacheBlocks` of `--cache` if the word isn't a decimal number up to 65,536.
 #[tactic(auto, unfolding(crate::specs::Values::cache_said))]
 pub fn cache_of<'a>(word: Option<&'a str>) -> Result<u32, Misuse<'a>>
     ensures { ReadsValue (λ n. n) (cache_said (text_of word.entry)) result }
@@ -57,7 +61,11 @@ pub fn cache_of<'a>(word: Option<&'a str>) -> Result<u32, Misuse<'a>>
     }
 }
 
-/// The first sector: 0 unless the word says another.
+/// Returns the first sector: 0 unless the word is another number.
+///
+/// # Errors
+///
+/// `Number` of `--first` if the word isn't a decimal number.
 #[tactic(auto, unfolding(crate::specs::Values::first_said))]
 pub fn first_of<'a>(word: Option<&'a str>) -> Result<u64, Misuse<'a>>
     ensures { ReadsValue (λ n. n) (first_said (text_of word.entry)) result }
@@ -71,7 +79,11 @@ pub fn first_of<'a>(word: Option<&'a str>) -> Result<u64, Misuse<'a>>
     }
 }
 
-/// How many sectors, if a word says it.
+/// Returns how many sectors, if there is a word.
+///
+/// # Errors
+///
+/// `Number` of `--count` if the word isn't a decimal number.
 #[tactic(auto, unfolding(crate::specs::Values::count_said))]
 pub fn count_of<'a>(word: Option<&'a str>) -> Result<Option<u64>, Misuse<'a>>
     ensures { ReadsValue (λ n. n) (count_said (text_of word.entry)) result }
@@ -85,7 +97,11 @@ pub fn count_of<'a>(word: Option<&'a str>) -> Result<Option<u64>, Misuse<'a>>
     }
 }
 
-/// How many runs at most are printed, if a word says it: at least one.
+/// Returns how many runs are printed at most, if there is a word.
+///
+/// # Errors
+///
+/// `RunCount` of `--runs` if the word isn't a decimal number from 1 on.
 #[tactic(auto, unfolding(crate::specs::Values::runs_said))]
 pub fn runs_of<'a>(word: Option<&'a str>) -> Result<Option<u64>, Misuse<'a>>
     ensures { ReadsValue (λ n. n) (runs_said (text_of word.entry)) result }
@@ -99,7 +115,11 @@ pub fn runs_of<'a>(word: Option<&'a str>) -> Result<Option<u64>, Misuse<'a>>
     }
 }
 
-/// Where a hash image begins in its file, by the option of that name: at byte 0, or at a multiple of 512.
+/// Returns the byte of its file at which a hash image begins, by the option of that name: 0 if there is no word.
+///
+/// # Errors
+///
+/// `Offset` of `option` if the word isn't a decimal multiple of 512.
 #[tactic(auto, unfolding(crate::specs::Values::offset_of))]
 pub fn offset_of<'a>(option: &'a str, word: Option<&'a str>) -> Result<u64, Misuse<'a>>
     ensures { ReadsValue (λ n. n) (offset_of option.now (text_of word.entry)) result }
@@ -113,7 +133,11 @@ pub fn offset_of<'a>(option: &'a str, word: Option<&'a str>) -> Result<u64, Misu
     }
 }
 
-/// The bytes of a sector: 512, or 4,096 if the word says so.
+/// Returns the bytes of a sector: 512, or 4,096 if that is the word.
+///
+/// # Errors
+///
+/// `SectorSize` of `--sector-size` if the word is neither of the two numbers.
 #[tactic(auto, unfolding(crate::specs::Values::sector_size_of))]
 pub fn sector_size_of<'a>(word: Option<&'a str>) -> Result<u32, Misuse<'a>>
     ensures { ReadsValue (λ n. n) (sector_size_of (text_of word.entry)) result }
@@ -127,7 +151,11 @@ pub fn sector_size_of<'a>(word: Option<&'a str>) -> Result<u32, Misuse<'a>>
     }
 }
 
-/// The name of a mapped device, if a word says it.
+/// Returns the name of a mapped device, if there is a word.
+///
+/// # Errors
+///
+/// `MappedName` of `--name` if the word isn't the name of a mapped device.
 #[tactic(auto, unfolding(crate::specs::Values::name_said))]
 pub fn name_of<'a>(word: Option<&'a str>) -> Result<Option<&'a str>, Misuse<'a>>
     ensures { ReadsValue text_of (name_said (text_of word.entry)) result }
@@ -141,7 +169,11 @@ pub fn name_of<'a>(word: Option<&'a str>) -> Result<Option<&'a str>, Misuse<'a>>
     Err(Misuse::new("--name", Cause::MappedName))
 }
 
-/// The path of a map file, if a word says it.
+/// Returns the path of a map file, if there is a word.
+///
+/// # Errors
+///
+/// `FilePath` of `--map` if the path is empty or `-`.
 #[tactic(auto, unfolding(crate::specs::Values::map_said))]
 pub fn map_of<'a>(word: Option<&'a str>) -> Result<Option<&'a str>, Misuse<'a>>
     ensures { ReadsValue text_of (map_said (text_of word.entry)) result }
@@ -153,7 +185,11 @@ pub fn map_of<'a>(word: Option<&'a str>) -> Result<Option<&'a str>, Misuse<'a>>
     Ok(Some(path))
 }
 
-/// The path of a pin's file.
+/// Returns the path of a pin's file.
+///
+/// # Errors
+///
+/// `Missing` of `--pin` if there is no word, or `FilePath` of `--pin` if the path is empty or `-`.
 #[tactic(auto, unfolding(crate::specs::Values::pin_of))]
 pub fn pin_of<'a>(word: Option<&'a str>) -> Result<&'a str, Misuse<'a>>
     ensures { ReadsValue (λ path. path.now) (pin_of (text_of word.entry)) result }
@@ -164,7 +200,11 @@ pub fn pin_of<'a>(word: Option<&'a str>) -> Result<&'a str, Misuse<'a>>
     }
 }
 
-/// The path of a file: not empty, and not `-`, the standard input.
+/// Returns the path of a file.
+///
+/// # Errors
+///
+/// `FilePath` of `option` if the path is empty, or `-`, the standard input.
 #[tactic(auto, unfolding(crate::specs::Values::path_said))]
 pub fn path_of<'a>(option: &'a str, word: &'a str) -> Result<&'a str, Misuse<'a>>
     ensures { ReadsValue (λ path. path.now) (path_said option.now word.now) result }
@@ -175,7 +215,7 @@ pub fn path_of<'a>(option: &'a str, word: &'a str) -> Result<&'a str, Misuse<'a>
     Ok(word)
 }
 
-/// A root digest of 64 hexadecimal digits.
+/// Returns the root hash of 64 hexadecimal digits, 32 bytes, or `None` if the word is none.
 pub fn root_of(word: &str) -> Option<Digest>
     ensures { result ≡ root_of word.now }
 {
@@ -186,7 +226,11 @@ pub fn root_of(word: &str) -> Option<Digest>
     }
 }
 
-/// The root hash of an argument of that name.
+/// Returns the root hash of an argument of that name.
+///
+/// # Errors
+///
+/// `RootHash` of `name` if the word isn't a root hash.
 pub fn root_said<'a>(name: &'a str, word: &str) -> Result<Digest, Misuse<'a>>
     ensures { ReadsValue (λ bytes. bytes) (root_said name.now word.now) result }
 {
@@ -196,7 +240,13 @@ pub fn root_said<'a>(name: &'a str, word: &str) -> Result<Digest, Misuse<'a>>
     }
 }
 
-/// The pin of that option or the file of a root hash, if one is given, or else the root hash of the argument of that name.
+/// Returns the pin of that option or the file of a root hash, if one is given, or else the root hash of the argument of that
+/// name.
+///
+/// # Errors
+///
+/// `FilePath` of `option` if the path of the pin is empty or `-`, or `RootHash` of `name` if the word is needed and isn't a
+/// root hash.
 #[tactic(auto, unfolding(crate::specs::Values::root_or_pin_said))]
 pub fn root_or_pin_said<'a>(
     option: &'a str,
@@ -220,7 +270,11 @@ pub fn root_or_pin_said<'a>(
     }
 }
 
-/// How a command reports, by `--json` and `--chart`, of which at most one is given.
+/// Returns how a command reports, by `--json` and `--chart`.
+///
+/// # Errors
+///
+/// `WithChart` of `--json` if both are given.
 pub fn report_form<'a>(json: bool, chart: bool) -> Result<ReportForm, Misuse<'a>>
     ensures { ReadsValue (λ form. form) (report_form json chart) result }
 {
@@ -232,7 +286,11 @@ pub fn report_form<'a>(json: bool, chart: bool) -> Result<ReportForm, Misuse<'a>
     }
 }
 
-/// How the devices of a stack are printed, by `--json` and `--tree`, of which at most one is given.
+/// Returns how the devices of a stack are printed, by `--json` and `--tree`.
+///
+/// # Errors
+///
+/// `WithTree` of `--json` if both are given.
 pub fn list_form<'a>(json: bool, tree: bool) -> Result<ListForm, Misuse<'a>>
     ensures { ReadsValue (λ form. form) (list_form json tree) result }
 {
@@ -244,7 +302,13 @@ pub fn list_form<'a>(json: bool, tree: bool) -> Result<ListForm, Misuse<'a>>
     }
 }
 
-/// How partitions are printed, by `--pin FILE`, `--root ROOT`, `--stack` and `--json`, of which at most one is given.
+/// Returns how partitions are printed, by `--pin FILE`, `--root ROOT`, `--stack` and `--json`.
+///
+/// # Errors
+///
+/// - `WithPin`, `WithRoot` or `WithStack` of another option if more than one is given.
+/// - `FilePath` of `--pin` if its path is empty or `-`.
+/// - `RootHash` of `--root` if its value isn't a root hash.
 #[tactic(auto, unfolding(crate::specs::Values::form_of))]
 pub fn form_of<'a>(
     pin: Option<&'a str>,

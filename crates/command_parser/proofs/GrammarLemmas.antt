@@ -1,16 +1,21 @@
--- What clap is told of positional words.
-use Rattle.std.proofs.Common.{◌≡◌, ◌<◌, ◌+◌, ℕ, Bool, true, false, List, [], ◌∷◌, ◌++◌, length, map, take, get_or, codes, Option, Some, None, Bor, refl, ap, ap₂, ◌∙◌}
+-- Positional words as they are described to clap.
+use Rattle.std.proofs.Common.{◌≡◌, ◌<◌, ◌+◌, ℕ, Bool, true, false, List, [], ◌∷◌, ◌++◌, length, map, take, get_or, codes, Option, Some, None, Bor, refl, ap, ap₂, inl, inr, ◌∙◌}
 use Rattle.std.specs.Prelude.{◌||◌, IsSomeAnd}
 use Rattle.std.proofs.lemmas.List.{map-append, take_more}
 use Rattle.clap.specs.Adds.{AddsAliases}
+use Rattle.clap.specs.Faults.{fault_of, is_simple_and_free}
+use Rattle.clap.specs.Kinds.{HasKind, Kinds}
 use Rattle.clap.specs.Lexer.{usize_max}
 use Rattle.clap.proofs.OnLiterals.{clap_on_literals}
 use Rattle.clap.specs.Simple.{App, is_simple, new_rule, with_rule, with_subcommand}
+use Rattle.clap.specs.Values.{kind_of}
 use Rattle.clap.specs.Walk.{Rule, Text, rule_of}
 use Rattle.clap.specs.declared.builder.action.ArgAction.{ArgAction}
 use Rattle.clap.specs.declared.builder.action.ArgAction.TheVariants.{Append}
 use Rattle.clap.specs.declared.builder.arg.Arg.{Arg}
 use Rattle.clap.specs.declared.builder.range.ValueRange.{ValueRange}
+use Rattle.clap.specs.declared.error.Error.{Error}
+use Rattle.clap.specs.declared.error.kind.ErrorKind.TheVariants.{OutOfMemory}
 use Rattle.command_parser.specs.declared.rows.CommandRow.{CommandRow}
 use Rattle.command_parser.specs.declared.option_rows.OptionRow.{OptionRow}
 use Rattle.command_parser.specs.Commands.{CommandText, OptionText, commands}
@@ -87,3 +92,18 @@ with_commands-none a = refl
 pub is_simple-grammar : is_simple grammar ≡ true
 unfolding grammar commands with_commands with_options clap_on_literals
 is_simple-grammar = refl
+
+-- and by which kinds it refuses words
+pub is_free-grammar : is_simple_and_free grammar ≡ true
+unfolding grammar commands with_commands with_options clap_on_literals
+is_free-grammar = refl
+
+-- an error other than a failed allocation has a kind
+has-kinds : (kinds : Kinds) (error : Error) → HasKind kinds error → (kind_of error ≡ OutOfMemory → ⊥) → kinds ≡ [] → ⊥
+has-kinds kinds error (inl memory) other none = other memory
+has-kinds [] error (inr among) other none = among
+has-kinds (kind ∷ kinds) error (inr among) other none = let clash : kind ∷ kinds ≡ [] = none in cc
+
+-- words that the program's command line refuses
+pub refused-grammar : (a : App) (words : List Text) (error : Error) → a ≡ grammar → HasKind (fault_of a words) error → (kind_of error ≡ OutOfMemory → ⊥) → fault_of grammar words ≡ [] → ⊥
+refused-grammar a words error is kinds other none = has-kinds (fault_of a words) error kinds other (ap (λ (b : App). fault_of b words) is ∙ none)

@@ -1,4 +1,4 @@
--- What stands before a first byte.
+-- What is before a first byte.
 use Rattle.std.proofs.Common.{◌≡◌, ◌≤◌, ◌∙◌, ℕ, Bool, true, false, List, length, take, nat_lt, refl, sym, arith}
 use Rattle.std.specs.Prelude.{position, unwrap_or}
 use Rattle.std.specs.List.{before_first, position_or_len}

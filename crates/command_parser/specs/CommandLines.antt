@@ -1,24 +1,25 @@
--- What clap makes of the words of a command line: a command's name, its options and its positional words.
-use Rattle.std.specs.Prelude.{◌≡◌, ◌⊎◌, ◌-◌, ◌&&◌, ℕ, Bool, true, false, nat_lt, List, [], length, get_or, codes, Option, None, Some, Err, is_some, option_map, unwrap_or}
-use Rattle.std.specs.Option.{option_and_then, option_map_or}
-use Rattle.std.specs.Result.{result_ok}
+-- What the words of a command line say, as clap cuts them into a command's name, its options and its positional words.
+use Rattle.std.specs.Prelude.{◌≡◌, ◌-◌, ◌&&◌, ℕ, Bool, false, nat_lt, List, [], ◌∷◌, length, get_or, codes, Option, None, Some, Ok, Err, unwrap_or}
+use Rattle.std.specs.Option.{option_map_or}
 use Rattle.std.specs.Str.{bytes_eq}
+use Rattle.clap.specs.Faults.{fault_of}
+use Rattle.clap.specs.Kinds.{Kinds}
 use Rattle.clap.specs.Simple.{subcommand_of}
-use Rattle.clap.specs.Takes.{takes}
 use Rattle.clap.specs.Walk.{Row, Text, all_of, first_of}
 use Rattle.command_line.specs.CommandWords.{invocation_of}
-use Rattle.command_line.specs.FormatOptions.{OptionTexts}
+use Rattle.command_line.specs.FormatOptions.{OptionTexts, option_texts}
 use Rattle.command_line.specs.ImageValues.{options_read}
-use Rattle.command_line.specs.Invocations.{InvocationRecord}
-use Rattle.command_line.specs.Misuses.{MisuseRecord, Reading}
+use Rattle.command_line.specs.Invocations.{InvocationRecord, invocation_record}
+use Rattle.command_line.specs.Misuses.{MisuseRecord, Reading, said_as, when}
+use Rattle.command_parser.specs.declared.parser.CommandLine.{CommandLine}
 use Rattle.command_parser.specs.Grammar.{grammar}
 use Rattle.command_parser.specs.Unread.{unread, unread_argument}
 
--- an option without a value stands there: clap's value of it is `true` then, and else `false`
+-- an option without a value was given: clap's value of it is `true` then, and else `false`
 abbrev pub is_there : Text → List Row → Bool
 is_there name rows = option_map_or (λ word. bytes_eq word (codes "true")) (first_of name rows) false
 
--- what stands under the names of the options
+-- the values under the names of the options
 unfoldable pub texts_in : List Row → OptionTexts
 texts_in rows = record {
   data_block = first_of (codes "data-block") rows;
@@ -42,6 +43,7 @@ texts_in rows = record {
   old_pin = first_of (codes "old-pin") rows;
   old_root_hash_file = first_of (codes "old-root-hash-file") rows;
   runs = first_of (codes "runs") rows;
+  retries = first_of (codes "retries") rows;
   all = is_there (codes "all") rows;
   stack = is_there (codes "stack") rows;
   no_superblock = is_there (codes "no-superblock") rows;
@@ -60,38 +62,50 @@ texts_in rows = record {
 abbrev pub positional_in : List Row → List Text
 positional_in rows = unwrap_or (all_of (codes "words") rows) []
 
--- `--` stands right in front of the last words, of which there are so many
+-- `--` is right before the last words, of which there are so many
 unfoldable pub is_behind_dashes : List Text → ℕ → Bool
 is_behind_dashes words behind = nat_lt behind (length words) && bytes_eq (get_or words (length words - behind - 1) []) (codes "--")
 
--- what a command says, by its name and what clap found in the words
-abbrev pub said_by_rows : List Text → Text → List Row → Reading InvocationRecord
-said_by_rows words name rows = invocation_of name (texts_in rows) (positional_in rows) (is_behind_dashes words (length (positional_in rows)))
+-- a command, and the values of its options
+pub record LineRecord : Type 0 where
+  pub invocation : InvocationRecord
+  pub options : OptionTexts
 
--- what the words of a command line say, as clap cuts them into a command's name, its options and its positional words
-abbrev pub line_said : List Text → Option (Reading InvocationRecord)
-line_said words = option_map (λ cut. said_by_rows words cut.0 cut.1) (subcommand_of grammar words)
+abbrev pub line_with : OptionTexts → InvocationRecord → LineRecord
+line_with options invocation = record { invocation = invocation; options = options }
 
--- the command that they invoke, if none is misused
-abbrev pub invoked : List Text → Option InvocationRecord
-invoked words = option_and_then result_ok (line_said words)
+-- by a command's name and what clap found in the words
+abbrev pub said_by_rows : List Text → Text → List Row → Reading LineRecord
+said_by_rows words name rows =
+    said_as (line_with (texts_in rows)) (invocation_of name (texts_in rows) (positional_in rows) (is_behind_dashes words (length (positional_in rows))))
 
--- clap doesn't take the words
+-- no argument is named if clap found no command
+abbrev pub said_by_cut : List Text → Option (Text × List Row) → Reading LineRecord
+said_by_cut words None = Err unread
+said_by_cut words (Some cut) = said_by_rows words cut.0 cut.1
+
+-- the argument that clap refuses, if its refusals have a kind
+abbrev pub unless_refused : Kinds → List Text → Reading LineRecord → Reading LineRecord
+unless_refused [] words said = said
+unless_refused (kind ∷ kinds) words said = Err (unread_argument words)
+
+-- what the words of a command line invoke, as clap cuts them into a command's name, its options and its positional words
+unfoldable pub line_invoked : List Text → Reading LineRecord
+line_invoked words = unless_refused (fault_of grammar words) words (said_by_cut words (subcommand_of grammar words))
+
+-- the command, if each option that says what an image is says a value
+abbrev pub with_values : LineRecord → Reading LineRecord
+with_values line = when (options_read line.options) (λ read. Ok line)
+
+-- the command that words invoke, or the misused argument: what clap refuses, else what keeps them from being a command, else an
+-- option that says no value of an image
+unfoldable pub line_said : List Text → Reading LineRecord
+line_said words = when (line_invoked words) with_values
+
+-- clap refuses the words
 abbrev pub IsUnread : List Text → MisuseRecord → Type 0
-IsUnread words misuse = (takes grammar words ≡ true → ⊥) × (misuse ≡ unread_argument words)
+IsUnread words misuse = (fault_of grammar words ≡ [] → ⊥) × (misuse ≡ unread_argument words)
 
--- the argument keeps the words from being a command; none is named if clap finds no command in them
-abbrev pub IsMisusedLine : List Text → MisuseRecord → Type 0
-IsMisusedLine words misuse = IsUnread words misuse ⊎ (((line_said words ≡ None) × (misuse ≡ unread)) ⊎ (line_said words ≡ Some (Err misuse)))
-
--- clap doesn't take the words, or they invoke nothing
-abbrev pub IsNoCommand : List Text → Type 0
-IsNoCommand words = (takes grammar words ≡ true → ⊥) ⊎ (invoked words ≡ None)
-
--- the values of the options, as they stand in the words of a command line, and which of those without a value stand there
-abbrev pub options_said : List Text → Option OptionTexts
-options_said words = option_map (λ cut. texts_in cut.1) (subcommand_of grammar words)
-
--- the argument does, or they are a command, and it is the first option that says no value of an image
-abbrev pub IsMisusedText : List Text → MisuseRecord → Type 0
-IsMisusedText words misuse = IsMisusedLine words misuse ⊎ ((is_some (invoked words) ≡ true) × (option_map options_read (options_said words) ≡ Some (Err misuse)))
+-- what the program's own value says
+abbrev pub line_record : CommandLine → LineRecord
+line_record line = line_with (option_texts line.options) (invocation_record line.invocation)

@@ -1,7 +1,7 @@
--- The commands, and the options that may stand in front of their positional words.
+-- The commands, and the options that may precede their positional words.
 use Rattle.std.specs.Prelude.{ℕ, Bool, true, false, List, [], ◌∷◌, codes}
 
--- an option: its name, other names of it, and whether a value stands behind it
+-- an option: its name, other names of it, and whether it takes a value
 pub record OptionText : Type 0 where
   pub name : List ℕ
   pub others : List (List ℕ)
@@ -75,7 +75,7 @@ image_commands more =
     ∷ command (codes "verify") (tree_options (offset ∷ root_file ∷ bare_option ∷ flag (codes "all") ∷ json ∷ chart ∷ progress ∷ fec_options (pin ∷ [])))
     ∷ command (codes "dump") (offset ∷ json ∷ pin ∷ [])
     ∷ command (codes "table") (tree_options (offset ∷ root_file ∷ value_option (codes "name") ∷ bare_option ∷ pin ∷ []))
-    ∷ command (codes "repair") (offset ∷ root_file ∷ flag (codes "check") ∷ fec_options (pin ∷ []))
+    ∷ command (codes "repair") (tree_options (offset ∷ root_file ∷ bare_option ∷ flag (codes "check") ∷ fec_options (pin ∷ [])))
     ∷ more
 
 -- the commands on stacks
@@ -86,8 +86,8 @@ stack_commands more =
     ∷ command (codes "write") (cache ∷ [])
     ∷ command (codes "session") (cache ∷ [])
     ∷ command (codes "nbd") (cache ∷ flag (codes "all") ∷ [])
-    ∷ command (codes "scan") (cache ∷ value_option (codes "map") ∷ progress ∷ json ∷ chart ∷ [])
-    ∷ command (codes "copy") (cache ∷ flag (codes "differing") ∷ value_option (codes "map") ∷ progress ∷ [])
+    ∷ command (codes "scan") (cache ∷ value_option (codes "map") ∷ value_option (codes "retries") ∷ progress ∷ json ∷ chart ∷ [])
+    ∷ command (codes "copy") (cache ∷ flag (codes "differing") ∷ value_option (codes "map") ∷ value_option (codes "retries") ∷ progress ∷ [])
     ∷ command (codes "cat") (cache ∷ value_option (codes "first") ∷ value_option (codes "count") ∷ progress ∷ [])
     ∷ command (codes "store") (cache ∷ value_option (codes "first") ∷ progress ∷ [])
     ∷ more
@@ -97,5 +97,5 @@ unfoldable pub commands : List CommandText
 commands =
     image_commands (stack_commands
     (command (codes "partitions") (value_option (codes "sector-size") ∷ flag (codes "stack") ∷ value_option (codes "root") ∷ json ∷ pin ∷ [])
-    ∷ command (codes "diff") (flag (codes "all") ∷ value_option (codes "runs") ∷ json ∷ value_option (codes "old-hash-offset") ∷ offset ∷ root_options [])
+    ∷ command (codes "diff") (tree_options (bare_option ∷ flag (codes "all") ∷ value_option (codes "runs") ∷ json ∷ value_option (codes "old-hash-offset") ∷ offset ∷ root_options []))
     ∷ command (codes "manual") [] ∷ command (codes "version") [] ∷ []))

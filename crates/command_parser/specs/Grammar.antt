@@ -1,4 +1,4 @@
--- What clap is told of the command line, in the terms in which it says what it makes of words.
+-- The command line as it is described to clap, in the terms in which clap's specification states what it makes of words.
 use Rattle.std.specs.Prelude.{true, List, [], ◌∷◌, map, codes, Some, if◌then◌else◌}
 use Rattle.clap.specs.Lexer.{usize_max}
 use Rattle.clap.specs.Simple.{App, new_app, new_rule, on_top, with_rule, with_subcommand}

@@ -1,5 +1,6 @@
-//! What clap is told of the command line.
-ghost use Rattle.std.specs.Prelude.{false, ◌≡◌, map, string_bytes, IfOk, IfErr};
+//! The command line as it is described to clap.
+ghost use Rattle.std.specs.Prelude.{false, ◌≡◌, [], map, string_bytes, IfOk, IfErr};
+ghost use Rattle.clap.specs.Faults.{fault_of};
 ghost use Rattle.clap.specs.Simple.{app_of, subcommand_of, subcommand_rows_of};
 ghost use Rattle.clap.specs.Walk.{rule_of};
 ghost use Rattle.clap.specs.declared.builder.command.Command.TheViews.{out-Command as fields_of};
@@ -15,8 +16,13 @@ use clap::{Arg, ArgAction, ArgMatches, Command};
 use command_line::WordsFault;
 use std::alloc::{AllocError, Global};
 
-/// The command that the words name, with its options and its positional words.
+/// Returns the command that the arguments name, with its options and its positional words.
+///
+/// # Errors
+///
+/// `Usage` if the arguments aren't a command, or `NoMemory` if an allocation was refused.
 pub fn matches_of<'a>(alloc: Global, words: &'a [String]) -> Result<ArgMatches<'a>, WordsFault<'a>>
+    ensures taken { IfOk result (λ found. fault_of grammar (map string_bytes words.now) ≡ []) }
     ensures ok { IfOk result (λ found. subcommand_rows_of found ≡ subcommand_of grammar (map string_bytes words.now)) }
     ensures err { IfErr result (IsMisuse (IsUnread (map string_bytes words.now))) }
 {

@@ -9,4 +9,4 @@ mod parser;
 mod rows;
 mod unread;
 
-pub use parser::{CommandLine, misuse_of, parse};
+pub use parser::{CommandLine, parse};

@@ -1,6 +1,6 @@
 //! The options of the commands.
 
-/// An option: its name, other names of it, and whether a value stands behind it.
+/// An option: its name, other names of it, and whether it takes a value.
 #[derive(Clone, Copy)]
 pub struct OptionRow {
     pub name: &'static str,
@@ -130,6 +130,12 @@ pub(crate) const OLD_ROOT_HASH_FILE: OptionRow = OptionRow {
 
 pub(crate) const RUNS: OptionRow = OptionRow {
     name: "runs",
+    others: &[],
+    has_value: true,
+};
+
+pub(crate) const RETRIES: OptionRow = OptionRow {
+    name: "retries",
     others: &[],
     has_value: true,
 };

@@ -8,7 +8,7 @@ ghost use Rattle.command_parser.specs.CommandLines.{is_there, texts_in};
 use clap::ArgMatches;
 use command_line::OptionWords;
 
-/// The values of the options, and which of those without a value stand there.
+/// The values of the options, and which options without a value were given.
 pub fn option_words<'a>(found: &ArgMatches<'a>) -> OptionWords<'a>
     ensures { option_texts result ≡ texts_in (rows_of (found_of found.now)) }
 {
@@ -34,6 +34,7 @@ pub fn option_words<'a>(found: &ArgMatches<'a>) -> OptionWords<'a>
         old_pin: value(found, "old-pin"),
         old_root_hash_file: value(found, "old-root-hash-file"),
         runs: value(found, "runs"),
+        retries: value(found, "retries"),
         all: is_there(found, "all"),
         stack: is_there(found, "stack"),
         no_superblock: is_there(found, "no-superblock"),
@@ -56,7 +57,7 @@ fn value<'a>(found: &ArgMatches<'a>, name: &str) -> Option<&'a str>
     found.get_str(name)
 }
 
-// Whether an option without a value stands there: clap's value of it is `true` then, and else `false`.
+// Whether an option without a value was given: clap's value of it is `true` then, and else `false`.
 fn is_there(found: &ArgMatches<'_>, name: &str) -> bool
     ensures { result ≡ is_there name.now (rows_of (found_of found.now)) }
 {

@@ -1,10 +1,7 @@
-//! Reads the words behind the program's name.
-ghost use Rattle.std.specs.Prelude.{◌≡◌, map, length, string_bytes, Some, IfOk, IfErr, IfSome};
-ghost use Rattle.command_line.specs.CommandWords.{IsMisuse, IsUsage};
-ghost use Rattle.command_line.specs.Invocations.{invocation_record};
-ghost use Rattle.command_line.specs.FormatOptions.{option_texts};
-ghost use Rattle.command_line.specs.Misuses.{misuse_record};
-ghost use Rattle.command_parser.specs.CommandLines.{IsMisusedLine, IsMisusedText, IsNoCommand, invoked, is_behind_dashes, options_said};
+//! Reads the words after the program's name.
+ghost use Rattle.std.specs.Prelude.{◌≡◌, map, string_bytes, Ok, Err, IfOk, IfErr};
+ghost use Rattle.command_line.specs.CommandWords.{IsMisuse};
+ghost use Rattle.command_parser.specs.CommandLines.{is_behind_dashes, line_invoked, line_record, line_said};
 
 use crate::grammar::matches_of;
 use crate::option_words::option_words;
@@ -18,12 +15,27 @@ pub struct CommandLine<'a> {
     pub options: OptionWords<'a>,
 }
 
-/// The command that the words invoke.
+/// Returns the command that the arguments invoke, with its options. Those that describe an image have valid values.
+///
+/// # Errors
+///
+/// - `Usage` with the misused argument, if the arguments are no command or an option has no valid value.
+/// - `NoMemory` if an allocation was refused.
 pub fn parse<'a>(alloc: Global, words: &'a [String]) -> Result<CommandLine<'a>, WordsFault<'a>>
-    ensures ok { IfOk result (λ line. invoked (map string_bytes words.now) ≡ Some (invocation_record line.invocation)) }
-    ensures options { IfOk result (λ line. options_said (map string_bytes words.now) ≡ Some (option_texts line.options)) }
-    ensures err { IfErr result (λ fault. IsUsage fault (IsNoCommand (map string_bytes words.now))) }
-    ensures misuse { IfErr result (IsMisuse (IsMisusedLine (map string_bytes words.now))) }
+    ensures ok { IfOk result (λ line. line_said (map string_bytes words.now) ≡ Ok (line_record line)) }
+    ensures err { IfErr result (IsMisuse (λ misuse. line_said (map string_bytes words.now) ≡ Err misuse)) }
+{
+    let line = invoked_line(alloc, words)?;
+    match options_of(alloc, &line.options) {
+        Ok(_) => Ok(line),
+        Err(fault) => Err(fault),
+    }
+}
+
+// The command that the arguments invoke, with options whose values may be invalid.
+fn invoked_line<'a>(alloc: Global, words: &'a [String]) -> Result<CommandLine<'a>, WordsFault<'a>>
+    ensures ok { IfOk result (λ line. line_invoked (map string_bytes words.now) ≡ Ok (line_record line)) }
+    ensures err { IfErr result (IsMisuse (λ misuse. line_invoked (map string_bytes words.now) ≡ Err misuse)) }
 {
     let matches = matches_of(alloc, words)?;
     let Some((name, found)) = matches.subcommand() else {
@@ -41,28 +53,7 @@ pub fn parse<'a>(alloc: Global, words: &'a [String]) -> Result<CommandLine<'a>, 
     }
 }
 
-/// Which argument is misused, or is an option that says no value of an image; none if memory runs out.
-pub fn misuse_of<'a>(alloc: Global, words: &'a [String]) -> Option<Misuse<'a>>
-    ensures { IfSome result (λ misuse. IsMisusedText (map string_bytes words.now) (misuse_record misuse)) }
-{
-    match check_line(alloc, words) {
-        Err(WordsFault::Usage(misuse)) => Some(misuse),
-        _ => None,
-    }
-}
-
-// Reads the arguments, and the values of the options that say what an image is.
-fn check_line<'a>(alloc: Global, words: &'a [String]) -> Result<(), WordsFault<'a>>
-    ensures { IfErr result (IsMisuse (IsMisusedText (map string_bytes words.now))) }
-{
-    let line = parse(alloc, words)?;
-    match options_of(alloc, &line.options) {
-        Ok(_) => Ok(()),
-        Err(fault) => Err(fault),
-    }
-}
-
-// Whether `--` stands right in front of the last words, of which there are so many.
+// Whether `--` is right before the last words, of which there are so many.
 #[tactic(auto, unfolding(crate::specs::CommandLines::is_behind_dashes))]
 fn is_behind_dashes(words: &[String], behind: usize) -> bool
     ensures { result ≡ is_behind_dashes (map string_bytes words.now) behind }

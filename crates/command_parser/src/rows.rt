@@ -2,11 +2,11 @@
 use crate::option_rows::{
     ALL, BLOCKS, CACHE, CHART, CHECK, COUNT, DATA_BLOCK, DIFFERING, FEC, FEC_ROOTS, FIRST, GROW,
     HASH_BLOCK, HASH_OFFSET, JSON, LINUX, MAP, NAME, NO_SUPERBLOCK, OLD_HASH_OFFSET, OLD_PIN,
-    OLD_ROOT_HASH_FILE, OptionRow, PIN, PROGRESS, QUIET, ROOT, ROOT_HASH_FILE, RUNS, SALT,
+    OLD_ROOT_HASH_FILE, OptionRow, PIN, PROGRESS, QUIET, RETRIES, ROOT, ROOT_HASH_FILE, RUNS, SALT,
     SECTOR_SIZE, STACK, TREE, UUID,
 };
 
-/// A command: its name, and the options that may stand in front of its positional words.
+/// A command: its name, and the options that may precede its positional words.
 #[derive(Clone, Copy)]
 pub struct CommandRow {
     pub name: &'static str,
@@ -77,8 +77,13 @@ pub static COMMANDS: [CommandRow; 18] = [
         name: "repair",
         options: &[
             QUIET,
+            DATA_BLOCK,
+            HASH_BLOCK,
+            BLOCKS,
+            SALT,
             HASH_OFFSET,
             ROOT_HASH_FILE,
+            NO_SUPERBLOCK,
             CHECK,
             FEC,
             FEC_ROOTS,
@@ -107,11 +112,11 @@ pub static COMMANDS: [CommandRow; 18] = [
     },
     CommandRow {
         name: "scan",
-        options: &[QUIET, CACHE, MAP, PROGRESS, JSON, CHART],
+        options: &[QUIET, CACHE, MAP, RETRIES, PROGRESS, JSON, CHART],
     },
     CommandRow {
         name: "copy",
-        options: &[QUIET, CACHE, DIFFERING, MAP, PROGRESS],
+        options: &[QUIET, CACHE, DIFFERING, MAP, RETRIES, PROGRESS],
     },
     CommandRow {
         name: "cat",
@@ -129,6 +134,11 @@ pub static COMMANDS: [CommandRow; 18] = [
         name: "diff",
         options: &[
             QUIET,
+            DATA_BLOCK,
+            HASH_BLOCK,
+            BLOCKS,
+            SALT,
+            NO_SUPERBLOCK,
             ALL,
             RUNS,
             JSON,

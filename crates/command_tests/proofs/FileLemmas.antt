@@ -17,7 +17,7 @@ use Rattle.command_tests.specs.Files.{file_at_place, file_under}
 use Rattle.command_tests.specs.MemoryRelations.{ChangesAt, IsCopy, IsMeasured, IsReplaced, IsText, PutsAt, ReplacesAt, id_at}
 use Rattle.command_tests.specs.Named.{IsChanged, Stands, image_bytes, named_place}
 
--- what stands at a place as a file
+-- what is at a place as a file
 abbrev pub file-of : ℕ → List ℕ → FileRecord
 file-of place bytes = record { id = id_at place; bytes = bytes; regular = true }
 
@@ -30,7 +30,7 @@ pub copy-opened : (m : MemoryImages) (path : List ℕ) (writable : Bool) (image 
     → (file : FileRecord) × (file_under m path ≡ Some file) × (image.id ≡ file.id) × HoldsSectors (ghosts.state image.device) file
 copy-opened m path writable image c = (file-of c.place c.bytes, under m path c.place c.bytes c.stands, c.id, ap (λ (d : Device). d.image) c.is)
 
--- the file under a path is what stands there
+-- the file under a path is the one that is stored there
 the-file : (m : MemoryImages) (path : List ℕ) (place : ℕ) (bytes : List ℕ) (file : FileRecord) → Stands m.names.items m.images.items path place bytes → file_under m path ≡ Some file
     → file-of place bytes ≡ file
 the-file m path place bytes file s is = same_Some (file-of place bytes) file (sym (under m path place bytes s) ∙ is)
@@ -41,7 +41,7 @@ text-told m path most text file t is =
     let same = the-file m path t.place t.bytes file t.stands is in
     (t.id ∙ ap (λ (f : FileRecord). f.id) same, t.is ∙ ap (λ (f : FileRecord). take most f.bytes) same)
 
--- it stands at a place
+-- the file is stored at a place
 pub record IsAt (m : MemoryImages) (path : List ℕ) (file : FileRecord) : Type 0 where
   pub place : ℕ
   pub bytes : List ℕ
@@ -109,12 +109,12 @@ others-kept old new path other device file another taken is is' apart =
     let kept = put.1.others at'.place (apart-places at.place at'.place at.bytes at'.bytes apart') in
     under new other at'.place at'.bytes (record { placed = placed-still old new other at'.place put.0 at'.placed; found = kept ∙ at'.found }) ∙ ap (λ (f : FileRecord). Some f) (sym at'.is)
 
--- what stands at a place is changed
+-- what is at a place is changed
 changed-at : (old new : MemoryImages) (path : List ℕ) (change : List ℕ → List ℕ) (place : ℕ) → named_place old.names.items path ≡ Some place → ChangesAt (named_place old.names.items path) change old new
     → ChangesAt (Some place) change old new
 changed-at old new path change place placed = subst (λ (o : Option ℕ). ChangesAt o change old new) placed
 
--- so it stands there then
+-- a file under a path is stored there after a change
 pub changed : (old new : MemoryImages) (path : List ℕ) (change : List ℕ → List ℕ) (file : FileRecord) → ChangesAt (named_place old.names.items path) change old new
     → file_under old path ≡ Some file → (file' : FileRecord) × (file_under new path ≡ Some file') × IsSameFile file file' × (file'.bytes ≡ change file.bytes)
 changed old new path change file is_changed is =

@@ -18,7 +18,7 @@ use Rattle.command_tests.specs.Named.{named_place}
 use Rattle.command_tests.specs.Parts.{LiesWithin, grown_image, part_bytes, with_bytes, with_part}
 use Rattle.command_tests.proofs.FileLemmas.{changed, file-of, regular-under, under}
 
--- sectors of a text's first bytes, whatever stands behind them
+-- sectors of a text's first bytes, whatever follows them
 sectors-front : (count : ℕ) (bytes rest : List ℕ) → count * 512 ≤ length bytes → sectors_of count (take (count * 512) bytes ++ rest) ≡ sectors_of count bytes
 unfolding sectors_of
 sectors-front count bytes rest enough =

@@ -23,7 +23,7 @@ run_of-run_of image p c f n few =
     ap (take n) (drop-run_of image p c f (omega arith))
     ∙ take-take n (c - f) (drop (p + f) image) (omega arith)
 
--- where the whole is the same before a sector of the part, so is the part, and the same behind it
+-- if the whole is the same before a sector of the part, so is the part, and the same after it
 pub before-run_of : (old new : List (List ℕ)) (p c f : ℕ) → f ≤ c → take (p + f) new ≡ take (p + f) old → take f (run_of new p c) ≡ take f (run_of old p c)
 before-run_of old new p c f few same = take-run_of new p c f few ∙ ap (drop p) same ∙ sym (take-run_of old p c f few)
 
@@ -51,7 +51,7 @@ run_of-spliced image sectors p c f inside few =
     ∙ ap (λ (l : List (List ℕ)). part ++ l) (sym (drop-run_of image p c (f + n) few))
     ∙ ap (λ (l : List (List ℕ)). l ++ sectors ++ drop (f + n) (run_of image p c)) (sym (take-take f c (drop p image) (omega arith)))
 
--- what is written inside of a part leaves what stands outside
+-- what is written inside of a part leaves what is outside
 pub outside_of-same : (old new : List (List ℕ)) (part : Part) (f n : ℕ) → f + n ≤ part.count → take (part.first + f) new ≡ take (part.first + f) old → drop (part.first + f + n) new ≡ drop (part.first + f + n) old
     → outside_of new part ≡ outside_of old part
 outside_of-same old new part f n few before behind =

@@ -10,7 +10,7 @@ use Rattle.block_device.specs.Whole.{length-sectors_of}
 use Rattle.block_device.proofs.lemmas.SectorLemmas.{concat-sectors_of, drop-sectors_of, drop-spliced, sectors_of-append, sectors_of-concat, take-sectors_of, take-spliced}
 use Rattle.device_adapters.specs.Differing.{AreSectorsPut, KeepsOutside, stands}
 
--- what stands there already
+-- sectors that are stored there already change nothing
 pub spliced-same : (image : List (List ℕ)) (first : ℕ) (sectors : List (List ℕ)) → stands image first sectors → spliced image first sectors ≡ image
 spliced-same image first sectors e =
     let n : ℕ = length sectors in
@@ -20,7 +20,7 @@ spliced-same image first sectors e =
     ∙ ap (λ (l : List (List ℕ)). take first image ++ l) (take-append-drop n (drop first image))
     ∙ take-append-drop first image
 
--- some sectors, and then those behind them
+-- some sectors, and then those after them
 pub spliced-more : (image : List (List ℕ)) (first : ℕ) (xs ys : List (List ℕ)) → first ≤ length image → spliced (spliced image first xs) (first + length xs) ys ≡ spliced image first (xs ++ ys)
 spliced-more image first xs ys inside =
     let front : length (take first image ++ xs) ≡ first + length xs = omega (arith, length-append (take first image) xs, length-take-le first image inside) in
@@ -32,7 +32,7 @@ spliced-more image first xs ys inside =
     ∙ ap (λ (l : List (List ℕ)). take first image ++ xs ++ ys ++ l) behind
     ∙ ap (λ (l : List (List ℕ)). l ++ drop (first + length (xs ++ ys)) image) (append_assoc (take first image) xs ys)
 
--- a read that gives these bytes says that they stand there, and the other way round
+-- a read that gives these bytes shows that they are stored there, and the other way round
 pub bytes-stand : (image : List (List ℕ)) (first n : ℕ) (bytes : List ℕ) → All IsSector image → first + n ≤ length image → bytes ≡ concat (run_of image first n) → sectors_of n bytes ≡ run_of image first n
 bytes-stand image first n bytes each inside e =
     let run : List (List ℕ) = run_of image first n in
@@ -104,7 +104,7 @@ module _ (old now : Device) (first k n : ℕ) (bytes : List ℕ) (whole : length
         ∙ spliced-more old.image first (sectors_of k front) (sectors_of m block) (omega (arith, room))
         ∙ ap (spliced old.image first) (sym sectors-more)
 
-    -- what stands there of all stands there of the block
+    -- if all bytes are stored there, so are those of the block
     block-stands : IsTrue old.steady → stands old.image first (sectors_of (length bytes / 512) bytes) → stands now.image (first + k) (sectors_of m block)
     block-stands steady h =
         let all : length bytes / 512 ≡ n = omega (arith, whole) in
@@ -177,14 +177,14 @@ module _ (device : Device) (whole : IsWhole device) (first n : ℕ) (bytes out :
   all : length bytes / 512 ≡ n
   all = omega (arith, size)
 
-  -- bytes that are read stand there
+  -- bytes that are read are stored there
   pub same-stands : out ≡ bytes → stands device.image first (sectors_of (length bytes / 512) bytes)
   same-stands same =
       let run : sectors_of n bytes ≡ run_of device.image first n = bytes-stand device.image first n bytes whole.sectors (omega (arith, inside, whole.length)) (sym same ∙ read) in
       let count : length (sectors_of (length bytes / 512) bytes) ≡ n = length-sectors_of (length bytes / 512) bytes ∙ all in
       ap (run_of device.image first) count ∙ sym run ∙ ap (λ (j : ℕ). sectors_of j bytes) (sym all)
 
-  -- and what stands there is read
+  -- what is stored there is read
   pub stands-same : stands device.image first (sectors_of (length bytes / 512) bytes) → out ≡ bytes
   stands-same h =
       let count : length (sectors_of (length bytes / 512) bytes) ≡ n = length-sectors_of (length bytes / 512) bytes ∙ all in

@@ -1,4 +1,4 @@
-//! A device that writes only sectors that differ.
+//! A device that writes only blocks that differ.
 ghost use Rattle.std.specs.Prelude.{◌≡◌, ◌+◌, false, length, is_ok, IsOk, IsTrue, OnErr, OnOk};
 ghost use Rattle.block_device.specs.Call.{DeviceDoes, Sync, Write};
 ghost use Rattle.block_device.specs.CallList.{DeviceCalls, sectors_read, sectors_written};
@@ -11,9 +11,9 @@ ghost use Rattle.device_adapters.specs.Differing.{differing};
 use crate::put::put_blocks;
 use block_device::{BlockDev, DeviceFault, SyncDev};
 
-/// A device that reads each block of 4,096 bytes before it is written, and doesn't write sectors that already have
-/// the same contents. A sparse file stays sparse. The counters of this device are of the sectors requested; those of
-/// the inner device are of the sectors read and written.
+/// A device that splits a write into blocks of 4,096 bytes, reads each block before it writes it, and doesn't write a block
+/// that has its new contents already. A sparse file stays sparse. The counters of this device are of the sectors requested;
+/// those of the inner device are of the sectors read and written.
 #[derive(Drop)]
 pub struct Differing<D> {
     /// The inner device.
@@ -72,7 +72,7 @@ impl<D: BlockDev> BlockDev for Differing<D> {
         ensures sure { IsTrue (⟦<Differing<D> as BlockDev>⟧.state self.old).never_fails → IsOk result }
         ensures fault { OnErr result (DeviceFails ⟦<Differing<D> as BlockDev>⟧.state self.old self.new) }
 
-        // Sectors with the same contents aren't written.
+        // On a steady device, if all blocks have their new contents already, none is written.
         ensures same { OnOk result (LeavesStanding D.state self.old.inner self.new.inner first bytes.now) }
     {
         self.writes = self.writes.saturating_add(bytes.len() as u64 / 512);

@@ -91,7 +91,7 @@ unit_options : (sector_size (crypt_with []) ≡ 512) × (sector_size (crypt_with
 unfolding sector_size iv_large_sectors
 unit_options = (refl, refl, refl, refl, refl, refl, refl)
 
--- a `crypt` line at each fault, with faults behind it
+-- a `crypt` line at each fault, with faults after it
 crypt_faults : (table_of (codes "0 8 crypt aes-cbc-plain64 x y D") ≡ first_fault kinds.ArgCount)
     × (table_of (codes "0 8 crypt aes-cbc-plain64 x y a,b z") ≡ first_fault kinds.Cipher)
     × (table_of (crypt_front ++ codes "0a0A0a0A0a0A0a0A0a0A0a0A0a0A0a0Ab1B1b1B1b1B1b1B1b1B1b1B1b1B1b1B y a,b z") ≡ first_fault kinds.Key)
@@ -132,7 +132,7 @@ verity_words : (table_of (codes "0 8 verity 1 D /dev/mapper/t 4096 512 1 3 sha25
 unfolding table_of text_lines words number is_mapped_name is_device line_of target_at verity_at salt_at bytes_at decode_pairs options_at known_at option_name
 verity_words = (refl, refl, refl, refl, refl)
 
--- a `verity` line at each fault, with faults behind it
+-- a `verity` line at each fault, with faults after it
 verity_faults : (table_of (codes "0 8 verity 2 a,b a,b x x x x x x") ≡ first_fault kinds.ArgCount)
     × (table_of (codes "0 8 verity 2 a,b a,b x x x x x x x") ≡ first_fault kinds.Version)
     × (table_of (codes "0 8 verity 1 a,b a,b x x x x x x x") ≡ first_fault kinds.Name)

@@ -24,7 +24,7 @@ tables = (refl, refl)
 abbrev first_fault : TextKind → Result (List Line) TextFault
 first_fault kind = Err (record { entry = 0; line = 1; kind = kind })
 
--- a line at each fault, with faults behind it
+-- a line at each fault, with faults after it
 faults : (table_of (codes "0 16 unstriped 0 0 x a,b") ≡ first_fault kinds.ArgCount)
     × (table_of (codes "0 16 unstriped 0 0 x a,b y z") ≡ first_fault kinds.ArgCount)
     × (table_of (codes "0 16 unstriped 0 0 x a,b y") ≡ first_fault kinds.StripeCount)

@@ -40,7 +40,7 @@ fn main(rt: HostRuntime) -> ExitCode {
         Err(error) if error.kind() == ErrorKind::OutOfMemory => {
             end_unread(&rt, &mut writer, &mut errors, CommandFault::NoMemory)
         }
-        Err(_) => end_unread(&rt, &mut writer, &mut errors, CommandFault::Usage),
+        Err(_) => end_unread(&rt, &mut writer, &mut errors, CommandFault::Usage(None)),
     };
     let status = if writer.flush().is_ok() { status } else { 1 };
     // The readers of `cat` and `nbd` may close the output; this isn't reported.

@@ -66,7 +66,7 @@ both-some n m n' m' ok le le' failed p = (asked-some n n' ok le failed p.of_data
 asked-again : {a b : Device} (n : ℕ) (ok ok' : Bool) → ok' ≡ false → IsAskedFor a n ok b → IsAskedFor a n ok' b
 asked-again n ok ok' failed p = record { most = p.most; full = λ h. absurd (both_ways ok' failed h) }
 
--- what one call that failed asked for, behind the parity's
+-- what one call that failed read, after the parity's
 pub first-again : {a b c a' b' c' : Device} (n m k p : ℕ) (ok ok' last : Bool) → p ≡ k → ok' ≡ false → IsAskedFor a n ok a' × IsAskedFor b m ok b' → IsRead c p last c' → AreAskedFor n m k ok' a b c a' b' c'
 first-again n m k p ok ok' last e failed both read = record {
   of_data = asked-again n ok ok' failed both.0;
@@ -127,7 +127,7 @@ pub past-asked : (l : Layout) (j : ℕ) (a b : Device) → covered_blocks l ≤ 
 past-asked l j a b le =
     both-as 0 0 (sectors_on_data l j) (sectors_on_hash l j) (sym (off-data l j (omega (arith, le)))) (sym (past-hash l j le)) (both-none a b)
 
--- the same block
+-- block i is accessed as block j if the two numbers are equal
 pub asked-at : {i j : ℕ} {a b c d : Device} (l : Layout) → i ≡ j → AreAsked (sectors_on_data l i) (sectors_on_hash l i) a b c d → AreAsked (sectors_on_data l j) (sectors_on_hash l j) a b c d
 asked-at {a = a} {b = b} {c = c} {d = d} l e p = subst (λ (n : ℕ). AreAsked (sectors_on_data l n) (sectors_on_hash l n) a b c d) e p
 
@@ -165,7 +165,7 @@ among-at (x ∷ xs) j e = elim (or_cases (x == j) (is_among xs j) e) [
 among-from : (xs : List ℕ) (j k : ℕ) → k < length xs → slice_index xs k ≡ j → is_among xs j ≡ true
 among-from xs j k lt e = list_any_at (λ n. n == j) xs k 0 lt (eq-eqb (slice_index xs k) j e)
 
--- at a lost place stands no block that is kept
+-- at a lost place there is no block that is kept
 pub lost-there : (l : Layout) (lost places : List ℕ) (index i : ℕ) → AreLostPlaces l lost index places → is_among places i ≡ true → is_kept l lost index (i * code_rounds l + round_of l index) ≡ false
 lost-there l lost places index i are among =
     let n = code_rounds l in

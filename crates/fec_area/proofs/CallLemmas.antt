@@ -23,7 +23,7 @@ pub one_failed-then : (a b c d e f : Device) → AreUnfailed a b c d → HasOneF
 one_failed-then a b c d e f p (inl x) = inl (failed-then a c e p.data_kept x)
 one_failed-then a b c d e f p (inr x) = inr (failed-then b d f p.hash_kept x)
 
--- failures that were counted behind calls that didn't fail are counted from before them
+-- failures that were counted after calls that didn't fail are counted from before them
 pub counted-behind : {a b c d e f : Device} → AreUnfailed a b c d → AreFailuresCounted c d e f → AreFailuresCounted a b e f
 counted-behind p q = record { data_more = omega (arith, p.data_kept, q.data_more); hash_more = omega (arith, p.hash_kept, q.hash_more) }
 

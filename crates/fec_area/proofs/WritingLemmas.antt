@@ -33,7 +33,7 @@ run-at image ss f k inside long =
     ∙ ap (take k) (drop_at (take f image) (ss ++ rest) f (length-take-le f image inside))
     ∙ take_at ss rest k long
 
--- the parity of the first rounds stands on its device
+-- the parity of the first rounds is stored on its device
 abbrev pub AreWrittenRounds : Layout → List (List ℕ) → List (List ℕ) → List (List ℕ) → ℕ → Type 0
 AreWrittenRounds l d h image n = (round : ℕ) → round < n → IsParityOf l d h round (block_at image (round_bytes l) round)
 
@@ -102,7 +102,7 @@ bytes-same xs ys e = (bytes_eq-Decides xs ys).0 e
 pub bytes-other : (xs ys : List ℕ) → bytes_eq xs ys ≡ false → xs ≢ ys
 bytes-other xs ys e = not_from_Decides (bytes_eq xs ys) (bytes_eq-Decides xs ys) e
 
--- the round's parity stands there
+-- the round's parity is stored there
 pub round-more : (l : Layout) (d h image : List (List ℕ)) (n : ℕ) (parity stored : List ℕ) → stored ≡ block_at image (round_bytes l) n → bytes_eq parity stored ≡ true
     → IsParityOf l d h n parity → AreWrittenRounds l d h image n → AreWrittenRounds l d h image (n + 1)
 round-more l d h image n parity stored at same summed known round lt =

@@ -49,7 +49,7 @@ round_bytes l = l.roots * l.block
 abbrev pub parity_sectors : Layout → ℕ
 parity_sectors l = code_rounds l * (l.roots * (l.block / 512))
 
--- the most elements that one allocation asks for; the largest allocation is that of the parity of a round
+-- the most elements of one allocation; the largest allocation is that of the parity of a round
 abbrev pub largest_allocation : ℕ
 largest_allocation = 0x20000
 

@@ -70,8 +70,8 @@ impl From<OutOfMemory> for RestoreFault {
 /// Reconstructs a lost block into `block`.
 ///
 /// It reads the round's parity once and then each remaining block of the round once, and nothing else; lost blocks may
-/// be unreadable. The bytes are the block that the code gives for the bytes that these reads returned. Memory use: the round's parity, sums of the same size, and 64 KiB for each lost block of the round
-/// (twice that while the list grows), less than 4 MiB in all.
+/// be unreadable. The bytes are the block that the code gives for the bytes that these reads returned. Memory use: the round's
+/// parity, sums of the same size, and 64 KiB for each lost block of the round (twice that while the list grows), less than 4 MiB.
 ///
 /// # Errors
 ///

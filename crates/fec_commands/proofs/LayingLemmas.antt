@@ -1,20 +1,16 @@
 -- Layouts on devices, and windows of devices that are the same.
-use Rattle.std.proofs.Common.{◌≡◌, ℕ, ◌+◌, ◌*◌, ◌/◌, ◌≤◌, Option, ap, subst, ◌∙◌, arith, inl}
+use Rattle.std.proofs.Common.{◌≡◌, ℕ, ◌+◌, ◌*◌, ◌/◌, ◌≤◌, ap, subst, ◌∙◌, arith}
 use Rattle.std.proofs.Math.Nat.{div-mul-le_self}
 use Rattle.block_device.specs.Device.{Device}
 use Rattle.device_adapters.specs.declared.part.Part.{Part}
 use Rattle.device_adapters.specs.Windows.{windowed}
 use Rattle.fec_area.specs.declared.layout.Layout.{Layout}
 use Rattle.fec_area.specs.Layouts.{IsLaidOn, IsLayout, IsLayoutOf}
+use Rattle.image_commands.specs.declared.tree_source.TreeSource.{TreeSource}
 use Rattle.tree_shape.specs.Shape.{ShapeRecord}
 use Rattle.verity_format.specs.Image.{data_sectors}
 use Rattle.fec_commands.specs.declared.fault.FecFault.{FecFault}
 use Rattle.fec_commands.specs.declared.image.LaidTree.{LaidTree}
-use Rattle.image_pin.specs.declared.finding.NoTree.{NoTree}
-use Rattle.image_pin.specs.declared.finding.NoTree.TheVariants.{Unaligned, Unpinned, Unread}
-use Rattle.image_pin.specs.Finding.{IsNoTree}
-use Rattle.image_pin.specs.declared.pin.Pin.{Pin}
-use Rattle.fec_commands.specs.FecFaults.{no_tree}
 use Rattle.fec_commands.specs.Layings.{IsLayoutEnd, LaysOut}
 
 pub windowed-same : (d d' : Device) (p p' : Part) → d ≡ d' → p ≡ p' → windowed d p ≡ windowed d' p'
@@ -33,16 +29,10 @@ laid-on s sectors roots l d h is valid data_room hash_room =
     }
 
 -- a layout on devices that are the same
-pub lays-as : (a a' b b' h : Device) (first : ℕ) (pin : Option Pin) (roots : ℕ) (l : LaidTree) → a ≡ a' → b ≡ b' → LaysOut a b first pin roots h l → LaysOut a' b' first pin roots h l
-lays-as a a' b b' h first pin roots l x y lays =
-    subst (λ (v : Device). LaysOut v b' first pin roots h l) x (subst (λ (v : Device). LaysOut a v first pin roots h l) y lays)
+pub lays-as : (a a' b b' h : Device) (first : ℕ) (source : TreeSource) (roots : ℕ) (l : LaidTree) → a ≡ a' → b ≡ b' → LaysOut a b first source roots h l → LaysOut a' b' first source roots h l
+lays-as a a' b b' h first source roots l x y lays =
+    subst (λ (v : Device). LaysOut v b' first source roots h l) x (subst (λ (v : Device). LaysOut a v first source roots h l) y lays)
 
-pub layout_end-as : (a a' b b' h : Device) (first : ℕ) (pin : Option Pin) (fault : FecFault) → a ≡ a' → b ≡ b' → IsLayoutEnd a b first pin h fault → IsLayoutEnd a' b' first pin h fault
-layout_end-as a a' b b' h first pin fault x y ends =
-    subst (λ (v : Device). IsLayoutEnd v b' first pin h fault) x (subst (λ (v : Device). IsLayoutEnd a v first pin h fault) y ends)
-
--- there is no tree
-pub no-tree-layout : (d h h' : Device) (first : ℕ) (pin : Option Pin) (fault : NoTree) → IsNoTree h first pin h' fault → IsLayoutEnd d h first pin h' (no_tree fault)
-no-tree-layout d h h' first pin (Unread fault) cause = inl cause
-no-tree-layout d h h' first pin Unaligned cause = cause
-no-tree-layout d h h' first pin (Unpinned mismatch) cause = cause
+pub layout_end-as : (a a' b b' h : Device) (first : ℕ) (source : TreeSource) (fault : FecFault) → a ≡ a' → b ≡ b' → IsLayoutEnd a b first source h fault → IsLayoutEnd a' b' first source h fault
+layout_end-as a a' b b' h first source fault x y ends =
+    subst (λ (v : Device). IsLayoutEnd v b' first source h fault) x (subst (λ (v : Device). IsLayoutEnd a v first source h fault) y ends)

@@ -6,20 +6,20 @@ use Rattle.device_adapters.specs.declared.part.Part.{Part}
 use Rattle.device_adapters.specs.Windows.{windowed}
 use Rattle.fec_area.specs.declared.layout.Layout.{Layout}
 use Rattle.fec_area.specs.Layouts.{IsLaidOn}
-use Rattle.image_commands.specs.Places.{IsPartState, before, behind}
-use Rattle.image_pin.specs.declared.pin.Pin.{Pin}
+use Rattle.image_commands.specs.Places.{IsPartState, IsStateOf, before, behind}
+use Rattle.image_commands.specs.declared.tree_source.TreeSource.{TreeSource}
 use Rattle.verity_format.specs.Blocks.{IsOnlyRead}
 use Rattle.fec_commands.specs.declared.fault.FecFault.{FecFault}
 use Rattle.fec_commands.specs.declared.fault.FecFault.TheVariants.{BlockSizes, Differs, Parity, Verity}
 use Rattle.fec_commands.specs.declared.image.ThreeImages.{ThreeImages}
 use Rattle.fec_commands.specs.Images.{three_data_end}
-use Rattle.fec_commands.specs.Verifying.{IsParityEnd, IsStateOf, IsUnmeasured, Parts, parts_of}
+use Rattle.fec_commands.specs.Verifying.{IsParityEnd, IsUnmeasured, Parts, parts_of}
 
-pub parts-are : {D : Type 0} (state : D → Device) (three : ThreeImages D) (v : FecVerifyRecord) (pin : Option Pin) (d h : Device) (first end : ℕ) → d ≡ before (state three.«data».device) end → h ≡ behind (state three.hash.device) first
+pub parts-are : {D : Type 0} (state : D → Device) (three : ThreeImages D) (v : FecVerifyRecord) (source : TreeSource) (d h : Device) (first end : ℕ) → d ≡ before (state three.«data».device) end → h ≡ behind (state three.hash.device) first
     → end ≡ three_data_end three first → first ≡ v.verify.hash_offset / 512
-    → record { data_dev = d; hash_dev = h; parity_dev = state three.parity.device; first = first; pin = pin; roots = v.fec.roots } ≡ parts_of state three v pin
-parts-are {D} state three v pin d h first end d_is h_is end_is first_is =
-    let f : Device → Device → ℕ → Parts = λ x y n. record { data_dev = x; hash_dev = y; parity_dev = state three.parity.device; first = n; pin = pin; roots = v.fec.roots } in
+    → record { data_dev = d; hash_dev = h; parity_dev = state three.parity.device; first = first; source = source; roots = v.fec.roots } ≡ parts_of state three v source
+parts-are {D} state three v source d h first end d_is h_is end_is first_is =
+    let f : Device → Device → ℕ → Parts = λ x y n. record { data_dev = x; hash_dev = y; parity_dev = state three.parity.device; first = n; source = source; roots = v.fec.roots } in
     let data_part : ℕ → Device = λ n. before (state three.«data».device) n in
     let hash_part : ℕ → Device = λ n. behind (state three.hash.device) n in
     ap (λ (x : Device). f x h first) d_is ∙ (ap (λ (y : Device). f (data_part end) y first) h_is

@@ -19,10 +19,15 @@ use Rattle.fec_commands.specs.declared.finding.FoundThree.{FoundThree}
 use Rattle.fec_commands.specs.Finding.{FindsThree, IsUnfound}
 use Rattle.fec_commands.specs.FixedSize.{FitsFixedSize, IsFixedTooShort}
 use Rattle.fec_commands.specs.Images.{OpensThree, extent_of}
-use Rattle.fec_commands.specs.Needed.{IsNeeded}
+use Rattle.fec_commands.specs.Needed.{AreEnough, IsNeeded}
 use Rattle.fec_commands.specs.Protecting.{IsProtectUnopened}
 
 -- ---- for an image that is to be made
+
+-- a device has enough sectors for the parity of what the options make
+abbrev pub FitsByOptions : ImageOptions → Device → Device → Device → Extent → Type 0
+FitsByOptions options data_dev hash_dev parity_dev extent =
+    AreEnough (IsNeeded options (before data_dev extent.end).size (behind hash_dev extent.first).size extent.roots) options (before data_dev extent.end).size parity_dev.size
 
 -- a device has fewer sectors than needed
 pub record IsShortOf (options : ImageOptions) (data_dev hash_dev parity_dev : Device) (extent : Extent) (needed : ℕ) : Type 0 where
@@ -35,10 +40,11 @@ IsShortByOptions options data_dev hash_dev parity_dev extent ReadOnly = ⊥
 IsShortByOptions options data_dev hash_dev parity_dev extent DeviceFailed = ⊥
 IsShortByOptions options data_dev hash_dev parity_dev extent NoMemory = ⊥
 
--- DATA and HASH were opened for reading, and the parity file for writing; it is neither of them
-pub record OpensForWords {S D : Type 0} (w : Calls S D) (places : TwoPlaces) (fec : FecRecord) : Type 0 where
+-- DATA and HASH were opened for reading, and the parity file for writing; it is neither of them, and has enough sectors
+pub record OpensForWords {S D : Type 0} (options : ImageOptions) (w : Calls S D) (places : TwoPlaces) (fec : FecRecord) : Type 0 where
   pub three : ThreeImages D
   pub opened : OpensThree w places fec true three
+  pub enough : FitsByOptions options (w.state three.«data».device) (w.state three.hash.device) (w.state three.parity.device) (extent_of places fec three)
 
 -- all were opened, and the file is too short for the parity of what the options make
 pub record EndsTooShort {S D : Type 0} (options : ImageOptions) (w : Calls S D) (places : TwoPlaces) (fec : FecRecord) (fault : FecFault) : Type 0 where
@@ -77,7 +83,7 @@ pub record EndsFixedTooShort {S D : Type 0} (options : ImageOptions) (w : Calls 
 
 abbrev pub FitsFile : {S D : Type 0} → Bool → ImageOptions → Calls S D → TwoPlaces → FecRecord → Type 0
 FitsFile true options w places fec = FitsGrown options w places fec
-FitsFile false options w places fec = OpensForWords w places fec
+FitsFile false options w places fec = OpensForWords options w places fec
 
 abbrev pub IsUnfit : {S D : Type 0} → Bool → ImageOptions → Calls S D → TwoPlaces → FecRecord → FecFault → Type 0
 IsUnfit true options w places fec fault = EndsUnfound w places fec fault ⊎ EndsFixedTooShort options w places fec fault

@@ -10,17 +10,15 @@ use Rattle.fec_area.specs.declared.writing.ParityFault.{ParityFault}
 use Rattle.fec_area.specs.declared.writing.ParityFault.TheVariants.{TooSmall}
 use Rattle.fec_area.specs.Checking.{IsCheckCause, IsChecked}
 use Rattle.fec_area.specs.Layouts.{parity_sectors}
-use Rattle.image_files.specs.Opener.{Calls, Opener, calls}
 use Rattle.image_commands.specs.declared.comparing.ImagePair.{ImagePair}
 use Rattle.image_commands.specs.declared.fault.ImageFault.{ImageFault}
-use Rattle.image_pin.specs.declared.trusted.TrustedRoot.{TrustedRoot}
+use Rattle.image_commands.specs.declared.tree_source.SoughtTree.{SoughtTree}
+use Rattle.image_commands.specs.declared.tree_source.TreeSource.{TreeSource}
 use Rattle.image_commands.specs.Comparing.{IsComparedEnd}
 use Rattle.image_commands.specs.Endings.{IsQuiet}
-use Rattle.image_commands.specs.Places.{IsPartState, before, behind, tree_start}
-use Rattle.image_pin.specs.declared.pin.Pin.{Pin}
+use Rattle.image_commands.specs.Places.{IsPartState, IsStateOf, before, behind, tree_start}
 use Rattle.verity_commands.specs.declared.verity_fault.VerityFault.TheVariants.{Image}
 use Rattle.verity_commands.specs.Endings.{IsVerityQuiet}
-use Rattle.verity_commands.specs.Places.{IsTrustedEnd, TellsTrusted}
 use Rattle.verity_format.specs.declared.verifying.Verdict.TheVariants.{Matches}
 use Rattle.verity_format.specs.Verifying.{IsTreeFound}
 use Rattle.fec_commands.specs.declared.fault.FecFault.{FecFault}
@@ -31,24 +29,20 @@ use Rattle.fec_commands.specs.FecFaults.{unwritten}
 use Rattle.fec_commands.specs.Images.{three_data_end}
 use Rattle.fec_commands.specs.Layings.{IsLayoutEnd, LaysOut}
 
--- ---- The parts of an image, the device of its parity, and the pin. `Data`, `Hash` and `ParityDev` hold of what calls left: states of devices
--- of their types, or parts of them.
-
--- a state of a device of this type
-abbrev pub IsStateOf : {D : Type 0} → (D → Device) → Device → Type 0
-IsStateOf {D} state device = (d : D) × (device ≡ state d)
+-- ---- The parts of an image, the device of its parity, and the source of its tree. `Data`, `Hash` and `ParityDev` hold of what calls
+-- left: states of devices of their types, or parts of them.
 
 pub record Parts : Type 0 where
   pub data_dev : Device
   pub hash_dev : Device
   pub parity_dev : Device
   pub first : ℕ
-  pub pin : Option Pin
+  pub source : TreeSource
   pub roots : ℕ
 
--- the superblock was read once and has the values of the pin, if there is one, and the parity device has enough sectors
+-- the tree is that of its source, and the parity device has enough sectors
 pub record Measures (p : Parts) (read_dev : Device) (laid : LaidTree) : Type 0 where
-  pub lays : LaysOut p.data_dev p.hash_dev p.first p.pin p.roots read_dev laid
+  pub lays : LaysOut p.data_dev p.hash_dev p.first p.source p.roots read_dev laid
   pub room : parity_sectors laid.layout ≤ p.parity_dev.size
 
 -- the parity device has too few sectors
@@ -56,13 +50,13 @@ pub record IsParityShort (Hash : Device → Type 0) (p : Parts) (fault : FecFaul
   pub laid : LaidTree
   pub read_dev : Device
   pub left : Hash read_dev
-  pub lays : LaysOut p.data_dev p.hash_dev p.first p.pin p.roots read_dev laid
+  pub lays : LaysOut p.data_dev p.hash_dev p.first p.source p.roots read_dev laid
   pub short : p.parity_dev.size < parity_sectors laid.layout
   pub is : fault ≡ Parity (TooSmall (parity_sectors laid.layout))
 
 -- the parity device is too small, or there is no layout
 abbrev pub IsUnmeasured : (Device → Type 0) → Parts → FecFault → Type 0
-IsUnmeasured Hash p fault = ((read_dev : Device) × Hash read_dev × IsLayoutEnd p.data_dev p.hash_dev p.first p.pin read_dev fault) ⊎ IsParityShort Hash p fault
+IsUnmeasured Hash p fault = ((read_dev : Device) × Hash read_dev × IsLayoutEnd p.data_dev p.hash_dev p.first p.source read_dev fault) ⊎ IsParityShort Hash p fault
 
 -- the parity is that of the image, and this is printed
 pub record ChecksParity (l : Layout) (data_dev hash_dev parity_dev : Device) (old new : Option (List ℕ)) : Type 0 where
@@ -83,7 +77,7 @@ IsParityEnd Data Hash ParityDev l data_dev hash_dev parity_dev old new failed (P
 IsParityEnd Data Hash ParityDev l data_dev hash_dev parity_dev old new failed (Differs round) = IsChecked l data_dev hash_dev parity_dev (Some round) × (new ≡ old)
 IsParityEnd Data Hash ParityDev l data_dev hash_dev parity_dev old new failed fault = IsChecked l data_dev hash_dev parity_dev None × ((failed ≡ true) × (fault ≡ unwritten))
 
--- the superblock's tree with that root hash matches the data, and this is printed
+-- the tree with that root hash matches the data, and this is printed
 pub record MatchesLaid (Data Hash : Device → Type 0) (p : Parts) (root : List ℕ) (old new : Option (List ℕ)) : Type 0 where
   pub laid : LaidTree
   pub read_dev : Device
@@ -119,30 +113,22 @@ pub record VerifiesParts (Data Hash : Device → Type 0) (p : Parts) (root : Lis
   pub matches : MatchesLaid Data Hash p root old told
   pub checks : ChecksParity matches.laid.layout matches.data_dev' matches.hash_dev' p.parity_dev told new
 
--- ---- open files; the arguments, a file or a pin give the root hash, which is read before the superblock
+-- ---- open files, and a tree that is sought
 
-abbrev pub parts_of : {D : Type 0} → (D → Device) → ThreeImages D → FecVerifyRecord → Option Pin → Parts
-parts_of state three v pin =
+abbrev pub parts_of : {D : Type 0} → (D → Device) → ThreeImages D → FecVerifyRecord → TreeSource → Parts
+parts_of state three v source =
     let first = v.verify.hash_offset / 512 in
     record {
       data_dev = before (state three.«data».device) (three_data_end three first);
       hash_dev = behind (state three.hash.device) first;
       parity_dev = state three.parity.device;
       first = first;
-      pin = pin;
+      source = source;
       roots = v.fec.roots;
     }
 
-pub record VerifiesThree {S D : Type 0} (w : Calls S D) (three : ThreeImages D) (v : FecVerifyRecord) (old new : Option (List ℕ)) : Type 0 where
-  pub trusted : TrustedRoot
-  pub told : TellsTrusted w v.verify.root trusted
-  pub verifies : VerifiesParts (IsPartState w.state) (IsPartState w.state) (parts_of w.state three v trusted.pin) trusted.root old new
-
--- there is no root hash, or no pin
-pub record EndsUnrooted {S D : Type 0} (w : Calls S D) (v : FecVerifyRecord) (fault : FecFault) : Type 0 where
-  pub cause : ImageFault
-  pub ends : IsTrustedEnd w v.verify.root cause
-  pub is : fault ≡ Verity (Image cause)
+abbrev pub VerifiesThree : {D : Type 0} → (D → Device) → ThreeImages D → FecVerifyRecord → SoughtTree → Option (List ℕ) → Option (List ℕ) → Type 0
+VerifiesThree state three v sought old new = VerifiesParts (IsPartState state) (IsPartState state) (parts_of state three v sought.source) sought.root old new
 
 -- There is no layout, or no room for the parity, and nothing was printed; or the image isn't the one with this root hash, or
 -- couldn't be compared; or it is, which is printed, and its parity isn't, or couldn't be compared.
@@ -150,14 +136,9 @@ abbrev pub IsPartsEnd : (Data Hash ParityDev : Device → Type 0) → Parts → 
 IsPartsEnd Data Hash ParityDev p root old new failed fault =
     (IsUnmeasured Hash p fault × (new ≡ old)) ⊎ (EndsComparing Data Hash p root old new failed fault ⊎ EndsChecking Data Hash ParityDev p root old new failed fault)
 
-pub record EndsRooted {S D : Type 0} (w : Calls S D) (three : ThreeImages D) (v : FecVerifyRecord) (old new : Option (List ℕ)) (failed : Bool) (fault : FecFault) : Type 0 where
-  pub trusted : TrustedRoot
-  pub told : TellsTrusted w v.verify.root trusted
-  pub ends : IsPartsEnd (IsPartState w.state) (IsPartState w.state) (IsStateOf w.state) (parts_of w.state three v trusted.pin) trusted.root old new failed fault
-
--- there is no root hash, and nothing was printed; or the command ended later
-abbrev pub IsVerifyThreeEnd : {S D : Type 0} → Calls S D → ThreeImages D → FecVerifyRecord → Option (List ℕ) → Option (List ℕ) → Bool → FecFault → Type 0
-IsVerifyThreeEnd w three v old new failed fault = (EndsUnrooted w v fault × (new ≡ old)) ⊎ EndsRooted w three v old new failed fault
+abbrev pub IsVerifyThreeEnd : {D : Type 0} → (D → Device) → ThreeImages D → FecVerifyRecord → SoughtTree → Option (List ℕ) → Option (List ℕ) → Bool → FecFault → Type 0
+IsVerifyThreeEnd state three v sought old new failed fault =
+    IsPartsEnd (IsPartState state) (IsPartState state) (IsStateOf state) (parts_of state three v sought.source) sought.root old new failed fault
 
 -- nothing is written before the fault, unless the writer is what failed
 abbrev pub IsFecQuiet : FecFault → Option (List ℕ) → Option (List ℕ) → Type 0
@@ -166,16 +147,16 @@ IsFecQuiet BlockSizes old new = new ≡ old
 IsFecQuiet (Parity fault) old new = new ≡ old
 IsFecQuiet (Differs round) old new = new ≡ old
 
--- ---- in terms of devices of any type, an opener and a writer, each before and after, and the program's arguments
+-- ---- in terms of devices of any type, a writer before and after, and the program's arguments
 
-abbrev pub parts_by : {D H P : Type 0} → (D → Device) → (H → Device) → (P → Device) → D → H → P → ℕ → Option Pin → ℕ → Parts
-parts_by data_state hash_state parity_state d h p first pin roots = record { data_dev = data_state d; hash_dev = hash_state h; parity_dev = parity_state p; first = first; pin = pin; roots = roots }
+abbrev pub parts_by : {D H P : Type 0} → (D → Device) → (H → Device) → (P → Device) → D → H → P → ℕ → TreeSource → ℕ → Parts
+parts_by data_state hash_state parity_state d h p first source roots = record { data_dev = data_state d; hash_dev = hash_state h; parity_dev = parity_state p; first = first; source = source; roots = roots }
 
-abbrev pub MeasuresBy : {D H P : Type 0} → (D → Device) → (H → Device) → (P → Device) → D → H → P → ℕ → Option Pin → ℕ → H → LaidTree → Type 0
-MeasuresBy data_state hash_state parity_state d h p first pin roots h' = Measures (parts_by data_state hash_state parity_state d h p first pin roots) (hash_state h')
+abbrev pub MeasuresBy : {D H P : Type 0} → (D → Device) → (H → Device) → (P → Device) → D → H → P → ℕ → TreeSource → ℕ → H → LaidTree → Type 0
+MeasuresBy data_state hash_state parity_state d h p first source roots h' = Measures (parts_by data_state hash_state parity_state d h p first source roots) (hash_state h')
 
-abbrev pub IsUnmeasuredBy : {D H P : Type 0} → (D → Device) → (H → Device) → (P → Device) → D → H → P → ℕ → Option Pin → ℕ → FecFault → Type 0
-IsUnmeasuredBy data_state hash_state parity_state d h p first pin roots = IsUnmeasured (IsStateOf hash_state) (parts_by data_state hash_state parity_state d h p first pin roots)
+abbrev pub IsUnmeasuredBy : {D H P : Type 0} → (D → Device) → (H → Device) → (P → Device) → D → H → P → ℕ → TreeSource → ℕ → FecFault → Type 0
+IsUnmeasuredBy data_state hash_state parity_state d h p first source roots = IsUnmeasured (IsStateOf hash_state) (parts_by data_state hash_state parity_state d h p first source roots)
 
 abbrev pub PrintsParity : {D H P W : Type 0} → Layout → (D → Device) → (H → Device) → (P → Device) → ImagePair D H → P → (W → Option (List ℕ)) → CountedRecord W → CountedRecord W → Type 0
 PrintsParity l data_state hash_state parity_state two parity contents writer writer' =
@@ -185,10 +166,8 @@ abbrev pub FailsToCheckParity : {D H P W : Type 0} → Layout → (D → Device)
 FailsToCheckParity l data_state hash_state parity_state two parity contents writer writer' =
     IsParityEnd (IsStateOf data_state) (IsStateOf hash_state) (IsStateOf parity_state) l (data_state two.«data») (hash_state two.hash) (parity_state parity) (contents writer.inner) (contents writer'.inner) writer'.failed
 
-abbrev pub VerifiesOpen : {S D W : Type 0} → Opener S D → (D → Device) → S → S → ThreeImages D → FecVerifyWords → (W → Option (List ℕ)) → CountedRecord W → CountedRecord W → Type 0
-VerifiesOpen relations state old new three words contents writer writer' =
-    VerifiesThree (calls relations state old new) three (fec_verify_record words) (contents writer.inner) (contents writer'.inner)
+abbrev pub VerifiesOpen : {D W : Type 0} → (D → Device) → ThreeImages D → FecVerifyWords → SoughtTree → (W → Option (List ℕ)) → CountedRecord W → CountedRecord W → Type 0
+VerifiesOpen state three words sought contents writer writer' = VerifiesThree state three (fec_verify_record words) sought (contents writer.inner) (contents writer'.inner)
 
-abbrev pub FailsToVerifyOpen : {S D W : Type 0} → Opener S D → (D → Device) → S → S → ThreeImages D → FecVerifyWords → (W → Option (List ℕ)) → CountedRecord W → CountedRecord W → FecFault → Type 0
-FailsToVerifyOpen relations state old new three words contents writer writer' =
-    IsVerifyThreeEnd (calls relations state old new) three (fec_verify_record words) (contents writer.inner) (contents writer'.inner) writer'.failed
+abbrev pub FailsToVerifyOpen : {D W : Type 0} → (D → Device) → ThreeImages D → FecVerifyWords → SoughtTree → (W → Option (List ℕ)) → CountedRecord W → CountedRecord W → FecFault → Type 0
+FailsToVerifyOpen state three words sought contents writer writer' = IsVerifyThreeEnd state three (fec_verify_record words) sought (contents writer.inner) (contents writer'.inner) writer'.failed

@@ -3,11 +3,11 @@ ghost use Rattle.std.specs.Prelude.{◌≡◌};
 ghost use Rattle.fec_commands.specs.declared.fault.FecFault.TheVariants as fec_fault;
 
 use fec_area::ParityFault;
-use image_commands::ImageFault;
+use image_commands::{ImageFault, NoSource};
 use image_files::UnopenedFile;
-use image_pin::NoTree;
 use program_io::WriteFault;
 use verity_commands::VerityFault;
+use verity_format::FormatFault;
 
 /// Why a command on an image with parity ended early.
 #[derive(Clone, Copy, Debug, PartialEq, Eq)]
@@ -50,13 +50,16 @@ impl<'a> From<UnopenedFile<'a>> for FecFault<'a> {
     }
 }
 
-impl From<NoTree> for FecFault<'_> {
-    ghost use Rattle.fec_commands.specs.FecFaults.{no_tree};
+impl From<NoSource> for FecFault<'_> {
+    ghost use Rattle.fec_commands.specs.FecFaults.{no_source_fault};
 
-    ghost from_gives = { λ fault given. given ≡ no_tree fault };
+    ghost from_gives = { λ fault given. given ≡ no_source_fault fault };
 
-    fn from(fault: NoTree) -> Self {
-        FecFault::Verity(VerityFault::Image(ImageFault::from(fault)))
+    fn from(fault: NoSource) -> Self {
+        match fault {
+            NoSource::Stored(fault) => FecFault::from(ImageFault::from(fault)),
+            NoSource::Shape => FecFault::from(ImageFault::Format(FormatFault::Shape)),
+        }
     }
 }
 

@@ -1,6 +1,6 @@
 //! Checks the size of the parity file before anything is written or printed.
 ghost use Rattle.std.specs.Prelude.{IfErr, OnOk};
-ghost use Rattle.fec_commands.specs.Fitting.{IsShortByOptions, IsTooShortByWords, OpensForWords};
+ghost use Rattle.fec_commands.specs.Fitting.{FitsByOptions, IsShortByOptions, IsTooShortByWords, OpensForWords};
 ghost use Rattle.fec_commands.specs.Images.{Does};
 ghost use Rattle.fec_commands.specs.Layings.{IsRoots};
 
@@ -24,7 +24,7 @@ pub(crate) fn measure_words<'a, I: Images>(
     options: &ImageOptions,
 ) -> Result<(), FecFault<'a>>
     requires { IsRoots fec.now.roots }
-    ensures ok { OnOk result (Does OpensForWords I.relations I.Dev.state images.old images.new places.now fec.now) }
+    ensures ok { OnOk result (Does (OpensForWords options.now) I.relations I.Dev.state images.old images.new places.now fec.now) }
     ensures err { IfErr result (Does (IsTooShortByWords options.now) I.relations I.Dev.state images.old images.new places.now fec.now) }
 {
     let three = open_three(images, places, fec, true)?;
@@ -61,7 +61,8 @@ fn check_room<D: BlockDev + Drop, H: BlockDev + Drop, P: BlockDev>(
     options: &ImageOptions,
 ) -> Result<(), ParityFault>
     requires { IsRoots extent.roots }
-    ensures { IfErr result (IsShortByOptions options.now (D.state data_dev) (H.state hash_dev) (P.state parity.now) extent) }
+    ensures ok { OnOk result (FitsByOptions options.now (D.state data_dev) (H.state hash_dev) (P.state parity.now) extent) }
+    ensures err { IfErr result (IsShortByOptions options.now (D.state data_dev) (H.state hash_dev) (P.state parity.now) extent) }
 {
     let before = Window::<D, Brand>::before(data_dev, extent.end);
     let behind = Window::<H, Brand>::behind(hash_dev, extent.first);

@@ -9,9 +9,8 @@ use crate::fault::FecFault;
 use block_device::{BlockDev, FileId};
 use command_line::FecFile;
 use fec_area::Layout;
-use image_commands::{ImageFault, ImagePlaces};
+use image_commands::{ImageFault, ImagePlaces, TreeSource, seek_tree};
 use image_files::{FileUse, Images, OpenImage, UnopenedFile, is_one_file, open_apart, open_image};
-use image_pin::{Pin, find_tree};
 use verity_commands::VerityFault;
 use verity_format::{VerifyFault, VerityTree, data_sectors};
 
@@ -94,22 +93,21 @@ pub(crate) fn end_of_data(data: Option<FileId>, hash: Option<FileId>, first: u64
     u64::MAX
 }
 
-/// Returns the tree of an image and the layout of its parity, with so many bytes of parity in a codeword. The superblock is
-/// read once; if there is a pin, it must have the pin's values.
+/// Returns the tree of that source and the layout of its image's parity, with so many bytes of parity in a codeword.
 pub(crate) fn lay_out<'a, D: BlockDev, H: BlockDev>(
     data_dev: &D,
     hash_dev: &mut H,
     first: u64,
-    pin: &Option<Pin>,
+    source: &TreeSource,
     roots: u32,
 ) -> Result<LaidTree, FecFault<'a>>
     requires { IsRoots roots }
-    ensures ok { IfOk result (IsLaidOut D.state H.state data_dev.now hash_dev.old first pin.now roots hash_dev.new) }
-    ensures err { IfErr result (IsNotLaidOut D.state H.state data_dev.now hash_dev.old first pin.now hash_dev.new) }
+    ensures ok { IfOk result (IsLaidOut D.state H.state data_dev.now hash_dev.old first source.now roots hash_dev.new) }
+    ensures err { IfErr result (IsNotLaidOut D.state H.state data_dev.now hash_dev.old first source.now hash_dev.new) }
 {
-    let superblock = find_tree(hash_dev, first, pin)?;
-    let tree = superblock.tree();
-    if data_dev.sectors() < data_sectors(&tree.shape) {
+    let sectors = data_dev.sectors();
+    let tree = seek_tree(source, sectors, hash_dev, first)?;
+    if sectors < data_sectors(&tree.shape) {
         return Err(FecFault::Verity(VerityFault::Image(ImageFault::Verify(VerifyFault::TooSmall))));
     }
     match Layout::of(&tree.shape, hash_dev.sectors(), roots as usize) {

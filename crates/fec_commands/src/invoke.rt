@@ -21,12 +21,12 @@ use command_line::{
     FecFile, FecFormatWords, FecVerifyWords, ImageOptions, OptionWords, options_of,
 };
 use device_adapters::Watchers;
-use image_commands::{Generators, ImagePlaces};
+use image_commands::{Generators, ImageFault, ImagePlaces, may_seek};
 use image_files::Images;
 use program_io::Counted;
 use std::alloc::Global;
 use std::io::Write;
-use verity_commands::{VerityFault, sector_at};
+use verity_commands::{VerityFault, sector_at, sought_tree_in};
 
 /// Runs `format --fec FILE [--fec-roots N] [--grow] [--progress] [OPTION..] DATA HASH`. It formats as `format` does, and then
 /// writes the parity, which is synced before anything is printed. FILE is opened and measured before anything is written.
@@ -69,14 +69,15 @@ pub fn invoke_format_fec<'a, I: Images, G: Generators + Watchers, W: Write>(
     Ok(())
 }
 
-/// Runs `verify --fec FILE [--fec-roots N] [--hash-offset BYTES] [--root-hash-file FILE] [--progress] DATA HASH [ROOT]`. It
-/// verifies as `verify` does, and then compares the parity. Each file is opened once, and FILE is measured before anything is
-/// printed.
+/// Runs `verify --fec FILE [--fec-roots N] [--no-superblock] [--progress] [OPTION..] DATA HASH [ROOT]`. It verifies as `verify`
+/// does, and then compares the parity. The root hash or the pin, and the tree that options state, are read before an image is
+/// opened. Each image is opened once, and FILE is measured before anything is printed.
 ///
 /// # Errors
 ///
-/// - `Verity` if a file can't be opened or read, the image isn't the one with this root hash, or a line can't be printed.
-/// - `BlockSizes` if the superblock has two block sizes.
+/// - `Verity` if the options state no tree, a file can't be opened or read, the image isn't the one with this root hash, or a
+///   line can't be printed.
+/// - `BlockSizes` if the tree has two block sizes.
 /// - `Parity` if FILE is too small, or the parity can't be compared.
 /// - `Differs` if the parity isn't that of the image.
 pub fn invoke_verify_fec<'a, I: Images, S: Watchers, W: Write>(
@@ -84,10 +85,11 @@ pub fn invoke_verify_fec<'a, I: Images, S: Watchers, W: Write>(
     images: &mut I,
     watchers: &S,
     words: &FecVerifyWords<'a>,
+    options: &OptionWords<'a>,
     writer: &mut Counted<W>,
 ) -> Result<(), FecFault<'a>>
-    ensures ok { OnOk result (VerifiesFecByWords words.now I.relations I.Dev.state images.old images.new W.contents writer.old writer.new) }
-    ensures err { IfErr result (FailsToVerifyFec words.now I.relations I.Dev.state images.old images.new W.contents writer.old writer.new) }
+    ensures ok { OnOk result (VerifiesFecByWords options.now words.now I.relations I.Dev.state images.old images.new W.contents writer.old writer.new) }
+    ensures err { IfErr result (FailsToVerifyFec options.now words.now I.relations I.Dev.state images.old images.new W.contents writer.old writer.new) }
 {
     if words.verify.all {
         return Err(FecFault::Verity(VerityFault::Usage));
@@ -100,8 +102,13 @@ pub fn invoke_verify_fec<'a, I: Images, S: Watchers, W: Write>(
         hash: words.verify.hash_path,
         hash_first: sector_at(words.verify.hash_offset),
     };
+    let bare = words.no_superblock;
+    let sought = sought_tree_in(alloc, images, bare, &words.verify.root, options)?;
+    if !may_seek(&sought.source, places.hash_first) {
+        return Err(FecFault::from(ImageFault::Unaligned));
+    }
     let three = open_three(images, &places, &words.fec, false)?;
-    verify_open(alloc, images, watchers, three, words, writer)
+    verify_open(alloc, watchers, three, words, &sought, writer)
 }
 
 // Checks that the parity file is large enough for the image that the options make, or can be made so.

@@ -2,6 +2,7 @@
 ghost use Rattle.std.specs.Prelude.{◌≡◌, IfErr, OnOk};
 ghost use Rattle.fec_area.specs.Layouts.{IsLaidOn};
 ghost use Rattle.fec_area.specs.Rounds.{OnlyReadsCovered};
+ghost use Rattle.image_commands.specs.Places.{IsStateOf};
 ghost use Rattle.fec_commands.specs.Images.{Does};
 ghost use Rattle.fec_commands.specs.Layings.{IsRoots};
 ghost use Rattle.fec_commands.specs.Protecting.{IsProtectEnd, IsProtectedBy, IsSealed, IsSealingEnd, IsUnprotected, ProtectsImage};
@@ -12,7 +13,7 @@ use block_device::{BlockDev, SyncDev};
 use command_line::FecFile;
 use device_adapters::Window;
 use fec_area::{Layout, ParityFault, write_parity};
-use image_commands::ImagePlaces;
+use image_commands::{ImagePlaces, TreeSource};
 use image_files::{Images, OpenImage};
 use std::alloc::Global;
 use std::marker::Brand;
@@ -67,7 +68,8 @@ fn protect_behind<'a, D: BlockDev + Drop, H: BlockDev + Drop, P: SyncDev>(
 {
     let mut before = Window::<D, Brand>::before(data_dev, extent.end);
     let mut behind = Window::<H, Brand>::behind(hash_dev, extent.first);
-    let laid = lay_out(&before, &mut behind, extent.first, &None, extent.roots)?;
+    let source = TreeSource::Superblock(None);
+    let laid = lay_out(&before, &mut behind, extent.first, &source, extent.roots)?;
     write_synced(alloc, &laid.layout, &mut before, &mut behind, parity)?;
     Ok(())
 }
@@ -82,8 +84,8 @@ fn write_synced<D: BlockDev, H: BlockDev, P: SyncDev>(
 ) -> Result<(), ParityFault>
     requires { IsLaidOn layout.now (D.state data_dev.old) (H.state hash_dev.old) }
     ensures read { OnlyReadsCovered D.state H.state data_dev.old hash_dev.old data_dev.new hash_dev.new }
-    ensures ok { OnOk result (IsSealed layout.now (D.state data_dev.old) (H.state hash_dev.old) (P.state parity_dev.old) (P.state parity_dev.new)) }
-    ensures err { IfErr result (IsSealingEnd layout.now (D.state data_dev.old) (H.state hash_dev.old) (P.state parity_dev.old) (P.state parity_dev.new)) }
+    ensures ok { OnOk result (IsSealed (IsStateOf D.state) (IsStateOf H.state) layout.now (D.state data_dev.old) (H.state hash_dev.old) (P.state parity_dev.old) (P.state parity_dev.new)) }
+    ensures err { IfErr result (IsSealingEnd (IsStateOf D.state) (IsStateOf H.state) layout.now (D.state data_dev.old) (H.state hash_dev.old) (P.state parity_dev.old) (P.state parity_dev.new)) }
 {
     write_parity(alloc, layout, data_dev, hash_dev, parity_dev)?;
     parity_dev.sync()?;

@@ -10,31 +10,31 @@ use block_device::BlockDev;
 use command_line::FecVerifyWords;
 use device_adapters::{Watched, Watchers, bytes_before, watcher_of};
 use fec_area::{Layout, ParityFault, check_parity};
-use image_commands::{Bounds, ImagePair, compare, place_parts, tree_start};
-use image_files::{Images, OpenImage};
-use image_pin::Pin;
+use image_commands::{
+    Bounds, ImagePair, SoughtTree, TreeSource, bytes_to_read, compare, place_parts, tree_start,
+};
+use image_files::OpenImage;
 use program_io::Counted;
 use std::alloc::Global;
 use std::io::Write;
-use verity_commands::{sector_at, trusted_in};
+use verity_commands::sector_at;
 
-/// Compares an image with its tree, and then its parity with the parity file. The superblock is read once, after the root hash
-/// or the pin.
-pub(crate) fn verify_open<'a, I: Images, S: Watchers, W: Write>(
+/// Compares an image with its tree, and then its parity with the parity file. A superblock is read once.
+pub(crate) fn verify_open<'a, D: BlockDev + Drop, S: Watchers, W: Write>(
     alloc: Global,
-    images: &mut I,
     watchers: &S,
-    three: ThreeImages<I::Dev>,
+    three: ThreeImages<D>,
     words: &FecVerifyWords<'a>,
+    sought: &SoughtTree,
     writer: &mut Counted<W>,
 ) -> Result<(), FecFault<'a>>
     requires { IsRoots words.now.fec.roots }
-    ensures ok { OnOk result (VerifiesOpen I.relations I.Dev.state images.old images.new three words.now W.contents writer.old writer.new) }
-    ensures err { IfErr result (FailsToVerifyOpen I.relations I.Dev.state images.old images.new three words.now W.contents writer.old writer.new) }
+    ensures ok { OnOk result (VerifiesOpen D.state three words.now sought.now W.contents writer.old writer.new) }
+    ensures err { IfErr result (FailsToVerifyOpen D.state three words.now sought.now W.contents writer.old writer.new) }
 {
     let first = sector_at(words.verify.hash_offset);
     let end = data_end(&three, first);
-    let all = bytes_before(&three.data.device, end);
+    let all = bytes_to_read(&sought.source, bytes_before(&three.data.device, end));
     let ThreeImages {
         data: OpenImage {
             device: data_dev,
@@ -50,24 +50,16 @@ pub(crate) fn verify_open<'a, I: Images, S: Watchers, W: Write>(
         },
     } = three;
     let mut two = place_parts(data_dev, hash_dev, Bounds { end, first });
-    let trusted = trusted_in(images, &words.verify.root)?;
-    let pin = &trusted.pin;
+    let source = &sought.source;
     let roots = words.fec.roots;
-    let laid = measure(&two.data, &mut two.hash, &parity_dev, first, pin, roots)?;
+    let laid = measure(&two.data, &mut two.hash, &parity_dev, first, source, roots)?;
     let watcher = watcher_of(watchers, words.verify.progress);
     let ImagePair { data, hash } = two;
     let data = Watched::new(data, watcher, all);
     let mut watched = ImagePair { data, hash };
     let size = laid.tree.shape.hash_block();
     let ahead = tree_start(first, size, 0);
-    compare(
-        alloc,
-        &mut watched,
-        &laid.tree,
-        ahead,
-        &trusted.root,
-        writer,
-    )?;
+    compare(alloc, &mut watched, &laid.tree, ahead, &sought.root, writer)?;
     let ImagePair { data, hash } = watched;
     let data = data.inner;
     let mut parts = ImagePair { data, hash };
@@ -80,14 +72,14 @@ fn measure<'a, D: BlockDev, H: BlockDev, P: BlockDev>(
     hash_dev: &mut H,
     parity: &P,
     first: u64,
-    pin: &Option<Pin>,
+    source: &TreeSource,
     roots: u32,
 ) -> Result<LaidTree, FecFault<'a>>
     requires { IsRoots roots }
-    ensures ok { IfOk result (MeasuresBy D.state H.state P.state data_dev.now hash_dev.old parity.now first pin.now roots hash_dev.new) }
-    ensures err { IfErr result (IsUnmeasuredBy D.state H.state P.state data_dev.now hash_dev.old parity.now first pin.now roots) }
+    ensures ok { IfOk result (MeasuresBy D.state H.state P.state data_dev.now hash_dev.old parity.now first source.now roots hash_dev.new) }
+    ensures err { IfErr result (IsUnmeasuredBy D.state H.state P.state data_dev.now hash_dev.old parity.now first source.now roots) }
 {
-    let laid = lay_out(data_dev, hash_dev, first, pin, roots)?;
+    let laid = lay_out(data_dev, hash_dev, first, source, roots)?;
     let needed = laid.layout.parity_sectors();
     if parity.sectors() < needed {
         return Err(FecFault::Parity(ParityFault::TooSmall { needed }));

@@ -63,7 +63,7 @@ module _ (size : ℕ) (valid : IsTrue (is_block_size size)) (salt : List ℕ) (d
       let same : size * length (pack size ds) ≡ size * div_ceil (length (concat ds)) size = ap (λ n. size * n) blocks in
       omega (arith, bytes, room, same)
 
-  -- the digests with zeros behind them are the level's blocks
+  -- the digests with zeros after them are the level's blocks
   pub concat-level : concat ds ++ replicate (size * length (pack size ds) - 32 * length ds) 0 ≡ concat (pack size ds)
   concat-level =
       let bytes : length (concat ds) ≡ 32 * length ds = length-concat 32 ds all in
@@ -170,7 +170,7 @@ root-single size salt [] count = absurd (omega (arith, count))
 root-single size salt (one ∷ []) count = refl
 root-single size salt (one ∷ two ∷ more) count = absurd (omega (arith, count))
 
--- what is written behind a list's front up to its end
+-- what is written after a list's front up to its end
 pub rest-written : (end : ℕ) (out front ys zs : List ℕ) → end ≤ length out → take end out ≡ front → ys ≡ zs → put_mid end (length out - end) out ys ≡ front ++ zs
 rest-written end out front ys zs inside before same =
     let behind : drop (length out - end) (drop end out) ≡ [] = drop_all (length out - end) (drop end out) (omega (arith, length-drop end out)) in

@@ -46,7 +46,7 @@ module _ (s : ShapeRecord) (valid : IsShape s) (salt : List ℕ) (blocks : List 
   unfolding ancestor
   ancestor-low l = quotient-le i (s.blocks - 1) (per_block s ^ l) (pow_pos (per_block s) l (omega (arith, two))) (omega (arith, inside))
 
-  -- it stands in its slot of the block above
+  -- it is stored in its slot of the block above
   in_slot : (l : ℕ) → digest_in (get_or (level s.hash_block salt ds l) (ancestor s (l + 1) i) []) (slot s (ancestor s l i)) ≡ expected l
   unfolding slot expected
   in_slot l =

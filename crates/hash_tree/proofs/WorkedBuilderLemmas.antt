@@ -26,7 +26,7 @@ one_block-none : last_completed (pushed (small 1) (sevens 1)) ≡ []
 unfolding begun_builder levels grow grow_all close pushed last_completed
 one_block-none = refl
 
--- 15 of 17 digests fill no block, and the next one fills the first block of level 0, which stands at 2
+-- 15 of 17 digests fill no block, and the next one fills the first block of level 0, which is at 2
 not_yet : completed (small 17) (sevens 15) ≡ []
 unfolding begun_builder levels level_blocks blocks_above position grow grow_all completed
 not_yet = refl

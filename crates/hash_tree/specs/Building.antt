@@ -9,7 +9,7 @@ use Rattle.tree_shape.specs.Shape.{ShapeRecord, IsShape, levels, position, area_
 use Rattle.hash_tree.specs.Tree.{filled, area, root}
 use Rattle.hash_tree.specs.Laws.{AreDigests}
 
--- where a level's next block will stand, and the bytes that it has so far
+-- where a level's next block will be stored, and the bytes that it has so far
 pub record LevelRecord : Type 0 where
   pub next : ℕ
   pub bytes : List ℕ
@@ -33,7 +33,7 @@ done l bytes above = record {
   placed = record { block = l.next; bytes = bytes } ∷ above.placed;
 }
 
--- A digest comes to a level: it stands behind the ones before it, and once they fill a block, the
+-- A digest comes to a level: it is stored after the ones before it, and once they fill a block, the
 -- block is done and its digest comes to the level above. Above the top level it is the root.
 unfoldable pub grow : ℕ → List ℕ → List LevelRecord → List ℕ → List ℕ → Grown
 grow size salt [] root d = record { levels = []; root = d; placed = [] }
@@ -57,7 +57,7 @@ pub record Closed : Type 0 where
   pub root : List ℕ
   pub placed : List PlacedRecord
 
--- a level's last block is done with zeros behind its bytes, if it has any, and then what comes of its digest above
+-- a level's last block is done with zeros after its bytes, if it has any, and then what comes of its digest above
 abbrev pub close_block : ℕ → List ℕ → ℕ → List ℕ → (Option (List ℕ) → Closed) → Closed
 close_block size salt next [] above = above None
 close_block size salt next (b ∷ bs) above =
@@ -117,11 +117,11 @@ pub record IsPushed (old : BuilderRecord) (ds : List (List ℕ)) (new : BuilderR
   pub builder : new ≡ pushed old ds
   pub out : after ≡ before ++ completed old ds
 
--- room for a block of that size and a digest after it: no allocation for one block asks for more
+-- room for a block of that size and a digest after it: no allocation for one block is larger
 abbrev pub block_room : ℕ → ℕ
 block_room size = size + 32
 
--- room for eight blocks and a digest: no allocation of a builder asks for more
+-- room for eight blocks and a digest: no allocation of a builder is larger
 abbrev pub builder_room : BuilderRecord → ℕ
 builder_room b = 8 * b.hash_block + 32
 
@@ -142,7 +142,7 @@ abbrev pub is_between : List LevelRecord → Bool
 is_between [] = false
 is_between (l ∷ above) = length l.bytes == 0
 
--- A whole block comes to the lowest level, where none is begun, and its digest to the level above.
+-- A whole block comes to the lowest level, if none is begun, and its digest to the level above.
 unfoldable pub grow_block : ℕ → List ℕ → List LevelRecord → List ℕ → List ℕ → List ℕ → Grown
 grow_block size salt [] root block d = record { levels = []; root = root; placed = [] }
 grow_block size salt (l ∷ above) root block d = record {
@@ -173,7 +173,7 @@ last_completed b = (close b.hash_block b.salt b.levels b.root None).placed
 unfoldable pub built_root : BuilderRecord → List ℕ
 built_root b = (close b.hash_block b.salt b.levels b.root None).root
 
--- the first ones of these blocks were put behind those that stood there
+-- the first ones of these blocks were written after those that were there before
 pub record HasSome (before more after : List PlacedRecord) : Type 0 where
   pub count : ℕ
   pub is : after ≡ before ++ take count more

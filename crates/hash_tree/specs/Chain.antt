@@ -17,7 +17,7 @@ abbrev pub bytes_of : List (Vec ℕ Global) → List (List ℕ)
 bytes_of blocks = map (λ b. b.items) blocks
 
 -- From the digest that is expected: each block of the path, and at last the content, has the right
--- size and the digest that stands for it in the block above.
+-- size and the digest that is stored in the block above.
 abbrev pub HangsFrom : ShapeRecord → List ℕ → ℕ → List ℕ → List (List ℕ) → List ℕ → Type 0
 HangsFrom shape salt i expected [] content = (length content ≡ shape.data_block) × (digest salt content ≡ expected)
 HangsFrom shape salt i expected (block ∷ path) content = (length block ≡ shape.hash_block) × (digest salt block ≡ expected)

@@ -40,7 +40,7 @@ SlotsLieInside = (s : ShapeRecord) → IsShape s → (i : ℕ) → 32 * slot s i
 abbrev pub AncestorsAreBlocks : Type 0
 AncestorsAreBlocks = (s : ShapeRecord) → IsShape s → (l i : ℕ) → i < s.blocks → ancestor s (l + 1) i < level_blocks s l
 
--- no two blocks stand at one place, and at each place of the area stands a block
+-- no two blocks are stored at one place, and a block is stored at each place of the area
 abbrev pub PlacesAreTakenOnce : Type 0
 PlacesAreTakenOnce = (s : ShapeRecord) → IsShape s
     → ((l i m j : ℕ) → HasBlock s l i → HasBlock s m j → position s l i ≡ position s m j → (l ≡ m) × (i ≡ j))

@@ -21,7 +21,7 @@ pack hash_block digests = cut hash_block (concat digests)
 abbrev pub digests_above : ℕ → List ℕ → List (List ℕ) → List (List ℕ)
 digests_above hash_block salt digests = map (digest salt) (pack hash_block digests)
 
--- One digest is the root; over more of them stands the tree over the digests of their hash blocks.
+-- One digest is the root; over more of them is the tree over the digests of their hash blocks.
 -- Each step leaves fewer digests, so as many steps as digests are enough.
 abbrev pub root_in : ℕ → ℕ → List ℕ → List (List ℕ) → List ℕ
 root_in zero hash_block salt digests = []

@@ -6,7 +6,7 @@ ghost use Rattle.hash_tree.specs.Tree.{cut};
 use sha256_lanes::digest_eight;
 use tree_shape::{Digest, Salt};
 
-/// The digests of blocks of `size` bytes that stand one after another: eight at a time side by side, and the
+/// The digests of blocks of `size` bytes that follow each other: eight at a time side by side, and the
 /// rest one by one. `out` has room for exactly as many.
 pub fn digest_blocks(salt: &Salt, size: usize, blocks: &[u8], out: &mut [Digest])
     requires some { 0 < size }

@@ -29,7 +29,7 @@ impl Model for Placed {
     ghost view = { λ p. record { block = p.block; bytes = p.bytes.items } };
 }
 
-/// Where a level's next block will stand, and the bytes that it has so far.
+/// Where a level's next block will be stored, and the bytes that it has so far.
 #[derive(Drop)]
 struct Level {
     next: u64,

@@ -28,7 +28,7 @@ pub fn ancestors_are_blocks()
     ensures { AncestorsAreBlocks }
 {}
 
-/// Each block of the area stands at exactly one place.
+/// Each block of the area is stored at exactly one place.
 pub fn places_are_taken_once()
     ensures { PlacesAreTakenOnce }
 {}
@@ -68,8 +68,8 @@ pub fn forged_blocks_collide()
     ensures { ForgedBlocksCollide }
 {}
 
-/// The place that `collide` names for two chains that are good under one root: two different blocks
-/// with one digest stand there.
+/// At the place that `collide` names for two chains that are good under one root, there are two different blocks
+/// with one digest.
 pub fn collision(
     shape: &Shape,
     salt: &Salt,

@@ -93,7 +93,7 @@ fn put_digests(digests: &[Digest], out: &mut [u8])
     out[end..].fill(0);
 }
 
-/// The digests of the blocks that stand in a row.
+/// The digests of blocks that follow each other.
 fn digests_of(
     alloc: Global,
     hash_block: usize,

@@ -30,12 +30,12 @@ same-tree_cleared : (n : ℕ) (old new : Device) → IsTreeCleared n old new →
 same-tree_cleared n old new (inl none) = subst (IsSameDevice old) (sym none.1) (same-none old)
 same-tree_cleared n old new (inr some) = same-cleared old new some.1
 
--- behind the tree nothing changes
+-- after the tree nothing changes
 drop-tree_cleared : (n : ℕ) (old new : Device) → IsTreeCleared n old new → IsTrue old.steady → drop n new.image ≡ drop n old.image
 drop-tree_cleared n old new (inl none) steady = ap (λ (d : Device). drop n d.image) none.1
 drop-tree_cleared n old new (inr some) steady = drop-more n some.0 new.image old.image (drop-cleared old new some.1 steady)
 
--- a tree without a superblock ends behind its blocks
+-- a tree without a superblock ends after its blocks
 sectors-alone : (s : SuperRecord) → sectors_alone s ≡ area_sectors (shape_alone s)
 sectors-alone s =
     let zero : 0 * (s.hash_block / 512) ≡ 0 = zero-mul (s.hash_block / 512) in
@@ -56,7 +56,7 @@ with_tree-cleared s data_image old new cleared steady =
     ∙ ap (λ (rest : List (List ℕ)). sectors ++ rest) (ap (λ n. drop n new.image) count ∙ drop-tree_cleared (sectors_alone s) old new cleared steady ∙ ap (λ n. drop n old.image) (sym count))
     ∙ ap (λ (n : ℕ). spliced old.image n sectors) (sym start)
 
--- whether the tree was made or not, nothing behind it changed
+-- whether the tree was made or not, nothing after it changed
 kept-cleared : (s : SuperRecord) (old cleared new : Device) → IsTreeCleared (sectors_alone s) old cleared → IsPartOfTree (shape_alone s) cleared new → IsKeptBehind s old new
 kept-cleared s old cleared new clearing written =
     let same : IsSameDevice old cleared = same-tree_cleared (sectors_alone s) old cleared clearing in

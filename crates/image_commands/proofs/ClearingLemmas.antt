@@ -13,7 +13,7 @@ pub steady-cleared : (old new : Device) → IsCleared old new → new.steady ≡
 steady-cleared old new (inl none) = none.read.same.steady
 steady-cleared old new (inr zeroed) = ap (λ (d : Device). d.steady) zeroed.kept ∙ zeroed.written.same.steady ∙ zeroed.read.same.steady
 
--- behind the first sector nothing changes
+-- after the first sector nothing changes
 pub drop-cleared : (old new : Device) → IsCleared old new → IsTrue old.steady → drop 1 new.image ≡ drop 1 old.image
 drop-cleared old new (inl none) steady = ap (drop 1) (none.read.image steady)
 drop-cleared old new (inr zeroed) steady =

@@ -14,9 +14,10 @@ use Rattle.verity_format.specs.Trees.{shape_alone}
 use Rattle.verity_format.proofs.lemmas.RoomLemmas.{area-within, fits-from_none}
 use Rattle.image_commands.specs.declared.format.MadeImage.{MadeImage}
 use Rattle.image_commands.specs.ClearedTrees.{IsClearedEnd, IsKeptBehind, IsMadeCleared, sectors_alone}
-use Rattle.image_commands.specs.TreeFormats.{IsFinished, IsPlacedTreeCause, IsTreeKept, IsTreeMade, IsUnfinished}
+use Rattle.image_commands.specs.Places.{IsPartState}
+use Rattle.image_commands.specs.TreeFormats.{IsFinished, IsPlacedTreeCause, IsTreeEnd, IsTreeKept, IsTreeMade, IsUnfinished}
 
--- an image is what lies before a part, the part and what lies behind it
+-- an image is what lies before a part, the part and what lies after it
 parts : (image : List (List ℕ)) (f c : ℕ) → image ≡ take f image ++ (run_of image f c ++ drop (f + c) image)
 parts image f c = sym (take-append-drop f image) ∙ ap (λ l. take f image ++ l) (sym (take-append-drop c (drop f image)) ∙ ap (λ l. run_of image f c ++ l) (drop-drop c f image))
 
@@ -38,11 +39,34 @@ joined old new sectors f c inside few part front back =
     ∙ ap (λ l. take f old ++ l) (append_assoc sectors (drop m run) rest ∙ ap (λ l. sectors ++ l) behind)
     ∙ sym (append_assoc (take f old) sectors (drop (f + m) old))
 
-module _ (s : SuperRecord) (data_dev data_dev' hash_dev hash_dev' : Device) (first : ℕ) (is_whole : IsWhole hash_dev) (image image' : Device) (root : Result (List ℕ) FormatFault)
+-- what holds of the data device that calls left, weakened
+pub made-left : {Data Data' : Device → Type 0} {s : SuperRecord} {d h h' : Device} {first : ℕ} {made : MadeImage} → IsTreeMade Data s d h first h' made → ((device : Device) → Data device → Data' device) → IsTreeMade Data' s d h first h' made
+made-left m f = record {
+  data_dev' = m.data_dev';
+  left = f m.data_dev' m.left;
+  written = m.written;
+  tree = m.tree;
+  kept = m.kept;
+  fit = m.fit;
+  read = m.read;
+  image = m.image;
+  clean = m.clean;
+  root = m.root;
+  salt = m.salt;
+  blocks = m.blocks;
+}
+
+-- a tree that isn't made, over a data device around another one, of the type of `outer`
+pub tree_end-inner : {D E : Type 0} (outer : E) (inner : E → D) (state : D → Device) (s : SuperRecord) (d h : Device) (first : ℕ) (h' : Device) (fault : FormatFault)
+    → IsTreeEnd (IsPartState (λ (e : E). state (inner e))) s d h first h' fault → IsTreeEnd (IsPartState state) s d h first h' fault
+tree_end-inner outer inner state s d h first h' fault (inl none) = inl none
+tree_end-inner outer inner state s d h first h' fault (inr ends) = inr ((ends.0.0, ((inner ends.0.1.0.0, ends.0.1.0.1), ends.0.1.1)), ends.1)
+
+module _ (Data : Device → Type 0) (s : SuperRecord) (data_dev data_dev' hash_dev hash_dev' : Device) (first : ℕ) (left : Data data_dev') (is_whole : IsWhole hash_dev) (image image' : Device) (root : Result (List ℕ) FormatFault)
     (written : IsKeptBehind s (windowed hash_dev (part_behind hash_dev first)) image) (back : image' ≡ windowed hash_dev' (part_behind hash_dev first))
     (outside : StandOutside hash_dev' (part_behind hash_dev first) (outside_of hash_dev.image (part_behind hash_dev first))) where
   -- a tree that was made and put on the medium
-  pub made-placed : (made : MadeImage) → IsMadeCleared s data_dev (windowed hash_dev (part_behind hash_dev first)) data_dev' image made.root → IsFinished s root image image' made → IsTreeMade s data_dev hash_dev first hash_dev' made
+  pub made-placed : (made : MadeImage) → IsMadeCleared s data_dev (windowed hash_dev (part_behind hash_dev first)) data_dev' image made.root → IsFinished s root image image' made → IsTreeMade Data s data_dev hash_dev first hash_dev' made
   made-placed made built done =
       let p = part_behind hash_dev first in
       let sectors : List (List ℕ) = tree_over (shape_alone s) s.salt data_dev.image in
@@ -53,6 +77,7 @@ module _ (s : SuperRecord) (data_dev data_dev' hash_dev hash_dev' : Device) (fir
       let inside : p.first + p.count ≤ length hash_dev.image = omega (arith, is_whole.length) in
       record {
         data_dev' = data_dev';
+        left = left;
         written = image;
         tree = built;
         kept = sym back ∙ done.is_synced;
@@ -77,16 +102,16 @@ module _ (s : SuperRecord) (data_dev data_dev' hash_dev hash_dev' : Device) (fir
 
   -- a tree that wasn't made, or not put on the medium
   pub end-placed : (fault : FormatFault) → IfOk root (IsMadeCleared s data_dev (windowed hash_dev (part_behind hash_dev first)) data_dev' image) → IfErr root (IsClearedEnd s data_dev (windowed hash_dev (part_behind hash_dev first)) data_dev' image)
-      → IsUnfinished root image image' fault → IsPlacedTreeCause s data_dev hash_dev first hash_dev' fault × IsTreeKept s hash_dev first hash_dev'
+      → IsUnfinished root image image' fault → IsPlacedTreeCause Data s data_dev hash_dev first hash_dev' fault × IsTreeKept s hash_dev first hash_dev'
   end-placed fault ok err (inl (is, same)) =
       let cause : IsClearedEnd s data_dev (windowed hash_dev (part_behind hash_dev first)) data_dev' image fault =
       subst (λ (r : Result (List ℕ) FormatFault). IfErr r (IsClearedEnd s data_dev (windowed hash_dev (part_behind hash_dev first)) data_dev' image)) is err in (
-        (data_dev', inl (subst (λ (d : Device). IsClearedEnd s data_dev (windowed hash_dev (part_behind hash_dev first)) data_dev' d fault) (sym same ∙ back) cause)),
+        (data_dev', (left, inl (subst (λ (d : Device). IsClearedEnd s data_dev (windowed hash_dev (part_behind hash_dev first)) data_dev' d fault) (sym same ∙ back) cause))),
         kept-placed (ap (λ (d : Device). d.image) same),
       )
   end-placed fault ok err (inr dirty) =
       let made : IsMadeCleared s data_dev (windowed hash_dev (part_behind hash_dev first)) data_dev' image dirty.made =
       subst (λ (r : Result (List ℕ) FormatFault). IfOk r (IsMadeCleared s data_dev (windowed hash_dev (part_behind hash_dev first)) data_dev' image)) dirty.root_is ok in (
-        (data_dev', inr (record { root = dirty.made; written = image; made = made; unsynced = subst (IsUnsynced image) back dirty.unsynced; is = dirty.is })),
+        (data_dev', (left, inr (record { root = dirty.made; written = image; made = made; unsynced = subst (IsUnsynced image) back dirty.unsynced; is = dirty.is }))),
         kept-placed (ap (λ (d : Device). d.image) dirty.unsynced.moved),
       )

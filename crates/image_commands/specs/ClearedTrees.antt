@@ -22,7 +22,7 @@ pub record IsTreeUncleared (sectors : ℕ) (old new : Device) : Type 0 where
   pub some : 0 < sectors
   pub uncleared : IsUncleared old new
 
--- over a steady device nothing behind the tree changed
+-- over a steady device nothing after the tree changed
 pub record IsKeptBehind (s : SuperRecord) (old new : Device) : Type 0 where
   pub same : IsSameDevice old new
   pub after : IsTrue old.steady → drop (sectors_alone s) new.image ≡ drop (sectors_alone s) old.image
@@ -63,7 +63,7 @@ IsClearedEnd s data_dev hash_dev data_dev' hash_dev' fault =
 
 -- ---- calls, by what a proof sees of the devices: as they were before, and then after
 
--- the data device was only read, and of the hash device nothing behind the tree changed
+-- the data device was only read, and of the hash device nothing after the tree changed
 abbrev pub OnlyTreeChanges : {D H : Type 0} → (D → Device) → (H → Device) → SuperRecord → D → H → D → H → Type 0
 OnlyTreeChanges data_state hash_state s d h d' h' = IsOnlyRead (data_state d) (data_state d') × IsKeptBehind s (hash_state h) (hash_state h')
 

@@ -1,4 +1,4 @@
--- A superblock that stood on the hash device is cleared before anything of the tree is written.
+-- A superblock that was stored on the hash device is cleared before anything of the tree is written.
 use Rattle.std.specs.Prelude.{◌≡◌, ◌⊎◌, ℕ, Bool, true, false, IsTrue, List, take, drop}
 use Rattle.std.specs.Str.{bytes_eq}
 use Rattle.block_device.specs.Device.{Device, HasFailed, IsRead, IsSameDevice, IsWritten, spliced, synced, zeros_image}

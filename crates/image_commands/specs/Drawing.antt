@@ -27,7 +27,7 @@ drawing gives stream old new = record { gives = gives; stream = stream; old = ol
 abbrev pub drawn_salt : Stream → List ℕ
 drawn_salt stream = (fill_bytes 32 stream).0
 
--- a version 4 identifier of the 16 bytes behind them
+-- a version 4 identifier of the 16 bytes after those of the salt
 abbrev pub drawn_uuid : Stream → List ℕ
 drawn_uuid stream = (v4_of_fill (fill_bytes 16 (fill_bytes 32 stream).1)).0
 

@@ -17,7 +17,7 @@ use Rattle.image_commands.specs.SuperblockTexts.{blocks_text, root_text, salt_te
 unfoldable pub made_text : MadeImage → List ℕ
 made_text made = root_text made.root ++ (salt_text made.salt ++ (uuid_text made.uuid ++ blocks_text made.blocks))
 
--- No refusal applied. A superblock that stood on the hash device was cleared; then that was formatted over the data device
+-- No refusal applied. A superblock that was stored on the hash device was cleared; that was formatted over the data device
 -- and synced, and that is what was made. Over steady devices the image is the one that a format alone leaves.
 pub record IsMade (options : FormatOptions) (data_dev hash_dev data_dev' hash_dev' : Device) (made : MadeImage) : Type 0 where
   pub cleared : Device

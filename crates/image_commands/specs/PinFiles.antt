@@ -59,7 +59,7 @@ abbrev pub root_file_text : RootForm → Pin → List ℕ
 root_file_text Digits pin = encode_lower pin.root
 root_file_text PinForm pin = pin_text pin
 
--- which file stands under a path, where one does and that is known
+-- which file a path leads to, if there is one and the system states it
 abbrev pub TellsId : {S D : Type 0} → Calls S D → List ℕ → Option FileId → Type 0
 TellsId w path id =
     ((text : FileText) × w.relations.tells w.old path 0 (Ok text) w.new × (id ≡ text.id))

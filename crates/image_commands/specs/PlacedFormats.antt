@@ -1,4 +1,4 @@
--- What `format` makes of a hash image behind a sector of a file, and how it ends early.
+-- What `format` makes of a hash image that begins at a sector of a file, and how it ends early.
 use Rattle.std.specs.Prelude.{◌≡◌, ◌⊎◌, ℕ, Bool, true, false}
 use Rattle.rand_core.specs.Stream.{Stream}
 use Rattle.block_device.specs.Device.{Device}
@@ -19,9 +19,9 @@ use Rattle.image_commands.specs.Endings.{IsUnopened}
 use Rattle.image_commands.specs.Formats.{IsFormatEnd, IsMade}
 use Rattle.image_commands.specs.Offsets.{format_fault_from}
 use Rattle.image_pin.specs.Finding.{is_aligned}
-use Rattle.image_commands.specs.Places.{FailsToOpenPlaced, OpensPlaced, TwoPlaces, before, behind, data_end, overlaps, two_places}
+use Rattle.image_commands.specs.Places.{FailsToOpenPlaced, IsPartState, OpensPlaced, TwoPlaces, before, behind, data_end, overlaps, two_places}
 
--- the two devices before and behind a formatting, the sector where the data end, and the one where the hash image begins
+-- the two devices before and after a formatting, the sector where the data end, and the one where the hash image begins
 pub record Placing : Type 0 where
   pub data_dev : Device
   pub hash_dev : Device
@@ -29,7 +29,7 @@ pub record Placing : Type 0 where
   pub end : ℕ
   pub first : ℕ
 
--- the hash image, behind the formatting
+-- the hash image after the formatting
 abbrev pub image_behind : Placing → Device
 image_behind p = windowed p.hash_dev' (part_behind p.hash_dev p.first)
 
@@ -37,15 +37,17 @@ image_behind p = windowed p.hash_dev' (part_behind p.hash_dev p.first)
 abbrev pub KeepsBefore : Placing → Type 0
 KeepsBefore p = StandOutside p.hash_dev' (part_behind p.hash_dev p.first) (outside_of p.hash_dev.image (part_behind p.hash_dev p.first))
 
--- the hash image was made of the data that lie before their end
-pub record IsMadePlaced (options : FormatOptions) (p : Placing) (image : MadeImage) : Type 0 where
+-- the hash image was made of the data that lie before their end; `Data` is what holds of the data device that calls left
+pub record IsMadePlaced (Data : Device → Type 0) (options : FormatOptions) (p : Placing) (image : MadeImage) : Type 0 where
   pub data_dev' : Device
+  pub left : Data data_dev'
   pub made : IsMade options (before p.data_dev p.end) (behind p.hash_dev p.first) data_dev' (image_behind p) image
   pub kept : KeepsBefore p
 
 -- it was refused, not finished, or not synced
-pub record IsPlacedEnd (options : FormatOptions) (p : Placing) (fault : FormatFault) : Type 0 where
+pub record IsPlacedEnd (Data : Device → Type 0) (options : FormatOptions) (p : Placing) (fault : FormatFault) : Type 0 where
   pub data_dev' : Device
+  pub left : Data data_dev'
   pub ends : IsFormatEnd options (before p.data_dev p.end) (behind p.hash_dev p.first) data_dev' (image_behind p) (Format fault)
   pub kept : KeepsBefore p
 
@@ -53,7 +55,7 @@ pub record IsPlacedEnd (options : FormatOptions) (p : Placing) (fault : FormatFa
 abbrev pub placing_of : {S D : Type 0} → Calls S D → TwoImages D → ℕ → D → Placing
 placing_of w two first hash_dev' = record { data_dev = w.state two.data.device; hash_dev = w.state two.hash.device; hash_dev' = w.state hash_dev'; end = data_end two first; first = first }
 
--- What was made of the two images, with the options as they are given or drawn. The hash image was synced and given back
+-- What was made of the two images, with the options as they are given or drawn. The hash image was synced and closed
 -- under its path.
 pub record MakesPlaced {S D T G : Type 0} (w : Calls S D) (d : Drawing T G) (options : ImageOptions) (places : TwoPlaces) (image : MadeImage) : Type 0 where
   pub given : FormatOptions
@@ -64,7 +66,7 @@ pub record MakesPlaced {S D T G : Type 0} (w : Calls S D) (d : Drawing T G) (opt
   pub opened : OpensPlaced (record w { new = between }) places two
   pub apart : overlaps two places.first options.blocks ≡ false
   pub are_given : AreGiven d options given
-  pub made : IsMadePlaced given (placing_of w two places.first hash_dev') image
+  pub made : IsMadePlaced (IsPartState w.state) given (placing_of w two places.first hash_dev') image
   pub closed : w.relations.takes between places.paths.hash_path hash_dev' w.new
 
 -- no hash block begins there, and nothing was opened or drawn
@@ -102,7 +104,7 @@ pub record EndsPlaced {S D T G : Type 0} (w : Calls S D) (d : Drawing T G) (opti
   pub cause : FormatFault
   pub opened : OpensPlaced w places two
   pub are_given : AreGiven d options given
-  pub ends : IsPlacedEnd given (placing_of w two places.first hash_dev') cause
+  pub ends : IsPlacedEnd (IsPartState w.state) given (placing_of w two places.first hash_dev') cause
   pub is : fault ≡ Format (format_fault_from places.first cause)
 
 -- one of these
@@ -122,13 +124,13 @@ abbrev pub FailsToMakeAt : {S D T G : Type 0} → Opener S D → (D → Device) 
 FailsToMakeAt relations state images images' gives stream generators generators' options watched =
     IsMakingPlacedEnd (calls relations state images images') (drawing gives stream generators generators') options (two_places watched.places)
 
--- two devices that are open, and the second behind the formatting
+-- two devices that are open, and the second after the formatting
 abbrev pub placing : {D H : Type 0} → (D → Device) → (H → Device) → D → H → H → Bounds → Placing
 placing data_state hash_state data_dev hash_dev hash_dev' bounds =
     record { data_dev = data_state data_dev; hash_dev = hash_state hash_dev; hash_dev' = hash_state hash_dev'; end = bounds.end; first = bounds.first }
 
 abbrev pub MakesImageAt : {D H : Type 0} → (D → Device) → (H → Device) → D → H → H → Bounds → FormatOptions → MadeImage → Type 0
-MakesImageAt data_state hash_state data_dev hash_dev hash_dev' bounds options = IsMadePlaced options (placing data_state hash_state data_dev hash_dev hash_dev' bounds)
+MakesImageAt data_state hash_state data_dev hash_dev hash_dev' bounds options = IsMadePlaced (IsPartState data_state) options (placing data_state hash_state data_dev hash_dev hash_dev' bounds)
 
 abbrev pub IsUnmadeAt : {D H : Type 0} → (D → Device) → (H → Device) → D → H → H → Bounds → FormatOptions → FormatFault → Type 0
-IsUnmadeAt data_state hash_state data_dev hash_dev hash_dev' bounds options = IsPlacedEnd options (placing data_state hash_state data_dev hash_dev hash_dev' bounds)
+IsUnmadeAt data_state hash_state data_dev hash_dev hash_dev' bounds options = IsPlacedEnd (IsPartState data_state) options (placing data_state hash_state data_dev hash_dev hash_dev' bounds)

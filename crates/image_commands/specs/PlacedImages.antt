@@ -90,8 +90,8 @@ IsDumpImageEnd w path first memory failed fault = IsUnopened (Refuses w path fal
 abbrev pub IsPlacedImageEnd : {S D : Type 0} → Calls S D → List ℕ → ℕ → Option Pin → (Device → Type 0) → Bool → ImageFault → Type 0
 IsPlacedImageEnd w path first pin memory failed fault = IsUnopened (Refuses w path false) fault ⊎ EndsPlacedSuper w path first pin memory failed fault
 
--- `verify`: the superblock at that sector was read once and has the values of the pin, if there is one; its tree is valid for what lies
--- before the data's end, under the root
+-- `verify`: the superblock at that sector was read once and has the values of the pin, if there is one; its tree is valid for what
+-- lies before the data's end, under the root
 pub record MatchesPlaced (Data Hash : Device → Type 0) (data_dev hash_dev : Device) (end first : ℕ) (trusted : TrustedRoot) (old new : Option (List ℕ)) : Type 0 where
   pub super : SuperRecord
   pub read_dev : Device

@@ -1,4 +1,4 @@
--- Hash images that begin behind a sector of a file: superblock and tree stand there, and the data may be what lies before.
+-- Hash images that begin at a sector of a file: superblock and tree are stored there, and the data may be what lies before.
 use Rattle.std.specs.Prelude.{◌≡◌, ◌⊎◌, ℕ, ◌+◌, ◌-◌, ◌/◌, ◌^◌, ◌==◌, ◌&&◌, nat_lt, Bool, true, false, Option, is_none, if◌then◌else◌}
 use Rattle.block_device.specs.Device.{Device}
 use Rattle.block_device.specs.declared.open_fault.OpenFault.TheVariants.{SameFile}
@@ -31,10 +31,14 @@ behind device first = windowed device (part_behind device first)
 abbrev pub before : Device → ℕ → Device
 before device end = windowed device (part_before device end)
 
--- a part of a device of this type. Only an opener and calls give devices of a type that isn't known, so that a proof can't make one up
--- whose counters show a failure.
+-- a part of a device of this type. Only an opener and calls give devices of a type that isn't known, so that a proof can't make
+-- one up whose counters show a failure.
 abbrev pub IsPartState : {D : Type 0} → (D → Device) → Device → Type 0
 IsPartState {D} state device = (d : D) × ((part : Part) × (device ≡ windowed (state d) part))
+
+-- a state of a device of this type
+abbrev pub IsStateOf : {D : Type 0} → (D → Device) → Device → Type 0
+IsStateOf {D} state device = (d : D) × (device ≡ state d)
 
 -- where the data end: in one file before the hash image, else at the end of theirs
 abbrev pub data_end : {D : Type 0} → TwoImages D → ℕ → ℕ

@@ -37,7 +37,7 @@ IsNoPlacedTree options data_dev Shape = IsSome (first_fault (shape_of (superbloc
 IsNoPlacedTree options data_dev DataTooSmall = data_dev.size < data_sectors (shape_of (superblock_with options data_dev.size))
 IsNoPlacedTree options data_dev fault = ⊥
 
--- A tree may stand at that place. The options are as they are given or drawn, and the data image was opened, and has the data
+-- A tree may begin at that place. The options are as they are given or drawn, and the data image was opened, and has the data
 -- blocks.
 pub record IsPrepared {S D T G : Type 0} (w : Calls S D) (d : Drawing T G) (options : ImageOptions) (places : TwoPlaces) (said : ImageOptions) : Type 0 where
   pub given : FormatOptions

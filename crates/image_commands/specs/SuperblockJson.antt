@@ -37,7 +37,7 @@ dump_text Lines s = superblock_text s
 dump_text Object s = json_line (superblock_json s)
 dump_text (Pin root) s = pin_text (pin_in root s)
 
--- why memory runs out: lines need none; an object grows within `serde_json`, which makes no evidence; for a pin an allocation was refused
+-- why memory runs out: lines need none; an object grows within `serde_json`, which makes no evidence; a pin's text was refused
 abbrev pub RefusesDump : DumpForm → Type 0
 RefusesDump Lines = ⊥
 RefusesDump Object = Unit {0}

@@ -17,7 +17,7 @@ entry_head None = []
 abbrev pub named_line : Option (Bor (List ℕ)) → SuperRecord → LineWords → ℕ → List ℕ
 named_line name s words start = entry_head name ++ (verity_text s words.data_name.now words.hash_name.now words.root.now.root start ++ codes "\n")
 
--- no allocation for that line asks for more bytes
+-- no allocation for that line is larger, in bytes
 abbrev pub words_room : SuperRecord → LineWords → ℕ → ℕ
 words_room s words start = line_room s words.data_name.now words.hash_name.now words.root.now.root start
 

@@ -28,7 +28,7 @@ use Rattle.image_commands.specs.Endings.{IsLineUnwritten}
 use Rattle.image_commands.specs.Offsets.{format_fault_from}
 use Rattle.image_commands.specs.PlacedFormats.{EndsOverlapping, EndsUnaligned, EndsUndrawnPlaced, EndsUnopenedPlaced}
 use Rattle.image_pin.specs.Finding.{is_aligned}
-use Rattle.image_commands.specs.Places.{OpensPlaced, TwoPlaces, before, behind, data_end, overlaps, two_places}
+use Rattle.image_commands.specs.Places.{IsPartState, IsStateOf, OpensPlaced, TwoPlaces, before, behind, data_end, overlaps, two_places}
 use Rattle.image_commands.specs.SuperblockTexts.{blocks_text, root_text, salt_text}
 use Rattle.image_commands.specs.TreePlaces.{HasNoShape, unnamed}
 
@@ -38,9 +38,10 @@ tree_text made = root_text made.root ++ (salt_text made.salt ++ blocks_text made
 
 -- No refusal applied and no call failed. An old superblock at the tree's first sector was cleared; then the tree was made there
 -- and synced. Over steady devices the tree over the data is in the hash image from that sector on, every other sector is as it
--- was, and that is its root hash.
-pub record IsTreeMade (s : SuperRecord) (data_dev hash_dev : Device) (first : ℕ) (hash_dev' : Device) (made : MadeImage) : Type 0 where
+-- was, and that is its root hash. `Data` is what holds of the data device that calls left.
+pub record IsTreeMade (Data : Device → Type 0) (s : SuperRecord) (data_dev hash_dev : Device) (first : ℕ) (hash_dev' : Device) (made : MadeImage) : Type 0 where
   pub data_dev' : Device
+  pub left : Data data_dev'
   pub written : Device
   pub tree : IsMadeCleared s data_dev (behind hash_dev first) data_dev' written made.root
   pub kept : windowed hash_dev' (part_behind hash_dev first) ≡ synced written
@@ -84,19 +85,19 @@ pub record IsTreeUnsynced (s : SuperRecord) (data_dev hash_dev data_dev' hash_de
   pub is : fault ≡ DeviceFailed
 
 -- a refusal applied, an old superblock wasn't cleared, the tree wasn't finished, or it wasn't synced
-abbrev pub IsPlacedTreeCause : SuperRecord → Device → Device → ℕ → Device → FormatFault → Type 0
-IsPlacedTreeCause s data_dev hash_dev first hash_dev' fault =
-    (data_dev' : Device) × (IsClearedEnd s data_dev (behind hash_dev first) data_dev' (windowed hash_dev' (part_behind hash_dev first)) fault
-    ⊎ IsTreeUnsynced s data_dev (behind hash_dev first) data_dev' (windowed hash_dev' (part_behind hash_dev first)) fault)
+abbrev pub IsPlacedTreeCause : (Device → Type 0) → SuperRecord → Device → Device → ℕ → Device → FormatFault → Type 0
+IsPlacedTreeCause Data s data_dev hash_dev first hash_dev' fault =
+    (data_dev' : Device) × (Data data_dev' × (IsClearedEnd s data_dev (behind hash_dev first) data_dev' (windowed hash_dev' (part_behind hash_dev first)) fault
+    ⊎ IsTreeUnsynced s data_dev (behind hash_dev first) data_dev' (windowed hash_dev' (part_behind hash_dev first)) fault))
 
 -- so it ended, and only the sectors of the tree changed
-abbrev pub IsTreeUnmade : SuperRecord → Device → Device → ℕ → Device → FormatFault → Type 0
-IsTreeUnmade s data_dev hash_dev first hash_dev' = λ fault. IsPlacedTreeCause s data_dev hash_dev first hash_dev' fault × IsTreeKept s hash_dev first hash_dev'
+abbrev pub IsTreeUnmade : (Device → Type 0) → SuperRecord → Device → Device → ℕ → Device → FormatFault → Type 0
+IsTreeUnmade Data s data_dev hash_dev first hash_dev' = λ fault. IsPlacedTreeCause Data s data_dev hash_dev first hash_dev' fault × IsTreeKept s hash_dev first hash_dev'
 
 -- there is no tree of that shape, and the hash device wasn't asked; or one of these
-abbrev pub IsTreeEnd : SuperRecord → Device → Device → ℕ → Device → FormatFault → Type 0
-IsTreeEnd s data_dev hash_dev first hash_dev' fault =
-    (HasNoShape s fault × (hash_dev' ≡ hash_dev)) ⊎ (IsPlacedTreeCause s data_dev hash_dev first hash_dev' fault × IsTreeKept s hash_dev first hash_dev')
+abbrev pub IsTreeEnd : (Device → Type 0) → SuperRecord → Device → Device → ℕ → Device → FormatFault → Type 0
+IsTreeEnd Data s data_dev hash_dev first hash_dev' fault =
+    (HasNoShape s fault × (hash_dev' ≡ hash_dev)) ⊎ (IsPlacedTreeCause Data s data_dev hash_dev first hash_dev' fault × IsTreeKept s hash_dev first hash_dev')
 
 -- the data of two images
 abbrev pub data_of : {S D : Type 0} → Calls S D → TwoImages D → ℕ → Device
@@ -106,7 +107,7 @@ data_of w two first = before (w.state two.data.device) (data_end two first)
 abbrev pub tree_with : FormatOptions → Device → SuperRecord
 tree_with options data_dev = superblock_with options data_dev.size
 
--- What was made of the two images, with the options as they are given or drawn. The hash image was synced and given back
+-- What was made of the two images, with the options as they are given or drawn. The hash image was synced and closed
 -- under its path.
 pub record MakesTree {S D T G : Type 0} (w : Calls S D) (d : Drawing T G) (options : ImageOptions) (places : TwoPlaces) (made : MadeImage) : Type 0 where
   pub given : FormatOptions
@@ -117,7 +118,7 @@ pub record MakesTree {S D T G : Type 0} (w : Calls S D) (d : Drawing T G) (optio
   pub opened : OpensPlaced (record w { new = between }) places two
   pub apart : overlaps two places.first options.blocks ≡ false
   pub are_given : AreGiven d (unnamed options) given
-  pub tree : IsTreeMade (tree_with given (data_of w two places.first)) (data_of w two places.first) (w.state two.hash.device) places.first (w.state hash_dev') made
+  pub tree : IsTreeMade (IsPartState w.state) (tree_with given (data_of w two places.first)) (data_of w two places.first) (w.state two.hash.device) places.first (w.state hash_dev') made
   pub closed : w.relations.takes between places.paths.hash_path hash_dev' w.new
 
 -- `format --no-superblock`: its root, salt and number of blocks
@@ -132,7 +133,7 @@ pub record EndsTree {S D T G : Type 0} (w : Calls S D) (d : Drawing T G) (option
   pub cause : FormatFault
   pub opened : OpensPlaced w places two
   pub are_given : AreGiven d (unnamed options) given
-  pub ends : IsTreeEnd (tree_with given (data_of w two places.first)) (data_of w two places.first) (w.state two.hash.device) places.first (w.state hash_dev') cause
+  pub ends : IsTreeEnd (IsPartState w.state) (tree_with given (data_of w two places.first)) (data_of w two places.first) (w.state two.hash.device) places.first (w.state hash_dev') cause
   pub is : fault ≡ Format (format_fault_from places.first cause)
 
 -- one of these, or the text of what was made can't be written
@@ -152,15 +153,15 @@ abbrev pub FailsToPlaceTree : {S D T G W : Type 0} → Opener S D → (D → Dev
 FailsToPlaceTree relations state images images' gives stream generators generators' writer' options watched =
     IsFormatTreeEnd (calls relations state images images') (drawing gives stream generators generators') options (two_places watched.places) writer'.failed
 
--- two devices that are open, and the second behind the formatting
+-- two devices that are open, and the second after the formatting
 abbrev pub MakesTreeBehind : {D H : Type 0} → (D → Device) → (H → Device) → D → H → H → Bounds → FormatOptions → MadeImage → Type 0
 MakesTreeBehind data_state hash_state data_dev hash_dev hash_dev' bounds options =
-    let data_part = before (data_state data_dev) bounds.end in IsTreeMade (tree_with options data_part) data_part (hash_state hash_dev) bounds.first (hash_state hash_dev')
+    let data_part = before (data_state data_dev) bounds.end in IsTreeMade (IsPartState data_state) (tree_with options data_part) data_part (hash_state hash_dev) bounds.first (hash_state hash_dev')
 
--- the tree of a shape isn't made, behind a sector
+-- the tree of a shape isn't made at a sector
 abbrev pub FailsToMakeShape : {D H : Type 0} → SuperRecord → (D → Device) → (H → Device) → D → H → H → ℕ → FormatFault → Type 0
-FailsToMakeShape s data_state hash_state data_dev hash_dev hash_dev' first = IsTreeUnmade s (data_state data_dev) (hash_state hash_dev) first (hash_state hash_dev')
+FailsToMakeShape s data_state hash_state data_dev hash_dev hash_dev' first = IsTreeUnmade (IsStateOf data_state) s (data_state data_dev) (hash_state hash_dev) first (hash_state hash_dev')
 
 abbrev pub FailsToMakeTree : {D H : Type 0} → (D → Device) → (H → Device) → D → H → H → Bounds → FormatOptions → FormatFault → Type 0
 FailsToMakeTree data_state hash_state data_dev hash_dev hash_dev' bounds options =
-    let data_part = before (data_state data_dev) bounds.end in IsTreeEnd (tree_with options data_part) data_part (hash_state hash_dev) bounds.first (hash_state hash_dev')
+    let data_part = before (data_state data_dev) bounds.end in IsTreeEnd (IsPartState data_state) (tree_with options data_part) data_part (hash_state hash_dev) bounds.first (hash_state hash_dev')

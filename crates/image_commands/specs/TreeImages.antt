@@ -30,7 +30,7 @@ use Rattle.image_commands.specs.TableLines.{tree_line}
 use Rattle.image_commands.specs.TreeFormats.{data_of, tree_with}
 use Rattle.image_commands.specs.TreePlaces.{HasNoShape}
 
--- the tree over the data stands at that sector of the hash device, and that is its root; `Data` and `Hash` hold of what calls left
+-- the tree over the data is stored at that sector of the hash device, and that is its root; `Data` and `Hash` hold of what is left
 pub record MatchesTree (Data Hash : Device → Type 0) (s : SuperRecord) (data_dev hash_dev : Device) (first : ℕ) (root : List ℕ) (old new : Option (List ℕ)) : Type 0 where
   pub data_dev' : Device
   pub hash_dev' : Device
@@ -75,7 +75,7 @@ pub record PrintsTreeLine (first : ℕ) (name : Option (Bor (List ℕ))) (words 
   pub shape : first_fault (shape_of (superblock_with options 0)) ≡ None
   pub printed : Appends old new (tree_line name (superblock_with options 0) words first)
 
--- no allocation for its line asks for more bytes
+-- no allocation for its line is larger, in bytes
 abbrev pub tree_room : ℕ → FormatOptions → List ℕ → List ℕ → List ℕ → ℕ
 tree_room first options data_name hash_name root = line_room (superblock_with options 0) data_name hash_name root (tree_start first options.hash_block 0)
 

@@ -7,14 +7,14 @@ use Rattle.verity_format.specs.declared.formatting.FormatOptions.{FormatOptions}
 use Rattle.verity_format.specs.Superblock.{SuperRecord, shape_of}
 use Rattle.command_line.specs.declared.image_options.ImageOptions.{ImageOptions}
 
--- 16 zeros, since no identifier stands anywhere
+-- 16 zeros, since no identifier is stored
 abbrev pub no_uuid : List ℕ
 no_uuid = replicate 16 0
 
 abbrev pub unnamed : ImageOptions → ImageOptions
 unnamed options = record options { uuid = Some no_uuid }
 
--- the options of a tree, where its salt is given
+-- the options of a tree, if its salt is given
 abbrev pub given_options : ImageOptions → Option FormatOptions
 given_options options = option_map (λ salt. record { uuid = no_uuid; data_block = options.data_block; hash_block = options.hash_block; blocks = options.blocks; salt = salt }) options.salt
 

@@ -23,7 +23,8 @@ pub struct ImagePair<D, H> {
     pub hash: H,
 }
 
-/// What lies on the data device before the data's end, and on the hash device from the hash image's first sector on.
+/// Returns windows of the two devices: the data device before the data's end, and the hash device from the hash image's first
+/// sector on.
 pub fn place_parts<D: BlockDev, H: BlockDev>(
     data_dev: D,
     hash_dev: H,
@@ -38,8 +39,14 @@ pub fn place_parts<D: BlockDev, H: BlockDev>(
     }
 }
 
-/// Compares the tree over the data device with the one on the hash device, and prints `matches`. A difference is the fault `Differs`,
-/// whose block counts from the beginning of a file that has so many hash blocks ahead of the hash device.
+/// Compares the tree over the data device with the one on the hash device, and prints `matches`.
+///
+/// # Errors
+///
+/// - `Verify` if a device is too small or failed, or an allocation was refused.
+/// - `Differs` if the trees differ. Its block counts from the beginning of a file that has `ahead` hash blocks before the hash
+///   device.
+/// - `Write` if the line can't be written.
 #[tactic(auto, using(crate::proofs::lemmas::EndingLemmas::quiet))]
 pub fn compare<'a, D: BlockDev, H: BlockDev, W: Write>(
     alloc: Global,

@@ -26,11 +26,11 @@ pub enum ImageFault<'a> {
     RootText,
     /// No hash block begins at the place of the superblock.
     Unaligned,
-    /// Data and tree are in one file, and no number of data blocks says where the data end.
+    /// Data and tree are in one file, and no number of data blocks states where the data end.
     DataOverlapsTree,
     /// A text is no pin.
     Pin(PinFault),
-    /// The superblock says of the tree what the pin says otherwise.
+    /// The superblock differs from the pin.
     Unpinned(Mismatch),
     /// The pin can't be written.
     PinUnwritten(ReplaceFault),

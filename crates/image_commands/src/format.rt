@@ -26,8 +26,8 @@ pub struct MadeImage {
     pub blocks: u64,
 }
 
-/// Formats the hash device over the data device, and has that put on the medium. A superblock that stood there is cleared first,
-/// unless the format is refused.
+/// Formats the hash device over the data device, and syncs it. A superblock that was stored there is cleared first, unless the
+/// format is refused.
 pub(crate) fn make<D: BlockDev, H: SyncDev>(
     alloc: Global,
     data_dev: &mut D,
@@ -54,7 +54,11 @@ pub(crate) fn make<D: BlockDev, H: SyncDev>(
     }
 }
 
-/// What is printed of an image that was made.
+/// Prints the root hash, the salt, the identifier and the number of data blocks of an image that was made, a line each.
+///
+/// # Errors
+///
+/// `WriteFault` if the writer failed.
 #[tactic(auto, unfolding(crate::specs::Formats::made_text))]
 pub fn say_made<W: Write>(writer: &mut Counted<W>, made: &MadeImage) -> Result<(), WriteFault>
     ensures { Writes W.contents writer.old writer.new (made_text made.now) result }

@@ -1,4 +1,4 @@
-//! The two images of a command, opened one behind the other.
+//! The two images of a command, opened one after the other.
 ghost use Rattle.std.specs.Prelude.{IfOk, IfErr};
 ghost use Rattle.image_files.specs.Opener.{IsFresh};
 ghost use Rattle.image_commands.specs.Openings.{FailsToOpenImages, OpensImages};
@@ -19,7 +19,11 @@ pub struct TwoImages<D> {
     pub hash: OpenImage<D>,
 }
 
-/// Opens the data image for reading, and then the hash image, for writing too where `writable` says so.
+/// Opens the data image for reading, and then the hash image, for writing too if `writable` is set.
+///
+/// # Errors
+///
+/// `UnopenedFile` with the first file that can't be opened, and why.
 pub fn open_two<'a, I: Images>(
     images: &mut I,
     paths: ImagePaths<'a>,

@@ -18,7 +18,12 @@ use std::alloc::Global;
 use tree_shape::Digest;
 use verity_format::Superblock;
 
-/// `--pin FILE`: the pin that the file holds.
+/// `--pin FILE`: returns the pin that the file holds.
+///
+/// # Errors
+///
+/// - `Open` if the file can't be read.
+/// - `Pin` if it holds no pin.
 pub fn read_pin<'a, I: Images>(images: &mut I, path: &'a str) -> Result<Pin, ImageFault<'a>>
     ensures ok { IfOk result (ReadsPin (calls I.relations I.Dev.state images.old images.new) path.now) }
     ensures err { IfErr result (IsPinFileEnd (calls I.relations I.Dev.state images.old images.new) path.now) }
@@ -33,7 +38,7 @@ pub fn read_pin<'a, I: Images>(images: &mut I, path: &'a str) -> Result<Pin, Ima
     }
 }
 
-/// The pin of an image that was made with these options.
+/// Returns the pin of an image that was made with these options.
 pub fn pin_of_image(options: &ImageOptions, made: &MadeImage) -> Pin
     ensures { result ≡ pin_of_image options.now made.now }
 {
@@ -46,7 +51,7 @@ pub fn pin_of_image(options: &ImageOptions, made: &MadeImage) -> Pin
     }
 }
 
-/// The pin of a root hash with the values of a superblock. No hash covers the superblock, so the pin is as trusted as the source of both.
+/// The pin of a root hash with the values of a superblock. No hash covers the superblock, so the pin is as trusted as both sources.
 pub(crate) fn pin_in(root: Digest, superblock: &Superblock) -> Pin
     ensures { result ≡ pin_in root superblock.now }
 {
@@ -64,7 +69,9 @@ pub(crate) fn pin_in(root: Digest, superblock: &Superblock) -> Pin
 ///
 /// # Errors
 ///
-/// `SameFile`, `NoMemory` if an allocation of at most 512 bytes was refused, or `PinUnwritten` with the fault of the file that isn't replaced.
+/// - `Open` with `SameFile` if the file is one of the two images, or with `NoMemory` if memory ran out.
+/// - `NoMemory` if an allocation of at most 512 bytes was refused.
+/// - `PinUnwritten` if the file can't be replaced.
 pub fn write_pin<'a, I: Images>(
     alloc: Global,
     images: &mut I,
@@ -107,11 +114,12 @@ fn root_digits(alloc: Global, root: Digest) -> Result<Vec<u8>, OutOfMemory>
 }
 
 /// Checks that a pin or a root hash can be written to a file, before an image is made: the file isn't one of the two images, which
-/// would be replaced, also if neither is there yet, and another one can be created in its folder.
+/// would be replaced, also if neither exists yet, and another one can be created in its folder.
 ///
 /// # Errors
 ///
-/// `SameFile`, or `PinUnwritten` with the fault of a file that can't be created.
+/// - `Open` with `SameFile` if the file is one of the two images, or with `NoMemory` if memory ran out.
+/// - `PinUnwritten` if no file can be created in the folder.
 pub fn check_pin_path<'a, I: Images>(
     images: &mut I,
     places: ImagePlaces<'a>,
@@ -129,7 +137,7 @@ pub fn check_pin_path<'a, I: Images>(
     }
 }
 
-// The file of a pin isn't one of the two images, nor is it to be made where HASH is to be made.
+// Checks that the file of a pin isn't one of the two images, and that its path isn't the one at which HASH is to be made.
 fn check_apart<'a, I: Images>(
     images: &mut I,
     places: ImagePlaces<'a>,
@@ -149,7 +157,7 @@ fn check_apart<'a, I: Images>(
     Ok(())
 }
 
-// Which file stands under a path, where one does and that is known.
+// Returns which file a path leads to, if there is one and the system states it.
 fn file_id<I: Images>(images: &mut I, path: &str) -> Option<FileId>
     ensures { TellsId (calls I.relations I.Dev.state images.old images.new) path.now result }
 {

@@ -24,8 +24,15 @@ use std::io::Write;
 use std::marker::Brand;
 use verity_format::read_superblock;
 
-/// `dump [--hash-offset BYTES] [--json] [--pin ROOT] HASH`: the fields of the superblock at that place a line each or as a JSON object,
-/// or the pin of a root hash with these fields.
+/// `dump [--hash-offset BYTES] [--json] [--pin ROOT] HASH`: prints the fields of the superblock at that sector of HASH, a line each
+/// or as a JSON object, or the pin of a root hash with these fields.
+///
+/// # Errors
+///
+/// - `Open` if HASH can't be opened.
+/// - `Verify` if there is no superblock at that sector, or the device failed.
+/// - `NoMemory` if memory for the object or the pin was refused.
+/// - `Write` if a line can't be written.
 #[tactic(auto, using(crate::proofs::lemmas::EndingLemmas::quiet))]
 pub fn dump_placed<'a, I: Images, W: Write>(
     alloc: Global,
@@ -60,8 +67,16 @@ fn dump_behind<'a, H: BlockDev + Drop, W: Write>(
     say_dump(alloc, writer, &superblock, form)
 }
 
-/// `table [--hash-offset BYTES] [--name NAME] HASH ROOT DATANAME HASHNAME`: the table line, its tree counted from the
-/// beginning of the file; with a name the whole entry of a read-only device.
+/// `table [--hash-offset BYTES] [--name NAME] HASH ROOT DATANAME HASHNAME`: prints the table line, whose tree counts from the
+/// beginning of HASH; with a name the whole entry of a read-only device.
+///
+/// # Errors
+///
+/// - `Open` if HASH can't be opened.
+/// - `Verify` if there is no superblock at that sector, or the device failed.
+/// - `Unaligned` if no hash block begins at that sector, `Unpinned` if the superblock differs from the pin.
+/// - `NoMemory` if memory for the line was refused.
+/// - `Write` if the line can't be written.
 #[tactic(auto, using(crate::proofs::lemmas::EndingLemmas::quiet))]
 pub fn table_placed<'a, I: Images, W: Write>(
     alloc: Global,
@@ -100,9 +115,17 @@ fn table_behind<'a, H: BlockDev + Drop, W: Write>(
     say_line(alloc, writer, name, &superblock, words, start)
 }
 
-/// `verify [--hash-offset BYTES] DATA HASH ROOT`: prints `matches` if the hash image that begins at that sector of HASH has the tree of
-/// the data under this root, and the pin's values if there is a pin; a difference is the fault `Differs`. If both are one file and that sector isn't the first, the data are
-/// what lies before it.
+/// `verify [--hash-offset BYTES] DATA HASH ROOT`: prints `matches` if the hash image that begins at that sector of HASH has the
+/// tree of the data under this root, and the pin's values if there is a pin. If both are one file and that sector isn't the first,
+/// the data are what lies before it.
+///
+/// # Errors
+///
+/// - `Open` if one of the two can't be opened.
+/// - `Unaligned` if no hash block begins at that sector, `Unpinned` if the superblock differs from the pin.
+/// - `Verify` if there is no superblock, a device is too small or failed, or an allocation was refused.
+/// - `Differs` if the trees were compared and differ. Its block counts from the beginning of HASH.
+/// - `Write` if the line can't be written.
 #[tactic(auto, using(crate::proofs::lemmas::EndingLemmas::quiet))]
 pub fn verify_placed<'a, I: Images, S: Watchers, W: Write>(
     alloc: Global,

@@ -19,8 +19,17 @@ use std::alloc::Global;
 use std::marker::Brand;
 use verity_format::{FormatFault, FormatOptions};
 
-/// `format [--hash-offset BYTES] [OPTIONS] DATA HASH`: makes the hash image that begins at that sector of HASH. Both may be one
-/// file if that sector isn't the first; the data are then as many blocks as the options say, which lie before it.
+/// `format [--hash-offset BYTES] [OPTIONS] DATA HASH`: makes the hash image that begins at that sector of HASH, and returns its
+/// root hash and what else is printed of it. Both may be one file if that sector isn't the first; the data are then as many blocks
+/// as the options state, before that sector. The hash image is synced and closed.
+///
+/// # Errors
+///
+/// - `Unaligned` if no hash block begins at that sector; no file was opened.
+/// - `Open` if one of the two can't be opened, or both are one file and the sector is the first.
+/// - `DataOverlapsTree` if both are one file, and the options state no number of blocks.
+/// - `Random` if a salt or an identifier is missing and there are no random bytes.
+/// - `Format` if the image isn't made.
 pub fn make_placed<'a, I: Images, G: Generators + Watchers>(
     alloc: Global,
     images: &mut I,
@@ -55,8 +64,8 @@ pub fn make_placed<'a, I: Images, G: Generators + Watchers>(
     }
 }
 
-// Formats what lies behind a sector of the hash device over what lies before one of the data device, and gives the hash
-// device back.
+// Formats the hash device from one of its sectors on over the data before one of the data device, and returns the hash
+// device.
 fn make_behind<D: BlockDev + Drop, H: SyncDev + Drop>(
     alloc: Global,
     data_dev: D,

@@ -1,4 +1,4 @@
-//! Hash images that begin behind a sector of a file.
+//! Hash images that begin at a sector of a file.
 ghost use Rattle.std.specs.Prelude.{◌≡◌, ◌+◌, ◌^◌, ◌<◌, ◌&&◌, nat_lt, true, false, IfOk, IfErr};
 ghost use Rattle.image_files.specs.Opener.{IsFresh};
 ghost use Rattle.image_commands.specs.Places.{FailsToOpenPlaces, OpensPlaces, data_end, overlaps, tree_start};
@@ -30,7 +30,7 @@ pub struct Bounds {
     pub first: u64,
 }
 
-/// The hash block of the file at which a tree begins, `ahead` blocks after that sector.
+/// Returns the hash block of the file at which a tree begins, `ahead` blocks after sector `first`.
 pub fn tree_start(first: u64, size: u32, ahead: u64) -> u64
     requires { first + ahead < 2 ^ 64 }
     ensures { result ≡ tree_start first size ahead }
@@ -41,7 +41,7 @@ pub fn tree_start(first: u64, size: u32, ahead: u64) -> u64
     first / u64::from(size / 512) + ahead
 }
 
-/// Opens the two as a format does: the hash image for writing too. They may be one file where the hash image doesn't
+/// Opens the two images as a format does: the hash image for writing too. They may be one file if the hash image doesn't
 /// begin at its first sector.
 pub(crate) fn open_placed<'a, I: Images>(
     images: &mut I,
@@ -66,7 +66,8 @@ pub(crate) fn open_placed<'a, I: Images>(
     Ok(two)
 }
 
-/// The sector where the data end: in one file before the hash image, else at the end of theirs.
+/// Returns the sector where the data end: the first of the hash image if both are in one file, else `u64::MAX`, which is past the
+/// end of any data image.
 pub fn data_end<D>(two: &TwoImages<D>, first: u64) -> u64
     ensures { result ≡ data_end two.now first }
 {
@@ -76,7 +77,7 @@ pub fn data_end<D>(two: &TwoImages<D>, first: u64) -> u64
     u64::MAX
 }
 
-/// Whether a format would take for data all that lies before the hash image in its own file, be it data or not.
+/// Whether a format would take all that lies before the hash image in its own file as data.
 pub(crate) fn overlaps<D>(two: &TwoImages<D>, first: u64, blocks: Option<u64>) -> bool
     ensures { result ≡ overlaps two.now first blocks }
 {

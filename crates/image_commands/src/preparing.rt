@@ -13,8 +13,14 @@ use image_files::{Images, open_image};
 use image_pin::is_aligned;
 use verity_format::{FormatFault, FormatOptions, data_sectors};
 
-/// The options with a salt and an identifier, given or drawn, of an image that no place, no shape and no missing data refuse. So
-/// a format that is refused for one of these, or because there are no random bytes, makes no file.
+/// Returns the options with a salt and an identifier, given or drawn. It checks what `format --grow` checks before it makes a file.
+///
+/// # Errors
+///
+/// - `Unaligned` if no hash block begins at the sector of the hash image.
+/// - `Random` if a salt or an identifier is missing and there are no random bytes.
+/// - `Open` if the data image can't be opened.
+/// - `Format` if the options state no valid shape, or the data image has fewer blocks than they state.
 pub fn prepare_image<'a, I: Images, G: Generators>(
     images: &mut I,
     generators: &mut G,

@@ -14,7 +14,7 @@ use uuid::Uuid;
 #[derive(Clone, Copy, Debug, PartialEq, Eq)]
 pub struct NoRandomBytes;
 
-/// What makes generators of random bytes, each of which is asked for only where something is drawn.
+/// What makes generators of random bytes. A generator is made only if something is drawn.
 pub trait Generators {
     ghost use Rattle.image_commands.specs.declared.random.NoRandomBytes.{NoRandomBytes};
 
@@ -36,6 +36,7 @@ pub struct SystemGenerators<'a, R> {
 }
 
 impl<'a, R> SystemGenerators<'a, R> {
+    /// Returns generators that are seeded from `rt`.
     pub fn new(rt: &'a R) -> SystemGenerators<'a, R> {
         SystemGenerators { rt }
     }
@@ -54,7 +55,7 @@ impl<R: RandomSource> Generators for SystemGenerators<'_, R> {
     }
 }
 
-/// The stream's next 32 bytes as a salt, and a version 4 identifier from the stream that is left.
+/// Returns the stream's next 32 bytes as a salt, and a version 4 identifier from the stream that is left.
 pub fn draw<R: Rng>(random: &mut R) -> (Salt, [u8; 16])
     ensures salt { result.0 ≡ (fill_bytes 32 (R.stream random.old)).0 }
     ensures uuid { (result.1, R.stream random.new) ≡ v4_of_fill (fill_bytes 16 (fill_bytes 32 (R.stream random.old)).1) }

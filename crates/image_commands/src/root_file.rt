@@ -9,8 +9,13 @@ use tree_shape::Digest;
 
 const DIGITS: usize = 64;
 
-/// `--root-hash-file FILE`: the root digest whose 64 hexadecimal digits the file begins with, as veritysetup reads and
-/// writes them. What stands behind them isn't looked at.
+/// `--root-hash-file FILE`: returns the root hash whose 64 hexadecimal digits the file begins with, as veritysetup reads and
+/// writes them. What follows the digits is ignored.
+///
+/// # Errors
+///
+/// - `Open` if the file can't be read.
+/// - `RootText` if it doesn't begin with 64 hexadecimal digits.
 pub fn read_root<'a, I: Images>(images: &mut I, path: &'a str) -> Result<Digest, ImageFault<'a>>
     ensures ok { IfOk result (ReadsRoot (calls I.relations I.Dev.state images.old images.new) path.now) }
     ensures err { IfErr result (IsRootFileEnd (calls I.relations I.Dev.state images.old images.new) path.now) }

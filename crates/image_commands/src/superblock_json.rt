@@ -123,7 +123,7 @@ fn salt_value(alloc: Global, salt: &[u8]) -> Result<Value, AllocError>
     Ok(Value::String(digits))
 }
 
-// In hexadecimal digits, or `-` where it is empty.
+// In hexadecimal digits, or `-` if it is empty.
 fn salt_digits(alloc: Global, salt: &[u8]) -> Result<String, AllocError>
     requires { length salt.now ≤ 256 }
     ensures { IfOk result (λ word. string_bytes word ≡ salt_word salt.now) }

@@ -10,7 +10,11 @@ use tree_shape::Digest;
 use uuid::Uuid;
 use verity_format::Superblock;
 
-/// `root HEX`
+/// Prints `root HEX`.
+///
+/// # Errors
+///
+/// `WriteFault` if the writer failed.
 #[tactic(auto, unfolding(crate::specs::SuperblockTexts::root_text))]
 pub fn say_root<W: Write>(writer: &mut Counted<W>, root: &Digest) -> Result<(), WriteFault>
     ensures { Writes W.contents writer.old writer.new (root_text root.now) result }
@@ -19,7 +23,11 @@ pub fn say_root<W: Write>(writer: &mut Counted<W>, root: &Digest) -> Result<(), 
     say_digits(writer, root.as_bytes())
 }
 
-/// `salt HEX`, or `salt -` where it is empty; at most 256 bytes.
+/// Prints `salt HEX`, or `salt -` if the salt is empty. A salt has at most 256 bytes.
+///
+/// # Errors
+///
+/// `WriteFault` if the writer failed.
 #[tactic(auto, unfolding(crate::specs::SuperblockTexts::salt_text))]
 pub fn say_salt<W: Write>(writer: &mut Counted<W>, salt: &[u8]) -> Result<(), WriteFault>
     requires { length salt.now ≤ 256 }
@@ -32,7 +40,11 @@ pub fn say_salt<W: Write>(writer: &mut Counted<W>, salt: &[u8]) -> Result<(), Wr
     say_digits(writer, salt)
 }
 
-/// `uuid U`, hyphenated and in lower case.
+/// Prints `uuid U`, hyphenated and in lower case.
+///
+/// # Errors
+///
+/// `WriteFault` if the writer failed.
 #[tactic(auto, unfolding(crate::specs::SuperblockTexts::uuid_text))]
 pub fn say_uuid<W: Write>(writer: &mut Counted<W>, uuid: &[u8; 16]) -> Result<(), WriteFault>
     ensures { Writes W.contents writer.old writer.new (uuid_text uuid.now) result }
@@ -44,7 +56,7 @@ pub fn say_uuid<W: Write>(writer: &mut Counted<W>, uuid: &[u8; 16]) -> Result<()
     say_word(writer, b"uuid ", text.as_bytes())
 }
 
-// Both texts, and a newline.
+// Prints both texts, and a newline.
 fn say_word<W: Write>(writer: &mut Counted<W>, name: &[u8], word: &[u8]) -> Result<(), WriteFault>
     ensures { Writes W.contents writer.old writer.new (name.now ++ (word.now ++ codes "\n")) result }
 {
@@ -53,7 +65,11 @@ fn say_word<W: Write>(writer: &mut Counted<W>, name: &[u8], word: &[u8]) -> Resu
     writer.put(b"\n")
 }
 
-/// The fields of a superblock, a line each.
+/// Prints the fields of a superblock, a line each.
+///
+/// # Errors
+///
+/// `WriteFault` if the writer failed.
 #[tactic(auto, unfolding(crate::specs::SuperblockTexts::superblock_text))]
 pub fn say_superblock<W: Write>(
     writer: &mut Counted<W>,
@@ -108,7 +124,11 @@ fn say_data_blocks<W: Write>(writer: &mut Counted<W>, count: u64) -> Result<(), 
     writer.print(format_args!("data_blocks {count}\n"))
 }
 
-/// `blocks N`
+/// Prints `blocks N`.
+///
+/// # Errors
+///
+/// `WriteFault` if the writer failed.
 #[tactic(auto, unfolding(crate::specs::SuperblockTexts::blocks_text))]
 pub fn say_blocks<W: Write>(writer: &mut Counted<W>, count: u64) -> Result<(), WriteFault>
     ensures { Writes W.contents writer.old writer.new (blocks_text count) result }

@@ -3,6 +3,7 @@ ghost use Rattle.std.specs.Prelude.{◌≡◌, Some, IfErr, IfOk, OnOk};
 ghost use Rattle.program_io.specs.Counted.{Writes};
 ghost use Rattle.device_adapters.specs.Parts.{outside_of, part_behind};
 ghost use Rattle.image_commands.specs.Endings.{IsQuiet};
+ghost use Rattle.image_commands.specs.Places.{IsStateOf};
 ghost use Rattle.image_commands.specs.TreeFormats.{FailsToMakeShape, FailsToPlaceTree, FailsToMakeTree, FormatsTree, IsFinished, IsTreeMade, IsUnfinished, MakesTreeBehind, tree_text};
 
 use crate::cleared_tree::make_cleared;
@@ -26,9 +27,18 @@ use std::marker::{Brand, PhantomData};
 use tree_shape::Digest;
 use verity_format::{FormatFault, FormatOptions, Superblock};
 
-/// `format --no-superblock [--hash-offset BYTES] [OPTIONS] DATA HASH`: writes the tree alone at that sector of HASH, and
-/// its root, salt and number of blocks to the writer. Both may be one file; the data are then as many blocks as the options
-/// say, which lie before.
+/// `format --no-superblock [--hash-offset BYTES] [OPTIONS] DATA HASH`: writes the tree alone at that sector of HASH, syncs and
+/// closes HASH, and prints the root hash, the salt and the number of blocks. Both may be one file; the data are then as many blocks
+/// as the options state, before that sector.
+///
+/// # Errors
+///
+/// - `Unaligned` if no hash block begins at that sector; no file was opened.
+/// - `Open` if one of the two can't be opened, or both are one file and the sector is the first.
+/// - `DataOverlapsTree` if both are one file, and the options state no number of blocks.
+/// - `Random` if no salt is given and there are no random bytes.
+/// - `Format` if the tree isn't made.
+/// - `Write` if a line can't be written; the tree was made.
 #[tactic(auto, using(crate::proofs::lemmas::EndingLemmas::quiet))]
 pub fn format_tree<'a, I: Images, G: Generators + Watchers, W: Write>(
     alloc: Global,
@@ -66,8 +76,8 @@ pub fn format_tree<'a, I: Images, G: Generators + Watchers, W: Write>(
     }
 }
 
-// Makes the tree at that sector of the hash device over what lies before one of the data device, and gives the hash device
-// back.
+// Makes the tree at that sector of the hash device over the data before one of the data device, and returns the hash
+// device.
 fn make_at<D: BlockDev + Drop, H: SyncDev + Drop>(
     alloc: Global,
     data_dev: D,
@@ -93,7 +103,7 @@ fn make_behind<D: BlockDev, H: SyncDev + Drop>(
     first: u64,
     params: Superblock,
 ) -> (H, Result<MadeImage, FormatFault>)
-    ensures ok { IfOk result.1 (IsTreeMade params (D.state data_dev.old) (H.state hash_dev) first (H.state result.0)) }
+    ensures ok { IfOk result.1 (IsTreeMade (IsStateOf D.state) params (D.state data_dev.old) (H.state hash_dev) first (H.state result.0)) }
     ensures err { IfErr result.1 (FailsToMakeShape params D.state H.state data_dev.old hash_dev result.0 first) }
 {
     make_beside::<D, H, Brand>(alloc, data_dev, hash_dev, first, params)
@@ -108,7 +118,7 @@ fn make_beside<D: BlockDev, H: SyncDev + Drop, K: Beside>(
     params: Superblock,
 ) -> (H, Result<MadeImage, FormatFault>)
     requires { K.outside ≡ Some (outside_of (H.state hash_dev).image (part_behind (H.state hash_dev) first)) }
-    ensures ok { IfOk result.1 (IsTreeMade params (D.state data_dev.old) (H.state hash_dev) first (H.state result.0)) }
+    ensures ok { IfOk result.1 (IsTreeMade (IsStateOf D.state) params (D.state data_dev.old) (H.state hash_dev) first (H.state result.0)) }
     ensures err { IfErr result.1 (FailsToMakeShape params D.state H.state data_dev.old hash_dev result.0 first) }
 {
     let part = Part::behind(&hash_dev, first);
@@ -122,7 +132,7 @@ fn make_beside<D: BlockDev, H: SyncDev + Drop, K: Beside>(
     (image.into_inner(), made)
 }
 
-// Has a tree that was made put on the medium.
+// Syncs a tree that was made.
 fn finish<H: SyncDev>(
     hash_dev: &mut H,
     root: Result<Digest, FormatFault>,
@@ -146,7 +156,7 @@ fn finish<H: SyncDev>(
     }
 }
 
-// What is printed of a tree that was made.
+// Prints the root hash, the salt and the number of blocks of a tree that was made, a line each.
 #[tactic(auto, unfolding(crate::specs::TreeFormats::tree_text))]
 fn say_tree<W: Write>(writer: &mut Counted<W>, made: &MadeImage) -> Result<(), WriteFault>
     ensures { Writes W.contents writer.old writer.new (tree_text made.now) result }

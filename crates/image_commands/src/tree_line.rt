@@ -14,9 +14,16 @@ use std::alloc::Global;
 use std::io::Write;
 use verity_format::FormatOptions;
 
-/// `table --no-superblock [--hash-offset BYTES] [--name NAME] [OPTIONS] HASH ROOT DATANAME HASHNAME`: the table line of the
-/// tree of those options at that sector; with a name the whole entry of a read-only device. The words say all of it, so no
+/// `table --no-superblock [--hash-offset BYTES] [--name NAME] [OPTIONS] HASH ROOT DATANAME HASHNAME`: prints the table line of the
+/// tree with those options at that sector; with a name the whole entry of a read-only device. The arguments state all of it, so no
 /// image is opened.
+///
+/// # Errors
+///
+/// - `Unaligned` if no hash block begins at that sector.
+/// - `Format` if the options state no valid shape.
+/// - `NoMemory` if memory for the line was refused.
+/// - `Write` if the line can't be written.
 #[tactic(auto, using(crate::proofs::lemmas::EndingLemmas::quiet))]
 pub fn print_tree_line<'a, W: Write>(
     alloc: Global,

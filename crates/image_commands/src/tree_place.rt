@@ -6,7 +6,7 @@ ghost use Rattle.image_commands.specs.TreePlaces.{HasNoShape, HasShape, given_op
 use command_line::ImageOptions;
 use verity_format::{FormatFault, FormatOptions, Superblock, given_blocks};
 
-/// What the tree of those parts is over a data device of so many sectors: a superblock that is written nowhere.
+/// Returns the tree with these options over a data device of so many sectors, as a superblock that is written nowhere.
 pub(crate) fn tree_of(options: FormatOptions, sectors: u64) -> Result<Superblock, FormatFault>
     ensures ok { IfOk result (HasShape (superblock_with options sectors)) }
     ensures err { IfErr result (HasNoShape (superblock_with options sectors)) }
@@ -25,7 +25,7 @@ pub(crate) fn tree_of(options: FormatOptions, sectors: u64) -> Result<Superblock
     }
 }
 
-/// The options of a tree, where its salt is given. It has no identifier.
+/// Returns the options of a tree, which has no identifier, or `None` if they give no salt.
 pub fn given_options(options: ImageOptions) -> Option<FormatOptions>
     ensures { result ≡ given_options options }
 {
@@ -39,7 +39,7 @@ pub fn given_options(options: ImageOptions) -> Option<FormatOptions>
     })
 }
 
-/// The options of a tree, which has no identifier.
+/// Returns these options with an identifier of zeros, which a tree without a superblock has.
 pub fn unnamed(options: ImageOptions) -> ImageOptions
     ensures { result ≡ unnamed options }
 {

@@ -1,5 +1,6 @@
 //! Where the tree of an image is stated, and that tree.
 ghost use Rattle.std.specs.Prelude.{◌≡◌, IfErr, IfOk};
+ghost use Rattle.verity_format.specs.Blocks.{IsOnlyRead};
 ghost use Rattle.image_commands.specs.TreeSources.{IsNoTreeOf, IsNotStored, IsShapeless, IsStatedTree, IsStoredTree, IsTreeOf, may_seek};
 
 use crate::tree_place::tree_of;
@@ -28,7 +29,7 @@ pub struct SoughtTree {
 /// Why an image has no tree of that source.
 #[derive(Clone, Copy, Debug, PartialEq, Eq)]
 pub enum NoSource {
-    /// The hash image has no tree that a command may use.
+    /// The superblock can't be read, differs from the pin, or is stored where no hash block begins.
     Stored(NoTree),
     /// No tree has the shape that the options state.
     Shape,
@@ -45,7 +46,7 @@ impl From<NoTree> for NoSource {
     }
 }
 
-/// Whether the tree may begin at that sector of its file, as far as that is known before the file is opened.
+/// Returns whether the tree may begin at that sector of its file, as far as that is known before the file is opened.
 pub fn may_seek(source: &TreeSource, first: u64) -> bool
     ensures { result ≡ may_seek source.now first }
 {
@@ -55,7 +56,7 @@ pub fn may_seek(source: &TreeSource, first: u64) -> bool
     }
 }
 
-/// How many of so many bytes a command reads as data blocks, as far as that is known before it has a tree.
+/// Returns how many of so many bytes a command reads as data blocks, as far as that is known before it has a tree.
 pub fn bytes_to_read(source: &TreeSource, bytes: u64) -> u64 {
     match source {
         TreeSource::Superblock(_) => bytes,
@@ -63,18 +64,20 @@ pub fn bytes_to_read(source: &TreeSource, bytes: u64) -> u64 {
     }
 }
 
-/// The tree of that source, over so many sectors of data, of a hash image that begins at that sector of its file. A command
+/// Returns the tree of that source, over so many sectors of data, of a hash image that begins at that sector of its file. A command
 /// that takes its tree from either source gets it by this call alone.
 ///
 /// # Errors
 ///
-/// `Stored` with the fault of `find_tree`, or `Shape`.
+/// - `Stored` if the superblock can't be read, differs from the pin, or is stored where no hash block begins.
+/// - `Shape` if the options state no valid shape.
 pub fn seek_tree<H: BlockDev>(
     source: &TreeSource,
     data_sectors: u64,
     hash_dev: &mut H,
     first: u64,
 ) -> Result<VerityTree, NoSource>
+    ensures read { IsOnlyRead (H.state hash_dev.old) (H.state hash_dev.new) }
     ensures ok { IfOk result (IsTreeOf source.now data_sectors (H.state hash_dev.old) first (H.state hash_dev.new)) }
     ensures err { IfErr result (IsNoTreeOf source.now data_sectors (H.state hash_dev.old) first (H.state hash_dev.new)) }
 {
@@ -89,6 +92,7 @@ fn stored_tree<H: BlockDev>(
     first: u64,
     pin: &Option<Pin>,
 ) -> Result<VerityTree, NoSource>
+    ensures read { IsOnlyRead (H.state hash_dev.old) (H.state hash_dev.new) }
     ensures ok { IfOk result (IsStoredTree (H.state hash_dev.old) first pin.now (H.state hash_dev.new)) }
     ensures err { IfErr result (IsNotStored (H.state hash_dev.old) first pin.now (H.state hash_dev.new)) }
 {

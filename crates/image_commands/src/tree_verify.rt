@@ -26,9 +26,17 @@ pub struct ExpectedTree {
     pub root: Digest,
 }
 
-/// `verify --no-superblock [--hash-offset BYTES] [OPTIONS] DATA HASH ROOT`: `matches` where the tree of those options over
-/// the data stands at that sector of HASH, under that root; a difference is the fault `Differs`, whose block counts from the
-/// beginning of HASH. Where both are one file, the data are what lies before.
+/// `verify --no-superblock [--hash-offset BYTES] [OPTIONS] DATA HASH ROOT`: prints `matches` if the tree with those options over
+/// the data is stored at that sector of HASH, under that root. If both are one file, the data are what lies before that sector.
+///
+/// # Errors
+///
+/// - `Unaligned` if no hash block begins at that sector; no file was opened.
+/// - `Open` if one of the two can't be opened.
+/// - `Format` if the options state no valid shape.
+/// - `Verify` if a device is too small or failed, or an allocation was refused.
+/// - `Differs` if the trees were compared and differ. Its block counts from the beginning of HASH.
+/// - `Write` if the line can't be written.
 #[tactic(auto, using(crate::proofs::lemmas::EndingLemmas::quiet))]
 pub fn verify_tree<'a, I: Images, S: Watchers, W: Write>(
     alloc: Global,
@@ -67,7 +75,7 @@ pub fn verify_tree<'a, I: Images, S: Watchers, W: Write>(
     )
 }
 
-// Compares what lies before one sector of the data device with what lies behind one of the hash device.
+// Compares the data device before one of its sectors with the hash device from one of its sectors on.
 #[tactic(auto, using(crate::proofs::lemmas::EndingLemmas::quiet))]
 fn compare_at<'a, D: BlockDev + Drop, H: BlockDev + Drop, W: Write>(
     alloc: Global,

@@ -1,4 +1,4 @@
-//! Images over whose data a command goes from one end to the other, of which it is told how far it has come.
+//! Images whose data a command reads once from beginning to end, with progress reporting.
 ghost use Rattle.std.specs.Prelude.{◌≡◌};
 
 use crate::paths::TwoImages;
@@ -15,7 +15,7 @@ pub struct WatchedPlaces<'a> {
     pub progress: bool,
 }
 
-/// The two devices. Of the reads of the data device someone is told, as of so many bytes that are read.
+/// Returns the two devices. Reads of the data device are reported as progress, out of `all` bytes.
 pub fn watch<D: BlockDev + Drop, S: Watchers>(
     two: TwoImages<D>,
     watchers: &S,
@@ -39,7 +39,7 @@ pub fn watch<D: BlockDev + Drop, S: Watchers>(
     (Watched::new(data_dev, watcher, all), hash_dev)
 }
 
-/// How many of so many bytes are data blocks, where the options say how many blocks there are.
+/// Returns how many of so many bytes are data blocks: as many as the options state, else all.
 pub(crate) fn bytes_of_blocks(options: &FormatOptions, bytes: u64) -> u64 {
     match options.blocks {
         Some(blocks) => blocks

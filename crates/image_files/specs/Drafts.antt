@@ -20,7 +20,7 @@ pub record IsDraft {S F : Type 0} (r : FileRelations S F) (old : S) (path : List
   pub name_is : string_bytes draft.name ≡ beside (string_bytes draft.target) number
   pub created : r.creates between (string_bytes draft.name) (string_bytes draft.target) (Ok draft.file) new
 
--- the text was written into the draft, and synced behind that
+-- the text was written into the draft, and the draft was then synced
 pub record IsFilled {S F : Type 0} (r : FileRelations S F) (old : S) (draft : Draft F) (bytes : List ℕ) (new : S) : Type 0 where
   pub between : S
   pub file : F
@@ -54,7 +54,7 @@ pub record IsUnrenamed {S F : Type 0} (r : FileRelations S F) (old : S) (draft :
   pub filled : IsFilled r old draft bytes between
   pub failed : r.renames between (string_bytes draft.name) (string_bytes draft.target) (Err fault) new
 
--- why a draft hasn't the text on its medium
+-- why the text isn't written and synced in a draft
 abbrev pub IsUnfilled : {S F : Type 0} → FileRelations S F → S → Draft F → List ℕ → ReplaceFault → S → Type 0
 IsUnfilled r old draft bytes Write new = IsUnwritten r old draft bytes new
 IsUnfilled r old draft bytes Sync new = IsUnsynced r old draft bytes new

@@ -22,7 +22,7 @@ with_lock (Some id) files = if is_locked files id then files else files ++ (id �
 abbrev pub Locks : Bool → Option FileId → List FileId → List FileId → Type 0
 Locks writable id old new = new ≡ (if writable then with_lock id old else old)
 
--- what a call leaves that may fail behind a lock
+-- what a call leaves that may fail after it locked a file
 abbrev pub LocksAtMost : List FileId → List FileId → Type 0
 LocksAtMost old new = (new ≡ old) ⊎ ((id : FileId) × (new ≡ with_lock (Some id) old))
 

@@ -64,7 +64,7 @@ abbrev pub LocksFile : {S D C F E : Type 0} → FileView S D C F → Bool → Re
 LocksFile view writable (Ok image) old new = Locks writable image.id (view.locked old) (view.locked new)
 LocksFile view writable (Err fault) old new = LocksAtMost (view.locked old) (view.locked new)
 
--- the same files are locked
+-- no file is locked or unlocked
 abbrev pub LocksNoMore : {S D C F : Type 0} → FileView S D C F → S → S → Type 0
 LocksNoMore view old new = view.locked new ≡ view.locked old
 

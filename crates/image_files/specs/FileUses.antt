@@ -1,4 +1,4 @@
--- Which files are open, and how: no sector of a file may be open twice where one of the two may write.
+-- Which files are open, and how: no sector of a file may be open twice if one of the two may write.
 use Rattle.std.specs.Prelude.{◌&&◌, ◌||◌, Bool, false, true, List, Option, None, Some}
 use Rattle.std.specs.List.{list_any}
 use Rattle.device_adapters.specs.declared.part.Part.{Part}
@@ -26,7 +26,7 @@ has_clash files file = list_any (λ other. is_clash other file) files
 abbrev pub image_use : {D : Type 0} → Bool → OpenImage D → FileUse
 image_use writable image = record { id = image.id; writable = writable; part = None }
 
--- the same of a part of one
+-- how a part of an image uses its file that was opened with this right
 abbrev pub part_use : {D : Type 0} → Bool → Part → OpenImage D → FileUse
 part_use writable part image = record { id = image.id; writable = writable; part = Some part }
 

@@ -1,4 +1,4 @@
--- A file that is made where there is none: which calls are made, and in which order.
+-- A file that is created if there is none: which calls are made, and in which order.
 use Rattle.std.specs.Prelude.{◌≡◌, ◌⊎◌, ℕ, List, Ok, Err}
 use Rattle.std.specs.declared.io.ErrorKind.{ErrorKind}
 use Rattle.std.specs.declared.io.ErrorKind.TheVariants.{AlreadyExists}
@@ -42,7 +42,7 @@ pub record IsUnlistedFile {S F : Type 0} (r : FileRelations S F) (old : S) (path
 abbrev pub Makes : {S F : Type 0} → FileRelations S F → S → List ℕ → S → Type 0
 Makes r old path new = IsNewFile r old path new ⊎ IsRefusedFile r old path AlreadyExists new
 
--- the fault that stands for why a path isn't resolved
+-- the fault for why a path isn't resolved
 abbrev pub resolve_fault : ReplaceFault → OpenFault
 resolve_fault replace_fault.NoMemory = NoMemory
 resolve_fault _ = OtherFault

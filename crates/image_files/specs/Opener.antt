@@ -17,9 +17,9 @@ pub record Opener (S D : Type 0) : Type 1 where
   pub opens_part : S → List ℕ → Bool → Part → Result (OpenImage D) PartFault → S → Type 0
   -- a path, and how many bytes of its file are taken at most
   pub tells : S → List ℕ → ℕ → Result FileText OpenFault → S → Type 0
-  -- a path, and the device that is given back
+  -- a path, and the device that is closed
   pub takes : S → List ℕ → D → S → Type 0
-  -- a path, a part of its image, and the device that is given back
+  -- a path, a part of its image, and the device that is closed
   pub takes_part : S → List ℕ → Part → D → S → Type 0
   -- a path, and how many sectors its file has then at least
   pub grows : S → List ℕ → ℕ → Result (Unit {0}) OpenFault → S → Type 0

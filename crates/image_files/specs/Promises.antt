@@ -39,7 +39,7 @@ pub record HoldsPart (device : Device) (part : Part) (file : FileRecord) : Type 
   pub inside : part.first + part.count ≤ length file.bytes / 512
   pub image : device.image ≡ sectors_of part.count (drop (part.first * 512) file.bytes)
 
--- a regular file holds what it held, and zeros behind it; another one stays as it is
+-- a regular file holds what it held, and zeros after it; another one stays as it is
 abbrev pub grown_bytes : ℕ → FileRecord → List ℕ
 grown_bytes sectors file = if file.regular then file.bytes ++ replicate (sectors * 512 - length file.bytes) 0 else file.bytes
 
@@ -47,7 +47,7 @@ pub record IsGrown (file file' : FileRecord) (sectors : ℕ) : Type 0 where
   pub same : IsSameFile file file'
   pub bytes : file'.bytes ≡ grown_bytes sectors file
 
--- a part is given back: the file holds what the device holds there, and all else is as it was
+-- a part is closed: the file holds what the device holds there, and all else is as it was
 pub record TakesPart (device : Device) (part : Part) (file file' : FileRecord) : Type 0 where
   pub same : IsSameFile file file'
   pub holds : HoldsPart device part file'
@@ -95,7 +95,7 @@ pub record ChangesFiles {S D : Type 0} (o : Opener S D) (state : D → Device) (
       → (file' : FileRecord) × (at new path ≡ Some file') × IsSameFile file file' × HoldsSectors (state device) file'
   pub kept_taking : (old new : S) (path other : List ℕ) (device : D) (file another : FileRecord) → o.takes old path device new → at old path ≡ Some file
       → at old other ≡ Some another → AreApart file another → at new other ≡ Some another
-  -- the same of a part that is closed, of as many sectors as the device has
+  -- what a closed part's device holds, its part of the file holds then, if the device has as many sectors; no other file changes
   pub taken_part : (old new : S) (path : List ℕ) (part : Part) (device : D) (file : FileRecord) → o.takes_part old path part device new → at old path ≡ Some file
       → (state device).size ≡ part.count → part.first + part.count ≤ length file.bytes / 512
       → (file' : FileRecord) × (at new path ≡ Some file') × TakesPart (state device) part file file'

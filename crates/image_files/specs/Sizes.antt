@@ -12,7 +12,7 @@ use Rattle.block_device.specs.Identity.{IsOpenedAs}
 abbrev pub IsSized : FileDev → ℕ → Type 0
 IsSized f sectors = (said : Metadata) × IsOfFile (file_of f) said × IsOpenedAs said sectors (file_id f)
 
--- the same of a device in a file
+-- the system said of the file under a device that it has so many sectors, and which one it is; a device in memory has none
 abbrev pub any_sized : AnyDev → ℕ → Type 0
 any_sized (Memory m) sectors = ⊥
 any_sized (File f) sectors = IsSized f sectors

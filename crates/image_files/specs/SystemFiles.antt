@@ -13,7 +13,7 @@ use Rattle.image_files.specs.declared.calls.CreateFault.TheVariants.{Exists, Fai
 use Rattle.image_files.specs.declared.seal.Seal.{Seal}
 use Rattle.image_files.specs.declared.texts.ReplaceFault.{ReplaceFault}
 
--- a call, its arguments, and its outcome where it has one; `OpenBy` is one call by these options, apart from the mode
+-- a call, its arguments, and its outcome if it has one; `OpenBy` is one call by these options, apart from the mode
 pub data SystemCall : Type 0 where
   Resolve : List ℕ → Result (List ℕ) ReplaceFault → SystemCall
   OpenBy : OpenOptions → List ℕ → Result File ErrorKind → SystemCall
@@ -33,7 +33,7 @@ pub was-asked : {S : Type 0} (old : S) (call : SystemCall) (new : S) → Seal �
 unfolding WasAsked
 was-asked old call new seal = tt
 
--- options of a file that is created, and refused where its name is taken: nothing that is there is opened or emptied
+-- options of a file that is created, and refused if its name is taken: nothing that is there is opened or emptied
 abbrev pub exclusive : Bool → OpenOptions
 exclusive read = with_create_new (with_write (with_read new_options read) true) true
 

@@ -45,7 +45,7 @@ pub trait FileCalls {
         ensures outcome { relations.creates self.old name.now like.now result self.new }
         ensures same { IfErr result (λ fault. self.new ≡ self.old) };
 
-    /// Creates an empty file of this name, exclusively: what stands under the name isn't opened.
+    /// Creates an empty file of this name, exclusively: a file that has the name already isn't opened.
     ///
     /// # Errors
     ///

@@ -85,7 +85,7 @@ fn fill<C: FileCalls>(
     }
 }
 
-// Puts the text in the place of the draft's target, once it is written and synced.
+// Replaces the draft's target by the draft, once the text is written into it and synced.
 fn place<C: FileCalls>(
     calls: &mut C,
     draft: &mut Draft<C::File>,
@@ -102,7 +102,14 @@ fn place<C: FileCalls>(
     }
 }
 
-/// Replaces the text of the file under a path. A draft that doesn't take its place is removed.
+/// Replaces the text of the file under a path by way of a draft, which is removed if it doesn't replace the file.
+///
+/// # Errors
+///
+/// - `NoMemory` if memory for a name was refused.
+/// - `Write` if the path can't be resolved, or no draft can be created or written.
+/// - `Sync` if the draft, or after its renaming the folder, can't be synced.
+/// - `Rename` if the draft can't replace the file.
 pub fn replace_text<C: FileCalls>(
     alloc: Global,
     calls: &mut C,
@@ -123,6 +130,10 @@ pub fn replace_text<C: FileCalls>(
 }
 
 /// Creates a draft beside the file under a path, and removes it again.
+///
+/// # Errors
+///
+/// `NoMemory` if memory for a name was refused, or `Write` if no draft can be created.
 pub fn try_draft<C: FileCalls>(alloc: Global, calls: &mut C, path: &str) -> Result<(), ReplaceFault>
     ensures { Tries C.relations calls.old path.now result calls.new }
 {

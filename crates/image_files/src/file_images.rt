@@ -131,7 +131,7 @@ impl<R: Files<File = File> + AllocGlobal + Input, C: FileCalls> Images for FileI
         }
     }
 
-    // A file of any kind that can be read, or what stands in the standard input.
+    // A file of any kind that can be read, or the standard input.
     #[tactic(auto, using(crate::proofs::FileLemmas::made))]
     fn read_text(&mut self, path: &str, most: usize) -> Result<FileText, OpenFault> {
         if is_input(path) {

@@ -6,7 +6,7 @@ use crate::one_file::is_one_file;
 use block_device::FileId;
 use device_adapters::Part;
 
-/// Which file is open, where the opener tells it, whether it may be written, and which part of it, where it isn't all.
+/// Which file is open, if the opener reports it; whether it may be written; and which part of it, if it isn't all.
 #[derive(Clone, Copy, Debug, PartialEq, Eq)]
 pub struct FileUse {
     pub id: Option<FileId>,

@@ -8,14 +8,14 @@ use crate::texts::ReplaceFault;
 use block_device::{BlockDev, FileId, MemoryDev, OpenFault, SyncDev};
 use device_adapters::Part;
 
-/// An image that was opened, and which file it is, where that is known.
+/// An image that was opened, and which file it is, if that is known.
 #[derive(Drop)]
 pub struct OpenImage<D> {
     pub device: D,
     pub id: Option<FileId>,
 }
 
-/// The first bytes of a file, and which one it is, where that is known.
+/// The first bytes of a file, and which one it is, if that is known.
 #[derive(Drop)]
 pub struct FileText {
     pub bytes: Vec<u8>,
@@ -37,7 +37,7 @@ pub trait Images {
         ensures opened { relations.opens self.old path.now writable result self.new }
         ensures fresh { IfOk result (λ image. IsFresh (Self.Dev.state image.device) writable) };
 
-    /// Opens a part of the image under this path as a device of its own. A part that ends behind the image is `Outside`.
+    /// Opens a part of the image under this path as a device of its own. A part that ends after the image is `Outside`.
     fn open_part(
         &mut self,
         path: &str,
@@ -47,21 +47,21 @@ pub trait Images {
         ensures opened { relations.opens_part self.old path.now writable part result self.new }
         ensures fresh { IfOk result (λ image. IsFresh (Self.Dev.state image.device) writable) };
 
-    /// At most so many first bytes of the file under this path.
+    /// Returns at most `most` first bytes of the file under this path.
     fn read_text(&mut self, path: &str, most: usize) -> Result<FileText, OpenFault>
         ensures told { relations.tells self.old path.now most result self.new }
         ensures most { IfOk result (λ text. length text.bytes.items ≤ most) };
 
-    /// Takes an image back: what the device holds is what stands under this path from then on.
+    /// Closes an image: what the device holds is what the file under this path holds from then on.
     fn close(&mut self, path: &str, device: Self::Dev)
         ensures { relations.takes self.old path.now device self.new };
 
-    /// Takes a part of an image back: what the device holds is what stands in that part from then on.
+    /// Closes a part of an image: what the device holds is what that part of the file holds from then on.
     fn close_part(&mut self, path: &str, part: Part, device: Self::Dev)
         ensures { relations.takes_part self.old path.now part device self.new };
 
-    /// Makes the file under this path at least so many sectors long, and makes it where there is none. What it held is
-    /// kept, and zeros stand behind. What has a size of its own, as a block device, stays as it is.
+    /// Makes the file under this path at least so many sectors long, and creates it if there is none. What the file held is
+    /// kept, and zeros follow. What has a size of its own, as a block device, stays as it is.
     fn grow(&mut self, path: &str, sectors: u64) -> Result<(), OpenFault>
         ensures { relations.grows self.old path.now sectors result self.new };
 
@@ -79,7 +79,7 @@ pub trait Images {
         ensures equal { IfOk result (λ one. path.now ≡ other.now → one ≡ true) }
         ensures err { IfErr result (λ fault. fault ≡ open_fault.NoMemory) };
 
-    /// Puts these bytes in the place of what stands under this path: a cut leaves the old file or the new one.
+    /// Replaces what the file under this path holds by these bytes: an interruption leaves the old file or the new one.
     fn replace(&mut self, path: &str, bytes: &[u8]) -> Result<(), ReplaceFault>
         ensures { relations.replaces self.old path.now bytes.now result self.new };
 

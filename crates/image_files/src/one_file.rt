@@ -4,7 +4,7 @@ ghost use Rattle.image_files.specs.OneFile.{is_block_device, is_id, is_one_file}
 
 use block_device::FileId;
 
-/// Whether both are one file, as far as the system tells.
+/// Whether both are one file, as far as the system reports it.
 pub fn is_one_file(a: Option<FileId>, b: Option<FileId>) -> bool
     ensures { result ≡ is_one_file a b }
 {
@@ -30,7 +30,7 @@ fn is_id(a: FileId, b: FileId) -> bool
     }
 }
 
-/// Whether a file is a block device, as far as the system tells. `Images::grow` leaves its size as it is.
+/// Whether a file is a block device, as far as the system reports it. `Images::grow` leaves its size as it is.
 pub fn is_block_device(id: Option<FileId>) -> bool
     ensures { result ≡ is_block_device id }
 {

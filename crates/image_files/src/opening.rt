@@ -16,7 +16,11 @@ pub struct UnopenedFile<'a> {
     pub path: &'a str,
 }
 
-/// The image under a path.
+/// Opens the image under a path, for writing too if `writable` is set.
+///
+/// # Errors
+///
+/// `UnopenedFile` with the path and the opener's fault.
 pub fn open_image<'a, I: Images>(
     images: &mut I,
     path: &'a str,
@@ -32,8 +36,12 @@ pub fn open_image<'a, I: Images>(
     }
 }
 
-/// The image under a path, beside files that are open already. It is `SameFile` where it is one of these, and one of the
-/// two may be written.
+/// Opens the image under a path, beside files that are open already.
+///
+/// # Errors
+///
+/// `UnopenedFile` with the path and the opener's fault, or with `SameFile` if the file is one of these and one of the two may be
+/// written.
 pub fn open_apart<'a, I: Images>(
     images: &mut I,
     files: &[FileUse],
@@ -54,7 +62,11 @@ pub fn open_apart<'a, I: Images>(
     Ok(image)
 }
 
-/// At most so many first bytes of the file under a path.
+/// Returns at most `most` first bytes of the file under a path.
+///
+/// # Errors
+///
+/// `UnopenedFile` with the path and the opener's fault.
 pub fn read_text<'a, I: Images>(
     images: &mut I,
     path: &'a str,

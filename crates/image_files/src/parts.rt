@@ -36,8 +36,13 @@ pub enum UnopenedPart<'a> {
     Outside(&'a str),
 }
 
-/// That part of the image under a path, beside files that are open already. It is `SameFile` where it has a sector in
-/// common with one of these, and one of the two may be written.
+/// Opens a part of the image under a path, beside files that are open already.
+///
+/// # Errors
+///
+/// - `File` with the opener's fault, or with `SameFile` if the part has a sector in common with one of these, and one of the two
+///   may be written.
+/// - `Outside` if the part isn't inside the image.
 pub fn open_part<'a, I: Images>(
     images: &mut I,
     files: &[FileUse],

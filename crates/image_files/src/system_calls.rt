@@ -83,7 +83,7 @@ fn done(outcome: io::Result<()>) -> Result<(), CallFault> {
     }
 }
 
-// Gives a file the owner, where the process may, and the permissions of another one.
+// Gives a file the owner, if the process may, and the permissions of another one.
 fn take_after(file: &File, other: &Metadata) -> io::Result<()> {
     let _owner = fchown(file.as_fd(), Some(other.uid()), Some(other.gid()));
     file.set_permissions(Permissions::from_mode(other.mode() & PERMISSION_BITS))

@@ -4,7 +4,7 @@ ghost use Rattle.image_files.specs.declared.texts.ReplaceFault.{ReplaceFault as 
 
 use thiserror::Error;
 
-/// Why a text isn't replaced. The old one stands under its path then, or the new one where `Sync` comes last.
+/// Why a text isn't replaced. The old one is still under its path then, or the new one if `Sync` comes last.
 #[derive(Clone, Copy, Debug, PartialEq, Eq, Error)]
 pub enum ReplaceFault {
     /// Memory ran out.
@@ -13,10 +13,10 @@ pub enum ReplaceFault {
     /// The new text can't be written beside the old one.
     #[error("Write")]
     Write,
-    /// It can't be put on the medium.
+    /// The new text can't be synced.
     #[error("Sync")]
     Sync,
-    /// It can't be put in the old one's place.
+    /// The new text can't replace the old one.
     #[error("Rename")]
     Rename,
 }

@@ -17,7 +17,7 @@ not_false false h = refl
 none_before : (p : ℕ → Bool) (xs : List ℕ) → length xs ≤ position_or_len p xs → All (λ x. p x ≡ false) xs
 none_before p xs h k d lt = not_false _ (prefix_len_passes (λ x. not (p x)) xs k d (omega arith))
 
--- a line with a newline behind it
+-- a line with a newline after it
 pub lines-more : (text : List ℕ) (n : ℕ) → n ≡ position_or_len (λ b. eqb b 10) text → n < length text → text_lines text ≡ take n text ∷ text_lines (drop (n + 1) text)
 unfolding text_lines
 lines-more text n e lt =

@@ -276,7 +276,7 @@ module _ (pin : Pin) (root_size : length pin.root ≡ 32) (root_bytes : IsBytes 
       ∙ ap (λ (r : Result PinFields PinFault). r >>= finish) lines-read
       ∙ finished
 
--- the lines one behind the other
+-- the lines one after the other
 pub text-printed : (pin : Pin) (t0 t1 t2 t3 t4 t5 : List ℕ) → t0 ≡ codes "dmstack-pin 1\n" → t1 ≡ t0 ++ pin_line Root (encode_lower pin.root) → t2 ≡ t1 ++ pin_line Salt (salt_word pin.salt)
     → t3 ≡ t2 ++ pin_line DataBlockSize (decimal pin.data_block) → t4 ≡ t3 ++ pin_line HashBlockSize (decimal pin.hash_block) → t5 ≡ t4 ++ pin_line DataBlocks (decimal pin.blocks) → t5 ≡ pin_text pin
 unfolding pin_text pin_words

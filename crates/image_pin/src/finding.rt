@@ -35,7 +35,7 @@ impl From<PinnedFault> for NoTree {
 }
 
 /// Reads the superblock of a hash image that begins at that sector of its file, and checks that it has the values of the pin, if
-/// there is one, and that a hash block begins there. A command on a tree reads the superblock by this call alone, and takes the tree
+/// there is one, and that a hash block begins there. A command on a tree reads the superblock only by this call, and takes the tree
 /// from its result.
 ///
 /// # Errors

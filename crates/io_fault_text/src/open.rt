@@ -10,6 +10,10 @@ use program_io::{Counted, WriteFault};
 use std::io::Write;
 
 /// Writes `refused K NAME PATH`, or `no memory`.
+///
+/// # Errors
+///
+/// `WriteFault` if the writer failed.
 pub fn say_unopened<W: Write>(
     writer: &mut Counted<W>,
     file: UnopenedFile<'_>,

@@ -7,6 +7,10 @@ use program_io::{Counted, WriteFault};
 use std::io::Write;
 
 /// Writes the path with each control character as `\xHH`, so that it stays on one line.
+///
+/// # Errors
+///
+/// `WriteFault` if the writer failed.
 pub fn say_path<W: Write>(writer: &mut Counted<W>, path: &str) -> Result<(), WriteFault>
     ensures { Writes W.contents writer.old writer.new (shown_path path.now) result }
 {

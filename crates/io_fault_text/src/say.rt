@@ -7,6 +7,10 @@ use stack_meaning::IoFault;
 use std::io::Write;
 
 /// Writes `no memory`.
+///
+/// # Errors
+///
+/// `WriteFault` if the writer failed.
 pub fn say_no_memory<W: Write>(writer: &mut Counted<W>) -> Result<(), WriteFault>
     ensures { Writes W.contents writer.old writer.new no_memory result }
 {
@@ -14,6 +18,10 @@ pub fn say_no_memory<W: Write>(writer: &mut Counted<W>) -> Result<(), WriteFault
 }
 
 /// Writes `usage`.
+///
+/// # Errors
+///
+/// `WriteFault` if the writer failed.
 pub fn say_usage<W: Write>(writer: &mut Counted<W>) -> Result<(), WriteFault>
     ensures { Writes W.contents writer.old writer.new usage_text result }
 {
@@ -21,6 +29,10 @@ pub fn say_usage<W: Write>(writer: &mut Counted<W>) -> Result<(), WriteFault>
 }
 
 /// Writes `refused K NAME`.
+///
+/// # Errors
+///
+/// `WriteFault` if the writer failed.
 pub fn say_refused<W: Write>(
     writer: &mut Counted<W>,
     number: u8,
@@ -32,6 +44,10 @@ pub fn say_refused<W: Write>(
 }
 
 /// Writes `fault K NAME` and, for a device, the number of the leaf; or `no memory`.
+///
+/// # Errors
+///
+/// `WriteFault` if the writer failed.
 pub fn say_io_fault<W: Write>(writer: &mut Counted<W>, fault: IoFault) -> Result<(), WriteFault>
     ensures { Writes W.contents writer.old writer.new (io_text fault) result }
 {
@@ -45,6 +61,10 @@ pub fn say_io_fault<W: Write>(writer: &mut Counted<W>, fault: IoFault) -> Result
 }
 
 /// Writes `K NAME` and, for a device, the number of the leaf.
+///
+/// # Errors
+///
+/// `WriteFault` if the writer failed.
 pub fn say_io_words<W: Write>(writer: &mut Counted<W>, fault: IoFault) -> Result<(), WriteFault>
     ensures { Writes W.contents writer.old writer.new (io_words fault) result }
 {

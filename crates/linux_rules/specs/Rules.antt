@@ -125,7 +125,7 @@ first_from f n (x ∷ more) = option_or (f n x) (first_from f (n + 1) more)
 abbrev pub refusal_at : ℕ → ℕ → LinuxKind → LinuxRefusal
 refusal_at d l kind = record { kind = kind; device = d; line = l }
 
--- the first rule that applies to a line of device d, where its logical block and those beneath are given
+-- the first rule that applies to a line of device d, by its logical block and those beneath
 abbrev pub line_refusal : Configuration → (List ℕ → ℕ) → ℕ → List Line → ℕ → ℕ → Line → Option LinuxRefusal
 line_refusal c below block lines d l line = option_map (refusal_at d l) (first_kind (line_faults c below block (begins_with_verity lines) line))
 

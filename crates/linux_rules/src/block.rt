@@ -30,7 +30,7 @@ fn block_in(blocks: &[u64], lower: Lower) -> u64
     }
 }
 
-/// The logical block of the i-th lower device; of none where there is none.
+/// The logical block of the i-th lower device; of none if there is none.
 pub(crate) fn block_at(blocks: &[u64], lowers: &[Lower], i: usize) -> u64
     ensures { result ≡ option_map_or (block_in blocks.now) (slice_get lowers.now i) 0 }
 {

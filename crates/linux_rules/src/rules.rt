@@ -83,7 +83,7 @@ fn device_refusal(config: &Config, blocks: &[u64], place: DevId) -> Option<Linux
     size_refusal(block, config.sectors(place), d)
 }
 
-/// The first rule that applies to a configuration, where the blocks of its devices are given.
+/// The first rule that applies to a configuration, by the given blocks of its devices.
 fn stack_refusal(config: &Config, blocks: &[u64]) -> Option<LinuxRefusal>
     requires { length blocks.now ≡ length config.now.devices }
     ensures { result ≡ stack_refusal config.now (block_in blocks.now) }

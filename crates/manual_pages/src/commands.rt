@@ -13,10 +13,10 @@ const SESSION_USAGE: &str = "dmstack session [--cache N] BINDING...";
 const NBD_USAGE: &str = "dmstack nbd [--cache N] [--all] STACK NAME BINDING...";
 
 const SCAN_USAGE: &str =
-    "dmstack scan [--cache N] [--map FILE] [--progress] [--json] [--chart] STACK NAME BINDING...";
+    "dmstack scan [--cache N] [--map FILE] [--retries N] [--progress] [--json] [--chart] STACK NAME BINDING...";
 
 const COPY_USAGE: &str =
-    "dmstack copy [--cache N] [--differing] [--map FILE] [--progress] STACK NAME OUT BINDING...";
+    "dmstack copy [--cache N] [--differing] [--map FILE] [--retries N] [--progress] STACK NAME OUT BINDING...";
 
 const CAT_USAGE: &str =
     "dmstack cat [--cache N] [--first N] [--count N] [--progress] STACK NAME BINDING...";
@@ -36,13 +36,13 @@ const TABLE_USAGE: &str =
     "dmstack table [--data-block N] [--hash-block N] [--blocks N] [--salt HEX] [--hash-offset BYTES] [--name NAME] [--root-hash-file FILE] [--no-superblock] [--pin FILE] HASH ROOT DATANAME HASHNAME";
 
 const REPAIR_USAGE: &str =
-    "dmstack repair [--hash-offset BYTES] [--root-hash-file FILE] [--check] [--fec FILE] [--fec-roots N] [--pin FILE] DATA HASH ROOT [DATACOPY HASHCOPY]...";
+    "dmstack repair [--data-block N] [--hash-block N] [--blocks N] [--salt HEX] [--hash-offset BYTES] [--root-hash-file FILE] [--no-superblock] [--check] [--fec FILE] [--fec-roots N] [--pin FILE] DATA HASH ROOT [DATACOPY HASHCOPY]...";
 
 const PARTITIONS_USAGE: &str =
     "dmstack partitions [--sector-size 512|4096] [--json] [--stack] [--root ROOT] [--pin FILE] IMAGE";
 
 const DIFF_USAGE: &str =
-    "dmstack diff [--all] [--runs N] [--json] [--old-hash-offset BYTES] [--hash-offset BYTES] [--old-root-hash-file FILE] [--root-hash-file FILE] [--old-pin FILE] [--pin FILE] HASH1 [ROOT1] HASH2 [ROOT2]";
+    "dmstack diff [--data-block N] [--hash-block N] [--blocks N] [--salt HEX] [--no-superblock] [--all] [--runs N] [--json] [--old-hash-offset BYTES] [--hash-offset BYTES] [--old-root-hash-file FILE] [--root-hash-file FILE] [--old-pin FILE] [--pin FILE] HASH1 [ROOT1] HASH2 [ROOT2]";
 
 const MANUAL_USAGE: &str = "dmstack manual [COMMAND]";
 

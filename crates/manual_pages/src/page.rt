@@ -53,6 +53,10 @@ fn find_page<'a>(pages: &'a [Page], wanted: &[u8]) -> Option<&'a Page>
 }
 
 /// Prints a page.
+///
+/// # Errors
+///
+/// `WriteFault` if the writer failed.
 pub fn print_page<W: Write>(writer: &mut Counted<W>, page: Page) -> Result<(), WriteFault>
     ensures { Writes W.contents writer.old writer.new page.text.now result }
 {

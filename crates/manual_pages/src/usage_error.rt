@@ -17,6 +17,10 @@ use std::io::Write;
 
 /// Prints which argument is wrong and why, how its command is called, and which page says more: three lines at most. An argument
 /// is printed as a path is. If the arguments ask for help or for the version, it prints that page or the version instead.
+///
+/// # Errors
+///
+/// `WriteFault` if the writer failed.
 pub fn print_usage_error<W: Write>(
     errors: &mut Counted<W>,
     words: &[String],

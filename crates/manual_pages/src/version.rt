@@ -7,6 +7,10 @@ use std::io::Write;
 
 /// Prints the program's name and the logic of the prover that proved it. `scripts/lib/compile.py`, which runs no proofs, compiles
 /// another text in its place.
+///
+/// # Errors
+///
+/// `WriteFault` if the writer failed.
 #[tactic(auto, unfolding(crate::specs::Versions::version_text))]
 pub fn print_version<W: Write>(writer: &mut Counted<W>) -> Result<(), WriteFault>
     ensures { Writes W.contents writer.old writer.new version_text result }

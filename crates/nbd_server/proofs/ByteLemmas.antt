@@ -21,7 +21,7 @@ use Rattle.nbd_server.specs.Status.{touched}
 use Rattle.nbd_server.specs.Transmission.{FailsToReadEnds, Flushes, IsFramed, IsPartInside, IsPart, IsSendable, reply_data, ReadsExport, ReadsEnds, ServesRequest, ServesCommand, Settles, Stays, WritesAtOnce, WritesGiven, WritesByRuns, WritesAny, room_behind, no_bytes}
 use Rattle.nbd_server.specs.Zeros.{WritesInRuns}
 
--- ---- what stands around some bytes
+-- ---- what is around some bytes
 
 module _ (offset len : ℕ) (bytes : List ℕ) (room : length bytes ≡ 512 * touched offset len) where
   pub meant-length : length (take len (drop (offset % 512) bytes)) ≡ len
@@ -61,7 +61,7 @@ pub writes-ended : (e : ExportRecord) (w mid w' : World) (offset : ℕ) (bytes s
 writes-ended e w mid w' offset bytes sectors (Ok done) f ok err = (refl, sectors, mid, f, ok)
 writes-ended e w mid w' offset bytes sectors (Err error) f ok err = inr (sectors, mid, f, err)
 
--- ---- the bytes behind a request
+-- ---- the bytes after a request
 
 module _ (offset length : ℕ) (fua : Bool) where
   read-no-write : (a b : Bool) (o l : ℕ) → (if a then Err Invalid else if b then Err Invalid else Ok (Read o l)) ≡ Ok (Write offset length fua) → ⊥
@@ -117,7 +117,7 @@ module _ (offset length : ℕ) (fua : Bool) where
   payload-cases false false true reads writes others n none more some h = some h
   payload-cases false false false reads writes others n none more some h = absurd (more h)
 
-  -- a write has the bytes that it writes behind it
+  -- a write is followed by the bytes that it writes
   pub write-payload : (e : ExportRecord) (a : Agreement) (h : Header) → command_of e a h ≡ Ok (Write offset length fua) → payload_len h ≡ length
   unfolding command_of
   write-payload e a h is =

@@ -1,4 +1,4 @@
--- Zeros at the ends of bytes, and what is told of them.
+-- Zeros at the ends of bytes, and what is reported of them.
 use Rattle.std.proofs.Common.{◌≡◌, ◌<◌, ◌≤◌, ℕ, ◌+◌, ◌-◌, ◌%◌, ◌==◌, min, Bool, true, false, List, [], ◌++◌, length, take, drop, replicate, refl, ap, sym, ◌∙◌, subst, append-nil, take_all, arith, inl, inr, Option, Result, Ok, Err}
 use Rattle.std.specs.Prelude.{◌&&◌, if◌then◌else◌}
 use Rattle.std.specs.Str.{bytes_eq}
@@ -142,11 +142,11 @@ before-data bytes size within behind some = λ all.
     let sum : size + (length bytes - size) ≡ length bytes = omega (arith, within) in
     some (sym (take-append-drop size bytes) ∙ ap (λ l. l ++ drop size bytes) (all ∙ ap zeros front) ∙ ap (λ l. zeros size ++ l) behind ∙ zeros-sum size (length bytes - size) (length bytes) sum)
 
--- what stands behind so many of them, as the code cuts it out
+-- what follows so many of them, as the code takes it
 pub rest-is : (bytes : List ℕ) (n : ℕ) → take (length bytes - n) (drop n bytes) ≡ drop n bytes
 rest-is bytes n = ap (λ k. take k (drop n bytes)) (sym (length-drop n bytes)) ∙ take-length (drop n bytes)
 
--- ---- what is told
+-- ---- what is reported
 
 pub hole-some : (last : Bool) (cookie at n : ℕ) → 0 < n → some_hole last cookie at n ≡ hole_chunk last cookie at n
 hole-some last cookie at n some = let more : (n == 0) ≡ false = grind (arith, some) in ap (λ b. if b then [] else hole_chunk last cookie at n) more
@@ -184,7 +184,7 @@ module _ (cookie : ℕ) (last : Bool) (at : ℕ) where
   })
 
   module _ (n : ℕ) (bytes : List ℕ) (within : n ≤ length bytes) where
-    -- zeros, and what stands behind them
+    -- zeros, and what follows them
     pub told-behind : (more : List ℕ) → 0 < n → n < length bytes → AreZerosBefore bytes n → TellsData cookie last (at + n) (drop n bytes) more → TellsContent cookie last at bytes (hole_chunk false cookie at n ++ more)
     told-behind more some below front told = inl (record {
       before = n;
@@ -197,7 +197,7 @@ module _ (cookie : ℕ) (last : Bool) (at : ℕ) where
       chunks_are = ap (λ l. l ++ more) (sym (hole-some false cookie at n some));
     })
 
-    -- data, and zeros behind it
+    -- data, and zeros after it
     pub told-before : (behind : ℕ) → 0 < behind → n ≡ length bytes - behind → AreZerosBehind bytes behind → HaveData (take n bytes)
         → TellsData cookie last at bytes (data_chunk false cookie at (take n bytes) ++ hole_chunk last cookie (at + n) behind)
     told-before behind some n-is back front =
@@ -224,7 +224,7 @@ module _ {T : Type 0} (contents : T → Option (List ℕ)) (P : List ℕ → Typ
   writes-one old new text (Err fault) holds p = record { ok = tt; kept = tt; failed = p.failed }
 
   module _ (old mid new : CountedRecord T) (text : List ℕ) (first : Appends (contents old.inner) (contents mid.inner) text) (kept : mid.failed ≡ old.failed) where
-    -- another text behind it
+    -- another text after it
     pub writes-two : (more : List ℕ) (result : Result Unit WriteFault) → P (text ++ more) → Writes contents mid new more result → WritesSome contents old new P result
     writes-two more (Ok done) holds p = record {
       ok = record { text = text ++ more; holds = holds; written = Appends-trans (contents old.inner) (contents mid.inner) (contents new.inner) text more first p.ok };
@@ -233,7 +233,7 @@ module _ {T : Type 0} (contents : T → Option (List ℕ)) (P : List ℕ → Typ
     }
     writes-two more (Err fault) holds p = record { ok = tt; kept = tt; failed = p.failed }
 
-    -- some text behind it
+    -- some text after it
     pub writes-some : (Q : List ℕ → Type 0) (result : Result Unit WriteFault) → ((more : List ℕ) → Q more → P (text ++ more)) → WritesSome contents mid new Q result → WritesSome contents old new P result
     writes-some Q (Ok done) holds p = record {
       ok = record { text = text ++ p.ok.text; holds = holds p.ok.text p.ok.holds; written = Appends-trans (contents old.inner) (contents mid.inner) (contents new.inner) text p.ok.text first p.ok.written };

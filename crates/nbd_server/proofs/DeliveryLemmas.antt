@@ -67,7 +67,7 @@ module _ (e : ExportRecord) (d : Delivery) where
   lost-config : (p : Progress) (w : World) (chunk : List ℕ) (w' : World) → IsLost e d p w chunk w' → w'.stack.config ≡ w.stack.config
   lost-config p w chunk w' s = read-config e w (d.offset + p.done) s.size (Err s.error) w' s.reads
 
-  -- a piece is behind the one before it, and done or put off once
+  -- a piece is after the one before it, and done or put off once
   pub goes-inside : (p : Progress) (w : World) (chunk : List ℕ) (next : Progress) (w' : World) → GoesOnReplying e d p w chunk next w' → next.done ≤ d.count
   goes-inside p w chunk next w' (inl s) = subst (λ (n : Progress). n.done ≤ d.count) (sym s.next_is) s.piece.next.bytes.inside
   goes-inside p w chunk next w' (inr (inr s)) = subst (λ (n : Progress). n.done ≤ d.count) (sym s.next_is) s.bytes.inside

@@ -158,7 +158,7 @@ kind-other a b is same = true-not (sym (reflexive b) ∙ ap (λ (k : ExtentKind)
     reflexive known.IgnoresZeros = refl
     reflexive known.Unknown = refl
 
--- the sectors behind it are alike
+-- the sectors after it are alike
 pub joined-extent : (said : ℕ → Said) (Has : ℕ → ExtentKind → Type 0) (first most : ℕ) (extent next : Extent) → IsToldExtent said Has first most extent → extent.count < most
     → IsToldExtent said Has (first + extent.count) (most - extent.count) next → next.kind ≡ extent.kind → IsToldExtent said Has first most (record { count = extent.count + next.count; kind = extent.kind })
 joined-extent said Has first most extent next p low q same = record {

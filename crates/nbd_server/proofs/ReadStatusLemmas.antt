@@ -73,7 +73,7 @@ first-status first content s run = record {
   is = let place : first - first ≡ 0 = omega arith in subst (λ (k : ℕ). IsRun first (drop k content) s) (sym place) run;
 }
 
--- ---- what is told of them
+-- ---- what is reported of them
 
 pub ok-as : {A E : Type 0} (r : Result A E) (P Q : A → Type 0) → ((x : A) → P x → Q x) → IfOk r P → IfOk r Q
 ok-as (Ok x) P Q f p = f x p

@@ -1,4 +1,4 @@
--- What is told of extents, one after another.
+-- What is reported of extents, one after another.
 use Rattle.std.proofs.Common.{◌≡◌, ◌<◌, ◌≤◌, ℕ, ◌+◌, ◌-◌, ◌*◌, ◌/◌, ◌%◌, List, [], ◌++◌, length, min, refl, sym, ◌∙◌, subst, arith, inl, inr}
 use Rattle.std.specs.Prelude.{◌≢◌, ◌⊎◌, Bool, IsTrue, false, true}
 use Rattle.std.proofs.lemmas.Bool.{cases_lt}
@@ -42,7 +42,7 @@ module _ (c : Configuration) (e : ExportRecord) (at left count : ℕ) (extent : 
     ends = extent-ends p.some q;
   }
 
--- and what is told of it
+-- what is reported of an extent
 pub extent-status : (c : Configuration) (e : ExportRecord) (offset at left : ℕ) (extent : ByteExtent) (s : BlockStatus) → IsByteExtent c e at left extent → s.count ≡ extent.count → s.zeros ≡ is_same_kind extent.kind known.Zeros
     → (offset < at → extent.kind ≢ known.IgnoresZeros) → IsStatus (IsLineStatus c e offset) at left s
 extent-status c e offset at left extent s p count zeros later = record {
@@ -57,7 +57,7 @@ extent-begins c e at left extent p =
     let place : at / 512 + 0 ≡ at / 512 = omega arith in
     subst (λ (n : ℕ). HasKind c (mapped e.device) n extent.kind) place (p.kind 0 (omega (arith, p.some)))
 
--- an extent that is told as zeros, and one that isn't
+-- an extent that is reported as zeros, and one that isn't
 pub status-zeros : (c : Configuration) (e : ExportRecord) (offset at left : ℕ) (s : BlockStatus) → IsLineStatus c e offset at left s → IsTrue s.zeros → TouchZeros c e at s.count
 status-zeros c e offset at left s p sure = subst (λ (n : ℕ). TouchZeros c e at n) (sym p.count) (p.is.zeros (kind-same p.extent.kind known.Zeros (sym p.zeros ∙ sure)))
 
@@ -124,6 +124,6 @@ module _ (Is : ℕ → ℕ → BlockStatus → Type 0) (offset count : ℕ) wher
     pub told-whole : (told : List ℕ) (one : Bool) → Underway Is offset count 1 count told → HasStatus Is Ends offset count one told
     told-whole told one p = record { done = count; tells = p.tells; some = p.some; few = p.few; small = omega (arith, p.size); single = λ is. omega (arith, p.size); ends = inl refl }
 
--- the bytes behind those that were told
+-- the bytes after those that were reported
 pub rest-of : (c : Configuration) (e : ExportRecord) (offset count done : ℕ) → AreBytesOf c e offset count → done ≤ count → AreBytesOf c e (offset + done) (count - done)
 rest-of c e offset count done p few = record { export = p.export; within = omega (arith, p.within, few) }

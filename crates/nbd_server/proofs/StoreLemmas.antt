@@ -57,7 +57,7 @@ turns-then d first {w = w} {v = v} x even p (ends {x = a} {y = b} {w' = m} {w'' 
     subst (λ l. InTurn d first w l (Err fault) u) (append_assoc x a (b ++ c))
     (ends c (turns-then d first x even p q) (subst (λ k. EachWrite m d k b (Err fault) u) (start-more first x a even) r))
 
--- bytes behind a fault aren't written
+-- bytes after a fault aren't written
 turns-more : (d first : ℕ) {v : StackRecord} (z : List ℕ) {y : List ℕ} {fault : IoFault} {w' : StackRecord} → InTurn d first v y (Err fault) w' → InTurn d first v (y ++ z) (Err fault) w'
 turns-more d first {v = v} z (ends {x = a} {y = b} {w' = m} {w'' = u} {fault = fault} c q r) =
     let seam : a ++ (b ++ (c ++ z)) ≡ (a ++ (b ++ c)) ++ z = ap (λ l. a ++ l) (sym (append_assoc b c z)) ∙ sym (append_assoc a (b ++ c) z) in

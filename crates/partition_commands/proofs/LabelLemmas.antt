@@ -32,7 +32,7 @@ module _ (units : List ℕ) (i : ℕ) where
       let next : suc i ≡ i + 1 = omega arith in
       drop-cons units i 0 within ∙ ap (λ (n : ℕ). get_or units i 0 ∷ drop n units) next
 
-  -- the same at an index
+  -- a zero at an index ends the label there
   pub left-zero : i < length units → (get_or units i 0 == 0) ≡ true → before_zero (drop i units) ≡ []
   left-zero within is = ap before_zero (left within) ∙ before_zero-zero (get_or units i 0) (drop (i + 1) units) is
 

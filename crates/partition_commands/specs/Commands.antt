@@ -1,4 +1,4 @@
--- What `partitions`, `--json` and `--stack` print of an image where they succeed, and how commands on partitions end early.
+-- What `partitions`, `--json` and `--stack` print of an image if they succeed, and how commands on partitions end early.
 use Rattle.std.specs.Prelude.{◌≡◌, ◌⊎◌, ℕ, Bool, true, false, List, Option}
 use Rattle.std.specs.Io.KnownBytes.{Appends}
 use Rattle.allocation.specs.Refusal.{IsOutOfMemory}

@@ -7,7 +7,7 @@ use Rattle.partition_commands.specs.declared.fault.PartitionsFault.{PartitionsFa
 use Rattle.partition_commands.specs.declared.fault.PartitionsFault.TheVariants.{NoMemory, NotLoadable, Open, Pin, Refused, Write}
 use Rattle.partition_commands.specs.RefusalNames.{refusal_text}
 
--- one line, or none where that can't be written; of a pin as `verify --pin` prints it
+-- one line, or none if that can't be written; of a pin as `verify --pin` prints it
 abbrev pub partitions_text : PartitionsFault → List ℕ
 partitions_text NoMemory = no_memory
 partitions_text (Open file) = open_text file

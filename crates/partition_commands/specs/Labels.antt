@@ -28,6 +28,6 @@ before_zero units = take_while (λ u. not (u == 0)) units
 abbrev pub label_text : List ℕ → List ℕ
 label_text label = encode_utf8_all (utf16_lossy_chars (map shown_unit (before_zero (label_units label))))
 
--- no allocation for a label or a name asks for more elements
+-- no allocation for a label or a name has more elements
 abbrev pub name_room : ℕ
 name_room = 41

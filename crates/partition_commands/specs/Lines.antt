@@ -34,7 +34,7 @@ line_with p label = range_text p ++ (uuids_text p ++ (label ++ codes "\n"))
 unfoldable pub partition_line : Partition → List ℕ
 partition_line p = range_text p ++ (uuids_text p ++ (label_text p.label ++ codes "\n"))
 
--- the partition that is wrong, behind a space
+-- the number of the partition that is wrong, after a space
 abbrev pub number_word : Option ℕ → List ℕ
 number_word (Some number) = codes " " ++ decimal number
 number_word None = codes ""

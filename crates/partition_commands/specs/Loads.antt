@@ -36,7 +36,7 @@ IsUnloadable sectors text = (2 ^ 20 < length text) ⊎ ((fault : StackFault) × 
 abbrev pub IsStackUnloadable : ℕ → SectorSize → List Partition → Type 0
 IsStackUnloadable sectors size partitions = (most_devices < length partitions) ⊎ IsUnloadable sectors (stack_text size partitions)
 
--- no allocation for the entries of a stack text, or for its check, asks for more elements
+-- no allocation for the entries of a stack text, or for its check, has more elements
 abbrev pub stack_room : ℕ
 stack_room = 511
 

@@ -1,4 +1,4 @@
--- What `partitions --root` and `--pin` print of an image where they succeed, and how they end early.
+-- What `partitions --root` and `--pin` print of an image if they succeed, and how they end early.
 use Rattle.std.specs.Prelude.{◌≡◌, ◌⊎◌, ℕ, Bool, true, false, List, Option, None, Ok, Err}
 use Rattle.std.specs.Io.KnownBytes.{Appends}
 use Rattle.allocation.specs.Refusal.{IsOutOfMemory}

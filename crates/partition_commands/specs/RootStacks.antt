@@ -13,7 +13,7 @@ use Rattle.partition_commands.specs.Stacks.{entry_text, linear_line}
 unfoldable pub root_entry : SuperRecord → List ℕ → List ℕ
 root_entry s root = entry_text (codes "root") (table_text s (codes "/dev/mapper/data") (codes "/dev/mapper/hash") root)
 
--- no allocation for the text, or for its check, asks for more bytes
+-- no allocation for the text, or for its check, is larger, in bytes
 abbrev pub root_room : SuperRecord → List ℕ → ℕ
 root_room s root = stack_room + line_room s (codes "/dev/mapper/data") (codes "/dev/mapper/hash") root 1
 

@@ -12,7 +12,11 @@ use verity_commands::say_image_fault;
 
 const REFUSED: u8 = 1;
 
-/// One line, or none where that can't be written.
+/// Prints the line of a fault; prints nothing if a line couldn't be written.
+///
+/// # Errors
+///
+/// `WriteFault` if the writer failed.
 pub fn say_partitions_fault<W: Write>(
     writer: &mut Counted<W>,
     fault: PartitionsFault<'_>,

@@ -25,7 +25,14 @@ use stack_loader::MOST_DEVICES;
 use std::alloc::Global;
 use std::io::Write;
 
-/// `partitions IMAGE`: which copies of the image's table are good, and a line for each partition.
+/// `partitions IMAGE`: prints which copies of the image's table are good, and a line for each partition.
+///
+/// # Errors
+///
+/// - `Open` if the image can't be opened.
+/// - `Refused` if it has no good table.
+/// - `NoMemory` if memory for a label was refused.
+/// - `Write` if a line can't be written.
 pub fn partitions_of_image<'a, I: Images, W: Write, E: Write>(
     alloc: Global,
     images: &mut I,
@@ -62,7 +69,14 @@ fn list_partitions<'a, D: BlockDev, W: Write, E: Write>(
     }
 }
 
-/// `partitions --json IMAGE`: the same as a JSON object on one line.
+/// `partitions --json IMAGE`: prints the partition table of the image as a JSON object on one line.
+///
+/// # Errors
+///
+/// - `Open` if the image can't be opened.
+/// - `Refused` if it has no good table.
+/// - `NoMemory` if memory for the object was refused.
+/// - `Write` if the line can't be written.
 pub fn object_of_image<'a, I: Images, W: Write, E: Write>(
     alloc: Global,
     images: &mut I,
@@ -101,6 +115,14 @@ fn list_object<'a, D: BlockDev, W: Write, E: Write>(
 
 /// `partitions --stack IMAGE`: prints the text of a stack with a read-only device for each partition, over the leaf DISK.
 /// `load` takes it.
+///
+/// # Errors
+///
+/// - `Open` if the image can't be opened.
+/// - `Refused` if it has no good table, or a partition isn't inside the image.
+/// - `NotLoadable` if `load` would refuse the stack.
+/// - `NoMemory` if an allocation was refused.
+/// - `Write` if the text can't be written.
 pub fn stack_of_image<'a, I: Images, W: Write, E: Write>(
     alloc: Global,
     images: &mut I,

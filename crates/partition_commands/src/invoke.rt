@@ -27,7 +27,12 @@ fn size_of(bytes: u32) -> SectorSize
     }
 }
 
-/// `partitions [--sector-size 512|4096] [--json | --stack | --root ROOT | --pin FILE] IMAGE`; what is unusual of the table goes to `errors`.
+/// `partitions [--sector-size 512|4096] [--json | --stack | --root ROOT | --pin FILE] IMAGE`: prints the table in that form. What
+/// is unusual of the table goes to `errors`.
+///
+/// # Errors
+///
+/// Those of the function for that form.
 pub fn invoke_partitions<'a, I: Images, W: Write, E: Write>(
     alloc: Global,
     images: &mut I,

@@ -36,7 +36,7 @@ fn label_units(alloc: Global, label: &[u8; 72]) -> Result<Vec<u16>, OutOfMemory>
     Ok(units)
 }
 
-// Those before the first zero, as they are shown.
+// The units before the first zero, as they are shown.
 fn shown_units(alloc: Global, units: &[u16]) -> Result<Vec<u16>, OutOfMemory>
     ensures ok { IfOk result (λ v. v.items ≡ map shown_unit (before_zero units.now)) }
     ensures err { IfErr result (λ e. asked e ≤ name_room) }

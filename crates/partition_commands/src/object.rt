@@ -44,7 +44,7 @@ fn good_copies(source: Source) -> &'static str
     }
 }
 
-// What is wrong of the copy that isn't good, where one isn't.
+// What is wrong with the copy that isn't good, if there is such a copy.
 fn other_copy(alloc: Global, source: Source) -> Result<Value, AllocError>
     ensures { IfOk result (λ value. view value ≡ other_copy source) }
 {

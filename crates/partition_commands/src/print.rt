@@ -15,8 +15,14 @@ use program_io::Counted;
 use std::alloc::Global;
 use std::io::Write;
 
-/// `partitions IMAGE`: which copies of the device's table are good, and a line for each partition; among the errors, what is
+/// `partitions IMAGE`: prints which copies of the device's table are good, and a line for each partition; to `errors`, what is
 /// unusual of the table.
+///
+/// # Errors
+///
+/// - `Table` if the device has no good table.
+/// - `NoMemory` if memory for a label was refused.
+/// - `Write` if a line can't be written.
 pub fn print_partitions<D: BlockDev, W: Write, E: Write>(
     alloc: Global,
     device: &mut D,

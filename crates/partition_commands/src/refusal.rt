@@ -75,7 +75,11 @@ impl From<NoTable> for PartitionRefusal {
     }
 }
 
-/// One line, `refused K NAME`; of a table that isn't there the causes too.
+/// Prints the line of a refusal, `refused K NAME`; if there is no table, with the causes.
+///
+/// # Errors
+///
+/// `WriteFault` if the writer failed.
 pub fn say_refusal<W: Write>(
     writer: &mut Counted<W>,
     refusal: PartitionRefusal,

@@ -15,7 +15,11 @@ pub struct ImagePartitions {
 }
 
 impl ImagePartitions {
-    /// The two whose UUIDs are the first and the last 128 bits of the root digest.
+    /// Returns the two partitions whose UUIDs are the first and the last 128 bits of the root hash.
+    ///
+    /// # Errors
+    ///
+    /// `NoDataPartition`, `TwoDataPartitions`, `NoVerityPartition` or `TwoVerityPartitions` if not exactly one has such a UUID.
     pub fn find(
         partitions: &[Partition],
         root: &Digest,

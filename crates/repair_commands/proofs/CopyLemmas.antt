@@ -1,4 +1,4 @@
--- Copies that are opened, one behind the other.
+-- Copies that are opened, one after the other.
 use Rattle.std.proofs.Common.{◌≡◌, ◌<◌, ◌+◌, ℕ, zero, suc, List, [], ◌∷◌, ◌++◌, length, map, take, get_or, arith, refl, sym, ap, subst, ◌∙◌, inl, inr}
 use Rattle.std.proofs.lemmas.List.{map-append, take_more}
 use Rattle.block_device.specs.Device.{Device}
@@ -33,7 +33,7 @@ module _ {S D : Type 0} (o : Opener S D) (state : D → Device) (files : List Fi
       (subst (λ (ds : List D). OpensEachCopy (calls o state old new) files (map f (take i xs) ++ f (get_or xs i x) ∷ []) ds) (sym more)
       (opens-last old between new (map f (take i xs)) devices (f (get_or xs i x)) device before last))
 
-  -- one behind some that were opened is refused
+  -- a copy after some that were opened is refused
   refuses-behind : (old between new : S) (first : List (List ℕ)) (devices : List D) (path : List ℕ) (rest : List (List ℕ)) (fault : TreeFault) → OpensEachCopy (calls o state old between) files first devices
       → IsCopyUnopened (calls o state between new) files path fault → RefusesEach (calls o state old new) files (first ++ path ∷ rest) fault
   refuses-behind old between new [] [] path rest fault each ends = inl (subst (λ (s : S). IsCopyUnopened (calls o state s new) files path fault) each ends)

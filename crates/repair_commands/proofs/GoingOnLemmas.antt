@@ -1,5 +1,5 @@
--- Repairs that go on behind a failed writer, and how they end.
-use Rattle.std.proofs.Common.{ℕ, Bool, IsTrue, List, Option, None, Some, Result, Ok, Err, refl, sym, subst, inl, inr, arith}
+-- Repairs that go on after a failed writer, and how they end.
+use Rattle.std.proofs.Common.{ℕ, Bool, IsTrue, List, Option, None, Some, Result, Ok, Err, is_some, refl, sym, subst, inl, inr, arith}
 use Rattle.std.specs.Prelude.{IfErr, IfOk, OnOk}
 use Rattle.fec_area.specs.declared.layout.Layout.{Layout}
 use Rattle.fec_area.specs.Layouts.{IsLaidOn}
@@ -9,12 +9,12 @@ use Rattle.tree_repair.specs.declared.outcome.Outcome.{Outcome}
 use Rattle.tree_repair.specs.declared.repair.Plan.{Plan}
 use Rattle.program_io.specs.Counted.{CountedRecord}
 use Rattle.tree_repair.specs.Runs.{IsWriterCause}
-use Rattle.tree_repair.specs.Repairs.{IsAllowed, IsUnrepairedBy, Repairs}
+use Rattle.tree_repair.specs.Repairs.{IsAllowed, IsUnrepairedBy}
 use Rattle.tree_repair.specs.Worlds.{RepairWorld}
 use Rattle.tree_repair.proofs.lemmas.SameLemmas.{unrepaired-same}
-use Rattle.repair_commands.specs.Mends.{HalfMends, IsCutBy, IsEndBehind, IsOnMedium, IsUnsyncedCause, KeepsBothImages, end_of}
+use Rattle.repair_commands.specs.Mends.{HalfMends, IsCutBy, IsEndBehind, IsOnMedium, IsRunToEnd, IsUnsyncedCause, KeepsBothImages, end_of}
 
--- what may be written may be written behind a repair that ended early
+-- what may be written may be written after a repair that ended early
 pub allowed-then : (plan : Plan) (parity : Bool) (w w' : RepairWorld) (old new : Option (List ℕ)) (fault : RepairFault) → IsUnrepairedBy plan parity w w' old new fault → IsAllowed plan.write w.data_dev w.hash_dev
     → IsAllowed plan.write w'.data_dev w'.hash_dev
 allowed-then plan parity w w' old new fault run allowed =
@@ -28,10 +28,10 @@ laid-then l plan parity w w' old new fault run laid =
     let same = unrepaired-same plan parity w w' old new fault run in
     record { layout = laid.layout; data_room = omega (arith, laid.data_room, same.0.size); hash_room = omega (arith, laid.hash_room, same.1.size) }
 
--- a run that a fault ended, and what came behind
-pub cut-then : {W : Type 0} (writer : CountedRecord W) (plan : Plan) (parity : Bool) (w a w' : RepairWorld) (old new : Option (List ℕ)) (fault end : RepairFault) → IsWriterCause writer fault → IsUnrepairedBy plan parity w a old new fault → IsEndBehind plan parity fault a w' end
+-- a run that a fault ended, and what came after it
+pub cut-then : {W : Type 0} (writer : CountedRecord W) (plan : Plan) (parity : Option Layout) (w a w' : RepairWorld) (old new : Option (List ℕ)) (fault end : RepairFault) → IsWriterCause writer fault → IsUnrepairedBy plan (is_some parity) w a old new fault → IsEndBehind plan parity fault a w' end
     → IsCutBy plan parity w w' old new writer.failed end
-cut-then writer plan parity w a w' old new (Image cause) end told run (is, stays) = inl (cause, (is, subst (λ (x : RepairWorld). IsUnrepairedBy plan parity w x old new (Image cause)) (sym stays) run))
+cut-then writer plan parity w a w' old new (Image cause) end told run (is, stays) = inl (cause, (is, subst (λ (x : RepairWorld). IsUnrepairedBy plan (is_some parity) w x old new (Image cause)) (sym stays) run))
 cut-then writer plan parity w a w' old new Write end told run unheard = inr (record { told = told; between = a; cut = run; unheard = unheard })
 
 -- a run that came to its end, and was synced
@@ -44,8 +44,8 @@ end-ok (Err Write) (Err unsynced) whole synced mends = tt
 end-ok (Err (Image cause)) (Err unsynced) whole synced mends = tt
 
 -- or one that didn't, or wasn't
-pub end-err : {Whole : Outcome → Type 0} (plan : Plan) (parity : Bool) (w a w' : RepairWorld) (old new : Option (List ℕ)) (failed : Bool) (r : Result Outcome RepairFault) (s : Result (Unit {0}) RepairFault)
-    → ((t : Outcome) → Whole t → Repairs plan parity w a old new None) → IfOk r Whole → IfErr r (IsCutBy plan parity w a old new failed) → KeepsBothImages a w'
+pub end-err : {Whole : Outcome → Type 0} (plan : Plan) (parity : Option Layout) (w a w' : RepairWorld) (old new : Option (List ℕ)) (failed : Bool) (r : Result Outcome RepairFault) (s : Result (Unit {0}) RepairFault)
+    → ((t : Outcome) → Whole t → IsRunToEnd plan parity w a old new) → IfOk r Whole → IfErr r (IsCutBy plan parity w a old new failed) → KeepsBothImages a w'
     → OnOk s (IsOnMedium plan.write w'.data_dev w'.hash_dev) → IfErr s (IsUnsyncedCause plan.write a w') → IfErr (end_of r s) (HalfMends plan parity w w' old new failed)
 end-err plan parity w a w' old new failed (Ok t) (Ok done) repairs whole cut kept synced un = tt
 end-err plan parity w a w' old new failed (Err fault) (Ok done) repairs whole cut kept synced un = record { mid = a; ended = Some fault; run = cut; kept = kept; synced = inl (refl, synced) }

@@ -1,9 +1,9 @@
--- Devices whose writes are put on their media.
-use Rattle.std.proofs.Common.{◌≡◌, ◌≤◌, Result, Ok, Err, ap, arith, inl, inr, refl}
+-- Devices that are synced.
+use Rattle.std.proofs.Common.{◌≡◌, ◌≤◌, Bool, false, IsTrue, Result, Ok, Err, ap, arith, inl, inr, refl}
 use Rattle.std.specs.Prelude.{OnErr, OnOk}
 use Rattle.block_device.specs.Device.{Device, HasFailed, IsUnsynced, synced}
 use Rattle.tree_repair.specs.Worlds.{RepairWorld}
-use Rattle.repair_commands.specs.Mends.{KeepsBothImages}
+use Rattle.repair_commands.specs.Mends.{IsSyncTried, KeepsBothImages}
 
 -- a sync leaves the image as it is, whether it ends well or not
 pub sync-image : {T E : Type 0} (a b : Device) (r : Result T E) → OnOk r (b ≡ synced a) → OnErr r (IsUnsynced a b) → b.image ≡ a.image
@@ -18,6 +18,11 @@ unsynced-more a b un (inr most) = omega (arith, most, ap (λ (d : Device). d.fai
 pub sync-more : {T E : Type 0} (a b : Device) (r : Result T E) → OnOk r (b ≡ synced a) → OnErr r (IsUnsynced a b) → a.failures ≤ b.failures
 sync-more a b (Ok x) done fails = omega (arith, ap (λ (d : Device). d.failures) done)
 sync-more a b (Err e) done fails = unsynced-more a b fails fails.failed
+
+-- a device that was to be synced was synced, or its own sync failed
+pub sync-tried : {T E : Type 0} (write : Bool) (a b : Device) (r : Result T E) → IsTrue write → OnOk r (IsTrue write → b.dirty ≡ false) → OnErr r (IsTrue write × IsUnsynced a b) → IsSyncTried a b
+sync-tried write a b (Ok x) may done fails = inl (done may)
+sync-tried write a b (Err e) may done fails = inr fails.1
 
 -- what isn't synced stays as it is
 pub keeps-all : (w : RepairWorld) → KeepsBothImages w w

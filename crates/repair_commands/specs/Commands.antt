@@ -1,12 +1,16 @@
 -- What `repair` does to files, and how it ends.
-use Rattle.std.specs.Prelude.{◌≡◌, ◌⊎◌, ℕ, Bool, true, false, List, Option, map}
+use Rattle.std.specs.Prelude.{◌≡◌, ◌⊎◌, ℕ, Bool, true, false, List, Option, None, map}
 use Rattle.block_device.specs.Device.{Device}
 use Rattle.program_io.specs.Counted.{CountedRecord}
 use Rattle.command_line.specs.declared.image_copies.ImageCopy.{ImageCopy}
+use Rattle.fec_area.specs.declared.layout.Layout.{Layout}
 use Rattle.image_pin.specs.declared.trusted.TrustedRoot.{TrustedRoot}
+use Rattle.image_commands.specs.declared.tree_source.SoughtTree.{SoughtTree}
+use Rattle.image_commands.specs.TreeSources.{may_seek}
 use Rattle.image_files.specs.Opener.{Calls, Opener, calls}
 use Rattle.verity_commands.specs.declared.tree_fault.TreeFault.{TreeFault}
 use Rattle.verity_commands.specs.Surveyed.{SurveyedDevices, surveyed_devices}
+use Rattle.verity_commands.specs.Surveys.{IsSurveyUnplaced}
 use Rattle.tree_repair.specs.declared.fault.RepairFault.{RepairFault}
 use Rattle.tree_repair.specs.declared.outcome.Outcome.{Outcome}
 use Rattle.tree_repair.specs.declared.repair.Plan.{Plan}
@@ -19,7 +23,7 @@ use Rattle.repair_commands.specs.Endings.{ending_fault}
 use Rattle.repair_commands.specs.FoundTrees.{FindsNoTree, FindsTree}
 use Rattle.repair_commands.specs.Mends.{HalfMends, IsOnMedium, MendsInOnePass}
 use Rattle.repair_commands.specs.Openings.{FailsToOpenCopies, OpensAll}
-use Rattle.repair_commands.specs.Pairs.{Places, places_of}
+use Rattle.repair_commands.specs.Pairs.{Places, places_of, pair_places}
 use Rattle.repair_commands.specs.Rest.{IsRestEnd, TellsRest, known_by}
 use Rattle.verity_format.specs.Blocks.{IsOnlyRead}
 
@@ -86,7 +90,7 @@ abbrev pub MendsOnce : Plan → RepairWorld → Option (List ℕ) → Mending Ou
 MendsOnce plan w old = λ mid between outcome. MendsInOnePass plan w mid old between outcome
 
 -- a repair that ended early, of which only verified blocks were written; `failed` is whether the writer failed
-abbrev pub MendsHalf : Plan → Bool → RepairWorld → Option (List ℕ) → Bool → Mending RepairFault
+abbrev pub MendsHalf : Plan → Option Layout → RepairWorld → Option (List ℕ) → Bool → Mending RepairFault
 MendsHalf plan parity w old failed = λ mid between cause. HalfMends plan parity w mid old between failed cause
 
 -- ---- on files
@@ -105,7 +109,7 @@ MendsOpened w p o found old new = GivesBack w p o.parts (MendsAndTells (MendsOnc
 -- this ended early, and both parts were closed
 abbrev pub EndsOpened : {S D : Type 0} → Calls S D → Places → Opened D → FoundTree → Option (List ℕ) → Option (List ℕ) → Bool → TreeFault → Type 0
 EndsOpened w p o found old new failed fault =
-    GivesBack w p o.parts (EndsEarly (MendsOnce (plan_of p found) (opened_world w.state o) old) (MendsHalf (plan_of p found) false (opened_world w.state o) old failed) found.whole (plan_of p found) new failed fault)
+    GivesBack w p o.parts (EndsEarly (MendsOnce (plan_of p found) (opened_world w.state o) old) (MendsHalf (plan_of p found) None (opened_world w.state o) old failed) found.whole (plan_of p found) new failed fault)
 
 -- ---- what is read before anything is written
 
@@ -114,28 +118,33 @@ abbrev pub with_hash : {D : Type 0} → Opened D → D → Opened D
 with_hash o device = record o { pair = record o.pair { hash_image = record o.pair.hash_image { device = device } } }
 
 -- the tree was found on the hash device, which was only read
-pub record PassesOpened {D : Type 0} (state : D → Device) (first : ℕ) (trusted : TrustedRoot) (before o : Opened D) (found : FoundTree) : Type 0 where
+pub record PassesOpened {D : Type 0} (state : D → Device) (first : ℕ) (sought : SoughtTree) (before o : Opened D) (found : FoundTree) : Type 0 where
   pub rest_is : o ≡ with_hash before o.pair.hash_image.device
   pub read : IsOnlyRead (state before.pair.hash_image.device) (state o.pair.hash_image.device)
-  pub finds : FindsTree (state before.pair.hash_image.device) first trusted (state o.pair.hash_image.device) found
+  pub finds : FindsTree (state before.pair.data_image.device).size (state before.pair.hash_image.device) first sought (state o.pair.hash_image.device) found
 
 -- the image is refused; only the hash device was accessed, by reads
-pub record RefusesOpened {D : Type 0} (state : D → Device) (first : ℕ) (trusted : TrustedRoot) (before o : Opened D) (fault : TreeFault) : Type 0 where
+pub record RefusesOpened {D : Type 0} (state : D → Device) (first : ℕ) (sought : SoughtTree) (before o : Opened D) (fault : TreeFault) : Type 0 where
   pub rest_is : o ≡ with_hash before o.pair.hash_image.device
   pub read : IsOnlyRead (state before.pair.hash_image.device) (state o.pair.hash_image.device)
-  pub none : FindsNoTree (state before.pair.hash_image.device) first trusted (state o.pair.hash_image.device) fault
+  pub none : FindsNoTree (state before.pair.data_image.device).size (state before.pair.hash_image.device) first sought (state o.pair.hash_image.device) fault
 
 -- ---- from the arguments on
 
 -- The images and the copies were opened, and the tree was found. The image was repaired by that tree, reported and closed.
-pub record RepairsFiles {S D : Type 0} (w : Calls S D) (p : Places) (copies : List ImageCopy) (trusted : TrustedRoot) (old new : Option (List ℕ)) : Type 0 where
+pub record RepairsFiles {S D : Type 0} (w : Calls S D) (p : Places) (copies : List ImageCopy) (sought : SoughtTree) (old new : Option (List ℕ)) : Type 0 where
   pub ready : S
   pub before : Opened D
   pub opened : Opened D
   pub found : FoundTree
   pub opens : OpensAll (record w { new = ready }) p copies before
-  pub passes : PassesOpened w.state p.first trusted before opened found
+  pub passes : PassesOpened w.state p.first sought before opened found
   pub mends : MendsOpened (record w { old = ready }) p opened found old new
+  pub aligned : may_seek sought.source p.first ≡ true
+
+-- no hash block of the options' tree begins there, and nothing was opened or printed
+abbrev pub IsRepairUnplaced : {S D : Type 0} → Calls S D → Places → SoughtTree → Option (List ℕ) → Option (List ℕ) → TreeFault → Type 0
+IsRepairUnplaced w p sought old new fault = IsSurveyUnplaced w (pair_places p) sought.source fault × (new ≡ old)
 
 -- a file can't be opened, and nothing was written or printed
 pub record EndsUnopenedRepair {S D : Type 0} (w : Calls S D) (p : Places) (copies : List ImageCopy) (old new : Option (List ℕ)) (fault : TreeFault) : Type 0 where
@@ -143,26 +152,26 @@ pub record EndsUnopenedRepair {S D : Type 0} (w : Calls S D) (p : Places) (copie
   pub quiet : new ≡ old
 
 -- all files are open, and the image is refused before anything is written or printed
-pub record EndsRefused {S D : Type 0} (w : Calls S D) (p : Places) (copies : List ImageCopy) (trusted : TrustedRoot) (old new : Option (List ℕ)) (fault : TreeFault) : Type 0 where
+pub record EndsRefused {S D : Type 0} (w : Calls S D) (p : Places) (copies : List ImageCopy) (sought : SoughtTree) (old new : Option (List ℕ)) (fault : TreeFault) : Type 0 where
   pub before : Opened D
   pub opened : Opened D
   pub opens : OpensAll w p copies before
-  pub refuses : RefusesOpened w.state p.first trusted before opened fault
+  pub refuses : RefusesOpened w.state p.first sought before opened fault
   pub quiet : new ≡ old
 
 -- the image isn't refused, and its repair ended early, or not all of it is valid
-pub record EndsUnmended {S D : Type 0} (w : Calls S D) (p : Places) (copies : List ImageCopy) (trusted : TrustedRoot) (old new : Option (List ℕ)) (failed : Bool) (fault : TreeFault) : Type 0 where
+pub record EndsUnmended {S D : Type 0} (w : Calls S D) (p : Places) (copies : List ImageCopy) (sought : SoughtTree) (old new : Option (List ℕ)) (failed : Bool) (fault : TreeFault) : Type 0 where
   pub ready : S
   pub before : Opened D
   pub opened : Opened D
   pub found : FoundTree
   pub opens : OpensAll (record w { new = ready }) p copies before
-  pub passes : PassesOpened w.state p.first trusted before opened found
+  pub passes : PassesOpened w.state p.first sought before opened found
   pub ends : EndsOpened (record w { old = ready }) p opened found old new failed fault
 
-abbrev pub IsRepairEnd : {S D : Type 0} → Calls S D → Places → List ImageCopy → TrustedRoot → Option (List ℕ) → Option (List ℕ) → Bool → TreeFault → Type 0
-IsRepairEnd w p copies trusted old new failed fault =
-    EndsUnopenedRepair w p copies old new fault ⊎ (EndsRefused w p copies trusted old new fault ⊎ EndsUnmended w p copies trusted old new failed fault)
+abbrev pub IsRepairEnd : {S D : Type 0} → Calls S D → Places → List ImageCopy → SoughtTree → Option (List ℕ) → Option (List ℕ) → Bool → TreeFault → Type 0
+IsRepairEnd w p copies sought old new failed fault =
+    IsRepairUnplaced w p sought old new fault ⊎ (EndsUnopenedRepair w p copies old new fault ⊎ (EndsRefused w p copies sought old new fault ⊎ EndsUnmended w p copies sought old new failed fault))
 
 -- ---- in terms of an opener, a writer before and after, and the arguments
 
@@ -180,11 +189,11 @@ abbrev pub IsPairUnmended : {S D W : Type 0} → Opener S D → (D → Device) �
 IsPairUnmended relations state old new places o found contents before behind =
     EndsOpened (calls relations state old new) (places_of places) o found (contents before.inner) (contents behind.inner) behind.failed
 
-abbrev pub AreRepaired : {S D W : Type 0} → Opener S D → (D → Device) → S → S → RepairPlaces → List ImageCopy → TrustedRoot → (W → Option (List ℕ)) → CountedRecord W → CountedRecord W → Type 0
-AreRepaired relations state old new places copies trusted contents before behind =
-    RepairsFiles (calls relations state old new) (places_of places) copies trusted (contents before.inner) (contents behind.inner)
+abbrev pub AreRepaired : {S D W : Type 0} → Opener S D → (D → Device) → S → S → RepairPlaces → List ImageCopy → SoughtTree → (W → Option (List ℕ)) → CountedRecord W → CountedRecord W → Type 0
+AreRepaired relations state old new places copies sought contents before behind =
+    RepairsFiles (calls relations state old new) (places_of places) copies sought (contents before.inner) (contents behind.inner)
 
-abbrev pub AreUnrepaired : {S D W : Type 0} → Opener S D → (D → Device) → S → S → RepairPlaces → List ImageCopy → TrustedRoot
+abbrev pub AreUnrepaired : {S D W : Type 0} → Opener S D → (D → Device) → S → S → RepairPlaces → List ImageCopy → SoughtTree
     → (W → Option (List ℕ)) → CountedRecord W → CountedRecord W → TreeFault → Type 0
-AreUnrepaired relations state old new places copies trusted contents before behind =
-    IsRepairEnd (calls relations state old new) (places_of places) copies trusted (contents before.inner) (contents behind.inner) behind.failed
+AreUnrepaired relations state old new places copies sought contents before behind =
+    IsRepairEnd (calls relations state old new) (places_of places) copies sought (contents before.inner) (contents behind.inner) behind.failed

@@ -1,38 +1,33 @@
 -- The tree of a hash image that is repaired, found before anything is written.
 use Rattle.std.specs.Prelude.{◌≡◌, ◌⊎◌, ℕ}
 use Rattle.block_device.specs.Device.{Device}
-use Rattle.image_pin.specs.declared.trusted.TrustedRoot.{TrustedRoot}
-use Rattle.image_pin.specs.declared.finding.NoTree.{NoTree}
-use Rattle.image_pin.specs.Finding.{IsNoTree, ReadsSuper}
+use Rattle.image_commands.specs.declared.tree_source.NoSource.{NoSource}
+use Rattle.image_commands.specs.declared.tree_source.SoughtTree.{SoughtTree}
+use Rattle.image_commands.specs.TreeSources.{IsNoTreeOf, IsTreeOf}
 use Rattle.verity_commands.specs.declared.tree_fault.TreeFault.{TreeFault}
-use Rattle.verity_commands.specs.Surveys.{no_tree_fault}
-use Rattle.verity_format.specs.Blocks.{IsFullRead}
-use Rattle.verity_format.specs.Superblock.{SuperRecord}
-use Rattle.verity_format.specs.Trees.{superblock_tree}
+use Rattle.verity_commands.specs.Surveys.{no_source_fault}
+use Rattle.verity_format.specs.declared.tree.VerityTree.{VerityTree}
 use Rattle.repair_commands.specs.declared.found_tree.FoundTree.{FoundTree}
 use Rattle.repair_commands.specs.Unused.{IsUnusedCause, IsUnusedPassed}
 
--- The superblock was read once; it has the values of the pin, if there is one, and a block of its tree can begin at that sector of the
--- file. Then the hash blocks on the path to the last data block were read. The tree is that superblock's.
-pub record FindsTree (hash_dev : Device) (first : ℕ) (trusted : TrustedRoot) (hash_dev' : Device) (found : FoundTree) : Type 0 where
-  pub super : SuperRecord
+-- The tree is that of its source over so many sectors of data: a superblock was read once, or nothing. Then the hash blocks on the path
+-- to the last data block were read.
+pub record FindsTree (sectors : ℕ) (hash_dev : Device) (first : ℕ) (sought : SoughtTree) (hash_dev' : Device) (found : FoundTree) : Type 0 where
   pub read_dev : Device
-  pub super_read : ReadsSuper hash_dev first trusted.pin super
-  pub one : IsFullRead hash_dev 1 read_dev
-  pub passed : IsUnusedPassed super trusted.root read_dev hash_dev' found.whole
-  pub is : found ≡ record { tree = superblock_tree super; root = trusted.root; whole = found.whole }
+  pub tree_of : IsTreeOf sought.source sectors hash_dev first read_dev found.tree
+  pub passed : IsUnusedPassed found.tree sought.root read_dev hash_dev' found.whole
+  pub root_is : found.root ≡ sought.root
 
--- the superblock was read, and the image is refused, or memory was
-pub record RefusesTree (hash_dev : Device) (first : ℕ) (trusted : TrustedRoot) (hash_dev' : Device) (fault : TreeFault) : Type 0 where
-  pub super : SuperRecord
+-- there is a tree of that source, and the image is refused, or memory was
+pub record RefusesTree (sectors : ℕ) (hash_dev : Device) (first : ℕ) (sought : SoughtTree) (hash_dev' : Device) (fault : TreeFault) : Type 0 where
+  pub tree : VerityTree
   pub read_dev : Device
-  pub super_read : ReadsSuper hash_dev first trusted.pin super
-  pub one : IsFullRead hash_dev 1 read_dev
-  pub cause : IsUnusedCause super trusted.root read_dev hash_dev' fault
+  pub tree_of : IsTreeOf sought.source sectors hash_dev first read_dev tree
+  pub cause : IsUnusedCause tree sought.root read_dev hash_dev' fault
 
--- there is no superblock, it differs from the pin, or no block of its tree can begin at that sector
-abbrev pub IsSuperRefused : Device → ℕ → TrustedRoot → Device → TreeFault → Type 0
-IsSuperRefused hash_dev first trusted hash_dev' fault = (cause : NoTree) × IsNoTree hash_dev first trusted.pin hash_dev' cause × (fault ≡ no_tree_fault cause)
+-- there is no tree of that source
+abbrev pub IsSourceRefused : ℕ → Device → ℕ → SoughtTree → Device → TreeFault → Type 0
+IsSourceRefused sectors hash_dev first sought hash_dev' fault = (cause : NoSource) × IsNoTreeOf sought.source sectors hash_dev first hash_dev' cause × (fault ≡ no_source_fault cause)
 
-abbrev pub FindsNoTree : Device → ℕ → TrustedRoot → Device → TreeFault → Type 0
-FindsNoTree hash_dev first trusted hash_dev' fault = IsSuperRefused hash_dev first trusted hash_dev' fault ⊎ RefusesTree hash_dev first trusted hash_dev' fault
+abbrev pub FindsNoTree : ℕ → Device → ℕ → SoughtTree → Device → TreeFault → Type 0
+FindsNoTree sectors hash_dev first sought hash_dev' fault = IsSourceRefused sectors hash_dev first sought hash_dev' fault ⊎ RefusesTree sectors hash_dev first sought hash_dev' fault

@@ -1,6 +1,6 @@
 -- A repair of two devices, with the sync after it.
-use Rattle.std.specs.Prelude.{◌≡◌, ◌≤◌, ◌⊎◌, ℕ, Bool, true, false, IsTrue, List, Option, None, Some, Result, Ok, Err}
-use Rattle.block_device.specs.Device.{Device, HasFailed}
+use Rattle.std.specs.Prelude.{◌≡◌, ◌≤◌, ◌⊎◌, ℕ, Bool, true, false, IsTrue, List, Option, None, Some, Result, Ok, Err, is_some}
+use Rattle.block_device.specs.Device.{Device, HasFailed, IsUnsynced}
 use Rattle.program_io.specs.Counted.{CountedRecord}
 use Rattle.fec_area.specs.declared.layout.Layout.{Layout}
 use Rattle.tree_repair.specs.declared.fault.RepairFault.{RepairFault}
@@ -52,9 +52,16 @@ pub record MendsInPasses (plan : Plan) (l : Layout) (p p' : Device) (w w' : Repa
   pub sought : SeeksByParity plan l w mends.mid p p'
   pub whole : IsParityOutcome plan w mends.mid outcome
 
--- what was written isn't all synced, because a device failed in a sync
-abbrev pub HasFailedInSync : Bool → Device → Device → Device → Device → Type 0
-HasFailedInSync write data_dev hash_dev data_dev' hash_dev' = IsTrue write × (HasFailed data_dev data_dev' ⊎ HasFailed hash_dev hash_dev')
+-- nothing written to the device is unsynced, or its own sync failed
+abbrev pub IsSyncTried : Device → Device → Type 0
+IsSyncTried old new = (new.dirty ≡ false) ⊎ IsUnsynced old new
+
+-- what was written isn't all synced, because a device failed in a sync; the other one was synced nevertheless, if it could be
+pub record HasFailedInSync (write : Bool) (data_dev hash_dev data_dev' hash_dev' : Device) : Type 0 where
+  pub may_write : IsTrue write
+  pub failed : HasFailed data_dev data_dev' ⊎ HasFailed hash_dev hash_dev'
+  pub data_tried : IsSyncTried data_dev data_dev'
+  pub hash_tried : IsSyncTried hash_dev hash_dev'
 
 abbrev pub IsUnsyncedCause : Bool → RepairWorld → RepairWorld → RepairFault → Type 0
 IsUnsyncedCause write w w' fault = (fault ≡ Image DeviceFailed) × HasFailedInSync write w.data_dev w.hash_dev w'.data_dev w'.hash_dev
@@ -75,46 +82,58 @@ IsUnsyncedEnd write w w' (Some (Image cause)) fault = (fault ≡ Image cause) ×
 
 -- ---- a run that ends early
 
+-- the blocks were visited to the end, in passes, and those that were found nowhere were sought by the parity on a device
+pub record SeeksToEnd (plan : Plan) (l : Layout) (w w' : RepairWorld) (old new : Option (List ℕ)) : Type 0 where
+  pub repairs : Repairs plan true w w' old new None
+  pub before : Device
+  pub after : Device
+  pub sought : SeeksByParity plan l w w' before after
+
+-- a run to its end, by parity of that layout if there is one
+abbrev pub IsRunToEnd : Plan → Option Layout → RepairWorld → RepairWorld → Option (List ℕ) → Option (List ℕ) → Type 0
+IsRunToEnd plan None w w' old new = LooksAtAll plan w w' old new
+IsRunToEnd plan (Some l) w w' old new = SeeksToEnd plan l w w' old new
+
 -- a run to its end, or up to a fault
-abbrev pub IsRunTo : Plan → Bool → RepairWorld → RepairWorld → Option (List ℕ) → Option (List ℕ) → Option RepairFault → Type 0
-IsRunTo plan parity w w' old new None = Repairs plan parity w w' old new None
-IsRunTo plan parity w w' old new (Some fault) = IsUnrepairedBy plan parity w w' old new fault
+abbrev pub IsRunTo : Plan → Option Layout → RepairWorld → RepairWorld → Option (List ℕ) → Option (List ℕ) → Option RepairFault → Type 0
+IsRunTo plan parity w w' old new None = IsRunToEnd plan parity w w' old new
+IsRunTo plan parity w w' old new (Some fault) = IsUnrepairedBy plan (is_some parity) w w' old new fault
 
 -- the image was repaired without a writer; the fault `Write` means that this completed
 abbrev pub unheard_end : Option RepairFault → RepairFault
 unheard_end None = Write
 unheard_end (Some fault) = fault
 
-pub record IsUnheard (plan : Plan) (parity : Bool) (w w' : RepairWorld) (fault : RepairFault) : Type 0 where
+pub record IsUnheard (plan : Plan) (parity : Option Layout) (w w' : RepairWorld) (fault : RepairFault) : Type 0 where
   pub ended : Option RepairFault
   pub run : IsRunTo plan parity w w' None None ended
   pub is : fault ≡ unheard_end ended
 
 -- what ended a repair; after a failed writer the image was repaired again without a writer
-abbrev pub IsEndBehind : Plan → Bool → RepairFault → RepairWorld → RepairWorld → RepairFault → Type 0
+abbrev pub IsEndBehind : Plan → Option Layout → RepairFault → RepairWorld → RepairWorld → RepairFault → Type 0
 IsEndBehind plan parity (Image cause) w w' fault = (fault ≡ Image cause) × (w' ≡ w)
 IsEndBehind plan parity Write w w' fault = IsUnheard plan parity w w' fault
 
 -- the writer failed, which it records, and the image was repaired again without a writer
-pub record GoesOnUnheard (plan : Plan) (parity : Bool) (w w' : RepairWorld) (old new : Option (List ℕ)) (failed : Bool) (fault : RepairFault) : Type 0 where
+pub record GoesOnUnheard (plan : Plan) (parity : Option Layout) (w w' : RepairWorld) (old new : Option (List ℕ)) (failed : Bool) (fault : RepairFault) : Type 0 where
   pub told : failed ≡ true
   pub between : RepairWorld
-  pub cut : IsUnrepairedBy plan parity w between old new Write
+  pub cut : IsUnrepairedBy plan (is_some parity) w between old new Write
   pub unheard : IsUnheard plan parity between w' fault
 
 -- The fault `Write` therefore means that the image was repaired to its end nevertheless.
-abbrev pub IsCutBy : Plan → Bool → RepairWorld → RepairWorld → Option (List ℕ) → Option (List ℕ) → Bool → RepairFault → Type 0
+abbrev pub IsCutBy : Plan → Option Layout → RepairWorld → RepairWorld → Option (List ℕ) → Option (List ℕ) → Bool → RepairFault → Type 0
 IsCutBy plan parity w w' old new failed fault =
-    ((cause : VerifyFault) × ((fault ≡ Image cause) × IsUnrepairedBy plan parity w w' old new (Image cause))) ⊎ GoesOnUnheard plan parity w w' old new failed fault
+    ((cause : VerifyFault) × ((fault ≡ Image cause) × IsUnrepairedBy plan (is_some parity) w w' old new (Image cause))) ⊎ GoesOnUnheard plan parity w w' old new failed fault
 
 -- a run to its end, or up to a fault, with the writer or after its failure
-abbrev pub IsWholeOrCut : Plan → Bool → RepairWorld → RepairWorld → Option (List ℕ) → Option (List ℕ) → Bool → Option RepairFault → Type 0
-IsWholeOrCut plan parity w w' old new failed None = Repairs plan parity w w' old new None
+abbrev pub IsWholeOrCut : Plan → Option Layout → RepairWorld → RepairWorld → Option (List ℕ) → Option (List ℕ) → Bool → Option RepairFault → Type 0
+IsWholeOrCut plan parity w w' old new failed None = IsRunToEnd plan parity w w' old new
 IsWholeOrCut plan parity w w' old new failed (Some fault) = IsCutBy plan parity w w' old new failed fault
 
--- The repair ended in that fault, and both devices were synced; or a device failed in the sync. Only verified blocks were
--- written.
-pub record HalfMends (plan : Plan) (parity : Bool) (w w' : RepairWorld) (old new : Option (List ℕ)) (failed : Bool) (fault : RepairFault) : Type 0 where
+-- The repair ended in that fault, and both devices were synced; or a device failed in the sync, and each one was synced or its
+-- own sync failed. Only verified blocks were written.
+pub record HalfMends (plan : Plan) (parity : Option Layout) (w w' : RepairWorld) (old new : Option (List ℕ)) (failed : Bool) (fault : RepairFault) : Type 0 where
   pub mid : RepairWorld
   pub ended : Option RepairFault
   pub run : IsWholeOrCut plan parity w mid old new failed ended
@@ -129,10 +148,10 @@ IsMendedInOnePass contents plan w w' old new outcome = MendsInOnePass plan w w' 
 abbrev pub IsMendedInPasses : {P W : Type 0} → (P → Device) → (W → Option (List ℕ)) → Plan → Layout → P → P → RepairWorld → RepairWorld → CountedRecord W → CountedRecord W → Outcome → Type 0
 IsMendedInPasses state contents plan l p p' w w' old new outcome = MendsInPasses plan l (state p) (state p') w w' (contents old.inner) (contents new.inner) outcome
 
-abbrev pub IsMendingCut : {W : Type 0} → (W → Option (List ℕ)) → Plan → Bool → RepairWorld → RepairWorld → CountedRecord W → CountedRecord W → RepairFault → Type 0
+abbrev pub IsMendingCut : {W : Type 0} → (W → Option (List ℕ)) → Plan → Option Layout → RepairWorld → RepairWorld → CountedRecord W → CountedRecord W → RepairFault → Type 0
 IsMendingCut contents plan parity w w' old new fault = HalfMends plan parity w w' (contents old.inner) (contents new.inner) new.failed fault
 
-abbrev pub IsRunCut : {W : Type 0} → (W → Option (List ℕ)) → Plan → Bool → RepairWorld → RepairWorld → CountedRecord W → CountedRecord W → RepairFault → Type 0
+abbrev pub IsRunCut : {W : Type 0} → (W → Option (List ℕ)) → Plan → Option Layout → RepairWorld → RepairWorld → CountedRecord W → CountedRecord W → RepairFault → Type 0
 IsRunCut contents plan parity w w' old new fault = IsCutBy plan parity w w' (contents old.inner) (contents new.inner) new.failed fault
 
 -- each block was visited, in one pass, and this is known of the image

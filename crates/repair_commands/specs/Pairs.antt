@@ -3,6 +3,7 @@ use Rattle.std.specs.Prelude.{◌≡◌, ◌⊎◌, ℕ, ◌-◌, ◌^◌, ◌&&
 use Rattle.block_device.specs.Device.{Device}
 use Rattle.device_adapters.specs.declared.part.Part.{Part}
 use Rattle.device_adapters.specs.Parts.{part_before, part_behind}
+use Rattle.image_commands.specs.Places.{TwoPlaces}
 use Rattle.image_files.specs.declared.file_use.FileUse.{FileUse}
 use Rattle.image_files.specs.declared.images.OpenImage.{OpenImage}
 use Rattle.image_files.specs.declared.opening.UnopenedFile.{UnopenedFile}
@@ -29,6 +30,10 @@ pub record Places : Type 0 where
 
 abbrev pub places_of : RepairPlaces → Places
 places_of p = record { data_path = p.«data».now; hash_path = p.hash.now; first = p.hash_first; write = p.write }
+
+-- where the two images are
+abbrev pub pair_places : Places → TwoPlaces
+pair_places p = record { paths = record { data_path = p.data_path; hash_path = p.hash_path }; first = p.first }
 
 -- where the data end: at the hash image's first sector if both are one file, otherwise at the end of the data file
 abbrev pub pair_data_end : {D : Type 0} → Pair D → ℕ → ℕ

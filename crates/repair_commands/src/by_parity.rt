@@ -1,5 +1,5 @@
 //! `repair --fec FILE`: restores what no copy has by the parity in a file.
-ghost use Rattle.std.specs.Prelude.{◌≤◌, ◌^◌, true, IfErr, IfOk, OnOk};
+ghost use Rattle.std.specs.Prelude.{◌≤◌, ◌^◌, Some, IfErr, IfOk, OnOk};
 ghost use Rattle.tree_repair.specs.Repairs.{IsAllowed};
 ghost use Rattle.repair_commands.specs.ByParity.{AreRepairedByFec, AreUnrepairedByFec, IsPairMendedByFec, IsPairUnmendedByFec};
 ghost use Rattle.fec_area.specs.Layouts.{IsLaidOn};
@@ -17,8 +17,8 @@ use crate::syncing::{end_of, sync_both};
 use block_device::{BlockDev, SyncDev};
 use command_line::{FecFile, ImageCopy};
 use fec_area::Layout;
+use image_commands::{SoughtTree, may_seek};
 use image_files::Images;
-use image_pin::TrustedRoot;
 use program_io::Counted;
 use std::alloc::Global;
 use std::io::Write;
@@ -31,7 +31,7 @@ use verity_commands::TreeFault;
 /// # Errors
 ///
 /// - `Tree` with the faults of `repair_images`.
-/// - `BlockSizes` if the superblock has two block sizes.
+/// - `BlockSizes` if the tree has two block sizes.
 /// - `TooSmall` if FILE has fewer sectors than needed.
 pub fn repair_by_parity<'a, I: Images, W: Write>(
     alloc: Global,
@@ -39,22 +39,32 @@ pub fn repair_by_parity<'a, I: Images, W: Write>(
     places: RepairPlaces<'a>,
     fec: &FecFile<'a>,
     copies: &[ImageCopy<'a>],
-    trusted: &TrustedRoot,
+    sought: &SoughtTree,
     writer: &mut Counted<W>,
 ) -> Result<(), ParityRepairFault<'a>>
     requires first { places.hash_first ≤ 2 ^ 55 }
     requires some { 2 ≤ fec.now.roots }
     requires few { fec.now.roots ≤ 24 }
-    ensures ok { OnOk result (AreRepairedByFec I.relations I.Dev.state images.old images.new places.entry fec.now copies.now trusted.now W.contents writer.old writer.new) }
-    ensures err { IfErr result (AreUnrepairedByFec I.relations I.Dev.state images.old images.new places.entry fec.now copies.now trusted.now W.contents writer.old writer.new) }
+    ensures ok { OnOk result (AreRepairedByFec I.relations I.Dev.state images.old images.new places.entry fec.now copies.now sought.now W.contents writer.old writer.new) }
+    ensures err { IfErr result (AreUnrepairedByFec I.relations I.Dev.state images.old images.new places.entry fec.now copies.now sought.now W.contents writer.old writer.new) }
 {
+    let first = places.hash_first;
+    if !may_seek(&sought.source, first) {
+        return Err(ParityRepairFault::Tree(TreeFault::Unaligned));
+    }
     let mut opened = open_all(alloc, images, places, copies)?;
     let parity = match open_parity(images, places.write, &opened, fec) {
         Ok(parity) => parity,
         Err(file) => return Err(ParityRepairFault::Tree(TreeFault::Open(file))),
     };
-    let first = places.hash_first;
-    let found = find_repaired_tree(alloc, &mut opened.pair.hash_image.device, first, trusted)?;
+    let sectors = opened.pair.data_image.device.sectors();
+    let found = find_repaired_tree(
+        alloc,
+        sectors,
+        &mut opened.pair.hash_image.device,
+        first,
+        sought,
+    )?;
     let laid = lay_out(&found.tree.shape, &opened.pair, parity)?;
     mend_opened(alloc, images, places, opened, &found, laid, writer)?;
     Ok(())
@@ -98,10 +108,10 @@ fn mend<D: SyncDev, H: SyncDev, C: BlockDev, P: BlockDev, W: Write>(
     writer: &mut Counted<W>,
 ) -> Result<Outcome, RepairFault>
     requires first { plan.now.copy_first ≤ 2 ^ 55 }
-    requires allowed { IsAllowed plan.now.write image.old.data_dev image.old.hash_dev }
-    requires laid { IsLaidOn layout.now image.old.data_dev image.old.hash_dev }
-    ensures ok { IfOk result (IsMendedInPasses P.state W.contents plan.now layout.now parity_dev.old parity_dev.new image.old image.new writer.old writer.new) }
-    ensures err { IfErr result (IsMendingCut W.contents plan.now true image.old image.new writer.old writer.new) }
+    requires allowed { IsAllowed plan.now.write image.old.world.data_dev image.old.world.hash_dev }
+    requires laid { IsLaidOn layout.now image.old.world.data_dev image.old.world.hash_dev }
+    ensures ok { IfOk result (IsMendedInPasses P.state W.contents plan.now layout.now parity_dev.old parity_dev.new image.old.world image.new.world writer.old writer.new) }
+    ensures err { IfErr result (IsMendingCut W.contents plan.now (Some layout.now) image.old.world image.new.world writer.old writer.new) }
 {
     let ended = repair_through(alloc, image, layout, parity_dev, plan, writer);
     let synced = sync_both(image, plan.write);
@@ -118,10 +128,10 @@ fn repair_through<D: BlockDev, H: BlockDev, C: BlockDev, P: BlockDev, W: Write>(
     writer: &mut Counted<W>,
 ) -> Result<Outcome, RepairFault>
     requires first { plan.now.copy_first ≤ 2 ^ 55 }
-    requires allowed { IsAllowed plan.now.write image.old.data_dev image.old.hash_dev }
-    requires laid { IsLaidOn layout.now image.old.data_dev image.old.hash_dev }
-    ensures ok { IfOk result (IsRunByParity P.state W.contents plan.now layout.now parity_dev.old parity_dev.new image.old image.new writer.old writer.new) }
-    ensures err { IfErr result (IsRunCut W.contents plan.now true image.old image.new writer.old writer.new) }
+    requires allowed { IsAllowed plan.now.write image.old.world.data_dev image.old.world.hash_dev }
+    requires laid { IsLaidOn layout.now image.old.world.data_dev image.old.world.hash_dev }
+    ensures ok { IfOk result (IsRunByParity P.state W.contents plan.now layout.now parity_dev.old parity_dev.new image.old.world image.new.world writer.old writer.new) }
+    ensures err { IfErr result (IsRunCut W.contents plan.now (Some layout.now) image.old.world image.new.world writer.old writer.new) }
 {
     match repair_with_parity(alloc, image, layout, parity_dev, plan, writer) {
         Ok(outcome) => Ok(outcome),
@@ -139,9 +149,9 @@ fn go_on<D: BlockDev, H: BlockDev, C: BlockDev, P: BlockDev>(
     fault: RepairFault,
 ) -> RepairFault
     requires first { plan.now.copy_first ≤ 2 ^ 55 }
-    requires allowed { IsAllowed plan.now.write image.old.data_dev image.old.hash_dev }
-    requires laid { IsLaidOn layout.now image.old.data_dev image.old.hash_dev }
-    ensures { IsEndBehind plan.now true fault image.old image.new result }
+    requires allowed { IsAllowed plan.now.write image.old.world.data_dev image.old.world.hash_dev }
+    requires laid { IsLaidOn layout.now image.old.world.data_dev image.old.world.hash_dev }
+    ensures { IsEndBehind plan.now (Some layout.now) fault image.old.world image.new.world result }
 {
     match fault {
         RepairFault::Image(fault) => RepairFault::Image(fault),
@@ -158,9 +168,9 @@ fn repair_unheard<D: BlockDev, H: BlockDev, C: BlockDev, P: BlockDev>(
     plan: &Plan,
 ) -> RepairFault
     requires first { plan.now.copy_first ≤ 2 ^ 55 }
-    requires allowed { IsAllowed plan.now.write image.old.data_dev image.old.hash_dev }
-    requires laid { IsLaidOn layout.now image.old.data_dev image.old.hash_dev }
-    ensures { IsUnheard plan.now true image.old image.new result }
+    requires allowed { IsAllowed plan.now.write image.old.world.data_dev image.old.world.hash_dev }
+    requires laid { IsLaidOn layout.now image.old.world.data_dev image.old.world.hash_dev }
+    ensures { IsUnheard plan.now (Some layout.now) image.old.world image.new.world result }
 {
     let mut nowhere = Counted::new(Nowhere);
     match repair_with_parity(alloc, image, layout, parity_dev, plan, &mut nowhere) {

@@ -1,5 +1,5 @@
 //! Repairs two devices from copies, and syncs them.
-ghost use Rattle.std.specs.Prelude.{◌≤◌, ◌^◌, false, IfErr, IfOk};
+ghost use Rattle.std.specs.Prelude.{◌≤◌, ◌^◌, None, IfErr, IfOk};
 ghost use Rattle.tree_repair.specs.Repairs.{IsAllowed};
 ghost use Rattle.repair_commands.specs.Mends.{IsEndBehind, IsMendedInOnePass, IsMendingCut, IsRunCut, IsRunWhole, IsUnheard};
 
@@ -28,9 +28,9 @@ pub(crate) fn mend<D: SyncDev, H: SyncDev, C: BlockDev, W: Write>(
     writer: &mut Counted<W>,
 ) -> Result<Outcome, RepairFault>
     requires first { plan.now.copy_first ≤ 2 ^ 55 }
-    requires allowed { IsAllowed plan.now.write image.old.data_dev image.old.hash_dev }
-    ensures ok { IfOk result (IsMendedInOnePass W.contents plan.now image.old image.new writer.old writer.new) }
-    ensures err { IfErr result (IsMendingCut W.contents plan.now false image.old image.new writer.old writer.new) }
+    requires allowed { IsAllowed plan.now.write image.old.world.data_dev image.old.world.hash_dev }
+    ensures ok { IfOk result (IsMendedInOnePass W.contents plan.now image.old.world image.new.world writer.old writer.new) }
+    ensures err { IfErr result (IsMendingCut W.contents plan.now None image.old.world image.new.world writer.old writer.new) }
 {
     let ended = repair_through(alloc, image, plan, writer);
     let synced = sync_both(image, plan.write);
@@ -45,9 +45,9 @@ fn repair_through<D: BlockDev, H: BlockDev, C: BlockDev, W: Write>(
     writer: &mut Counted<W>,
 ) -> Result<Outcome, RepairFault>
     requires first { plan.now.copy_first ≤ 2 ^ 55 }
-    requires allowed { IsAllowed plan.now.write image.old.data_dev image.old.hash_dev }
-    ensures ok { IfOk result (IsRunWhole W.contents plan.now image.old image.new writer.old writer.new) }
-    ensures err { IfErr result (IsRunCut W.contents plan.now false image.old image.new writer.old writer.new) }
+    requires allowed { IsAllowed plan.now.write image.old.world.data_dev image.old.world.hash_dev }
+    ensures ok { IfOk result (IsRunWhole W.contents plan.now image.old.world image.new.world writer.old writer.new) }
+    ensures err { IfErr result (IsRunCut W.contents plan.now None image.old.world image.new.world writer.old writer.new) }
 {
     match repair_image(alloc, image, plan, writer) {
         Ok(outcome) => Ok(outcome),
@@ -63,8 +63,8 @@ fn go_on<D: BlockDev, H: BlockDev, C: BlockDev>(
     fault: RepairFault,
 ) -> RepairFault
     requires first { plan.now.copy_first ≤ 2 ^ 55 }
-    requires allowed { IsAllowed plan.now.write image.old.data_dev image.old.hash_dev }
-    ensures { IsEndBehind plan.now false fault image.old image.new result }
+    requires allowed { IsAllowed plan.now.write image.old.world.data_dev image.old.world.hash_dev }
+    ensures { IsEndBehind plan.now None fault image.old.world image.new.world result }
 {
     match fault {
         RepairFault::Image(fault) => RepairFault::Image(fault),
@@ -79,8 +79,8 @@ fn repair_unheard<D: BlockDev, H: BlockDev, C: BlockDev>(
     plan: &Plan,
 ) -> RepairFault
     requires first { plan.now.copy_first ≤ 2 ^ 55 }
-    requires allowed { IsAllowed plan.now.write image.old.data_dev image.old.hash_dev }
-    ensures { IsUnheard plan.now false image.old image.new result }
+    requires allowed { IsAllowed plan.now.write image.old.world.data_dev image.old.world.hash_dev }
+    ensures { IsUnheard plan.now None image.old.world image.new.world result }
 {
     let mut nowhere = Counted::new(Nowhere);
     match repair_image(alloc, image, plan, &mut nowhere) {

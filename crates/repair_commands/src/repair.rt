@@ -10,23 +10,23 @@ use crate::pair::{Pair, Parts, RepairPlaces};
 use crate::rest::tell;
 use block_device::BlockDev;
 use command_line::ImageCopy;
+use image_commands::{SoughtTree, may_seek};
 use image_files::Images;
-use image_pin::TrustedRoot;
 use program_io::Counted;
 use std::alloc::Global;
 use std::io::Write;
 use tree_repair::{DamagedImage, Plan};
 use verity_commands::TreeFault;
 
-/// Runs `repair [--check] [--hash-offset BYTES] DATA HASH ROOT [COPY ..]`. It prints a line for each corrupt block that was
+/// Runs `repair [--check] [--hash-offset BYTES] DATA HASH ROOT [COPY ..]`, also with `--no-superblock`. It prints a line for each corrupt block that was
 /// found in a copy, and then what `verify --all` prints. If the repair left all blocks valid, they aren't read again for that.
-/// Each copy is read at the block's offset in DATA or in HASH. The superblock is read once.
+/// Each copy is read at the block's offset in DATA or in HASH. A superblock is read once.
 ///
 /// # Errors
 ///
 /// - `Open` if a file can't be opened, or conflicts with an open one.
 /// - `Survey` if there is no superblock, an image is too small, a device failed, or memory ran out.
-/// - `Unaligned`, `Unpinned` or `UnusedEntries` if the image is refused before anything is written.
+/// - `Unaligned`, `NoShape`, `Unpinned` or `UnusedEntries` if the image is refused before anything is written.
 /// - `Damaged` if blocks are still lost.
 /// - `Write` if a line can't be written.
 pub fn repair_images<'a, I: Images, W: Write>(
@@ -34,16 +34,26 @@ pub fn repair_images<'a, I: Images, W: Write>(
     images: &mut I,
     places: RepairPlaces<'a>,
     copies: &[ImageCopy<'a>],
-    trusted: &TrustedRoot,
+    sought: &SoughtTree,
     writer: &mut Counted<W>,
 ) -> Result<(), TreeFault<'a>>
     requires { places.hash_first ≤ 2 ^ 55 }
-    ensures ok { OnOk result (AreRepaired I.relations I.Dev.state images.old images.new places.entry copies.now trusted.now W.contents writer.old writer.new) }
-    ensures err { IfErr result (AreUnrepaired I.relations I.Dev.state images.old images.new places.entry copies.now trusted.now W.contents writer.old writer.new) }
+    ensures ok { OnOk result (AreRepaired I.relations I.Dev.state images.old images.new places.entry copies.now sought.now W.contents writer.old writer.new) }
+    ensures err { IfErr result (AreUnrepaired I.relations I.Dev.state images.old images.new places.entry copies.now sought.now W.contents writer.old writer.new) }
 {
-    let mut opened = open_all(alloc, images, places, copies)?;
     let first = places.hash_first;
-    let found = find_repaired_tree(alloc, &mut opened.pair.hash_image.device, first, trusted)?;
+    if !may_seek(&sought.source, first) {
+        return Err(TreeFault::Unaligned);
+    }
+    let mut opened = open_all(alloc, images, places, copies)?;
+    let sectors = opened.pair.data_image.device.sectors();
+    let found = find_repaired_tree(
+        alloc,
+        sectors,
+        &mut opened.pair.hash_image.device,
+        first,
+        sought,
+    )?;
     mend_opened(alloc, images, places, opened, &found, writer)
 }
 
@@ -85,7 +95,7 @@ pub(crate) fn plan_at(places: RepairPlaces<'_>, found: &FoundTree) -> Plan
 
 /// Returns the image that was opened, and its copies.
 pub(crate) fn damaged<D: BlockDev + Drop>(opened: Opened<D>) -> DamagedImage<D, D, D>
-    ensures { result ≡ opened_world D.state opened }
+    ensures { result.world ≡ opened_world D.state opened }
 {
     let Opened {
         parts: _,
@@ -110,8 +120,8 @@ pub(crate) fn damaged<D: BlockDev + Drop>(opened: Opened<D>) -> DamagedImage<D, 
 pub(crate) fn devices_of<D: BlockDev, H: BlockDev, C: BlockDev + Drop>(
     image: DamagedImage<D, H, C>,
 ) -> (D, H)
-    ensures data { D.state result.0 ≡ image.data_dev }
-    ensures hash { H.state result.1 ≡ image.hash_dev }
+    ensures data { D.state result.0 ≡ image.world.data_dev }
+    ensures hash { H.state result.1 ≡ image.world.hash_dev }
 {
     let DamagedImage {
         data,

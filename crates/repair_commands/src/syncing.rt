@@ -1,6 +1,6 @@
 //! Syncs both devices after a repair.
 ghost use Rattle.std.specs.Prelude.{◌≡◌, ◌≤◌, false, IfErr, IsTrue, OnErr, OnOk};
-ghost use Rattle.block_device.specs.Device.{HasFailed};
+ghost use Rattle.block_device.specs.Device.{IsUnsynced};
 ghost use Rattle.repair_commands.specs.Mends.{IsOnMedium, IsUnsyncedCause, KeepsBothImages, end_of};
 
 use block_device::{BlockDev, DeviceFault, SyncDev};
@@ -11,9 +11,9 @@ pub(crate) fn sync_both<D: SyncDev, H: SyncDev, C: BlockDev>(
     image: &mut DamagedImage<D, H, C>,
     write: bool,
 ) -> Result<(), RepairFault>
-    ensures kept { KeepsBothImages image.old image.new }
-    ensures ok { OnOk result (IsOnMedium write image.new.data_dev image.new.hash_dev) }
-    ensures err { IfErr result (IsUnsyncedCause write image.old image.new) }
+    ensures kept { KeepsBothImages image.old.world image.new.world }
+    ensures ok { OnOk result (IsOnMedium write image.new.world.data_dev image.new.world.hash_dev) }
+    ensures err { IfErr result (IsUnsyncedCause write image.old.world image.new.world) }
 {
     let data_synced = sync_one(&mut image.data, write);
     let hash_synced = sync_one(&mut image.hash, write);
@@ -44,7 +44,7 @@ pub(crate) fn end_of(
 fn sync_one<D: SyncDev>(device: &mut D, write: bool) -> Result<(), DeviceFault>
     ensures kept { (D.state device.new).image ≡ (D.state device.old).image }
     ensures ok { OnOk result (IsTrue write → (D.state device.new).dirty ≡ false) }
-    ensures err { OnErr result (IsTrue write × HasFailed (D.state device.old) (D.state device.new)) }
+    ensures err { OnErr result (IsTrue write × IsUnsynced (D.state device.old) (D.state device.new)) }
     ensures counted { (D.state device.old).failures ≤ (D.state device.new).failures }
 {
     if !write {

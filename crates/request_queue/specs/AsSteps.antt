@@ -28,7 +28,7 @@ pub record AreOwnSteps (t : ℕ) (answer : Result Reply IoFault) (begun : World)
   pub answered : answer_at_last t steps ≡ Some answer
   pub ends : last begun steps ≡ w'
 
--- The same calls, each as it was, but that a request which is run is begun as the next ticket, and served by its steps.
+-- Calls as steps: each call is as it was, but a request that is run is begun as the next ticket and served by its steps.
 pub data AreAsSteps : World → List Turn → List Turn → Type 0 where
   none : {w : World} → AreAsSteps w [] []
   as_it_was : {w : World} {more steps : List Turn} (x : Turn) → is_run x.event ≡ false → AreAsSteps x.after more steps → AreAsSteps w (x ∷ more) (x ∷ steps)

@@ -91,7 +91,7 @@ pub data WritesInSteps (range : SectorRange) (w : World) : List ℕ → Result U
   last_step : {x y : List ℕ} {v w' : World} {fault : IoFault} (z : List ℕ) → WritesInSteps range w x (Ok tt) v → IsNextWrite v.stack range.device.0 (sector_after range x) (bytes_after range x) (length y) w'.stack
       → Step EachPart v (write_piece range.device.0 (sector_after range x) y (Err fault)) w' → WritesInSteps range w (x ++ (y ++ z)) (Err fault) w'
 
--- the same of a stack, whatever requests are in flight over it
+-- steps that write these bytes to a range of a stack, whatever requests are in flight over it
 abbrev pub WritesBeside : SectorRange → StackRecord → List ℕ → Result Unit IoFault → StackRecord → Type 0
 WritesBeside range v bytes result v' = (given : ℕ) (fs : List FlightRecord) → WritesInSteps range (world v given fs) bytes result (world v' given fs)
 

@@ -50,7 +50,7 @@ chains_of (sync reply) = []
 
 -- ---- what holds of each
 
--- At the topmost place where the two chains differ stand blocks which, each behind the salt, are two different inputs
+-- At the topmost place where the two chains differ are blocks which, each after the salt, are two different inputs
 -- of one SHA-256 digest.
 pub record NamesCollision (salt : List ℕ) (expected got : ChainRecord) : Type 0 where
   pub place : Place

@@ -45,7 +45,7 @@ abbrev pub changes : World → List Turn → LeafSectors
 changes w [] = no_sectors
 changes w (x ∷ more) = λ p. changes_of w x.event p ⊎ changes x.after more p
 
--- Of each steady leaf the size, and the sectors other than these, are as they were; its image, where none of these is its own.
+-- Of each steady leaf the size, and the sectors other than these, are as they were; its image, if none of these is its own.
 pub record StaysBut (these : LeafSectors) (old new : List Device) : Type 0 where
   pub size : (i : ℕ) (d : Device) → IsTrue (slice_index_or old i d).steady → length (slice_index_or new i d).image ≡ length (slice_index_or old i d).image
   pub sector : (i t : ℕ) (d : Device) → IsTrue (slice_index_or old i d).steady → (these (i, t) → ⊥) → slice_index_or (slice_index_or new i d).image t zero_sector ≡ slice_index_or (slice_index_or old i d).image t zero_sector

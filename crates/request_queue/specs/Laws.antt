@@ -34,7 +34,7 @@ abbrev pub passages : ℕ → World → List Turn → List Passage
 passages t w [] = []
 passages t w (x ∷ more) = if is_step t x.event then passage w x ∷ passages t x.after more else passages t x.after more
 
--- the answer that ends a request, where there is one yet
+-- the answer that ends a request, if there is one yet
 abbrev pub ending_answer : Event → Option (Result Reply IoFault)
 ending_answer (submit r reply) = None
 ending_answer (step u (Ok More)) = None
@@ -56,7 +56,7 @@ abbrev pub answer_at_last : ℕ → List Turn → Option (Result Reply IoFault)
 answer_at_last t [] = None
 answer_at_last t (x ∷ more) = if is_step t x.event then or_else (ending_answer x.event) (answer_at_last t more) else answer_at_last t more
 
--- A request is served by these steps and no others: one piece at each, of the stack as it stands then. After the
+-- A request is served by these steps and no others: one piece at each, of the stack as it is then. After the
 -- last piece, or at the first fault, it is over with that answer; with none it still waits.
 pub data IsFlightServed (part : PartRelation) : FlightRecord → List Passage → Option (Result Reply IoFault) → Type 0 where
   waits : {f : FlightRecord} → IsFlightServed part f [] None
@@ -127,9 +127,9 @@ pub record KeepsChecked (v v' : StackRecord) : Type 0 where
   pub checked : AreChecked v'
 
 -- What holds of every run from a world on. Each chain that an answer hands out is good for its verity line, whatever
--- the leaves answered, and where it is unlike the data formatted for that line it shows a collision. The bytes of a read
+-- the leaves answered, and if it is unlike the data formatted for that line it shows a collision. The bytes of a read
 -- at once are such as some chains allow of which the same holds. Any list of calls leaves the sectors of steady leaves
--- as they were that none of its writes reaches. Behind any list of calls each kept hash block was checked, whatever the
+-- as they were that none of its writes reaches. After any list of calls each kept hash block was checked, whatever the
 -- leaves answered.
 pub record QueueLaw (w : World) : Type 0 where
   pub requests : (before : List Turn) → AreTurns EachPart w before → (r : RequestRecord) (t : ℕ) (v : World) → (b : Begins (last w before) r t v)

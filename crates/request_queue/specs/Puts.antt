@@ -1,4 +1,4 @@
--- The pieces of writes that turns serve, and what stands in the leaves after them.
+-- The pieces of writes that turns serve, and what the leaves hold after them.
 use Rattle.std.specs.Prelude.{◌≡◌, ℕ, ◌/◌, List, [], ◌∷◌, ◌++◌, length, Option, Some, None, Result, Ok, Err}
 use Rattle.block_device.specs.Device.{Device}
 use Rattle.stack_rules.specs.Records.{Configuration}
@@ -39,7 +39,7 @@ abbrev pub next_pieces : World → Option FlightRecord → Result Unit IoFault �
 next_pieces w None result = []
 next_pieces w (Some f) result = part_pieces w.stack.config f.rest.device.0 f.rest.first (part_of_work f.work (done_of f) (next_count w f)) result
 
--- how a piece ended after which a request stands so
+-- how a piece ended after which a request is in that state
 abbrev pub piece_ending : Progress → Result Unit IoFault
 piece_ending More = Ok tt
 piece_ending (Done (Ok reply)) = Ok tt
@@ -62,7 +62,7 @@ abbrev pub IsOverSteady : List Device → WrittenPiece → Type 0
 IsOverSteady leaves p = AreSteady (leaves_of p.config (mapped p.device)) leaves
 
 -- A piece leads from images of steady leaves to images: no sector changes that it doesn't reach, and none where memory ran
--- out. Where the leaves beneath its device are steady, its sectors are put, up to the first in an `error` line; where a
+-- out. If the leaves beneath its device are steady, its sectors are put, up to the first in an `error` line; where a
 -- device failed, those that it reaches may hold anything.
 pub record IsPutOn (leaves : List Device) (p : WrittenPiece) (old new : Images) : Type 0 where
   pub exact : IsOverSteady leaves p → IsPut (put_on p.config (mapped p.device) p.first (sectors_in p.bytes) old) new p.result

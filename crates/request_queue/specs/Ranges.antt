@@ -19,7 +19,7 @@ most_count = 2048
 abbrev pub range_at : ℕ → ℕ → ℕ → SectorRange
 range_at d first count = record { device = record { 0 = d }; first = first; count = count }
 
--- the sectors that are asked for by the device's name, or the first refusal
+-- the sectors that are requested by the device's name, or the first refusal
 abbrev pub range_in : Configuration → Option ℕ → ℕ → ℕ → Result SectorRange SubmitFault
 range_in c None first count = Err NoSuchDevice
 range_in c (Some d) first count =

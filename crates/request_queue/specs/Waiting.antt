@@ -48,7 +48,7 @@ served_by (remove_device name reply) = 0
 served_by (run r reply) = 0
 served_by (sync reply) = 0
 
--- the same of a turn
+-- how many pieces the request has that a turn begins; 0 if it begins none
 abbrev pub asked_in_turn : World → Turn → ℕ
 asked_in_turn w x = asked_by w x.event
 

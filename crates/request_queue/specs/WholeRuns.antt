@@ -50,7 +50,7 @@ Whole (a_write name first bytes) v range (Ok Written) v' = WritesWhole v range b
 Whole (a_write name first bytes) v range (Ok (Sectors got)) v' = ⊥
 Whole (a_write name first bytes) v range (Err fault) v' = WritesWhole v range bytes (Err fault) v'
 
--- what is answered to a request that is run, where it was begun
+-- what is answered to a request that is run, if it was begun
 abbrev pub RunAnswers : World → RequestRecord → Result (Result Reply IoFault) SubmitFault → World → Type 0
 RunAnswers w r (Ok answer) w' = (range : SectorRange) × (admission w r ≡ Ok range) × Whole r w.stack range answer w'.stack
 RunAnswers w r (Err fault) w' = Unit {0}

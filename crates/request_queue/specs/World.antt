@@ -152,7 +152,7 @@ pub record PieceWritten (part : PartRelation) (w : World) (d first : ℕ) (bytes
 
 -- ---- loads and removals
 
--- the devices of a text are put in, and no rule refuses the configuration that stands then
+-- the devices of a text are added, and no rule refuses the configuration with them
 pub record LoadDone (w : World) (text : List Entry) (w' : World) : Type 0 where
   pub idle : w.in_flight ≡ []
   pub passes : first_refusal w.stack.config text ≡ None
@@ -168,7 +168,7 @@ LoadsText w text (Ok done) w' = LoadDone w text w'
 LoadsText w text (Err Busy) w' = (w.in_flight ≢ []) × (w' ≡ w)
 LoadsText w text (Err (Fault fault)) w' = (w.in_flight ≡ []) × LoadFails w text fault × (w' ≡ w)
 
--- the device of that name is removed, and no rule refuses the configuration that stands then
+-- the device of that name is removed, and no rule refuses the configuration without it
 pub record RemovalDone (w : World) (name : List ℕ) (w' : World) : Type 0 where
   pub idle : w.in_flight ≡ []
   pub passes : removal_fault w.stack.config name ≡ None
@@ -182,13 +182,13 @@ Removes w name (Err (Fault fault)) w' = (w.in_flight ≡ []) × (removal_fault w
 
 -- ---- syncs
 
--- What was written to a leaf couldn't be put on its medium. All requests stay in flight as they were.
+-- A leaf couldn't be synced. All requests stay in flight as they were.
 pub record SyncFails (w : World) (fault : IoFault) (w' : World) : Type 0 where
   pub after : List Device
   pub fails : FailsToSync w.stack.leaves after fault
   pub leaves : w' ≡ world (record w.stack { leaves = after }) w.given w.in_flight
 
--- all that was written to the leaves is on their media: none is dirty
+-- all leaves are synced: none is dirty
 abbrev pub flushed : World → World
 flushed w = world (record w.stack { leaves = map synced w.stack.leaves }) w.given w.in_flight
 

@@ -26,14 +26,14 @@ pub enum SubmitFault {
 }
 
 impl SubmitFault {
-    /// The number under which it is printed.
+    /// Returns the number that is printed.
     pub fn number(self) -> u8
         ensures { result ≡ submit_number self }
     {
         self as u8
     }
 
-    /// The name under which it is printed: the variant's.
+    /// Returns the name that is printed: the variant's.
     pub fn name(self) -> &'static str
         ensures { result.now ≡ submit_name self }
     {
@@ -53,7 +53,7 @@ impl SubmitFault {
 #[error("NoSuchTicket")]
 pub struct NoSuchTicket;
 
-/// Why a call isn't made that needs a queue with no request in flight.
+/// Why a call fails that needs a queue with no request in flight.
 #[derive(Clone, Copy, Debug, PartialEq, Eq)]
 pub enum BusyOr<F> {
     /// A request is in flight.
@@ -62,22 +62,22 @@ pub enum BusyOr<F> {
     Fault(F),
 }
 
-/// How a run ends where it gives no reply.
+/// How a run ends if it gives no reply.
 #[derive(Debug, Drop)]
 pub enum RunFault {
-    /// It wasn't begun, and is handed back.
+    /// The request wasn't begun, and is returned.
     Submit(SubmitFault, Request),
-    /// It ended by a fault.
+    /// The request ended by a fault.
     Io(IoFault),
 }
 
 /// Why sectors aren't read or written at once.
 #[derive(Clone, Copy, Debug, PartialEq, Eq)]
 pub enum BytesFault {
-    /// They can't be requested: `NoSuchDevice`, `OutOfRange`, `Length` if the bytes aren't whole sectors, or for a write
-    /// `ReadOnly`.
+    /// The sectors can't be requested: `NoSuchDevice`, `OutOfRange`, `Length` if the bytes aren't whole sectors, or for a
+    /// write `ReadOnly`.
     Refused(SubmitFault),
-    /// Their read or write ended by a fault.
+    /// The read or write ended by a fault.
     Failed(IoFault),
 }
 

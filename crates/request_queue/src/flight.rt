@@ -62,7 +62,7 @@ impl Flight {
         self.rest.count
     }
 
-    /// What is answered once all is done.
+    /// Returns the reply of a request of which no sector is left.
     pub(crate) fn into_reply(self) -> Reply
         ensures { result ≡ reply_to self.work }
     {

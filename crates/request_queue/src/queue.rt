@@ -60,8 +60,8 @@ impl<D: BlockDev> Model for Queue<D> {
 }
 
 impl<D: BlockDev> Queue<D> {
-    /// A queue with no request. Each call of it is a `Step` of its world, and `write_bytes` one for each piece, so that
-    /// `law` and `lists` hold of every list of calls.
+    /// Returns a queue over the stack, with no request in flight. Each call of it is a `Step` of its world, and `write_bytes`
+    /// one for each piece, so that `law` and `lists` hold of every list of calls.
     pub fn new(alloc: Global, stack: Stack<D>) -> Queue<D>
         ensures value { result ≡ record { stack = stack; given = 0; in_flight = [] } }
         ensures law { QueueLaw result }
@@ -81,13 +81,14 @@ impl<D: BlockDev> Queue<D> {
         }
     }
 
+    /// Returns the stack.
     pub fn stack(&self) -> &Stack<D>
         ensures { result.now ≡ self.now.stack }
     {
         &self.stack
     }
 
-    /// The stack, as the calls so far left it. What is still in flight is given up.
+    /// Returns the stack, as the calls so far left it. Requests in flight are dropped.
     pub fn into_stack(self) -> Stack<D>
         ensures { result ≡ self.stack }
     {
@@ -100,7 +101,7 @@ impl<D: BlockDev> Queue<D> {
         stack
     }
 
-    /// How many requests are in flight.
+    /// Returns how many requests are in flight.
     pub fn in_flight(&self) -> usize
         ensures value { result ≡ length self.now.in_flight }
         ensures sound { IsSoundWorld self.now.stack.config self.now.given self.now.in_flight }
@@ -108,7 +109,7 @@ impl<D: BlockDev> Queue<D> {
         self.flights.len()
     }
 
-    /// The first sector of the request in flight with that ticket.
+    /// Returns the first sector of the request in flight with that ticket, or `None` if there is no such request.
     pub fn first_sector(&self, ticket: Ticket) -> Option<u64>
         ensures { result ≡ option_map (λ f. f.first) (flight_of self.now ticket.0) }
     {
@@ -127,7 +128,18 @@ impl<D: BlockDev> Queue<D> {
         Ok(range)
     }
 
-    /// Begins a request, or hands it back.
+    /// Begins a request of 1 to 2,048 sectors, and returns its ticket. No leaf is accessed.
+    ///
+    /// # Errors
+    ///
+    /// The first of these faults, with the request; `NoMemory` may precede any of them. Nothing is changed.
+    ///
+    /// - `NoSuchDevice` if no mapped device has that name.
+    /// - `OutOfRange` if the sectors end past the device.
+    /// - `Length` if there are no sectors, more than 2,048, or bytes that aren't whole sectors.
+    /// - `ReadOnly` if the device may not be written.
+    /// - `Full` if 64 requests are in flight, or 2^64 - 1 tickets were given.
+    /// - `NoMemory` if an allocation was refused.
     pub fn submit(&mut self, request: Request) -> Result<Ticket, (SubmitFault, Request)>
         ensures ok { IfOk result (λ t. Step EachPart self.old (submit (request_record request) (Ok t.0)) self.new) }
         ensures err { IfErr result (λ p. Step EachPart self.old (submit (request_record request) (Err p.0)) self.new) }
@@ -150,7 +162,13 @@ impl<D: BlockDev> Queue<D> {
         Ok(Ticket(ticket))
     }
 
-    /// Serves one piece of the request with that ticket. `called` states which calls of the leaves' devices it makes.
+    /// Serves the next piece of the request with that ticket, 1 to 128 sectors. Returns `More` if sectors are left. Otherwise the
+    /// request is over, and `Done` has its reply, or the fault of the piece. `called` states which calls of the leaves' devices
+    /// it makes.
+    ///
+    /// # Errors
+    ///
+    /// `NoSuchTicket` if no request in flight has that ticket; nothing is changed.
     pub fn step(&mut self, ticket: Ticket) -> Result<Progress, NoSuchTicket>
         ensures step { Step EachPart self.old (step ticket.0 result) self.new }
         ensures called { Step (CalledPart D.state D.does) self.old (step ticket.0 result) self.new }
@@ -188,8 +206,13 @@ impl<D: BlockDev> Queue<D> {
         }
     }
 
-    /// Begins a request, and serves it to its end. Its calls of the leaves' devices are those of its pieces, in order, and
-    /// none after the first piece that fails (`called`).
+    /// Begins a request, serves it to its end, and returns its reply. Its calls of the leaves' devices are those of its pieces,
+    /// in order, and none after the first piece that fails (`called`).
+    ///
+    /// # Errors
+    ///
+    /// - `Submit` with the fault of `submit` and the request, if it wasn't begun.
+    /// - `Io` with the fault of its first piece that failed.
     pub fn run(&mut self, request: Request) -> Result<Reply, RunFault>
         ensures step { Step EachPart self.old (run (request_record request) (outcome_of result)) self.new }
         ensures whole { RunAnswers self.old (request_record request) (outcome_of result) self.new }
@@ -213,6 +236,12 @@ impl<D: BlockDev> Queue<D> {
     /// states that there are chains which show the bytes. After a fault the slice's content is unspecified. It allocates
     /// only if a `verity` line is on the way. `pieces` states where its pieces end and what each costs,
     /// `called` which calls of the leaves' devices each makes.
+    ///
+    /// # Errors
+    ///
+    /// - `Refused(NoSuchDevice)`, `Refused(OutOfRange)` if the sectors end past the device, or `Refused(Length)` if the slice
+    ///   isn't whole sectors; nothing is read.
+    /// - `Failed` with the fault of the first piece that failed; `NoMemory` only if a `verity` line is on the way.
     pub fn read_bytes(
         &mut self,
         device: DevId,
@@ -233,6 +262,11 @@ impl<D: BlockDev> Queue<D> {
     /// whatever requests are in flight: piece by piece, each a step, up to the first that fails. All pieces before that
     /// one are written, and nothing after it. It allocates only if a `crypt` line is on the way. `written` states where its
     /// pieces end and what each costs, `handed` which calls of the leaves' devices each makes.
+    ///
+    /// # Errors
+    ///
+    /// - `Refused` with one of the faults of `read_bytes`, or with `ReadOnly`; nothing is written.
+    /// - `Failed` with the fault of the first piece that failed; `NoMemory` only if a `crypt` line is on the way.
     pub fn write_bytes(&mut self, device: DevId, first: u64, bytes: &[u8]) -> Result<(), BytesFault>
         ensures written { WritesBytes self.old device.0 first bytes.now result self.new }
         ensures handed { HandsBytes D.state D.does self.old (device.0, first) bytes.now result self.new }
@@ -243,7 +277,11 @@ impl<D: BlockDev> Queue<D> {
         Ok(())
     }
 
-    /// Puts the devices of a text in, all or none. It is `Busy` where a request is in flight.
+    /// Adds the devices of a text, all or none.
+    ///
+    /// # Errors
+    ///
+    /// `Busy` if a request is in flight, or the fault of `Stack::load`.
     pub fn load(&mut self, text: &StackText) -> Result<(), BusyOr<LoadFault>>
         ensures { Step EachPart self.old (load text.now result) self.new }
     {
@@ -259,7 +297,11 @@ impl<D: BlockDev> Queue<D> {
         }
     }
 
-    /// Removes the device of that name. It is `Busy` where a request is in flight.
+    /// Removes the device of that name.
+    ///
+    /// # Errors
+    ///
+    /// `Busy` if a request is in flight, or the fault of `Stack::remove`.
     pub fn remove(&mut self, name: &[u8]) -> Result<(), BusyOr<RemoveFault>>
         ensures { Step EachPart self.old (remove_device name.now result) self.new }
     {
@@ -278,8 +320,12 @@ impl<D: BlockDev> Queue<D> {
 }
 
 impl<D: SyncDev> Queue<D> {
-    /// Syncs the dirty leaves in order, also while requests are in flight. The fault names the first leaf whose sync
-    /// failed, counted from 1. `called` states its calls of the leaves' devices.
+    /// Syncs the dirty leaves in order, also while requests are in flight. On `Ok` no leaf is dirty. `called` states its calls
+    /// of the leaves' devices.
+    ///
+    /// # Errors
+    ///
+    /// `Device` with the first leaf whose sync failed, counted from 1; later leaves aren't synced then.
     pub fn sync(&mut self) -> Result<(), IoFault>
         ensures step { Step EachPart self.old (sync result) self.new }
         ensures called { MakesSyncs D.state D.does self.old.stack.leaves result self.new.stack.leaves }

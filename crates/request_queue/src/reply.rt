@@ -1,11 +1,11 @@
-//! What is answered to a request.
+//! The result of a request.
 use stack_engine::{Answer, IoFault};
 
 /// The number of a request, from 1. None is given twice.
 #[derive(Clone, Copy, Debug, PartialEq, Eq)]
 pub struct Ticket(pub u64);
 
-/// What a request gave.
+/// The result of a request that succeeded.
 #[derive(Drop)]
 pub enum Reply {
     /// All bytes and chains of its pieces, in order.
@@ -19,6 +19,6 @@ pub enum Reply {
 pub enum Progress {
     /// Sectors are left.
     More,
-    /// It is over.
+    /// The request is over.
     Done(Result<Reply, IoFault>),
 }

@@ -101,7 +101,7 @@ impl Work {
         }
     }
 
-    /// What is answered once all is done.
+    /// Returns the reply of a request of which no sector is left.
     pub(crate) fn into_reply(self) -> Reply
         ensures { result ≡ reply_to (work_record self) }
     {

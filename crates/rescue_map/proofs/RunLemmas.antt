@@ -53,13 +53,13 @@ are_runs-grown runs k n d e p some room =
       few = omega (arith, whole, room);
     }
 
--- a run was put behind, or none
+-- a run was appended, or none
 pub are_runs-either : {A E : Type 0} (runs new : List Run) (r : Run) (result : Result A E) → OnOk result (new ≡ runs ++ r ∷ []) → OnErr result (new ≡ runs) → AreRuns runs → 1 ≤ r.count
     → length (marks runs) + r.count ≤ 2 ^ 54 → AreRuns new
 are_runs-either runs new r (Ok x) put same p some room = subst AreRuns (sym put) (are_runs-push runs r p some room)
 are_runs-either runs new r (Err e) put same p some room = subst AreRuns (sym same) p
 
--- an element, whatever stands for a missing one
+-- an element, whatever replaces a missing one
 pub get_or_same : (runs : List Run) (k : ℕ) (a b : Run) → k < length runs → get_or runs k a ≡ get_or runs k b
 get_or_same [] k a b inside = absurd (omega (arith, inside))
 get_or_same (r ∷ runs) zero a b inside = refl

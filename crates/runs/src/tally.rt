@@ -44,6 +44,10 @@ impl Tally {
     }
 
     /// Reports the run that may still grow: it is complete.
+    ///
+    /// # Errors
+    ///
+    /// `WriteFault` if the run can't be reported.
     #[tactic(auto, using(crate::proofs::WritingLemmas::writes_nothing))]
     pub fn close<L: Listing>(&mut self, listing: &mut L) -> Result<(), WriteFault>
         ensures text { Tells L.told L.failed listing.old listing.new (limited_lines self.old.limit (listed self.old.last)) result }
@@ -61,6 +65,10 @@ impl Tally {
     }
 
     /// Adds a run that begins at the end of the blocks so far. The previous run is reported if it can no longer grow.
+    ///
+    /// # Errors
+    ///
+    /// `WriteFault` if the previous run can't be reported.
     #[tactic(auto, using(crate::proofs::WritingLemmas::writes_nothing))]
     pub fn add<L: Listing>(&mut self, listing: &mut L, run: Run<Kind>) -> Result<(), WriteFault>
         requires ends { EndsAt self.old.last run.first }

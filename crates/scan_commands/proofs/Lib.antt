@@ -4,6 +4,7 @@ pub mod ReportLemmas
 mod ChartLemmas
 mod MapFileLemmas
 mod TurnLemmas
+mod RetryTurnLemmas
 pub mod NameLemmas
 pub mod PlainLemmas
 mod TreeLemmas

@@ -13,12 +13,12 @@ use Rattle.scan_commands.specs.declared.rescue_fault.PassFault.TheVariants.{NoMa
 use Rattle.scan_commands.specs.MapFiles.{MapPathRecord, recovery_ending}
 use Rattle.image_files.specs.declared.texts.ReplaceFault.{ReplaceFault}
 use Rattle.rescue_map.specs.declared.splicing.Span.{Span}
-use Rattle.scan_commands.specs.Turns.{EndsSectors, IsSpan, asked_marks, IsPassTurnsEnd, IsMapUnwritten, IsUnfailed, Kept, Progressed, ReadsInTurns, ReadsSectors, StopsIn, IsTurn, Turns, kept as kept_by, largest_print_allocation, progressed}
+use Rattle.scan_commands.specs.Turns.{EndsSectors, EndsUnmapped, FailsToWrite, IsSpan, RunsOut, asked_marks, IsPassTurnsEnd, IsMapUnwritten, IsUnfailed, Kept, Progressed, ReadsInTurns, ReadsSectors, StopsIn, IsTurn, Turns, kept as kept_by, largest_print_allocation, progressed}
 use Rattle.stack_recovery.specs.declared.fault.RecoveryFault.{RecoveryFault}
 use Rattle.stack_recovery.specs.declared.fault.RecoveryFault.TheVariants as recovery
 use Rattle.scan_commands.specs.declared.phase.Phase.{Phase}
-use Rattle.scan_commands.specs.declared.phase.Phase.TheVariants.{Rescue, Skim}
-use Rattle.stack_recovery.specs.FirstPasses.{FailsSkimOutput, Skims, SkimsShort, Transfer}
+use Rattle.scan_commands.specs.declared.phase.Phase.TheVariants.{Rescue, Retry, Skim}
+use Rattle.stack_recovery.specs.FirstPasses.{EndsSkim, Skims, SkimsShort, Transfer}
 use Rattle.stack_recovery.specs.Skims.{IsSkimOver, Skim as Skimmed, marks_of, skim_marks}
 use Rattle.stack_recovery.specs.TwoPasses.{transfer_of}
 use Rattle.stack_recovery.specs.Recoveries.{FailsOutput, FindsNoMemory, IsMapRefused, RunsShort, Sides, is_had}
@@ -48,20 +48,24 @@ skim-config before d first w (x ∷ more) w' s =
 pub reads-sectors : (phase : Phase) (before : List Bool) (d : ℕ) (old : Sides) (made : List Run) (new : Sides) → ReadsSectors phase before d old made new → length (marks made) ≡ size old.stack.config (mapped d)
 reads-sectors Skim before d old made new r = ap length r.0.noted ∙ r.0.whole
 reads-sectors Rescue before d old made new r = ap length r.1.noted ∙ length-map _ ∙ r.1.whole
+reads-sectors Retry before d old made new r = ap length r.1.noted ∙ length-map _ ∙ r.1.whole
 
 -- the configuration stays
 pub reads-config : (phase : Phase) (before : List Bool) (d : ℕ) (old : Sides) (made : List Run) (new : Sides) → ReadsSectors phase before d old made new → new.stack.config ≡ old.stack.config
 reads-config Skim before d old made new r = skim-config before d 0 old.stack r.0.skims new.stack r.0.survey
 reads-config Rescue before d old made new r = survey-config before d 0 old.stack r.1.reads new.stack r.1.survey
+reads-config Retry before d old made new r = survey-config before d 0 old.stack r.1.reads new.stack r.1.survey
 
 -- the device stays one, of that size, which may be written
 pub reads-out : (phase : Phase) (before : List Bool) (d : ℕ) (old : Sides) (made : List Run) (new : Sides) → ReadsSectors phase before d old made new → IsSameDevice old.out new.out
 reads-out Skim before d old made new r = r.0.copied.same
 reads-out Rescue before d old made new r = r.1.copied.same
+reads-out Retry before d old made new r = r.1.copied.same
 
 pub reads-unfailed : (phase : Phase) (before : List Bool) (d : ℕ) (old : Sides) (made : List Run) (new : Sides) → ReadsSectors phase before d old made new → new.out.failures ≡ old.out.failures
 reads-unfailed Skim before d old made new r = r.0.unfailed
 reads-unfailed Rescue before d old made new r = r.1.unfailed
+reads-unfailed Retry before d old made new r = r.1.unfailed
 
 -- ---- one pass over the sectors of a turn
 
@@ -70,7 +74,12 @@ pub skim-reads : (r : Result (List Run) RecoveryFault) (before : List Bool) (d :
 skim-reads (Ok made) before d old new told p = (p, told)
 skim-reads (Err fault) before d old new told p = tt
 
--- a failure behind a copy that had none
+pub skim-ends : (r : Result (List Run) RecoveryFault) (before : List Bool) (d : ℕ) (old new : Sides) → new.printed ≡ old.printed → IfErr r (λ fault. EndsSkim true before d (transfer_of old) (transfer_of new) fault)
+    → IfErr r (λ fault. EndsSectors Skim before d old new fault)
+skim-ends (Ok made) before d old new told e = tt
+skim-ends (Err fault) before d old new told e = (e, told)
+
+-- a failure after a copy that had none
 pub failed-behind : (old left new : Device) → left.failures ≡ old.failures → HasFailed left new → HasFailed old new
 failed-behind old left new same failed = subst (λ (n : ℕ). (n < new.failures) ⊎ (n ≡ 2 ^ 64 - 1)) same failed
 
@@ -98,13 +107,29 @@ refused-skim by_map before d old new short = refused short.refused
 
 pub stops-reading : {S : Type 0} (k : Kept S) (phase : Phase) (now : Progressed S) (span : Span) (end : ℕ) (before : List Bool) (new : Sides) (fault : RecoveryFault)
     → IsSpan k.sectors now.at span end → before ≡ asked_marks span k.sectors now.runs → EndsSectors phase before k.d now.sides new fault → StopsIn k phase now now.images new (recovery_ending fault)
-stops-reading k Skim now span end before new recovery.NoMemory next wanted e = (refl, e.unfailed, refused-skim true before k.d (transfer_of now.sides) (transfer_of new) e)
-stops-reading k Rescue now span end before new recovery.NoMemory next wanted e = (refl, e.unfailed, refused-short true before k.d now.sides new e)
+stops-reading k Skim now span end before new recovery.NoMemory next wanted e = (
+  refl,
+  e.0.unfailed,
+  refused-skim true before k.d (transfer_of now.sides) (transfer_of new) e.0,
+  inr (inl (record { span = span; end = end; next = next; short = subst (λ (l : List Bool). RunsOut Skim l k.d now.sides new) wanted e })),
+)
+stops-reading k Rescue now span end before new recovery.NoMemory next wanted e = (
+  refl,
+  e.unfailed,
+  refused-short true before k.d now.sides new e,
+  inr (inl (record { span = span; end = end; next = next; short = subst (λ (l : List Bool). RunsOut Rescue l k.d now.sides new) wanted e })),
+)
+stops-reading k Retry now span end before new recovery.NoMemory next wanted e = (
+  refl,
+  e.unfailed,
+  refused-short true before k.d now.sides new e,
+  inr (inl (record { span = span; end = end; next = next; short = subst (λ (l : List Bool). RunsOut Retry l k.d now.sides new) wanted e })),
+)
 stops-reading k Skim now span end before new recovery.Output next wanted e = (
   refl,
-  e.failed,
-  e.sure,
-  record { span = span; end = end; next = next; fails = inl (subst (λ (l : List Bool). FailsSkimOutput true l k.d (transfer_of now.sides) (transfer_of new)) wanted e) },
+  e.0.failed,
+  e.0.sure,
+  record { span = span; end = end; next = next; fails = inl (subst (λ (l : List Bool). FailsToWrite Skim l k.d now.sides new) wanted e) },
 )
 stops-reading k Rescue now span end before new recovery.Output next wanted e = (
   refl,
@@ -112,15 +137,21 @@ stops-reading k Rescue now span end before new recovery.Output next wanted e = (
   e.sure,
   record { span = span; end = end; next = next; fails = inl (subst (λ (l : List Bool). FailsOutput true l k.d now.sides new) wanted e) },
 )
+stops-reading k Retry now span end before new recovery.Output next wanted e = (
+  refl,
+  e.failed,
+  e.sure,
+  record { span = span; end = end; next = next; fails = inl (subst (λ (l : List Bool). FailsOutput true l k.d now.sides new) wanted e) },
+)
 
 pub stops-unwritten : {S : Type 0} (k : Kept S) (phase : Phase) (now : Progressed S) (text : List ℕ) (images : S) (new : Sides) (fault : PassFault)
-    → IsUnfailed now.sides new → IsMapUnwritten k.replaces k.file.path now.images text images fault → StopsIn k phase now images new fault
-stops-unwritten k phase now text images new NoMemory u e = (e.0, u, out_of_memory-more largest_print_allocation largest_allocation (omega arith) e.1)
-stops-unwritten k phase now text images new (Unread cause) u e = absurd e
-stops-unwritten k phase now text images new TooLong u e = absurd e
-stops-unwritten k phase now text images new (NoMap cause) u e = absurd e
-stops-unwritten k phase now text images new Output u e = absurd e
-stops-unwritten k phase now text images new (Unwritten cause) u e = (text, e, u)
+    → IsUnfailed now.sides new → EndsUnmapped k phase now new → IsMapUnwritten k.replaces k.file.path now.images text images fault → StopsIn k phase now images new fault
+stops-unwritten k phase now text images new NoMemory u r e = (e.0, u, out_of_memory-more largest_print_allocation largest_allocation (omega arith) e.1, inr (inr r))
+stops-unwritten k phase now text images new (Unread cause) u r e = absurd e
+stops-unwritten k phase now text images new TooLong u r e = absurd e
+stops-unwritten k phase now text images new (NoMap cause) u r e = absurd e
+stops-unwritten k phase now text images new Output u r e = absurd e
+stops-unwritten k phase now text images new (Unwritten cause) u r e = (text, e, u, r)
 
 -- ---- turns one after another
 

@@ -9,7 +9,7 @@ use Rattle.scan_commands.specs.declared.rescue_fault.PassFault.{PassFault}
 use Rattle.scan_commands.specs.declared.rescue_fault.PassFault.TheVariants.{Output}
 use Rattle.scan_commands.specs.declared.passing.Passing.{Passing}
 use Rattle.scan_commands.specs.MapFiles.{map_at}
-use Rattle.scan_commands.specs.Passes.{Moving, Passes, StopsPass, moving}
+use Rattle.scan_commands.specs.Passes.{Moving, Passes, StopsPass, moving, retried_of}
 use Rattle.rescue_map.specs.declared.kind.MapKind.TheVariants as map_kind
 use Rattle.stack_rules.specs.Names.{mapped, size}
 use Rattle.stack_engine.specs.Stacks.{StackRecord}
@@ -19,6 +19,7 @@ use Rattle.stack_files.specs.declared.stack_file.StackFile.{StackFile}
 use Rattle.stack_recovery.specs.declared.recovery.Counts.{Counts}
 use Rattle.stack_recovery.specs.Listings.{Listed}
 use Rattle.stack_recovery.specs.Recoveries.{sides}
+use Rattle.stack_recovery.specs.Retries.{Retried, retried}
 use Rattle.scan_commands.specs.declared.copy.CopyPlan.{CopyPlan}
 use Rattle.charts.specs.declared.form.ReportForm.TheVariants.{Lines}
 use Rattle.scan_commands.specs.declared.recovering_fault.RecoveringFault.{RecoveringFault}
@@ -26,19 +27,20 @@ use Rattle.scan_commands.specs.declared.recovering_fault.RecoveringFault.TheVari
 use Rattle.scan_commands.specs.Counting.{IsPassEnd, IsRecoveryStackless, listed_by}
 use Rattle.scan_commands.specs.Reports.{IsUnreported, Reports}
 
--- a device of a stack file over bindings, the image to copy to, whether only sectors that differ are written, and the path of
--- the map file, if there is one
+-- a device of a stack file over bindings, the image to copy to, whether only sectors that differ are written, the path of the map
+-- file, if there is one, and how many times lost sectors are read again
 pub record CopyWords : Type 0 where
   pub words : DeviceWords
   pub out : List ℕ
   pub differing : Bool
   pub map : Option (List ℕ)
+  pub retries : ℕ
 
-abbrev pub copy_words : DeviceWords → List ℕ → Bool → Option (List ℕ) → CopyWords
-copy_words words out differing map = record { words = words; out = out; differing = differing; map = map }
+abbrev pub copy_words : DeviceWords → List ℕ → Bool → Option (List ℕ) → ℕ → CopyWords
+copy_words words out differing map retries = record { words = words; out = out; differing = differing; map = map; retries = retries }
 
 abbrev pub words_to_copy : StackFile → CopyPlan → CopyWords
-words_to_copy file plan = copy_words (words_for file plan.device) plan.out.now plan.differing (option_map (λ p. p.now) plan.map)
+words_to_copy file plan = copy_words (words_for file plan.device) plan.out.now plan.differing (option_map (λ p. p.now) plan.map) plan.retries
 
 -- OUT's device as the pass sees it: with `--differing` a device that reads before it writes, and counts its own calls
 abbrev pub IsOutputSeenAs : Bool → Device → Device → Type 0
@@ -46,38 +48,38 @@ IsOutputSeenAs false out seen = seen ≡ out
 IsOutputSeenAs true out seen = seen ≡ differing out seen.reads seen.writes seen.dirty
 
 -- the pass copied to OUT's device as it sees it, with a copy's map if there is one; `m` is of OUT's device itself
-pub record PassesTo {S D : Type 0} (is_differing : Bool) (w : Calls S D) (map : Option (List ℕ)) (d : ℕ) (m : Moving) (counts : Counts) : Type 0 where
+pub record PassesTo {S D : Type 0} (is_differing : Bool) (w : Calls S D) (map : Option (List ℕ)) (t : Retried) (m : Moving) (counts : Counts) : Type 0 where
   pub seen : Device
   pub left : Device
   pub begun : IsOutputSeenAs is_differing m.old.out seen
-  pub passed : Passes w (map_at map map_kind.Copy) d (moving (record m.old { out = seen }) (record m.new { out = left })) counts
+  pub passed : Passes w (map_at map map_kind.Copy) t (moving (record m.old { out = seen }) (record m.new { out = left })) counts
   pub ended : IsOutputSeenAs is_differing m.new.out left
 
 -- the pass ended early
-pub record StopsTo {S D : Type 0} (is_differing : Bool) (w : Calls S D) (map : Option (List ℕ)) (d : ℕ) (m : Moving) (fault : PassFault) : Type 0 where
+pub record StopsTo {S D : Type 0} (is_differing : Bool) (w : Calls S D) (map : Option (List ℕ)) (t : Retried) (m : Moving) (fault : PassFault) : Type 0 where
   pub seen : Device
   pub left : Device
   pub begun : IsOutputSeenAs is_differing m.old.out seen
-  pub stops : StopsPass w (map_at map map_kind.Copy) d (moving (record m.old { out = seen }) (record m.new { out = left })) fault
+  pub stops : StopsPass w (map_at map map_kind.Copy) t (moving (record m.old { out = seen }) (record m.new { out = left })) fault
   pub ended : IsOutputSeenAs is_differing m.new.out left
 
 -- the pass was completed, and OUT was synced
-pub record CopiesTo {S D : Type 0} (is_differing : Bool) (w : Calls S D) (map : Option (List ℕ)) (d : ℕ) (m : Moving) (counts : Counts) : Type 0 where
+pub record CopiesTo {S D : Type 0} (is_differing : Bool) (w : Calls S D) (map : Option (List ℕ)) (t : Retried) (m : Moving) (counts : Counts) : Type 0 where
   pub unsynced : Device
-  pub passed : PassesTo is_differing w map d (moving m.old (record m.new { out = unsynced })) counts
+  pub passed : PassesTo is_differing w map t (moving m.old (record m.new { out = unsynced })) counts
   pub durable : m.new.out ≡ synced unsynced
 
 -- the pass was completed, but OUT's sync failed, which changed no sector
-pub record FailsToSync {S D : Type 0} (is_differing : Bool) (w : Calls S D) (map : Option (List ℕ)) (d : ℕ) (m : Moving) (fault : PassFault) : Type 0 where
+pub record FailsToSync {S D : Type 0} (is_differing : Bool) (w : Calls S D) (map : Option (List ℕ)) (t : Retried) (m : Moving) (fault : PassFault) : Type 0 where
   pub counts : Counts
   pub unsynced : Device
-  pub passed : PassesTo is_differing w map d (moving m.old (record m.new { out = unsynced })) counts
+  pub passed : PassesTo is_differing w map t (moving m.old (record m.new { out = unsynced })) counts
   pub failed : IsUnsynced unsynced m.new.out
   pub sure : IsTrue unsynced.never_fails → ⊥
   pub is : fault ≡ Output
 
-abbrev pub EndsCopying : {S D : Type 0} → Bool → Calls S D → Option (List ℕ) → ℕ → Moving → PassFault → Type 0
-EndsCopying is_differing w map d m fault = StopsTo is_differing w map d m fault ⊎ FailsToSync is_differing w map d m fault
+abbrev pub EndsCopying : {S D : Type 0} → Bool → Calls S D → Option (List ℕ) → Retried → Moving → PassFault → Type 0
+EndsCopying is_differing w map t m fault = StopsTo is_differing w map t m fault ⊎ FailsToSync is_differing w map t m fault
 
 -- ---- a copy
 
@@ -90,7 +92,7 @@ pub record Copies {S D : Type 0} (w : Calls S D) (words : CopyWords) (before : L
   pub between : S
   pub behind : S
   pub found : FindsOutput (record w { new = between }) words.words words.out at image
-  pub copied : CopiesTo words.differing (record w { old = between; new = behind }) words.map at.d (moving (sides at.stack (w.state image.device) before) (sides left (w.state image') told)) counts
+  pub copied : CopiesTo words.differing (record w { old = between; new = behind }) words.map (retried at.d words.retries) (moving (sides at.stack (w.state image.device) before) (sides left (w.state image') told)) counts
   pub back : w.relations.takes behind words.out image' w.new
 
 -- the copy began and ended early, and OUT's image was closed
@@ -102,7 +104,7 @@ pub record StopsCopy {S D : Type 0} (w : Calls S D) (words : CopyWords) (before 
   pub between : S
   pub behind : S
   pub found : FindsOutput (record w { new = between }) words.words words.out at image
-  pub stops : IsPassEnd (EndsCopying words.differing (record w { old = between; new = behind }) words.map at.d (moving (sides at.stack (w.state image.device) before) (sides left (w.state image') told))) fault
+  pub stops : IsPassEnd (EndsCopying words.differing (record w { old = between; new = behind }) words.map (retried at.d words.retries) (moving (sides at.stack (w.state image.device) before) (sides left (w.state image') told))) fault
   pub back : w.relations.takes behind words.out image' w.new
 
 -- no sector is lost, and all was reported
@@ -142,13 +144,13 @@ module _ {S D E O T : Type 0} (relations : Opener S D) (state : D → Device) (s
   copy_moved = moving (sides old.stack (seen old.out) (listed_by contents writer)) (sides new.stack (seen new.out) (listed_by contents writer'))
 
   abbrev pub PassesToBy : Counts → Type 0
-  PassesToBy = PassesTo plan.differing (calls relations state images images') (option_map (λ p. p.now) plan.map) old.device.0 copy_moved
+  PassesToBy = PassesTo plan.differing (calls relations state images images') (option_map (λ p. p.now) plan.map) (retried_of old) copy_moved
 
   abbrev pub StopsToBy : PassFault → Type 0
-  StopsToBy = StopsTo plan.differing (calls relations state images images') (option_map (λ p. p.now) plan.map) old.device.0 copy_moved
+  StopsToBy = StopsTo plan.differing (calls relations state images images') (option_map (λ p. p.now) plan.map) (retried_of old) copy_moved
 
   abbrev pub CopiesBy : Counts → Type 0
-  CopiesBy = CopiesTo plan.differing (calls relations state images images') (option_map (λ p. p.now) plan.map) old.device.0 copy_moved
+  CopiesBy = CopiesTo plan.differing (calls relations state images images') (option_map (λ p. p.now) plan.map) (retried_of old) copy_moved
 
   abbrev pub EndsCopyingBy : PassFault → Type 0
-  EndsCopyingBy = EndsCopying plan.differing (calls relations state images images') (option_map (λ p. p.now) plan.map) old.device.0 copy_moved
+  EndsCopyingBy = EndsCopying plan.differing (calls relations state images images') (option_map (λ p. p.now) plan.map) (retried_of old) copy_moved

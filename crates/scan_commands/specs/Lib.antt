@@ -3,6 +3,7 @@ pub mod Counting
 pub mod Reports
 pub mod Scans
 pub mod Passes
+pub mod PassesInTurns
 pub mod MapFiles
 pub mod MapTexts
 pub mod Turns

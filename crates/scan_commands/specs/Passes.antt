@@ -4,17 +4,21 @@ use Rattle.block_device.specs.Device.{Device}
 use Rattle.image_files.specs.Opener.{Calls, Opener, calls}
 use Rattle.rescue_map.specs.declared.map.Run.{Run}
 use Rattle.rescue_map.specs.declared.totals.Totals.{Totals}
+use Rattle.rescue_map.specs.Maps.{marks}
 use Rattle.scan_commands.specs.declared.rescue_fault.PassFault.{PassFault}
 use Rattle.scan_commands.specs.declared.rescue_fault.PassFault.TheVariants.{NoMemory, Output}
 use Rattle.scan_commands.specs.declared.map_file.MapPath.{MapPath}
 use Rattle.scan_commands.specs.declared.passing.Passing.{Passing}
+use Rattle.scan_commands.specs.declared.retries.TriedMap.{TriedMap}
 use Rattle.scan_commands.specs.MapFiles.{IsMapRead, IsMapUnread, MapPathRecord, map_path_of}
-use Rattle.scan_commands.specs.Turns.{IsTurnsEnd, RescuesInTurns, kept, progressed}
+use Rattle.scan_commands.specs.PassesInTurns.{EndsRetries, IsTurnsEnd, RescuesInTurns, RetriesBy, after_turns}
+use Rattle.scan_commands.specs.Turns.{Replaces, kept, progressed}
 use Rattle.stack_rules.specs.Names.{mapped, size}
 use Rattle.stack_recovery.specs.declared.fault.RecoveryFault.TheVariants as recovery
 use Rattle.stack_recovery.specs.declared.recovery.Counts.{Counts}
 use Rattle.stack_recovery.specs.Listings.{Listed}
 use Rattle.stack_recovery.specs.Recoveries.{Sides, sides}
+use Rattle.stack_recovery.specs.Retries.{Retried, retried}
 use Rattle.stack_recovery.specs.TwoPasses.{IsRecoveryEnd, Recovers}
 
 -- the stack, the output device and the reported lines, before and after
@@ -31,43 +35,43 @@ counts_of totals = record { read = totals.had; lost = totals.lost }
 
 -- ---- with a map file
 
--- A map file was read; or there is none, and no sector was read before. Then the other sectors were read in two passes, each in
--- turns, and the map was replaced after each turn.
-pub record IsRescued {S D : Type 0} (w : Calls S D) (file : MapPathRecord) (d : ℕ) (m : Moving) (counts : Counts) : Type 0 where
+-- A map file was read; or there is none, and no sector was read before. Then the other sectors were read in passes, each in turns,
+-- and the map was replaced after each turn.
+pub record IsRescued {S D : Type 0} (w : Calls S D) (file : MapPathRecord) (t : Retried) (m : Moving) (counts : Counts) : Type 0 where
   pub totals : Totals
   pub runs : List Run
   pub between : S
-  pub read : IsMapRead (record w { new = between }) file (size m.old.stack.config (mapped d)) runs
-  pub rescued : RescuesInTurns (kept w.relations.replaces file d (size m.old.stack.config (mapped d))) (progressed between m.old runs 0) w.new m.new totals
+  pub read : IsMapRead (record w { new = between }) file (size m.old.stack.config (mapped t.d)) runs
+  pub rescued : RescuesInTurns (kept w.relations.replaces file t.d (size m.old.stack.config (mapped t.d))) t.retries (progressed between m.old runs 0) w.new m.new totals
   pub counted : counts ≡ counts_of totals
 
 -- the map was read, and a turn ended early
-pub record IsCutShort {S D : Type 0} (w : Calls S D) (file : MapPathRecord) (d : ℕ) (m : Moving) (fault : PassFault) : Type 0 where
+pub record IsCutShort {S D : Type 0} (w : Calls S D) (file : MapPathRecord) (t : Retried) (m : Moving) (fault : PassFault) : Type 0 where
   pub runs : List Run
   pub between : S
-  pub read : IsMapRead (record w { new = between }) file (size m.old.stack.config (mapped d)) runs
-  pub ends : IsTurnsEnd (kept w.relations.replaces file d (size m.old.stack.config (mapped d))) (progressed between m.old runs 0) w.new m.new fault
+  pub read : IsMapRead (record w { new = between }) file (size m.old.stack.config (mapped t.d)) runs
+  pub ends : IsTurnsEnd (kept w.relations.replaces file t.d (size m.old.stack.config (mapped t.d))) t.retries (progressed between m.old runs 0) w.new m.new fault
 
 -- the map wasn't read, and nothing was done; or a turn ended early
-abbrev pub IsUnrescued : {S D : Type 0} → Calls S D → MapPathRecord → ℕ → Moving → PassFault → Type 0
-IsUnrescued w file d m fault =
-    ((m.new ≡ m.old) × IsMapUnread w file.path (size m.old.stack.config (mapped d)) fault) ⊎ IsCutShort w file d m fault
+abbrev pub IsUnrescued : {S D : Type 0} → Calls S D → MapPathRecord → Retried → Moving → PassFault → Type 0
+IsUnrescued w file t m fault =
+    ((m.new ≡ m.old) × IsMapUnread w file.path (size m.old.stack.config (mapped t.d)) fault) ⊎ IsCutShort w file t m fault
 
 -- ---- with a map file, or without one, when the opener isn't called
 
-abbrev pub Passes : {S D : Type 0} → Calls S D → Option MapPathRecord → ℕ → Moving → Counts → Type 0
-Passes w None d m counts = (w.new ≡ w.old) × Recovers d m.old counts m.new
-Passes w (Some file) d m counts = IsRescued w file d m counts
+abbrev pub Passes : {S D : Type 0} → Calls S D → Option MapPathRecord → Retried → Moving → Counts → Type 0
+Passes w None t m counts = (w.new ≡ w.old) × Recovers t m.old counts m.new
+Passes w (Some file) t m counts = IsRescued w file t m counts
 
 -- the recovery ended early
-abbrev pub IsRecoveryStopped : ℕ → Moving → PassFault → Type 0
-IsRecoveryStopped d m NoMemory = IsRecoveryEnd d m.old m.new recovery.NoMemory
-IsRecoveryStopped d m Output = IsRecoveryEnd d m.old m.new recovery.Output
-IsRecoveryStopped d m fault = ⊥
+abbrev pub IsRecoveryStopped : Retried → Moving → PassFault → Type 0
+IsRecoveryStopped t m NoMemory = IsRecoveryEnd t m.old m.new recovery.NoMemory
+IsRecoveryStopped t m Output = IsRecoveryEnd t m.old m.new recovery.Output
+IsRecoveryStopped t m fault = ⊥
 
-abbrev pub StopsPass : {S D : Type 0} → Calls S D → Option MapPathRecord → ℕ → Moving → PassFault → Type 0
-StopsPass w None d m fault = (w.new ≡ w.old) × IsRecoveryStopped d m fault
-StopsPass w (Some file) d m fault = IsUnrescued w file d m fault
+abbrev pub StopsPass : {S D : Type 0} → Calls S D → Option MapPathRecord → Retried → Moving → PassFault → Type 0
+StopsPass w None t m fault = (w.new ≡ w.old) × IsRecoveryStopped t m fault
+StopsPass w (Some file) t m fault = IsUnrescued w file t m fault
 
 -- ---- in terms of the arguments of a call
 
@@ -77,18 +81,38 @@ pub record CanPass {D O : Type 0} (state : O → Device) (p : Passing D O) : Typ
   pub room : size p.stack.config (mapped p.device.0) ≤ (state p.out).size
   pub allowed : IsTrue (state p.out).may_write
 
+-- the device, and how many times lost sectors are read again
+abbrev pub retried_of : {D O : Type 0} → Passing D O → Retried
+retried_of p = retried p.device.0 p.retries
+
+-- the passes that report nothing, after which the map is that one
+abbrev pub RetriesMapBy : {S D O : Type 0} → Replaces S → (O → Device) → MapPath → List Run → S → S → Passing D O → Passing D O → TriedMap → Type 0
+RetriesMapBy replaces state file map images images' old new tried =
+    RetriesBy (kept replaces (map_path_of file) old.device.0 (size old.stack.config (mapped old.device.0))) old.retries (after_turns images old.stack (state old.out) map) images' new.stack (state new.out) tried
+
+abbrev pub EndsRetriesBy : {S D O : Type 0} → Replaces S → (O → Device) → MapPath → List Run → S → S → Passing D O → Passing D O → PassFault → Type 0
+EndsRetriesBy replaces state file map images images' old new fault =
+    EndsRetries (kept replaces (map_path_of file) old.device.0 (size old.stack.config (mapped old.device.0))) old.retries (after_turns images old.stack (state old.out) map) images' new.stack (state new.out) fault
+
+-- what the last pass needs: the map is of all sectors, and the device can still be read and copied
+pub record LeavesPassing {D O : Type 0} (state : O → Device) (old new : Passing D O) (tried : TriedMap) : Type 0 where
+  pub map : length (marks tried.map) ≡ size old.stack.config (mapped old.device.0)
+  pub config : new.stack.config ≡ old.stack.config
+  pub same_size : (state new.out).size ≡ (state old.out).size
+  pub allowed : IsTrue (state new.out).may_write
+
 module _ {S D E O L : Type 0} (relations : Opener S D) (state : D → Device) (seen : O → Device) (told : L → Listed) (images images' : S) (old new : Passing E O) (listing listing' : L) where
   abbrev passed : Moving
   passed = moving (sides old.stack (seen old.out) (told listing)) (sides new.stack (seen new.out) (told listing'))
 
   abbrev pub PassesMapBy : MapPath → Counts → Type 0
-  PassesMapBy file = IsRescued (calls relations state images images') (map_path_of file) old.device.0 passed
+  PassesMapBy file = IsRescued (calls relations state images images') (map_path_of file) (retried_of old) passed
 
   abbrev pub StopsMapBy : MapPath → PassFault → Type 0
-  StopsMapBy file = IsUnrescued (calls relations state images images') (map_path_of file) old.device.0 passed
+  StopsMapBy file = IsUnrescued (calls relations state images images') (map_path_of file) (retried_of old) passed
 
   abbrev pub PassesBy : Option MapPath → Counts → Type 0
-  PassesBy map = Passes (calls relations state images images') (option_map map_path_of map) old.device.0 passed
+  PassesBy map = Passes (calls relations state images images') (option_map map_path_of map) (retried_of old) passed
 
   abbrev pub StopsBy : Option MapPath → PassFault → Type 0
-  StopsBy map = StopsPass (calls relations state images images') (option_map map_path_of map) old.device.0 passed
+  StopsBy map = StopsPass (calls relations state images images') (option_map map_path_of map) (retried_of old) passed

@@ -5,7 +5,7 @@ use Rattle.program_io.specs.Counted.{CountedRecord}
 use Rattle.image_files.specs.Opener.{Calls, Opener, calls}
 use Rattle.scan_commands.specs.declared.passing.Passing.{Passing}
 use Rattle.scan_commands.specs.MapFiles.{map_at}
-use Rattle.scan_commands.specs.Passes.{Moving, Passes, StopsPass, moving}
+use Rattle.scan_commands.specs.Passes.{Moving, Passes, StopsPass, moving, retried_of}
 use Rattle.rescue_map.specs.declared.kind.MapKind.TheVariants as map_kind
 use Rattle.stack_files.specs.NamedDevices.{DevicePlace, DeviceWords, FailsToFindDevice, FindsDevice, words_for}
 use Rattle.stack_engine.specs.Stacks.{StackRecord}
@@ -14,23 +14,26 @@ use Rattle.stack_recovery.specs.declared.discard.Discard.{Discard}
 use Rattle.stack_recovery.specs.declared.recovery.Counts.{Counts}
 use Rattle.stack_recovery.specs.Listings.{Listed}
 use Rattle.stack_recovery.specs.Recoveries.{sides}
+use Rattle.stack_recovery.specs.Retries.{retried}
 use Rattle.scan_commands.specs.declared.recovering_fault.RecoveringFault.{RecoveringFault}
 use Rattle.charts.specs.declared.form.ReportForm.{ReportForm}
 use Rattle.scan_commands.specs.declared.scan.ScanPlan.{ScanPlan}
 use Rattle.scan_commands.specs.Counting.{IsPassEnd, IsRecoveryStackless}
 use Rattle.scan_commands.specs.Reports.{IsUnreported, Reports}
 
--- a device of a stack file over bindings, the path of its map file, if there is one, and the form of the report
+-- a device of a stack file over bindings, the path of its map file, if there is one, how many times lost sectors are read again, and
+-- the form of the report
 pub record ScanWords : Type 0 where
   pub words : DeviceWords
   pub map : Option (List ℕ)
+  pub retries : ℕ
   pub form : ReportForm
 
-abbrev pub scan_words : DeviceWords → Option (List ℕ) → ReportForm → ScanWords
-scan_words words map form = record { words = words; map = map; form = form }
+abbrev pub scan_words : DeviceWords → Option (List ℕ) → ℕ → ReportForm → ScanWords
+scan_words words map retries form = record { words = words; map = map; retries = retries; form = form }
 
 abbrev pub words_to_scan : StackFile → ScanPlan → ScanWords
-words_to_scan file plan = scan_words (words_for file plan.device) (option_map (λ p. p.now) plan.map) plan.form
+words_to_scan file plan = scan_words (words_for file plan.device) (option_map (λ p. p.now) plan.map) plan.retries plan.form
 
 -- the device was scanned, with a scan's map if there is one
 pub record Scans {S D : Type 0} (w : Calls S D) (words : ScanWords) (before : Listed) (counts : Counts) (told : Listed) : Type 0 where
@@ -40,7 +43,7 @@ pub record Scans {S D : Type 0} (w : Calls S D) (words : ScanWords) (before : Li
   pub left : StackRecord
   pub between : S
   pub found : FindsDevice (record w { new = between }) words.words at
-  pub passed : Passes (record w { old = between }) (map_at words.map map_kind.Scan) at.d (moving (sides at.stack out before) (sides left out' told)) counts
+  pub passed : Passes (record w { old = between }) (map_at words.map map_kind.Scan) (retried at.d words.retries) (moving (sides at.stack out before) (sides left out' told)) counts
 
 -- the scan began and ended early; the device that it copies to never fails
 pub record StopsScan {S D : Type 0} (w : Calls S D) (words : ScanWords) (before : Listed) (fault : RecoveringFault) (told : Listed) : Type 0 where
@@ -51,7 +54,7 @@ pub record StopsScan {S D : Type 0} (w : Calls S D) (words : ScanWords) (before 
   pub between : S
   pub found : FindsDevice (record w { new = between }) words.words at
   pub sure : IsTrue out.never_fails
-  pub stops : IsPassEnd (StopsPass (record w { old = between }) (map_at words.map map_kind.Scan) at.d (moving (sides at.stack out before) (sides left out' told))) fault
+  pub stops : IsPassEnd (StopsPass (record w { old = between }) (map_at words.map map_kind.Scan) (retried at.d words.retries) (moving (sides at.stack out before) (sides left out' told))) fault
 
 -- no sector is lost, and all was reported
 abbrev pub PrintsScan : {S D : Type 0} → Calls S D → ScanWords → Option (List ℕ) → Option (List ℕ) → Type 0
@@ -69,10 +72,10 @@ module _ {S D E T : Type 0} (relations : Opener S D) (state : D → Device) (see
   scanned before told = moving (sides old.stack (seen old.out) before) (sides new.stack (seen new.out) told)
 
   abbrev scans : ScanPlan → Listed → Counts → Listed → Type 0
-  scans plan before counts told = Passes (calls relations state images images') (map_at (option_map (λ p. p.now) plan.map) map_kind.Scan) old.device.0 (scanned before told) counts
+  scans plan before counts told = Passes (calls relations state images images') (map_at (option_map (λ p. p.now) plan.map) map_kind.Scan) (retried_of old) (scanned before told) counts
 
   abbrev stops_scan : ScanPlan → Listed → RecoveringFault → Listed → Type 0
-  stops_scan plan before fault told = IsPassEnd (StopsPass (calls relations state images images') (map_at (option_map (λ p. p.now) plan.map) map_kind.Scan) old.device.0 (scanned before told)) fault
+  stops_scan plan before fault told = IsPassEnd (StopsPass (calls relations state images images') (map_at (option_map (λ p. p.now) plan.map) map_kind.Scan) (retried_of old) (scanned before told)) fault
 
   abbrev pub ReportsScan : ScanPlan → Type 0
   ReportsScan plan = Reports (scans plan) plan.form (contents writer.inner) (contents writer'.inner)

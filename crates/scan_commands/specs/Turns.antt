@@ -5,23 +5,22 @@ use Rattle.allocation.specs.Refusal.{IsOutOfMemory}
 use Rattle.block_device.specs.Device.{Device, HasFailed, IsUnsynced, synced}
 use Rattle.rescue_map.specs.declared.map.Run.{Run}
 use Rattle.rescue_map.specs.declared.splicing.Span.{Span}
-use Rattle.rescue_map.specs.Maps.{is_had_from, marks, spliced_marks, map_totals}
+use Rattle.rescue_map.specs.Maps.{is_had_from, marks, spliced_marks}
 use Rattle.rescue_map.specs.MapText.{map_text}
-use Rattle.rescue_map.specs.declared.totals.Totals.{Totals}
 use Rattle.stack_recovery.specs.declared.fault.RecoveryFault.{RecoveryFault}
 use Rattle.stack_recovery.specs.declared.recovery.Counts.{Counts}
-use Rattle.stack_recovery.specs.FirstPasses.{EndsSkim, FailsSkimOutput, Skims}
+use Rattle.stack_recovery.specs.FirstPasses.{EndsSkim, FailsSkimOutput, Skims, SkimsShort}
 use Rattle.stack_rules.specs.Names.{mapped, size}
 use Rattle.stack_meaning.specs.Memory.{largest_allocation}
 use Rattle.stack_recovery.specs.Listings.{Listed}
-use Rattle.stack_recovery.specs.Recoveries.{FailsOutput, GoesOver, IsRescueEnd, Parties, Sides, seen_sides, sides}
+use Rattle.stack_recovery.specs.Recoveries.{FailsOutput, GoesOver, IsRescueEnd, Parties, RunsShort, Sides, seen_sides, sides}
 use Rattle.stack_recovery.specs.TwoPasses.{transfer_of}
 use Rattle.image_files.specs.declared.texts.ReplaceFault.{ReplaceFault}
 use Rattle.scan_commands.specs.MapFiles.{MapPathRecord, map_path_of}
 use Rattle.scan_commands.specs.declared.map_file.MapFile.{MapFile}
 use Rattle.scan_commands.specs.declared.map_file.MapPath.{MapPath}
 use Rattle.scan_commands.specs.declared.phase.Phase.{Phase}
-use Rattle.scan_commands.specs.declared.phase.Phase.TheVariants.{Rescue, Skim}
+use Rattle.scan_commands.specs.declared.phase.Phase.TheVariants.{Rescue, Retry, Skim}
 use Rattle.scan_commands.specs.declared.turns.NextTurn.{NextTurn}
 use Rattle.scan_commands.specs.declared.rescue_fault.PassFault.{PassFault}
 use Rattle.scan_commands.specs.declared.rescue_fault.PassFault.TheVariants.{NoMemory, Output, Unwritten}
@@ -59,14 +58,15 @@ turn_len sectors = max 131072 ((sectors / 524288 + 1) * 8)
 abbrev pub asked_marks : Span → ℕ → List Run → List Bool
 asked_marks span sectors runs = spliced_marks span (replicate sectors true) (marks runs)
 
--- the status of a map file after the sectors before `end` were read in a pass: those before some sector were tried, or all, if
--- none is left to be read from there on
+-- The status of a map file after the sectors before `end` were read in a pass: those before some sector were tried, or all, if
+-- none is left to be read from there on. Before a retry all were tried.
 abbrev pub tried_from : ℕ → List Run → Option ℕ
 tried_from from runs = if is_had_from from 0 runs then None else Some from
 
 abbrev pub tried_before : Phase → List Run → ℕ → Option ℕ
 tried_before Skim runs end = tried_from 0 runs
 tried_before Rescue runs end = tried_from end runs
+tried_before Retry runs end = None
 
 -- the next sectors
 pub record IsSpan (sectors at : ℕ) (span : Span) (at' : ℕ) : Type 0 where
@@ -76,10 +76,14 @@ pub record IsSpan (sectors at : ℕ) (span : Span) (at' : ℕ) : Type 0 where
   pub end : at' ≡ at + span.count
   pub inside : at' ≤ sectors
 
+-- sectors were read in a pass after the first one
+abbrev pub ReadsLeft : List Bool → ℕ → Sides → List Run → Sides → Type 0
+ReadsLeft before d old made new = (counts : Counts) × GoesOver before d old counts (Some made) new
+
 -- sectors were read in a pass by the marks before it, which made a map; the first pass reports nothing
 abbrev pub ReadsSectors : Phase → List Bool → ℕ → Sides → List Run → Sides → Type 0
 ReadsSectors Skim before d old made new = Skims true before d (transfer_of old) made (transfer_of new) × (new.printed ≡ old.printed)
-ReadsSectors Rescue before d old made new = (counts : Counts) × GoesOver before d old counts (Some made) new
+ReadsSectors later before d old made new = ReadsLeft before d old made new
 
 -- A turn. Those of the next sectors that weren't read before were read, and the readable ones were copied to the other device,
 -- which was synced. Then the map file was replaced by the new map.
@@ -111,14 +115,6 @@ pub data Turns {S : Type 0} (k : Kept S) (phase : Phase) (first : Progressed S) 
 abbrev pub ReadsInTurns : {S : Type 0} → Kept S → Phase → Progressed S → S → Sides → List Run → Type 0
 ReadsInTurns k phase first images sides runs = Turns k phase first (progressed images sides runs k.sectors)
 
--- both passes, with a map between them; the totals are those of the last map
-pub record RescuesInTurns {S : Type 0} (k : Kept S) (first : Progressed S) (images : S) (sides : Sides) (totals : Totals) : Type 0 where
-  pub between : Progressed S
-  pub runs : List Run
-  pub skims : ReadsInTurns k Skim first between.images between.sides between.runs
-  pub rescues : ReadsInTurns k Rescue (record between { at = 0 }) images sides runs
-  pub counted : totals ≡ map_totals runs
-
 -- the most elements that one allocation requests when a map is printed
 abbrev pub largest_print_allocation : ℕ
 largest_print_allocation = 40
@@ -140,11 +136,12 @@ pub record FailsToSyncTurn {S : Type 0} (k : Kept S) (phase : Phase) (span : Spa
   pub reads : ReadsSectors phase (asked_marks span k.sectors now.runs) k.d now.sides made left
   pub unsynced : IsUnsynced left.out new.out
   pub stack : new.stack ≡ left.stack
+  pub printed : new.printed ≡ left.printed
 
--- a write of the pass failed
+-- a write of the pass failed; the first pass reports nothing
 abbrev pub FailsToWrite : Phase → List Bool → ℕ → Sides → Sides → Type 0
-FailsToWrite Skim before d old new = FailsSkimOutput true before d (transfer_of old) (transfer_of new)
-FailsToWrite Rescue before d old new = FailsOutput true before d old new
+FailsToWrite Skim before d old new = FailsSkimOutput true before d (transfer_of old) (transfer_of new) × (new.printed ≡ old.printed)
+FailsToWrite later before d old new = FailsOutput true before d old new
 
 -- The output device failed in the next turn: a write of the turn failed, or the sync after it.
 pub record FailsInTurn {S : Type 0} (k : Kept S) (phase : Phase) (now : Progressed S) (new : Sides) : Type 0 where
@@ -153,12 +150,38 @@ pub record FailsInTurn {S : Type 0} (k : Kept S) (phase : Phase) (now : Progress
   pub next : IsSpan k.sectors now.at span end
   pub fails : FailsToWrite phase (asked_marks span k.sectors now.runs) k.d now.sides new ⊎ FailsToSyncTurn k phase span now new
 
+-- memory ran out for a read of the pass or for its map; the lines printed are the first of those of the pass
+abbrev pub RunsOut : Phase → List Bool → ℕ → Sides → Sides → Type 0
+RunsOut Skim before d old new = SkimsShort true before d (transfer_of old) (transfer_of new) × (new.printed ≡ old.printed)
+RunsOut later before d old new = RunsShort true before d old new
+
+-- memory ran out in the next turn, before all of its sectors were done
+pub record RunsOutInTurn {S : Type 0} (k : Kept S) (phase : Phase) (now : Progressed S) (new : Sides) : Type 0 where
+  pub span : Span
+  pub end : ℕ
+  pub next : IsSpan k.sectors now.at span end
+  pub short : RunsOut phase (asked_marks span k.sectors now.runs) k.d now.sides new
+
+-- All sectors of the next turn were done, and the output device was synced.
+pub record EndsUnmapped {S : Type 0} (k : Kept S) (phase : Phase) (now : Progressed S) (new : Sides) : Type 0 where
+  pub span : Span
+  pub end : ℕ
+  pub next : IsSpan k.sectors now.at span end
+  pub left : Sides
+  pub made : List Run
+  pub reads : ReadsSectors phase (asked_marks span k.sectors now.runs) k.d now.sides made left
+  pub on_medium : new ≡ sides left.stack (synced left.out) left.printed
+
+-- the next turn wasn't begun, was ended by a read, or lacks its map alone
+abbrev pub IsTurnShort : {S : Type 0} → Kept S → Phase → Progressed S → Sides → Type 0
+IsTurnShort k phase now new = (new ≡ now.sides) ⊎ (RunsOutInTurn k phase now new ⊎ EndsUnmapped k phase now new)
+
 -- Why a turn ended early. The map file is that of the completed turns. If memory ran out, an allocation of at most so many
 -- elements was refused: for a read, for a map or for its text.
 abbrev pub StopsIn : {S : Type 0} → Kept S → Phase → Progressed S → S → Sides → PassFault → Type 0
-StopsIn k phase now images new NoMemory = (images ≡ now.images) × IsUnfailed now.sides new × IsOutOfMemory largest_allocation
+StopsIn k phase now images new NoMemory = (images ≡ now.images) × IsUnfailed now.sides new × IsOutOfMemory largest_allocation × IsTurnShort k phase now new
 StopsIn k phase now images new Output = (images ≡ now.images) × HasFailed now.sides.out new.out × (IsTrue now.sides.out.never_fails → ⊥) × FailsInTurn k phase now new
-StopsIn k phase now images new (Unwritten fault) = (text : List ℕ) × k.replaces now.images k.file.path text (Err fault) images × IsUnfailed now.sides new
+StopsIn k phase now images new (Unwritten fault) = (text : List ℕ) × k.replaces now.images k.file.path text (Err fault) images × IsUnfailed now.sides new × EndsUnmapped k phase now new
 StopsIn k phase now images new other = ⊥
 
 -- some turns of a pass were completed, and the next one wasn't
@@ -167,15 +190,6 @@ pub record IsPassTurnsEnd {S : Type 0} (k : Kept S) (phase : Phase) (first : Pro
   pub turns : Turns k phase first now
   pub stops : StopsIn k phase now images new fault
 
--- the first pass was completed, and the second one wasn't
-pub record IsRescueTurnsEnd {S : Type 0} (k : Kept S) (first : Progressed S) (images : S) (new : Sides) (fault : PassFault) : Type 0 where
-  pub between : Progressed S
-  pub skims : ReadsInTurns k Skim first between.images between.sides between.runs
-  pub ends : IsPassTurnsEnd k Rescue (record between { at = 0 }) images new fault
-
-abbrev pub IsTurnsEnd : {S : Type 0} → Kept S → Progressed S → S → Sides → PassFault → Type 0
-IsTurnsEnd k first images new fault = IsPassTurnsEnd k Skim first images new fault ⊎ IsRescueTurnsEnd k first images new fault
-
 -- ---- in terms of the arguments of a call
 
 -- the sectors of a turn were read, or the pass ended early
@@ -183,8 +197,8 @@ abbrev pub ReadsTurnBy : {O L : Type 0} → (O → Device) → (L → Listed) �
 ReadsTurnBy state told d turn old new made = ReadsSectors turn.phase (marks turn.wanted.now) d (seen_sides state told old) made (seen_sides state told new)
 
 abbrev pub EndsSectors : Phase → List Bool → ℕ → Sides → Sides → RecoveryFault → Type 0
-EndsSectors Skim before d old new fault = EndsSkim true before d (transfer_of old) (transfer_of new) fault
-EndsSectors Rescue before d old new fault = IsRescueEnd before d old new fault
+EndsSectors Skim before d old new fault = EndsSkim true before d (transfer_of old) (transfer_of new) fault × (new.printed ≡ old.printed)
+EndsSectors later before d old new fault = IsRescueEnd before d old new fault
 
 abbrev pub EndsTurnRead : {O L : Type 0} → (O → Device) → (L → Listed) → ℕ → NextTurn → Parties O L → Parties O L → RecoveryFault → Type 0
 EndsTurnRead state told d turn old new fault = EndsSectors turn.phase (marks turn.wanted.now) d (seen_sides state told old) (seen_sides state told new) fault
@@ -217,3 +231,7 @@ pub record GoesOn {O L : Type 0} (state : O → Device) (d : ℕ) (old new : Par
 -- the map of a file isn't replaced by this one
 abbrev pub LeavesMap : {S : Type 0} → Replaces S → MapPath → S → Option ℕ → List Run → S → PassFault → Type 0
 LeavesMap replaces file images tried map images' = IsMapUnwritten replaces file.path.now images (map_text file.kind tried map) images'
+
+-- sectors were read in a pass after the first one
+abbrev pub ReadsLeftBy : {O L : Type 0} → (O → Device) → (L → Listed) → List Bool → ℕ → Parties O L → Parties O L → List Run → Type 0
+ReadsLeftBy state told before d old new made = ReadsLeft before d (seen_sides state told old) made (seen_sides state told new)

@@ -21,14 +21,15 @@ use stack_recovery::Counts;
 use std::alloc::Global;
 use std::io::Write;
 
-/// The device to be copied, the path of the image to copy to, whether only sectors that differ are written, and the path of the
-/// map file, if there is one.
+/// The device to be copied, the path of the image to copy to, whether only sectors that differ are written, the path of the map
+/// file, if there is one, and how many times lost sectors are read again.
 #[derive(Clone, Copy, Debug, PartialEq, Eq)]
 pub struct CopyPlan<'a> {
     pub device: NamedDevice<'a>,
     pub out: &'a str,
     pub differing: bool,
     pub map: Option<&'a str>,
+    pub retries: u64,
 }
 
 /// Copies the readable sectors of a device of a stack file to an image. The image is synced and closed before the counts are
@@ -57,7 +58,13 @@ pub fn copy_device<'a, I: Images, W: Write, P: Progress>(
 {
     let (stack, device, image) = open_with_room(alloc, images, file, plan.device, plan.out)?;
     let OpenImage { device: out, id: _ } = image;
-    let passing = Passing { stack, device, out };
+    let retries = plan.retries;
+    let passing = Passing {
+        stack,
+        device,
+        out,
+        retries,
+    };
     let (left, outcome) = copy_synced(alloc, images, passing, plan, writer, progress);
     images.close(plan.out, left.out);
     match outcome {
@@ -105,13 +112,34 @@ fn copy_to<'a, I: Images, D: BlockDev + Drop, O: SyncDev + Drop, W: Write, P: Pr
 {
     let map = map_at(plan.map, MapKind::Copy);
     if plan.differing {
-        let Passing { stack, device, out } = passing;
+        let Passing {
+            stack,
+            device,
+            out,
+            retries,
+        } = passing;
         let out = Differing::new(out);
-        let mut compared = Passing { stack, device, out };
+        let mut compared = Passing {
+            stack,
+            device,
+            out,
+            retries,
+        };
         let copied = run_pass(alloc, images, &mut compared, map, writer, progress);
-        let Passing { stack, device, out } = compared;
+        let Passing {
+            stack,
+            device,
+            out,
+            retries,
+        } = compared;
         let out = out.inner;
-        return (Passing { stack, device, out }, copied);
+        let left = Passing {
+            stack,
+            device,
+            out,
+            retries,
+        };
+        return (left, copied);
     }
     let mut plain = passing;
     let outcome = run_pass(alloc, images, &mut plain, map, writer, progress);

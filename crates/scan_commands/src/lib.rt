@@ -15,6 +15,7 @@ mod phase;
 mod recovering_fault;
 mod report;
 mod rescue_fault;
+mod retries;
 mod scan;
 mod tree;
 mod tree_place;

@@ -3,8 +3,9 @@ ghost use Rattle.std.specs.Prelude.{◌≡◌, IfOk, IfErr};
 ghost use Rattle.scan_commands.specs.Passes.{CanPass, PassesBy, PassesMapBy, StopsBy, StopsMapBy, counts_of};
 
 use crate::map_file::{MapFile, MapPath, read_map};
-use crate::phase::Phase;
+use crate::phase::{Phase, phase_after};
 use crate::rescue_fault::PassFault;
+use crate::retries::retry_in_turns;
 use crate::turns::read_in_turns;
 use block_device::{BlockDev, SyncDev};
 use device_adapters::Progress;
@@ -12,20 +13,22 @@ use image_files::Images;
 use rescue_map::{Totals, totals_of};
 use stack_config::DevId;
 use stack_engine::Stack;
-use stack_recovery::{Counts, Listing, recover_with};
+use stack_recovery::{Counts, Listing, RecoveryPlan, recover_with};
 use std::alloc::Global;
 
-/// A mapped device of a stack, and the device that its readable sectors are copied to.
+/// A mapped device of a stack, the device that its readable sectors are copied to, and how many times lost sectors are read again.
 #[derive(Drop)]
 pub struct Passing<D: BlockDev, O> {
     pub stack: Stack<D>,
     pub device: DevId,
     pub out: O,
+    pub retries: u64,
 }
 
 /// Reads each sector of a mapped device, copies the readable sectors to the same offset of another device, and reports the
 /// longest runs of sectors that are lost by one fault. The first pass skips ahead after failed reads, and the second one reads
-/// what the first one left.
+/// what the first one left. Then sectors that are lost are read again, at most as many times as the retries. Only the last pass
+/// reports.
 ///
 /// With a map file, only sectors that the map doesn't mark as read are read. Each pass goes in turns; after each turn the other
 /// device is synced and the map file replaced. Without a map file the opener isn't called, and nothing is synced.
@@ -52,7 +55,10 @@ pub fn run_pass<'a, I: Images, D: BlockDev, O: SyncDev, L: Listing, P: Progress>
         None => Ok(recover_with(
             alloc,
             &mut passing.stack,
-            passing.device,
+            RecoveryPlan {
+                device: passing.device,
+                retries: passing.retries,
+            },
             &mut passing.out,
             listing,
             progress,
@@ -76,7 +82,8 @@ fn pass_by_map<'a, I: Images, D: BlockDev, O: SyncDev, L: Listing, P: Progress>(
 {
     // The call provides the bound on a device's sectors.
     let _most = passing.out.sectors();
-    let sectors = passing.stack.config().sectors(passing.device);
+    let device = passing.device;
+    let sectors = passing.stack.config().sectors(device);
     let map = read_map(alloc, images, file, sectors)?;
     let first = MapFile {
         file,
@@ -87,24 +94,25 @@ fn pass_by_map<'a, I: Images, D: BlockDev, O: SyncDev, L: Listing, P: Progress>(
         alloc,
         images,
         &mut passing.stack,
-        passing.device,
+        device,
         &mut passing.out,
         first,
         listing,
         progress,
     )?;
-    let second = MapFile {
+    let tried = retry_in_turns(alloc, images, passing, file, skimmed, progress)?;
+    let last = MapFile {
         file,
-        map: skimmed,
-        phase: Phase::Rescue,
+        map: tried.map,
+        phase: phase_after(tried.passes),
     };
     let rescued = read_in_turns(
         alloc,
         images,
         &mut passing.stack,
-        passing.device,
+        device,
         &mut passing.out,
-        second,
+        last,
         listing,
         progress,
     )?;

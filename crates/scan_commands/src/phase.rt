@@ -1,4 +1,6 @@
-//! The two passes over a device.
+//! The passes over a device.
+ghost use Rattle.std.specs.Prelude.{◌≡◌};
+ghost use Rattle.scan_commands.specs.PassesInTurns.{phase_after};
 
 /// A pass over a device.
 #[derive(Clone, Copy, Debug, PartialEq, Eq)]
@@ -7,4 +9,17 @@ pub enum Phase {
     Skim,
     /// The second pass, which reads what the first one left.
     Rescue,
+    /// A later pass, which reads lost sectors again.
+    Retry,
+}
+
+/// Returns the phase of the pass after the first one and `passes` further ones.
+pub(crate) fn phase_after(passes: u64) -> Phase
+    ensures { result ≡ phase_after passes }
+{
+    if passes == 0 {
+        Phase::Rescue
+    } else {
+        Phase::Retry
+    }
 }

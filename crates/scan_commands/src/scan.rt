@@ -21,11 +21,13 @@ use stack_recovery::{Discard, KeptRuns};
 use std::alloc::Global;
 use std::io::Write;
 
-/// The device to be scanned, the path of its map file, if there is one, and the form of the report.
+/// The device to be scanned, the path of its map file, if there is one, how many times lost sectors are read again, and the form of
+/// the report.
 #[derive(Clone, Copy, Debug, PartialEq, Eq)]
 pub struct ScanPlan<'a> {
     pub device: NamedDevice<'a>,
     pub map: Option<&'a str>,
+    pub retries: u64,
     pub form: ReportForm,
 }
 
@@ -52,7 +54,13 @@ pub fn scan_device<'a, I: Images, W: Write, P: Progress>(
 {
     let (stack, device) = open_device(alloc, images, file, plan.device)?;
     let out = Discard::new(stack.config().sectors(device));
-    let mut passing = Passing { stack, device, out };
+    let retries = plan.retries;
+    let mut passing = Passing {
+        stack,
+        device,
+        out,
+        retries,
+    };
     report_scan(alloc, images, &mut passing, plan, writer, progress)
 }
 

@@ -4,8 +4,8 @@ ghost use Rattle.allocation.specs.Refusal.{IsOutOfMemory};
 ghost use Rattle.rescue_map.specs.Maps.{marks};
 ghost use Rattle.rescue_map.specs.MapText.{map_text};
 ghost use Rattle.stack_rules.specs.Names.{mapped, size};
-ghost use Rattle.stack_recovery.specs.Recoveries.{parties};
-ghost use Rattle.scan_commands.specs.Turns.{EndsTurnRead, GoesOn, IsSpan, LeavesMap, ReadsByFile, ReadsTurnBy, StopsByFile, StopsTurn, TakesTurn, asked_marks, tried_before, turn_len};
+ghost use Rattle.stack_recovery.specs.Recoveries.{EndsRescue, parties};
+ghost use Rattle.scan_commands.specs.Turns.{EndsTurnRead, GoesOn, IsSpan, LeavesMap, ReadsByFile, ReadsLeftBy, ReadsTurnBy, StopsByFile, StopsTurn, TakesTurn, asked_marks, tried_before, turn_len};
 
 use crate::map_file::{MapFile, MapPath};
 use crate::phase::Phase;
@@ -50,13 +50,14 @@ fn asked(alloc: Global, map: &Map, span: Span, sectors: u64) -> Result<Map, OutO
 }
 
 // The sector before which all were tried, after the sectors before `end` were read in a pass; `None` if no sector from there on
-// is left to be read.
+// is left to be read, or all were tried before the pass.
 fn tried_before(phase: Phase, map: &Map, end: u64) -> Option<u64>
     ensures { result ≡ tried_before phase map.now end }
 {
     let from = match phase {
         Phase::Skim => 0,
         Phase::Rescue => end,
+        Phase::Retry => return None,
     };
     if is_had_from(map, from) {
         None
@@ -110,11 +111,30 @@ fn read_turn<D: BlockDev, O: SyncDev, L: Listing, P: Progress>(
 {
     match turn.phase {
         Phase::Skim => skim(alloc, stack, d, out, turn.wanted, progress),
-        Phase::Rescue => {
-            let rescued = rescue(alloc, stack, d, out, turn.wanted, listing, progress)?;
-            Ok(rescued.map)
-        }
+        Phase::Rescue => read_left(alloc, stack, d, out, turn.wanted, listing, progress),
+        Phase::Retry => read_left(alloc, stack, d, out, turn.wanted, listing, progress),
     }
+}
+
+// Reads the sectors that a map doesn't mark as read, in a pass after the first one, and returns the new map.
+fn read_left<D: BlockDev, O: SyncDev, L: Listing, P: Progress>(
+    alloc: Global,
+    stack: &mut Stack<D>,
+    d: DevId,
+    out: &mut O,
+    wanted: &Map,
+    listing: &mut L,
+    progress: &mut P,
+) -> Result<Map, RecoveryFault>
+    requires device { d.0 < length stack.old.config.devices }
+    requires fits { length (marks wanted.now) ≡ size stack.old.config (mapped d.0) }
+    requires room { size stack.old.config (mapped d.0) ≤ (O.state out.old).size }
+    requires allowed { IsTrue (O.state out.old).may_write }
+    ensures ok { IfOk result (ReadsLeftBy O.state L.told (marks wanted.now) d.0 (parties stack.old out.old listing.old) (parties stack.new out.new listing.new)) }
+    ensures err { IfErr result (EndsRescue O.state L.told (marks wanted.now) d.0 (parties stack.old out.old listing.old) (parties stack.new out.new listing.new)) }
+{
+    let rescued = rescue(alloc, stack, d, out, wanted, listing, progress)?;
+    Ok(rescued.map)
 }
 
 // Reads the sectors of a turn, syncs the other device, and replaces the map file.
@@ -152,7 +172,7 @@ fn take_turn<'a, I: Images, D: BlockDev, O: SyncDev, L: Listing, P: Progress>(
 ///
 /// Each turn copies the readable sectors to the same offset of another device, which has room for all, and syncs that device.
 /// Then it replaces the map file by the map of what was read and lost so far. An interruption therefore loses at most one turn.
-/// The second pass reports the longest runs of sectors that are lost by one fault.
+/// A pass after the first one reports the longest runs of sectors that are lost by one fault.
 ///
 /// # Errors
 ///

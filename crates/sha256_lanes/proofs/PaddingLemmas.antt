@@ -87,7 +87,7 @@ length-block b size j lt whole =
 pub length-message : (p b : List ℕ) (size j : ℕ) → j < 8 → length b ≡ 8 * size → length (message p b size j) ≡ length p + size
 length-message p b size j lt whole = omega (arith, length-append p (take size (drop (j * size) b)), length-block b size j lt whole)
 
--- 64 bytes of block j where the blocks stand, in its padded message
+-- 64 bytes of block j where the blocks are stored, in its padded message
 pub part_of_message : (p b : List ℕ) (size j a from : ℕ) → j < 8 → length b ≡ 8 * size → a ≡ length p + from → from + 64 ≤ size
     → take 64 (drop (from + j * size) b) ≡ take 64 (drop a (padded_message (message p b size j)))
 part_of_message p b size j a from lt whole at fits =
@@ -107,7 +107,7 @@ part_of_message p b size j a from lt whole at fits =
 cell : (d : List ℕ) (a n m : ℕ) → n < 64 → m ≡ a + n → get_or (take 64 (drop a d)) n 0 ≡ get_or d m 0
 cell d a n m lt e = get_or-take 64 (drop a d) n 0 lt ∙ get_or-drop a d n 0 ∙ ap (λ (i : ℕ). get_or d i 0) (omega arith)
 
--- a word of 64 bytes, where they stand
+-- a word of 64 bytes, where they are stored
 pub word_at-part : (d : List ℕ) (a i m : ℕ) → i + 4 ≤ 64 → m ≡ a + i → word_at (take 64 (drop a d)) i ≡ word_at d m
 word_at-part d a i m fits e =
     rw (cell d a i m (omega arith) e, cell d a (i + 1) (m + 1) (omega arith) (omega arith), cell d a (i + 2) (m + 2) (omega arith) (omega arith), cell d a (i + 3) (m + 3) (omega arith) (omega arith)) refl

@@ -1,11 +1,13 @@
 -- Words that are no command.
+use Rattle.std.specs.Prelude.{◌≡◌, ℕ, List, Err}
 use Rattle.command_line.specs.declared.fault.WordsFault.{WordsFault}
 use Rattle.command_line.specs.declared.fault.WordsFault.TheVariants.{NoMemory, Usage}
-use Rattle.command_line.specs.CommandWords.{IsUsage}
+use Rattle.command_line.specs.CommandWords.{IsMisuse}
+use Rattle.command_parser.specs.CommandLines.{line_said}
 use Rattle.stack_commands.specs.Endings.{command_words_ending}
 use Rattle.stack_commands.specs.Uses.{IsUsageEnd}
 
 -- what a fault of the words says is what it says as a command's
-pub IsUsageEnd-words : (Cause : Type 0) (fault : WordsFault) → IsUsage fault Cause → IsUsageEnd (command_words_ending fault) Cause
-IsUsageEnd-words Cause (Usage misuse) is = is
-IsUsageEnd-words Cause NoMemory is = tt
+pub IsUsageEnd-words : (words : List (List ℕ)) (fault : WordsFault) → IsMisuse (λ misuse. line_said words ≡ Err misuse) fault → IsUsageEnd words (command_words_ending fault)
+IsUsageEnd-words words (Usage misuse) is = is
+IsUsageEnd-words words NoMemory is = tt

@@ -1,5 +1,5 @@
--- What the program does with the words behind its name.
-use Rattle.std.specs.Prelude.{◌≡◌, ◌⊎◌, ◌&&◌, ◌||◌, ℕ, Bool, true, false, not, List, [], ◌∷◌, codes, Option, None, Some, IfSome, if◌then◌else◌}
+-- What the program does with the words after its name.
+use Rattle.std.specs.Prelude.{◌≡◌, ◌⊎◌, ◌&&◌, ◌||◌, ℕ, Bool, true, false, not, List, [], ◌∷◌, codes, Option, None, Some, Ok, if◌then◌else◌}
 use Rattle.std.specs.Io.KnownBytes.{Appends}
 use Rattle.std.specs.Str.{bytes_eq}
 use Rattle.stack_commands.specs.declared.command_end.CommandEnd.{CommandEnd}
@@ -11,8 +11,7 @@ use Rattle.verity_commands.specs.declared.verity_fault.VerityFault.TheVariants a
 use Rattle.program_io.specs.Streams.{Streams}
 use Rattle.command_line.specs.declared.misuse.Misuse.{Misuse}
 use Rattle.command_line.specs.Invocations.{InvocationRecord}
-use Rattle.command_line.specs.Misuses.{misuse_record}
-use Rattle.command_parser.specs.CommandLines.{IsMisusedText, IsNoCommand, invoked, options_said}
+use Rattle.command_parser.specs.CommandLines.{line_said, line_with}
 use Rattle.command_line.specs.FormatOptions.{OptionTexts}
 use Rattle.manual_pages.specs.MessageLines.{message_line}
 use Rattle.manual_pages.specs.UsageErrors.{explanation}
@@ -22,9 +21,8 @@ use Rattle.stack_commands.specs.messages.Commands.{ending_message}
 use Rattle.stack_commands.specs.Uses.{IsUsageEnd, Uses}
 
 -- the command of some words, and the values of its options
-pub record IsCommandOf (words : List (List ℕ)) (texts : OptionTexts) (invocation : InvocationRecord) : Type 0 where
-  pub invoked : invoked words ≡ Some invocation
-  pub options : options_said words ≡ Some texts
+abbrev pub IsCommandOf : List (List ℕ) → OptionTexts → InvocationRecord → Type 0
+IsCommandOf words texts invocation = line_said words ≡ Ok (line_with texts invocation)
 
 -- the command of that name writes data for another program: the bytes of a device, the replies to a client
 abbrev pub writes_data : List ℕ → Bool
@@ -37,7 +35,7 @@ output_is_data (name ∷ words) = writes_data name
 
 -- the words are no command
 abbrev pub is_usage : CommandFault → Bool
-is_usage Usage = true
+is_usage (Usage misuse) = true
 is_usage (Verity verity_fault.Usage) = true
 is_usage (Fec (fec_fault.Verity verity_fault.Usage)) = true
 is_usage fault = false
@@ -46,11 +44,11 @@ is_usage fault = false
 abbrev pub object_asked : Bool → CommandFault → Bool
 object_asked json fault = json && not (is_usage fault)
 
--- The words are no command, or memory ran out while they were read, and nothing was opened; or their command ended early, and its
+-- An argument is misused, or memory ran out while the words were read, and nothing was opened; or their command ended early, and its
 -- options ask for an object of the end, or for no sentence on it.
 abbrev pub IsRunEnd : {S D T G : Type 0} → List (List ℕ) → Uses S D T G → Bool → CommandEnd → Type 0
 IsRunEnd words u failed ended =
-    (IsUsageEnd ended.fault (IsNoCommand words) × (u.new ≡ u.old) × (u.images.new ≡ u.images.old) × (u.notes.new ≡ u.notes.old) × (ended.json ≡ false))
+    (IsUsageEnd words ended.fault × (u.new ≡ u.old) × (u.images.new ≡ u.images.old) × (u.notes.new ≡ u.notes.old) × (ended.json ≡ false))
     ⊎ ((invocation : InvocationRecord) × (texts : OptionTexts) × IsCommandOf words texts invocation × FailsCommand texts invocation u failed ended.fault × AreCommandNotes invocation u.notes
     × (ended.json ≡ object_asked texts.json ended.fault) × (ended.quiet ≡ texts.quiet))
 
@@ -65,12 +63,14 @@ pub record Told : Type 0 where
 abbrev pub told_to : List (List ℕ) → Bool → Option (List ℕ) → Option (List ℕ) → Bool → Told
 told_to words failed old new errors_failed = record { words = words; failed = failed; old = old; new = new; errors_failed = errors_failed }
 
--- what is printed of a usage error: which argument is misused and why, or the page that is wanted, unless the errors' writer
--- failed. No argument is named if memory ran out, or if `manual` has no such page
-pub record ExplainsUsage (words : List (List ℕ)) (old new : Option (List ℕ)) (failed : Bool) : Type 0 where
-  pub misuse : Option Misuse
-  pub misused : IfSome misuse (λ m. IsMisusedText words (misuse_record m))
-  pub printed : Appends old new (explanation words misuse) ⊎ (failed ≡ true)
+-- the misused argument that a usage error names; none if `manual` has no such page
+abbrev pub misuse_of : CommandFault → Option Misuse
+misuse_of (Usage misuse) = misuse
+misuse_of fault = None
+
+-- what is printed of a usage error: which argument is misused and why, or the page that is wanted, unless the errors' writer failed
+abbrev pub ExplainsUsage : CommandFault → List (List ℕ) → Option (List ℕ) → Option (List ℕ) → Bool → Type 0
+ExplainsUsage fault words old new failed = Appends old new (explanation words (misuse_of fault)) ⊎ (failed ≡ true)
 
 -- the sentence on an end, if there is one, unless none is asked for
 abbrev pub said_message : Bool → CommandFault → Option (List ℕ)
@@ -96,7 +96,7 @@ IsEndAsOr json failed fault old new status = IsEndAs json fault old new status �
 -- the text among the errors, after what explains it
 pub record IsToldElsewhere (ended : CommandEnd) (told : Told) (status : ℕ) : Type 0 where
   pub before : Option (List ℕ)
-  pub explained : is_usage ended.fault ≡ true → ExplainsUsage told.words told.old before told.errors_failed
+  pub explained : is_usage ended.fault ≡ true → ExplainsUsage ended.fault told.words told.old before told.errors_failed
   pub reason : is_usage ended.fault ≡ false → ExplainsEnd ended.quiet ended.fault told.old before told.errors_failed
   pub ends : IsEndOr told.errors_failed ended.fault before told.new status
 
@@ -108,11 +108,11 @@ IsRepeated true fault old new errors_failed = Appends old new (ending_text fault
 -- what is printed among the errors: what explains the end, then its text if the writer failed
 pub record TellsErrors (ended : CommandEnd) (told : Told) : Type 0 where
   pub before : Option (List ℕ)
-  pub explained : is_usage ended.fault ≡ true → ExplainsUsage told.words told.old before told.errors_failed
+  pub explained : is_usage ended.fault ≡ true → ExplainsUsage ended.fault told.words told.old before told.errors_failed
   pub reason : is_usage ended.fault ≡ false → ExplainsEnd ended.quiet ended.fault told.old before told.errors_failed
   pub repeated : IsRepeated told.failed ended.fault before told.new told.errors_failed
 
--- how an end is told: printed; if the output is data, among the errors, and nothing is written
+-- how an end is reported: printed; if the output is data, among the errors, and nothing is written
 abbrev pub IsTold : Bool → CommandEnd → Option (List ℕ) → Option (List ℕ) → Told → ℕ → Type 0
 IsTold false ended old new told status = IsEndAsOr ended.json told.failed ended.fault old new status × TellsErrors ended told
 IsTold true ended old new told status = (new ≡ old) × IsToldElsewhere ended told status

@@ -1,5 +1,5 @@
 -- What the functions of the commands that print do with what they are lent (`Context`): it is said of the opener and the writer
--- before the call, and of what stands behind the two references after it.
+-- before the call, and of what the two references hold after it.
 use Rattle.std.specs.Prelude.{◌≡◌, ◌⊎◌, ℕ, Bool, true, List, Option, ⊤}
 use Rattle.std.specs.Borrow.{Bor, MutBor}
 use Rattle.std.specs.Io.KnownBytes.{Appends}
@@ -35,7 +35,7 @@ use Rattle.command_line.specs.words.TreeVerify.{tree_verify_record}
 use Rattle.command_line.specs.words.Verify.{verify_record}
 use Rattle.command_line.specs.words.Write.{write_record}
 use Rattle.image_files.specs.Opener.{Calls, Opener, calls}
-use Rattle.image_pin.specs.declared.trusted.TrustedRoot.{TrustedRoot}
+use Rattle.image_commands.specs.declared.tree_source.SoughtTree.{SoughtTree}
 use Rattle.repair_commands.specs.declared.pair.RepairPlaces.{RepairPlaces}
 use Rattle.repair_commands.specs.ByParity.{RepairsByParity}
 use Rattle.repair_commands.specs.Commands.{IsRepairEnd, RepairsFiles}
@@ -142,30 +142,30 @@ module _ {S D T E : Type 0} (relations : Opener S D) (state : D → Device) (con
   abbrev pub EndsTreeVerifyAll : TreeVerifyWords → OptionWords → CommandFault → Type 0
   EndsTreeVerifyAll words options = IsGoingOverTreeEnd (option_texts options) desk_calls (tree_verify_record words) desk_before desk_behind desk_failed
 
-  abbrev pub DoesDiff : DiffWords → Type 0
-  DoesDiff words = ComparesImages desk_calls (diff_record words) desk_before desk_behind
+  abbrev pub DoesDiff : DiffWords → OptionWords → Type 0
+  DoesDiff words options = ComparesImages (option_texts options) desk_calls (diff_record words) desk_before desk_behind
 
-  abbrev pub EndsDiff : DiffWords → CommandFault → Type 0
-  EndsDiff words = IsComparingEnd desk_calls (diff_record words) desk_before desk_behind desk_failed
+  abbrev pub EndsDiff : DiffWords → OptionWords → CommandFault → Type 0
+  EndsDiff words options = IsComparingEnd (option_texts options) desk_calls (diff_record words) desk_before desk_behind desk_failed
 
-  abbrev pub DoesRepair : RepairWords → Type 0
-  DoesRepair words = RepairsImage desk_calls (repair_record words) desk_before desk_behind
+  abbrev pub DoesRepair : RepairWords → OptionWords → Type 0
+  DoesRepair words options = RepairsImage (option_texts options) desk_calls (repair_record words) desk_before desk_behind
 
-  abbrev pub EndsRepair : RepairWords → CommandFault → Type 0
-  EndsRepair words = IsRepairWordsEnd desk_calls (repair_record words) desk_before desk_behind desk_failed
+  abbrev pub EndsRepair : RepairWords → OptionWords → CommandFault → Type 0
+  EndsRepair words options = IsRepairWordsEnd (option_texts options) desk_calls (repair_record words) desk_before desk_behind desk_failed
 
   -- without parity, and by it
-  abbrev pub FixesByCopies : RepairPlaces → List ImageCopy → TrustedRoot → Type 0
-  FixesByCopies places copies trusted = RepairsFiles desk_calls (places_of places) copies trusted desk_before desk_behind
+  abbrev pub FixesByCopies : RepairPlaces → List ImageCopy → SoughtTree → Type 0
+  FixesByCopies places copies sought = RepairsFiles desk_calls (places_of places) copies sought desk_before desk_behind
 
-  abbrev pub EndsByCopies : RepairPlaces → List ImageCopy → TrustedRoot → CommandFault → Type 0
-  EndsByCopies places copies trusted = IsTreesEnd (IsRepairEnd desk_calls (places_of places) copies trusted desk_before desk_behind desk_failed)
+  abbrev pub EndsByCopies : RepairPlaces → List ImageCopy → SoughtTree → CommandFault → Type 0
+  EndsByCopies places copies sought = IsTreesEnd (IsRepairEnd desk_calls (places_of places) copies sought desk_before desk_behind desk_failed)
 
-  abbrev pub FixesByParity : RepairPlaces → FecFile → List ImageCopy → TrustedRoot → Type 0
-  FixesByParity places fec copies trusted = RepairsByParity desk_calls (places_of places) (fec_record fec) copies trusted desk_before desk_behind
+  abbrev pub FixesByParity : RepairPlaces → FecFile → List ImageCopy → SoughtTree → Type 0
+  FixesByParity places fec copies sought = RepairsByParity desk_calls (places_of places) (fec_record fec) copies sought desk_before desk_behind
 
-  abbrev pub EndsByParity : RepairPlaces → FecFile → List ImageCopy → TrustedRoot → CommandFault → Type 0
-  EndsByParity places fec copies trusted = IsParityWordsEnd desk_calls (places_of places) (fec_record fec) copies trusted desk_before desk_behind desk_failed
+  abbrev pub EndsByParity : RepairPlaces → FecFile → List ImageCopy → SoughtTree → CommandFault → Type 0
+  EndsByParity places fec copies sought = IsParityWordsEnd desk_calls (places_of places) (fec_record fec) copies sought desk_before desk_behind desk_failed
 
   -- over a stack file
   abbrev pub ListsFile : StackFile → ListForm → Bool → Type 0
@@ -204,7 +204,7 @@ module _ {T : Type 0} (contents : T → Option (List ℕ)) (old new : CountedRec
   abbrev pub EndsPage : Option (Bor (List ℕ)) → CommandFault → Type 0
   EndsPage command = IsPageEnd (text_of command) (contents old.inner) (contents new.inner) new.failed
 
-  -- why a command ended early, with its status, or the status 1 where that can't be written
+  -- why a command ended early, with its status, or the status 1 if that can't be written
   abbrev pub IsToldBy : CommandFault → ℕ → Type 0
   IsToldBy fault status = IsEnd fault (contents old.inner) (contents new.inner) status ⊎ ((status ≡ 1) × (new.failed ≡ true))
 

@@ -1,4 +1,4 @@
--- What a command prints where it ends early, and its status.
+-- What a command prints if it ends early, and its status.
 use Rattle.std.specs.Prelude.{◌≡◌, ◌⊎◌, ℕ, Bool, true, List, [], Option, Some}
 use Rattle.std.specs.Io.KnownBytes.{Appends}
 use Rattle.command_line.specs.declared.fault.WordsFault.{WordsFault}
@@ -20,7 +20,7 @@ use Rattle.stack_commands.specs.FaultTexts.{io_status, linux_text, recovering_st
 
 -- how a command ends where the words are none
 abbrev pub command_words_ending : WordsFault → CommandFault
-command_words_ending (words.Usage misuse) = Usage
+command_words_ending (words.Usage misuse) = Usage (Some misuse)
 command_words_ending words.NoMemory = NoMemory
 
 -- how a command ends if Linux wouldn't take a stack, or memory ran out before that was known
@@ -30,7 +30,7 @@ linux_ending linux.NoMemory = NoMemory
 
 -- what is printed of it; the own faults of a session and of the service of a client print nothing
 abbrev pub ending_text : CommandFault → List ℕ
-ending_text Usage = usage_text
+ending_text (Usage misuse) = usage_text
 ending_text NoMemory = no_memory
 ending_text (Stack fault) = stack_fault_text fault
 ending_text (Linux refusal) = linux_text refusal
@@ -48,7 +48,7 @@ ending_text (Service fault) = []
 -- 2 for words that are no command, 3 for a fault of the stack, images that differ and lost sectors,
 -- 4 for a client that breaks the protocol or is lost, else 1
 abbrev pub ending_status : CommandFault → ℕ
-ending_status Usage = 2
+ending_status (Usage misuse) = 2
 ending_status (Request fault) = request_status fault
 ending_status (Io fault) = io_status fault
 ending_status (Recovering fault) = recovering_status fault

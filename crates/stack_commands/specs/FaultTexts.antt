@@ -1,4 +1,4 @@
--- What is printed of faults of stacks, of requests, of devices that are gone over, and of their bytes; and the statuses.
+-- What is printed of faults of stacks, of requests, of devices that are scanned, and of their bytes; and the statuses.
 use Rattle.std.specs.Prelude.{ℕ, List, [], ◌++◌, codes, decimal}
 use Rattle.io_fault_text.specs.Opening.{open_text}
 use Rattle.io_fault_text.specs.Paths.{shown_path}
@@ -66,7 +66,7 @@ abbrev pub request_status : RequestFault → ℕ
 request_status (request.Io fault) = io_status fault
 request_status fault = 1
 
--- ---- of devices that are gone over
+-- ---- of devices that are scanned
 
 -- an image to which a device isn't copied, with the sectors that it needs
 abbrev pub too_small_text : ℕ → List ℕ

@@ -1,4 +1,4 @@
--- What each command prints where it succeeds, and how it ends early.
+-- What each command prints if it succeeds, and how it ends early.
 use Rattle.std.specs.Io.KnownBytes.{Appends}
 use Rattle.std.specs.Prelude.{◌≡◌, ◌⊎◌, ◌≢◌, ℕ, Bool, true, false, codes, List, [], None, Ok, Option, Some, unwrap_or}
 use Rattle.command_line.specs.FormatOptions.{OptionTexts}
@@ -121,7 +121,7 @@ IsStoreCommandEnd w s old new failed fault = BySource s
 -- ---- a whole device
 
 abbrev pub scanned : ScanRecord → ScanWords
-scanned s = scan_words (device_on s.stack s.name s.cache s.bindings) s.map s.form
+scanned s = scan_words (device_on s.stack s.name s.cache s.bindings) s.map s.retries s.form
 
 abbrev pub ScansSectors : {S D : Type 0} → Calls S D → ScanRecord → Option (List ℕ) → Option (List ℕ) → Type 0
 ScansSectors w s old new = PrintsScan w (scanned s) old new
@@ -130,7 +130,7 @@ abbrev pub IsScanWordsEnd : {S D : Type 0} → Calls S D → ScanRecord → Opti
 IsScanWordsEnd w s old new failed fault = IsRecoveringEnd (IsScanEnd w (scanned s) old new failed) fault
 
 abbrev pub copied : CopyRecord → CopyWords
-copied c = copy_words (device_on c.stack c.name c.cache c.bindings) c.out c.differing c.map
+copied c = copy_words (device_on c.stack c.name c.cache c.bindings) c.out c.differing c.map c.retries
 
 abbrev pub CopiesSectors : {S D : Type 0} → Calls S D → CopyRecord → Option (List ℕ) → Option (List ℕ) → Type 0
 CopiesSectors w c old new = PrintsCopy w (copied c) old new
@@ -160,11 +160,11 @@ pub record PrintsPage (command : Option (List ℕ)) (old new : Option (List ℕ)
 
 -- there is no such page, or it can't be written
 abbrev pub IsPageEnd : Option (List ℕ) → Option (List ℕ) → Option (List ℕ) → Bool → CommandFault → Type 0
-IsPageEnd command old new failed fault = ((page_wanted command ≡ None) × ((fault ≡ Usage) × (new ≡ old))) ⊎ IsReplyUnwritten failed fault
+IsPageEnd command old new failed fault = ((page_wanted command ≡ None) × ((fault ≡ Usage None) × (new ≡ old))) ⊎ IsReplyUnwritten failed fault
 
 -- ---- all of them
 
--- what each prints where it succeeds; the texts are the values of `format`'s options
+-- what each prints if it succeeds; the texts are the values of `format`'s options
 abbrev pub Succeeds : {S D T G : Type 0} → OptionTexts → InvocationRecord → Uses S D T G → Type 0
 Succeeds texts (load l) u = ListsDevices u.images l u.old.output u.new.output
 Succeeds texts (read r) u = ReadsDevice u.images r u.old.output u.new.output
@@ -181,13 +181,13 @@ Succeeds texts (verify v) u = ChecksImage u.images v u.old.output u.new.output
 Succeeds texts (dump d) u = DumpsAt u.images d u.old.output u.new.output
 Succeeds texts (table t) u = PrintsEntry u.images t u.old.output u.new.output
 Succeeds texts (partitions p) u = ListsPartitions u.images p u.old.output u.new.output u.notes
-Succeeds texts (diff d) u = ComparesImages u.images d u.old.output u.new.output
-Succeeds texts (repair r) u = RepairsImage u.images r u.old.output u.new.output
+Succeeds texts (diff d) u = ComparesImages texts u.images d u.old.output u.new.output
+Succeeds texts (repair r) u = RepairsImage texts u.images r u.old.output u.new.output
 Succeeds texts (format_tree f) u = FormatsSaidTree texts u.images u.drawing f u.old.output u.new.output
 Succeeds texts (verify_tree v) u = ChecksTree texts u.images v u.old.output u.new.output
 Succeeds texts (table_tree t) u = PrintsTreeEntry texts u.images t u.old.output u.new.output
 Succeeds texts (format_fec f) u = FormatsFec texts u.images u.drawing f u.old.output u.new.output
-Succeeds texts (verify_fec v) u = VerifiesFec u.images v u.old.output u.new.output
+Succeeds texts (verify_fec v) u = VerifiesFec texts u.images v u.old.output u.new.output
 Succeeds texts (format_pin f) u = FormatsByPin texts u.images u.drawing f u.old.output u.new.output
 Succeeds texts (manual command) u = PrintsPage command u.old.output u.new.output × (u.images.new ≡ u.images.old)
 Succeeds texts version u = Appends u.old.output u.new.output version_text × (u.images.new ≡ u.images.old)
@@ -209,13 +209,13 @@ FailsCommand texts (verify v) u failed fault = IsCheckCommandEnd u.images v u.ol
 FailsCommand texts (dump d) u failed fault = IsVerityEnd (IsDumpEnd u.images d u.old.output u.new.output failed) fault
 FailsCommand texts (table t) u failed fault = IsVerityEnd (IsTableEnd u.images t u.old.output u.new.output failed) fault
 FailsCommand texts (partitions p) u failed fault = IsPartitionsEnd (λ end. IsListingEnd u.images p failed u.notes end × IsFormQuiet p.form u.old.output u.new.output end) fault
-FailsCommand texts (diff d) u failed fault = IsComparingEnd u.images d u.old.output u.new.output failed fault
-FailsCommand texts (repair r) u failed fault = IsRepairWordsEnd u.images r u.old.output u.new.output failed fault
+FailsCommand texts (diff d) u failed fault = IsComparingEnd texts u.images d u.old.output u.new.output failed fault
+FailsCommand texts (repair r) u failed fault = IsRepairWordsEnd texts u.images r u.old.output u.new.output failed fault
 FailsCommand texts (format_tree f) u failed fault = IsVerityEnd (IsSaidFormatTreeEnd texts u.images u.drawing f u.old.output u.new.output failed) fault
 FailsCommand texts (verify_tree v) u failed fault = IsCheckTreeEnd texts u.images v u.old.output u.new.output failed fault
 FailsCommand texts (table_tree t) u failed fault = IsVerityEnd (IsTableTreeEnd texts u.images t u.old.output u.new.output failed) fault
 FailsCommand texts (format_fec f) u failed fault = IsFecEnd (IsFormatFecEnd texts u.images u.drawing f u.old.output u.new.output failed) fault
-FailsCommand texts (verify_fec v) u failed fault = IsFecEnd (IsVerifyFecEnd u.images v u.old.output u.new.output failed) fault
+FailsCommand texts (verify_fec v) u failed fault = IsFecEnd (IsVerifyFecEnd texts u.images v u.old.output u.new.output failed) fault
 FailsCommand texts (format_pin f) u failed fault = IsVerityEnd (IsPinFormatEnd texts u.images u.drawing f u.old.output u.new.output failed) fault
 FailsCommand texts (manual command) u failed fault = IsPageEnd command u.old.output u.new.output failed fault × (u.images.new ≡ u.images.old)
 FailsCommand texts version u failed fault = IsReplyUnwritten failed fault × (u.images.new ≡ u.images.old)

@@ -25,7 +25,7 @@ module _ {S D G F R T : Type 0} (relations : Opener S D) (state : D → Device) 
       (streams (remaining reader'.inner) (contents writer'.inner))
       notes
 
-  -- by the words behind the program's name
+  -- by the words after the program's name
   abbrev pub DoesWords : List (List ℕ) → Type 0
   DoesWords words = IsCommandDone words all_used
 

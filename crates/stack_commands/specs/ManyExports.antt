@@ -26,7 +26,7 @@ pub record AreOffered (stack : StackRecord) (exports : List ExportRecord) : Type
   pub named : AreNames stack.config.devices names
   pub offered : Offers stack.config names exports
 
--- The service of a client, over each device of the stack. What then stood in the images was given back, synced or not.
+-- The service of a client, over each device of the stack. The images were closed with what was written to them, synced or not.
 pub record ServesExports {S D : Type 0} (w : Calls S D) (words : StackWords) (cache : ℕ) (old new : Streams) (outcome : Result Unit ServiceFault) (synced : Result Unit IoFault) : Type 0 where
   pub stack : StackRecord
   pub exports : List ExportRecord

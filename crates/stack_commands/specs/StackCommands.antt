@@ -1,4 +1,4 @@
--- What the commands on stacks print where they succeed, and how they end early.
+-- What the commands on stacks print if they succeed, and how they end early.
 use Rattle.std.specs.Prelude.{◌≡◌, ◌⊎◌, ℕ, Bool, true, false, List, [], ◌∷◌, length, Option, Some, None, Result, Ok, Err}
 use Rattle.std.specs.Io.KnownBytes.{Appends}
 use Rattle.image_files.specs.Opener.{Calls}
@@ -102,7 +102,7 @@ IsReadEnd w words cache request failed fault =
 
 -- ---- `write`
 
--- the source's bytes were put and synced, and what then stands in the images given back
+-- the source's bytes were written and synced, and the images closed with them
 abbrev pub PrintsWritten : {S D : Type 0} → Calls S D → PutWords → Option (List ℕ) → Option (List ℕ) → Type 0
 PrintsWritten w words old new = PutsBack w words (Ok tt) × Appends old new written_text
 
@@ -112,12 +112,12 @@ IsWriteEnd w words failed fault = IsRequestEnd (IsPutEnd w words) fault ⊎ (Put
 
 -- ---- `session`
 
--- an image wasn't synced behind what was done
+-- an image wasn't synced after what was done
 abbrev pub IsSyncEnd : (Result Unit IoFault → Type 0) → CommandFault → Type 0
 IsSyncEnd Done (Io fault) = Done (Err fault)
 IsSyncEnd Done fault = ⊥
 
--- The replies to the lines of the input, over no mapped device at first, with so many hash blocks kept. What then stood in the images was given back,
+-- The replies to the lines of the input, over no mapped device at first, with so many hash blocks kept. The images were closed,
 -- synced or not.
 pub record ServesSession {S D : Type 0} (w : Calls S D) (cache : ℕ) (bindings : List BindingRecord) (old new : Streams) (outcome : Result Unit SessionFault) (synced : Result Unit IoFault) : Type 0 where
   pub stack : StackRecord
@@ -138,7 +138,7 @@ IsServeEnd w cache bindings old new failed fault = ⊥
 
 -- ---- `nbd`
 
--- The service of a client, over the device of that name in the stack. What then stood in the images was given back, synced
+-- The service of a client, over the device of that name in the stack. The images were then closed, synced
 -- or not.
 pub record ServesClient {S D : Type 0} (w : Calls S D) (words : DeviceWords) (old new : Streams) (outcome : Result Unit ServiceFault) (synced : Result Unit IoFault) : Type 0 where
   pub stack : StackRecord

@@ -1,4 +1,7 @@
 -- What a command uses, and ends that several commands have.
+use Rattle.std.specs.Prelude.{◌≡◌, ℕ, List, Some, Err}
+use Rattle.command_line.specs.Misuses.{misuse_record}
+use Rattle.command_parser.specs.CommandLines.{line_said}
 use Rattle.stack_commands.specs.declared.fault.CommandFault.{CommandFault}
 use Rattle.stack_commands.specs.declared.fault.CommandFault.TheVariants.{NoMemory, Recovering, Request, Stack, Stream, Trees, Usage, Verity}
 use Rattle.program_io.specs.Streams.{Streams}
@@ -12,11 +15,11 @@ use Rattle.transfer_commands.specs.declared.stream_fault.StreamFault.{StreamFaul
 use Rattle.verity_commands.specs.declared.tree_fault.TreeFault.{TreeFault}
 use Rattle.verity_commands.specs.declared.verity_fault.VerityFault.{VerityFault}
 
--- the fault is `Usage` with that cause, or memory ran out
-abbrev pub IsUsageEnd : CommandFault → Type 0 → Type 0
-IsUsageEnd Usage Cause = Cause
-IsUsageEnd NoMemory Cause = Unit {0}
-IsUsageEnd fault Cause = ⊥
+-- the fault is `Usage` with the argument that the words misuse, or memory ran out
+abbrev pub IsUsageEnd : List (List ℕ) → CommandFault → Type 0
+IsUsageEnd words (Usage (Some misuse)) = line_said words ≡ Err (misuse_record misuse)
+IsUsageEnd words NoMemory = Unit {0}
+IsUsageEnd words fault = ⊥
 
 -- a command on stacks ended so before it had one
 abbrev pub IsStackEnd : (StackFault → Type 0) → CommandFault → Type 0
@@ -28,7 +31,7 @@ abbrev pub IsRequestEnd : (RequestFault → Type 0) → CommandFault → Type 0
 IsRequestEnd Ends (Request fault) = Ends fault
 IsRequestEnd Ends fault = ⊥
 
--- a command that goes over a device ended so
+-- a command that scans a device ended so
 abbrev pub IsRecoveringEnd : (RecoveringFault → Type 0) → CommandFault → Type 0
 IsRecoveringEnd Ends (Recovering fault) = Ends fault
 IsRecoveringEnd Ends fault = ⊥

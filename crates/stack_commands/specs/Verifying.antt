@@ -1,4 +1,4 @@
--- What `verify` prints where the image is good, and how it ends early; with `--all` the image is gone over whole.
+-- What `verify` prints if the image is good, and how it ends early; with `--all` the image is scanned whole.
 use Rattle.std.specs.Prelude.{◌≡◌, ◌⊎◌, ℕ, Bool, true, false, List, Option}
 use Rattle.command_line.specs.FormatOptions.{OptionTexts}
 use Rattle.command_line.specs.words.TreeVerify.{TreeVerifyRecord}
@@ -22,7 +22,7 @@ pub record GoesOverImage {S D : Type 0} (w : Calls S D) (v : VerifyRecord) (old 
   pub told : TellsTrusted (record w { new = between }) v.root found
   pub gone_over : SurveysAt (record w { old = between }) v found old new
 
--- the root was told, or the pin that holds it, and then the image isn't gone over to its end, or some of its blocks aren't good
+-- the root was given, or the pin that holds it, and then the image isn't scanned to its end, or some of its blocks aren't good
 pub record EndsGoingOver {S D : Type 0} (w : Calls S D) (v : VerifyRecord) (old new : Option (List ℕ)) (failed : Bool) (fault : TreeFault) : Type 0 where
   pub between : S
   pub found : TrustedRoot

@@ -13,10 +13,10 @@ pub struct CommandEnd<'a> {
     pub quiet: bool,
 }
 
-impl From<WordsFault<'_>> for CommandEnd<'_> {
+impl<'a> From<WordsFault<'a>> for CommandEnd<'a> {
     ghost from_gives = { λ fault given. given ≡ words_end fault };
 
-    fn from(fault: WordsFault<'_>) -> Self {
+    fn from(fault: WordsFault<'a>) -> Self {
         CommandEnd {
             fault: CommandFault::from(fault),
             json: false,

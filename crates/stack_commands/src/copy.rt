@@ -13,7 +13,11 @@ use stack_files::NamedDevice;
 use std::alloc::Global;
 use std::io::Write;
 
-/// `copy [--cache N] [--differing] [--map FILE] [--progress] STACK NAME OUT BINDING...`
+/// `copy [--cache N] [--differing] [--map FILE] [--retries N] [--progress] STACK NAME OUT BINDING...`: copies the readable sectors of a device.
+///
+/// # Errors
+///
+/// `Recovering` with a fault of `copy_device`.
 pub fn invoke_copy<'a, I: Images, W: Write, P: Progress>(
     alloc: Global,
     context: Context<'_, I, W>,
@@ -32,6 +36,7 @@ pub fn invoke_copy<'a, I: Images, W: Write, P: Progress>(
         out,
         bindings,
         map,
+        retries,
         progress: is_shown,
     } = words;
     if is_shown {
@@ -44,6 +49,7 @@ pub fn invoke_copy<'a, I: Images, W: Write, P: Progress>(
         out,
         differing,
         map,
+        retries,
     };
     Ok(copy_device(alloc, images, file, plan, writer, progress)?)
 }

@@ -102,7 +102,7 @@ fn status_of(fault: CommandFault<'_>) -> u8
     ensures { result ≡ ending_status fault.entry }
 {
     match fault {
-        CommandFault::Usage => USAGE,
+        CommandFault::Usage(_) => USAGE,
         CommandFault::Request(fault) => request_status(fault),
         CommandFault::Io(fault) => io_status(fault),
         CommandFault::Recovering(fault) => recovering_status(fault),
@@ -121,12 +121,12 @@ fn status_of(fault: CommandFault<'_>) -> u8
     }
 }
 
-// One line, or none where the session or the service of a client itself failed.
+// Prints one line, or none if the session or the service of a client itself failed.
 fn say_fault<W: Write>(writer: &mut Counted<W>, fault: CommandFault<'_>) -> Result<(), WriteFault>
     ensures { Writes W.contents writer.old writer.new (ending_text fault.entry) result }
 {
     match fault {
-        CommandFault::Usage => say_usage(writer),
+        CommandFault::Usage(_) => say_usage(writer),
         CommandFault::NoMemory => say_no_memory(writer),
         CommandFault::Stack(fault) => say_stack_fault(writer, fault),
         CommandFault::Linux(refusal) => say_linux_refusal(writer, refusal),

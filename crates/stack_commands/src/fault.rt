@@ -5,7 +5,7 @@ ghost use Rattle.stack_session.specs.declared.fault.SessionFault.TheVariants as 
 ghost use Rattle.stack_commands.specs.Endings.{command_words_ending, linux_ending};
 
 use allocation::OutOfMemory;
-use command_line::WordsFault;
+use command_line::{Misuse, WordsFault};
 use fec_commands::FecFault;
 use linux_rules::{LinuxFault, LinuxRefusal};
 use nbd_server::ServiceFault;
@@ -22,8 +22,8 @@ use verity_commands::{TreeFault, VerityFault};
 /// Why a command ends early.
 #[derive(Clone, Copy, Debug, PartialEq, Eq)]
 pub enum CommandFault<'a> {
-    /// The words are no command.
-    Usage,
+    /// The misused argument; None if `manual` has no such page, or the arguments aren't UTF-8.
+    Usage(Option<Misuse<'a>>),
     /// Memory ran out.
     NoMemory,
     /// There is no stack, or no such device.
@@ -68,12 +68,12 @@ impl From<OutOfMemory> for CommandFault<'_> {
     }
 }
 
-impl From<WordsFault<'_>> for CommandFault<'_> {
+impl<'a> From<WordsFault<'a>> for CommandFault<'a> {
     ghost from_gives = { λ fault given. given ≡ command_words_ending fault };
 
-    fn from(fault: WordsFault<'_>) -> Self {
+    fn from(fault: WordsFault<'a>) -> Self {
         match fault {
-            WordsFault::Usage(_) => CommandFault::Usage,
+            WordsFault::Usage(misuse) => CommandFault::Usage(Some(misuse)),
             WordsFault::NoMemory => CommandFault::NoMemory,
         }
     }

@@ -21,7 +21,11 @@ const REFUSED: u8 = 1;
 
 const FAULT: u8 = 3;
 
-/// One line.
+/// Prints the line of a fault.
+///
+/// # Errors
+///
+/// `WriteFault` if the writer failed.
 pub fn say_stack_fault<W: Write>(
     writer: &mut Counted<W>,
     fault: StackFault<'_>,
@@ -40,7 +44,11 @@ pub fn say_stack_fault<W: Write>(
     }
 }
 
-/// `refused K NAME device D line L`
+/// Prints `refused K NAME device D line L`.
+///
+/// # Errors
+///
+/// `WriteFault` if the writer failed.
 pub fn say_linux_refusal<W: Write>(
     writer: &mut Counted<W>,
     refusal: LinuxRefusal,
@@ -71,7 +79,11 @@ fn say_config_fault<W: Write>(writer: &mut Counted<W>, fault: ConfigFault) -> Re
     say_refused(writer, fault.number(), fault.name())
 }
 
-/// One line.
+/// Prints the line of a fault.
+///
+/// # Errors
+///
+/// `WriteFault` if the writer failed.
 pub fn say_request_fault<W: Write>(
     writer: &mut Counted<W>,
     fault: RequestFault<'_>,
@@ -106,7 +118,11 @@ pub fn io_status(fault: IoFault) -> u8
     }
 }
 
-/// One line, or none if the writer failed or a JSON object states it.
+/// Prints the line of a fault; prints nothing if a line couldn't be written or a JSON object states the fault.
+///
+/// # Errors
+///
+/// `WriteFault` if the writer failed.
 pub fn say_recovering_fault<W: Write>(
     writer: &mut Counted<W>,
     fault: RecoveringFault<'_>,
@@ -142,7 +158,11 @@ pub fn recovering_status(fault: RecoveringFault<'_>) -> u8
     }
 }
 
-/// One line, two, or none where the writer failed.
+/// Prints the fault in one line or two; prints nothing if a line couldn't be written.
+///
+/// # Errors
+///
+/// `WriteFault` if the writer failed.
 pub fn say_stream_fault<W: Write>(
     writer: &mut Counted<W>,
     fault: StreamFault<'_>,

@@ -35,7 +35,11 @@ use verity_commands::{
     invoke_table_tree,
 };
 
-/// Runs a command; the options are those that say what an image is.
+/// Runs the command of a command line. The line's options state an image's tree.
+///
+/// # Errors
+///
+/// That of the command, in the variant of its crate's fault.
 pub fn invoke<'a, I: Images, G: Generators + Progress + Watchers, S: Read, W: Write, E: Write>(
     alloc: Global,
     images: &mut I,
@@ -87,8 +91,12 @@ pub fn invoke<'a, I: Images, G: Generators + Progress + Watchers, S: Read, W: Wr
         Invocation::Partitions(words) => {
             Ok(invoke_partitions(alloc, images, &words, writer, errors)?)
         }
-        Invocation::Diff(words) => compare_images(alloc, Context { images, writer }, &words),
-        Invocation::Repair(words) => repair_image(alloc, Context { images, writer }, &words),
+        Invocation::Diff(words) => {
+            compare_images(alloc, Context { images, writer }, &words, &options)
+        }
+        Invocation::Repair(words) => {
+            repair_image(alloc, Context { images, writer }, &words, &options)
+        }
         Invocation::FormatTree(words) => {
             Ok(invoke_format_tree(alloc, images, generators, &words, &options, writer)?)
         }
@@ -108,7 +116,7 @@ pub fn invoke<'a, I: Images, G: Generators + Progress + Watchers, S: Read, W: Wr
             Ok(invoke_format_fec(alloc, images, generators, &words, &options, writer)?)
         }
         Invocation::VerifyFec(words) => {
-            Ok(invoke_verify_fec(alloc, images, generators, &words, writer)?)
+            Ok(invoke_verify_fec(alloc, images, generators, &words, &options, writer)?)
         }
         Invocation::FormatPin(words) => {
             Ok(invoke_format_pinned(alloc, images, generators, &words, &options, writer)?)
@@ -128,6 +136,6 @@ fn show_page<'a, W: Write>(
 {
     match page_of(command) {
         Some(page) => Ok(print_page(writer, page)?),
-        None => Err(CommandFault::Usage),
+        None => Err(CommandFault::Usage(None)),
     }
 }

@@ -18,8 +18,15 @@ use stack_files::{StackFile, open_configuration};
 use std::alloc::Global;
 use std::io::Write;
 
-/// `load [--json | --tree] [--linux] STACK BINDING...`: the devices of a stack file over the bindings, as a JSON object, a tree or a
-/// line each; with `--linux` only if Linux would load them too, and read and write the same.
+/// `load [--json | --tree] [--linux] STACK BINDING...`: prints the devices of a stack file over the bindings, as a JSON object, a
+/// tree or a line each; with `--linux` only if Linux would load them too, and read and write the same.
+///
+/// # Errors
+///
+/// - `Stack` if a file can't be opened, or there is no stack.
+/// - `Linux` with the first refusal of Linux.
+/// - `NoMemory` if an allocation was refused.
+/// - `Session` if a line can't be written.
 pub fn invoke_load<'a, I: Images, W: Write>(
     alloc: Global,
     context: Context<'_, I, W>,
@@ -68,7 +75,7 @@ fn check_rules(config: &Config, linux: bool) -> Result<(), LinuxFault>
     Ok(())
 }
 
-// Its mapped devices, as an object on one line, a tree or a line each.
+// Prints the mapped devices, as an object on one line, a tree or a line each.
 #[tactic(auto, using(crate::proofs::EndingLemmas::quiet))]
 fn say_configuration<'a, W: Write>(
     alloc: Global,

@@ -14,8 +14,14 @@ use stack_files::{StackFault, StackFile, open_loaded, sync_and_close};
 use std::alloc::Global;
 use std::io::{Read, Write};
 
-/// `nbd [--cache N] STACK NAME BINDING...`: a device of a stack file over the bindings, whose images are synced and given
-/// back at the end.
+/// `nbd [--cache N] STACK NAME BINDING...`: serves a device of a stack file over the bindings, and syncs and closes the
+/// images at the end.
+///
+/// # Errors
+///
+/// - `Stack` if a file can't be opened, or there is no stack or no such device.
+/// - `Service` if the service ended early.
+/// - `Io` if the images can't be synced.
 pub fn invoke_nbd<'a, I: Images, S: Read, W: Write>(
     alloc: Global,
     images: &mut I,
@@ -32,6 +38,12 @@ pub fn invoke_nbd<'a, I: Images, S: Read, W: Write>(
 
 /// `nbd --all [--cache N] STACK BINDING...`: serves each device of a stack file over the bindings, under its name. The
 /// images are synced and closed at the end.
+///
+/// # Errors
+///
+/// - `Stack` if a file can't be opened, or there is no stack.
+/// - `Service` if the service ended early.
+/// - `Io` if the images can't be synced.
 pub fn invoke_exports<'a, I: Images, S: Read, W: Write>(
     alloc: Global,
     images: &mut I,

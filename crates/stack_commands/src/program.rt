@@ -5,7 +5,7 @@ ghost use Rattle.command_line.specs.FormatOptions.{text_of};
 ghost use Rattle.image_commands.specs.Drawing.{drawing};
 ghost use Rattle.image_files.specs.Opener.{calls};
 ghost use Rattle.partition_commands.specs.Warnings.{notes_of};
-ghost use Rattle.stack_commands.specs.Commands.{EndsCommand, ExplainsEnd, ExplainsUsage, IsCommandDone, IsRepeated, is_usage, object_asked, output_is_data, said_message, told_to, writes_data};
+ghost use Rattle.stack_commands.specs.Commands.{EndsCommand, ExplainsEnd, ExplainsUsage, IsCommandDone, IsRepeated, is_usage, misuse_of, object_asked, output_is_data, said_message, told_to, writes_data};
 ghost use Rattle.stack_commands.specs.Contexts.{IsToldAs};
 ghost use Rattle.stack_commands.specs.Lines.{DoesWords, EndsWords};
 ghost use Rattle.stack_commands.specs.Uses.{uses};
@@ -15,7 +15,8 @@ use crate::ending::{end, end_as};
 use crate::fault::CommandFault;
 use crate::invocation::invoke;
 use crate::messages::commands::ending_message;
-use command_parser::{misuse_of, parse};
+use command_line::Misuse;
+use command_parser::parse;
 use device_adapters::{Progress, Watchers};
 use fec_commands::FecFault;
 use image_commands::Generators;
@@ -30,7 +31,7 @@ const DONE: u8 = 0;
 
 const UNPRINTED: u8 = 1;
 
-/// Runs the words behind the program's name, and answers the status: 0 done, 1 refused, 2 usage, 3 a fault of
+/// Runs the words after the program's name, and returns the exit status: 0 done, 1 refused, 2 usage, 3 a fault of
 /// the stack or images that differ, 4 a client that breaks the NBD protocol.
 ///
 /// All that is opened is opened by `images`. Why `cat` and `nbd` end early goes to `errors`, since what they write is
@@ -55,7 +56,7 @@ pub fn command<I: Images, G: Generators + Progress + Watchers, S: Read, W: Write
         Ok(()) => DONE,
         Err(ended) => {
             let CommandEnd { fault, json, quiet } = ended;
-            explain(alloc, errors, words, fault, quiet);
+            explain(errors, words, fault, quiet);
             if output_is_data(words) {
                 end(errors, fault)
             } else {
@@ -93,32 +94,41 @@ fn report_end<W: Write, E: Write>(
 // Explains on standard error why a command ends early: which argument keeps the arguments from being a command, or a sentence on
 // the refusal or fault.
 fn explain<E: Write>(
-    alloc: Global,
     errors: &mut Counted<E>,
     words: &[String],
     fault: CommandFault<'_>,
     quiet: bool,
 )
-    ensures usage { is_usage fault.entry ≡ true → ExplainsUsage (map string_bytes words.now) (E.contents errors.old.inner) (E.contents errors.new.inner) errors.new.failed }
+    ensures usage { is_usage fault.entry ≡ true → ExplainsUsage fault.entry (map string_bytes words.now) (E.contents errors.old.inner) (E.contents errors.new.inner) errors.new.failed }
     ensures end { is_usage fault.entry ≡ false → ExplainsEnd quiet fault.entry (E.contents errors.old.inner) (E.contents errors.new.inner) errors.new.failed }
     ensures failed { errors.old.failed ≡ true → errors.new.failed ≡ true }
 {
     if is_usage(fault) {
-        print_misuse(alloc, errors, words);
+        print_misuse(errors, words, fault);
     } else {
         print_reason(errors, fault, quiet);
     }
 }
 
-fn print_misuse<E: Write>(alloc: Global, errors: &mut Counted<E>, words: &[String])
-    ensures printed { ExplainsUsage (map string_bytes words.now) (E.contents errors.old.inner) (E.contents errors.new.inner) errors.new.failed }
+fn print_misuse<E: Write>(errors: &mut Counted<E>, words: &[String], fault: CommandFault<'_>)
+    ensures printed { ExplainsUsage fault.entry (map string_bytes words.now) (E.contents errors.old.inner) (E.contents errors.new.inner) errors.new.failed }
     ensures failed { errors.old.failed ≡ true → errors.new.failed ≡ true }
 {
-    let misuse = misuse_of(alloc, words);
+    let misuse = misuse_of(fault);
     let _said = print_usage_error(errors, words, misuse);
 }
 
-// Prints the sentence on an end, if there is one and it is asked for.
+// The misused argument that a usage error names.
+fn misuse_of<'a>(fault: CommandFault<'a>) -> Option<Misuse<'a>>
+    ensures { result ≡ misuse_of fault.entry }
+{
+    match fault {
+        CommandFault::Usage(misuse) => misuse,
+        _ => None,
+    }
+}
+
+// Prints the sentence on an end, if there is one and the options don't leave it out.
 fn print_reason<E: Write>(errors: &mut Counted<E>, fault: CommandFault<'_>, quiet: bool)
     ensures printed { ExplainsEnd quiet fault.entry (E.contents errors.old.inner) (E.contents errors.new.inner) errors.new.failed }
     ensures failed { errors.old.failed ≡ true → errors.new.failed ≡ true }
@@ -131,7 +141,7 @@ fn print_reason<E: Write>(errors: &mut Counted<E>, fault: CommandFault<'_>, quie
     }
 }
 
-// The sentence on an end, if there is one and it is asked for.
+// The sentence on an end, if there is one and the options don't leave it out.
 fn said_message(fault: CommandFault<'_>, quiet: bool) -> Option<&'static str>
     ensures { text_of result ≡ said_message quiet fault.entry }
 {
@@ -143,14 +153,14 @@ fn is_usage(fault: CommandFault<'_>) -> bool
     ensures { result ≡ is_usage fault.entry }
 {
     match fault {
-        CommandFault::Usage => true,
+        CommandFault::Usage(_) => true,
         CommandFault::Verity(fault) => fault == VerityFault::Usage,
         CommandFault::Fec(FecFault::Verity(fault)) => fault == VerityFault::Usage,
         _ => false,
     }
 }
 
-/// Whether the command of that name writes data for another program, so that no line of text may stand on its output.
+/// Whether the command of that name writes data for another program, so that its output must have no line of text.
 pub fn writes_data(name: &[u8]) -> bool
     ensures { result ≡ writes_data name.now }
 {

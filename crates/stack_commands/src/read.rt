@@ -13,8 +13,12 @@ use std::alloc::Global;
 use std::io::Write;
 use transfer_commands::read_sectors;
 
-/// `read [--cache N] STACK NAME FIRST COUNT BINDING...`: sectors of a device of a stack file over the bindings, written as a
+/// `read [--cache N] STACK NAME FIRST COUNT BINDING...`: prints sectors of a device of a stack file over the bindings, as a
 /// session does.
+///
+/// # Errors
+///
+/// `Request` with a fault of `read_sectors`, or `Session` if a line can't be written.
 pub fn invoke_read<'a, I: Images, W: Write>(
     alloc: Global,
     context: Context<'_, I, W>,

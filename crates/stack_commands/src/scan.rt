@@ -13,7 +13,12 @@ use stack_files::NamedDevice;
 use std::alloc::Global;
 use std::io::Write;
 
-/// `scan [--cache N] [--map FILE] [--progress] [--json | --chart] STACK NAME BINDING...`
+/// `scan [--cache N] [--map FILE] [--retries N] [--progress] [--json | --chart] STACK NAME BINDING...`: reports which sectors of a device are
+/// lost.
+///
+/// # Errors
+///
+/// `Recovering` with a fault of `scan_device`.
 pub fn invoke_scan<'a, I: Images, W: Write, P: Progress>(
     alloc: Global,
     context: Context<'_, I, W>,
@@ -30,6 +35,7 @@ pub fn invoke_scan<'a, I: Images, W: Write, P: Progress>(
         name,
         bindings,
         map,
+        retries,
         progress: is_shown,
         form,
     } = words;
@@ -38,6 +44,11 @@ pub fn invoke_scan<'a, I: Images, W: Write, P: Progress>(
     }
     let file = stack_file(stack, &bindings);
     let device = NamedDevice { name, cache };
-    let plan = ScanPlan { device, map, form };
+    let plan = ScanPlan {
+        device,
+        map,
+        retries,
+        form,
+    };
     Ok(scan_device(alloc, images, file, plan, writer, progress)?)
 }

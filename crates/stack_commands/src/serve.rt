@@ -14,6 +14,12 @@ use std::alloc::Global;
 use std::io::{Read, Write};
 
 /// `session [--cache N] BINDING...`: a session over the bindings. The images are synced and closed at its end.
+///
+/// # Errors
+///
+/// - `Stack` if a file can't be opened.
+/// - `Session` if the session failed.
+/// - `Io` if the images can't be synced.
 pub fn invoke_session<'a, I: Images, R: Read, W: Write>(
     alloc: Global,
     images: &mut I,

@@ -14,7 +14,11 @@ use std::alloc::Global;
 use std::io::{Read, Write};
 use transfer_commands::{Target, Wanted, cat_device, store_device, store_file};
 
-/// `cat [--cache N] [--progress] [--first N] [--count N] STACK NAME BINDING...`
+/// `cat [--cache N] [--progress] [--first N] [--count N] STACK NAME BINDING...`: writes the bytes of sectors of a device.
+///
+/// # Errors
+///
+/// `Stream` with a fault of `cat_device`.
 pub fn invoke_cat<'a, I: Images, W: Write, P: Progress>(
     alloc: Global,
     context: Context<'_, I, W>,
@@ -47,7 +51,12 @@ pub fn invoke_cat<'a, I: Images, W: Write, P: Progress>(
     Ok(cat_device(alloc, images, file, wanted, writer, progress)?)
 }
 
-/// `store [--cache N] [--progress] [--first N] STACK NAME SOURCE BINDING...`; SOURCE is `-`, the input, or a file.
+/// `store [--cache N] [--progress] [--first N] STACK NAME SOURCE BINDING...`: writes the bytes of SOURCE, which is `-`, the input,
+/// or a file, to a device.
+///
+/// # Errors
+///
+/// `Stream` with a fault of `store_device` or `store_file`.
 pub fn invoke_store<'a, I: Images, S: Read, W: Write, P: Progress>(
     alloc: Global,
     images: &mut I,

@@ -12,6 +12,10 @@ use std::io::Write;
 use verity_commands::{invoke_tree_survey, invoke_verify_tree, sought_in};
 
 /// `verify --no-superblock [--all] [--progress] [OPTION..] DATA HASH [ROOT]`
+///
+/// # Errors
+///
+/// `Verity` with a fault of `invoke_verify_tree`; with `--all` one of `sought_in`, or `Trees` with one of `invoke_tree_survey`.
 pub fn check_tree<'a, I: Images, S: Watchers, W: Write>(
     alloc: Global,
     context: Context<'_, I, W>,

@@ -12,6 +12,10 @@ use std::io::Write;
 use verity_commands::{VerityFault, invoke_survey, invoke_verify, trusted_in};
 
 /// `verify [--all] [--progress] [--hash-offset BYTES] [--root-hash-file FILE | --pin FILE] DATA HASH [ROOT]`
+///
+/// # Errors
+///
+/// `Verity` with a fault of `invoke_verify`; with `--all` one of `trusted_in`, or `Trees` with one of `invoke_survey`.
 pub fn check_image<'a, I: Images, S: Watchers, W: Write>(
     alloc: Global,
     context: Context<'_, I, W>,

@@ -15,6 +15,10 @@ use transfer_commands::write_source;
 
 /// `write [--cache N] STACK NAME FIRST SOURCE BINDING...`: writes the bytes of the source file to a device of a stack file
 /// over the bindings. The images are synced and closed before anything is printed.
+///
+/// # Errors
+///
+/// `Request` with a fault of `write_source`, or `Session` if the line can't be written; the bytes were written then.
 pub fn invoke_write<'a, I: Images, W: Write>(
     alloc: Global,
     context: Context<'_, I, W>,

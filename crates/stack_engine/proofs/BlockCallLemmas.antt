@@ -29,7 +29,7 @@ use Rattle.stack_engine.proofs.SectorCallLemmas.{before-none, before-before}
 abbrev pub ahead : ℕ → ℕ → ℕ → List ℕ → List ℕ
 ahead size r j out = take ((r - j) * size) (drop (j * size) out)
 
--- The first j of n sectors' blocks stand in the buffer, and those up to block r were read: with the calls that read the others, all are
+-- The first j of n sectors' blocks are in the buffer, and those up to block r were read: with the calls that read the rest, all are
 -- read. And the same after the way to block j, of which that digest is expected, where the last hash block has those bytes.
 pub record BlocksUpTo {D : Type 0} (does : D → Call → D → Type 0) (c : Configuration) (x : VerityPart) (n r j : ℕ) (out : List ℕ) (old mid : List D) : Type 0 where
   pub later : (new : List D) (answer : Result (List ℕ) IoFault) → ReadsBy does c (blocks_of (place_at x (x.first / block_sectors x.verity.now + j)) (n / block_sectors x.verity.now - j) (ahead x.verity.now.data_block r j out)) mid new answer
@@ -73,7 +73,7 @@ module _ (size j w : ℕ) (out block : List ℕ) (fits : j * size ≤ length out
       let past : j * size + w ≤ j * size + size = omega (arith, w_is) in
       ap (take m) (sym (drop-put_mid (j * size) w out block (j * size + size) past fits (wide ∙ sym w_is))) ∙ ap (λ (k : ℕ). take m (drop k (put_mid (j * size) w out block))) (sym (next-place size j))
 
-  -- what was read and stands after it
+  -- what was read and is after it
   ahead-rest : (r : ℕ) → drop size (ahead size r j out) ≡ ahead size r (j + 1) (put_mid (j * size) w out block)
   ahead-rest r = elim (cases_lt j r) [
     | inl low ↦ ap (λ (k : ℕ). drop size (take k (drop (j * size) out))) (ahead-less size r j low) ∙ drop-take size ((r - (j + 1)) * size) (drop (j * size) out)
@@ -81,7 +81,7 @@ module _ (size j w : ℕ) (out block : List ℕ) (fits : j * size ≤ length out
     | inr high ↦ ap (drop size) (ahead-none size r j out high) ∙ drop_all size [] (omega arith) ∙ sym (ahead-none size r (j + 1) (put_mid (j * size) w out block) (omega (arith, high)))
   ]
 
--- the block that stands there comes first
+-- the block that is there comes first
 ahead-first : (size r j : ℕ) (out : List ℕ) → j < r → take size (drop (j * size) out) ++ drop size (ahead size r j out) ≡ ahead size r j out
 ahead-first size r j out low =
     let n : ℕ = (r - (j + 1)) * size in
@@ -89,7 +89,7 @@ ahead-first size r j out low =
     let all : ahead size r j out ≡ take (size + n) l = ap (λ (k : ℕ). take k l) (ahead-less size r j low) in
     ap (λ (k : List ℕ). take size l ++ drop size k) all ∙ ap (λ (k : List ℕ). take size l ++ k) (drop-take size n l) ∙ sym (take-add size n l) ∙ sym all
 
--- what is known of a row, and of the read of its bytes, by where block j stands
+-- what is known of a row, and of the read of its bytes, by where block j is
 pub together-at : (x : VerityPart) (n j many : ℕ) (expected : List ℕ) {p : DataPlace} {left : ℕ} {ignored : Bool} {last way : List ℕ} → p ≡ place_at x (x.first / block_sectors x.verity.now + j) → left ≡ n / block_sectors x.verity.now → last ≡ way → ignored ≡ is_ignored x.verity.now expected
     → (ignored ≡ false) × AreReadTogether p last (left - j) many → (is_ignored x.verity.now expected ≡ false) × AreReadTogether (place_at x (x.first / block_sectors x.verity.now + j)) way (n / block_sectors x.verity.now - j) many
 together-at x n j many expected {p = p} {left = left} {last = last} {way = way} same all goes is together =

@@ -203,7 +203,7 @@ module _ (c : Configuration) where
     });
   }
 
-  -- what a write to a leaf leaves, after the lines whose hash device stands on it were forgotten
+  -- what a write to a leaf leaves, after the lines whose hash device is on it were forgotten
   pub keeps-written : (i first n most : ℕ) (old new : List Device) (before cache : StackCache) → AreWritten (reached (λ s. (said_at c (leaf i) s).reaches) first n) old most new → IsCacheOf c old before
       → cache.blocks ≡ cache_without_leaf c i before.blocks → cache.beneath ≡ before.beneath → CoversBlocks c cache.covered cache.blocks.blocks → KeepsCache c new before cache
   keeps-written i first n most old new before cache written all is same covers = record {

@@ -39,7 +39,7 @@ part-min xs at end from to h e f = elim (cases_lt at (length xs)) [
 pub rest-later : (xs ys : List ℕ) (at more : ℕ) → drop at xs ≡ drop at ys → drop (at + more) xs ≡ drop (at + more) ys
 rest-later xs ys at more e = sym (drop-drop more at xs) ∙ ap (drop more) e ∙ drop-drop more at ys
 
--- the rest behind a part that was changed
+-- the rest after a part that was changed
 pub rest-kept : (xs ys new : List ℕ) (at end from to : ℕ) → at ≤ end → from ≡ min at (length xs) → to ≡ min end (length xs) → length new ≡ to - from → drop at xs ≡ drop at ys
     → drop end (put_mid from (to - from) xs new) ≡ drop end ys
 rest-kept xs ys new at end from to h e f len rest =
@@ -55,7 +55,7 @@ OneIsNone plain buffer = (plain ≡ []) ⊎ (buffer ≡ [])
 part-none : (at n : ℕ) → take {A = ℕ} n (drop at []) ≡ []
 part-none at n = ap (take n) (drop-nil {A = ℕ} at) ∙ take_all {A = ℕ} n [] (omega arith)
 
--- a part of what stands in one of two places
+-- a part of what is in one of two places
 pub part-held : (plain buffer : List ℕ) (at n : ℕ) → OneIsNone plain buffer → take n (drop at plain) ++ take n (drop at buffer) ≡ take n (drop at (plain ++ buffer))
 part-held plain buffer at n one = elim one [
   | inl none ↦

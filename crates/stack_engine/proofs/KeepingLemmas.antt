@@ -60,7 +60,7 @@ pub kept-reads : {place : Place} {c : Configuration} {first n : ℕ} {did : Leaf
 kept-reads {place = place} {c = c} {first = first} {n = n} {did = did} {answer = answer} r =
     subst (λ (u : List FoundRecord). Finds place c first n (with_chains did u) answer) (sym r.out) r.reads
 
--- what was found before and what is handed out stands
+-- what was found before a read and what the read hands out stays
 pub finds-kept : (chains : Chains) {place : Place} {c : Configuration} {first n : ℕ} {did : LeafRead} {answer : Result (List ℕ) IoFault} → AllKept c did.old did.before → FindsAs chains place c first n did answer → AllKept c did.new did.after
 finds-kept Kept {c = c} {did = did} kept p = subst (AllKept c did.new) (sym p.out) p.reads.kept
 finds-kept Dropped {c = c} {did = did} kept p = subst (AllKept c did.new) (sym p.out) (kept-later c did.before p.reads.got.moved kept)
@@ -78,7 +78,7 @@ finds-begin chains {place = place} {c = c} {first = first} {leaves = leaves} {fo
 
 -- ---- one read after another
 
--- the chains that were dropped don't count: those of the first read may stand before those of the next one
+-- the chains that were dropped don't count: those of the first read may be before those of the next one
 behind : {place : Place} {c : Configuration} {first n : ℕ} {mid new : List Device} {u v w : List FoundRecord} {answer : Result (List ℕ) IoFault} → AllMono place → HasMore v u → AllKept c mid u
     → (q : FindsAs Dropped place c first n (record { old = mid; new = new; before = v; after = w }) answer) → Finds place c first n (record { old = mid; new = new; before = u; after = u ++ q.reads.grown.added }) answer
 behind {place = place} {c = c} {first = first} {n = n} {mid = mid} {new = new} {u = u} {v = v} {answer = answer} mono more kept q = record {
@@ -127,7 +127,7 @@ module _ (c : Configuration) (d first a m : ℕ) (source : Source) {old mid new 
       → ReadsAs chains c (mapped d) first n (record { old = old; new = new; before = u; after = w }) (Err fault)
   device_err n fault h q = then_err (place_of c (mapped d)) c (said_at-mono c (mapped d)) first a m chains n fault h p (finds-up q (λ after. pass (served-passes c d (first + a) m source loaded some r) (record { old = mid; new = new; before = v; after = after }) (Err fault)))
 
--- the same read by equal numbers and bytes
+-- a read stays one if its count and its bytes are replaced by equal ones
 pub same_reads : {chains : Chains} (c : Configuration) (lower : Lower) (first : ℕ) {n m : ℕ} {did : LeafRead} {x y : List ℕ} → n ≡ m → x ≡ y → ReadsAs chains c lower first n did (Ok x) → ReadsAs chains c lower first m did (Ok y)
 same_reads {chains = chains} c lower first {m = m} {did = did} {x = x} e f p =
     subst (λ (b : List ℕ). ReadsAs chains c lower first m did (Ok b)) f (subst (λ (j : ℕ). ReadsAs chains c lower first j did (Ok x)) e p)

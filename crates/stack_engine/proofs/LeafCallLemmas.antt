@@ -15,7 +15,7 @@ module _ {D : Type 0} {does : D → Call → D → Type 0} where
   pub makes-one : {Are : List LeafCall → Type 0} {old new : List D} (i : ℕ) (call : Call) → Are (record { leaf = i; call = call } ∷ []) → IsLeafCall does i old call new → MakesCalls does Are old new
   makes-one {new = new} i call are made = record { calls = record { leaf = i; call = call } ∷ []; are = are; made = (new, made, refl) }
 
-  -- the same calls, seen otherwise
+  -- calls of one kind are calls of another kind that follows from it
   pub makes-as : {Are Be : List LeafCall → Type 0} {old new : List D} → ((calls : List LeafCall) → Are calls → Be calls) → MakesCalls does Are old new → MakesCalls does Be old new
   makes-as seen h = record { calls = h.calls; are = seen h.calls h.are; made = h.made }
 

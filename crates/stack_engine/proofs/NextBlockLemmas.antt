@@ -56,7 +56,7 @@ use Rattle.stack_engine.proofs.SpentLemmas.{way-spent, row-spent}
 use Rattle.allocation.specs.Refusal.{IsOutOfMemory}
 use Rattle.stack_meaning.specs.Memory.{largest_allocation}
 
--- ---- digests of blocks that stand one after another
+-- ---- digests of blocks that are one after another
 
 -- the bytes cut into m blocks of u sectors
 module _ (bytes : List ℕ) (u m : ℕ) (some : 0 < u) (len : length bytes ≡ 512 * (m * u)) where
@@ -92,7 +92,7 @@ module _ (bytes : List ℕ) (u m : ℕ) (some : 0 < u) (len : length bytes ≡ 5
       let there : j < length (cut (u * 512) bytes) = omega (arith, inside, cells) in
       get_or-map (digest salt) (cut (u * 512) bytes) j [] x there ∙ ap (digest salt) (cell j inside)
 
--- ---- where the read stands
+-- ---- how far the read is
 
 -- the blocks before block j were had, where data were read as far as block r
 pub record WereHad (c : Configuration) (p : VerityPart) (n r j : ℕ) (bytes : List ℕ) (did : LeafRead) : Type 0 where
@@ -101,7 +101,7 @@ pub record WereHad (c : Configuration) (p : VerityPart) (n r j : ℕ) (bytes : L
   pub before : AreBefore p.device.0 p.line (p.first / block_sectors p.verity.now + j) did.after
   pub distinct : AreDistinct did.before → AreDistinct did.after
 
--- the blocks from block j on, as far as block r, stand in the bytes as they were read, and their digests were made
+-- the blocks from block j on, as far as block r, are in the bytes as they were read, and their digests were made
 abbrev pub AreReadAhead : Configuration → VerityPart → ℕ → ℕ → List ℕ → List (List ℕ) → List Device → Type 0
 AreReadAhead c p j r bytes made old = (k : ℕ) → j ≤ k → k < r → (x : List ℕ)
     → IsRead c p old k (take (512 * block_sectors p.verity.now) (drop (512 * (k * block_sectors p.verity.now)) bytes)) (get_or made k x)
@@ -121,7 +121,7 @@ pub record IsNext (c : Configuration) (p : VerityPart) (n r j : ℕ) (bytes expe
 
 -- ---- costs
 
--- what a read of so many blocks more costs, behind one way more
+-- what a read of so many blocks more costs, after one way more
 cost-row : (r many to u dc : ℕ) → r + many ≤ to → r * u * dc + many * u * dc ≤ to * u * dc
 cost-row r many to u dc more =
     let sectors : (r + many) * u ≤ to * u = mul-le-mul_right u more in
@@ -158,7 +158,7 @@ module _ {X : Type 0} (a w : ℕ) (xs ys : List X) (fits : a ≤ length xs) wher
   item-put : (n : ℕ) (d : X) → n < length ys → get_or (put_mid a w xs ys) (a + n) d ≡ get_or ys n d
   item-put n d inside = sym (get_or-drop a (put_mid a w xs ys) n d) ∙ ap (λ (l : List X). get_or l n d) behind-put ∙ get_or-append ys (drop (a + w) xs) d n inside
 
-  -- what stands behind it stays
+  -- what follows the written part stays
   rest-put : (n m : ℕ) → a + w ≤ n → length ys ≡ w → take m (drop n (put_mid a w xs ys)) ≡ take m (drop n xs)
   rest-put n m past same = ap (take m) (drop-put_mid a w xs ys n past fits same)
 
@@ -168,7 +168,7 @@ module _ {X : Type 0} (a w : ℕ) (xs ys : List X) (fits : a ≤ length xs) wher
       ap (λ (k : ℕ). get_or (put_mid a w xs ys) k d) (sym on) ∙ sym (get_or-drop n (put_mid a w xs ys) 0 d)
       ∙ ap (λ (l : List X). get_or l 0 d) (drop-put_mid a w xs ys n past fits same) ∙ get_or-drop n xs 0 d ∙ ap (λ (k : ℕ). get_or xs k d) on
 
--- the hash blocks of a way that was walked stand in the path
+-- the hash blocks of a way that was walked are in the path
 pub way-whole : (c : Configuration) (v : Verity) (index : ℕ) {expected : List ℕ} (path : List CachedBlock) {old new : List Device} → IsWalked (block_in c v index) 0 expected (map (λ (b : CachedBlock). b.bytes) (take (levels (tree_of v)) path)) old new → levels (tree_of v) ≤ length path
 way-whole c v index path walked =
     let most : levels (tree_of v) ≡ length (take (levels (tree_of v)) path) = omega (arith, walked.count, length-map (take (levels (tree_of v)) path) (λ (b : CachedBlock). b.bytes)) in
@@ -282,7 +282,7 @@ pub record IsRow (c : Configuration) (p : VerityPart) (start : List ℕ) (j many
   pub whole : length (take (j * p.verity.now.data_block + many * p.verity.now.data_block - j * p.verity.now.data_block) (drop (j * p.verity.now.data_block) bytes)) % 512 ≡ 0
   pub inside : block_sectors p.verity.now * (p.first / block_sectors p.verity.now + j) + many * block_sectors p.verity.now ≤ size c p.data
 
--- the bytes, where the row stands as it was read
+-- the bytes, if the row is as it was read
 pub record IsPut (p : VerityPart) (start : List ℕ) (j many : ℕ) (bytes row : List ℕ) : Type 0 where
   pub wide : length row ≡ many * p.verity.now.data_block
   pub len : length (put_mid (j * p.verity.now.data_block) (j * p.verity.now.data_block + many * p.verity.now.data_block - j * p.verity.now.data_block) bytes row) ≡ 512 * (length start / 512)
@@ -463,7 +463,7 @@ module _ {c : Configuration} {p : VerityPart} {found : List FoundRecord} {start 
           blocks-read b (record { old = did.old; new = new; before = did.before; after = did.after }) (Err fault) to (j + 1) end next (all-moved fresh had moved walked gets)
           (row-stops b j turn.inside had.so_far (rest-moved fresh had moved walked gets) (total-cost b to (j + 1) end next) gets.chains fault moved gets.got)
 
-      -- the blocks as far as that stand there as they were read
+      -- the blocks as far as that are stored there as they were read
       module _ (fresh : (many ≡ 0) ⊎ (r ≤ j)) {did : LeafRead} {walk new : List Device} {content_of : List ℕ} {digests : List (List ℕ)} (made : List (List ℕ)) (had : WereHad c p (length start / 512) r j bytes did) (moved : AreRead did.new (path_cost c p.verity.now) walk)
           (gets : GetsBytes c p.data (block_sectors p.verity.now * (p.first / block_sectors p.verity.now + j)) (many * block_sectors p.verity.now) walk new (Ok content_of)) (whole : AllWhole walk) (room : length made ≡ 128) (ahead : AreReadAhead c p j r bytes made did.old)
           (put : IsPut p start j many bytes content_of) (are : digests ≡ map (digest p.verity.now.salt) (cut p.verity.now.data_block (take (j * p.verity.now.data_block + many * p.verity.now.data_block - j * p.verity.now.data_block) (drop (j * p.verity.now.data_block) (put_mid (j * p.verity.now.data_block) (j * p.verity.now.data_block + many * p.verity.now.data_block - j * p.verity.now.data_block) bytes content_of))))) where
@@ -539,7 +539,7 @@ module _ {c : Configuration} {p : VerityPart} {found : List FoundRecord} {start 
 -- ---- the block itself
 
 module _ {c : Configuration} {p : VerityPart} {n : ℕ} {found : List FoundRecord} (b : BlocksAt c p n found) where
-  -- what settles it: the bytes that stood there, and those that stand there written
+  -- what settles it: the bytes that were there, and those that are written there
   module _ {r j : ℕ} {bytes expected : List ℕ} {path : List (List ℕ)} {did : LeafRead} (out : List ℕ) (inside : j < n / block_sectors p.verity.now) (read : r ≤ n / block_sectors p.verity.now) (next : IsNext c p n r j bytes expected path did)
       (len : length out ≡ 512 * n) (end : j * p.verity.now.data_block + p.verity.now.data_block ≤ length out) where
     few : read_cost_so_far c p.verity.now (r * block_sectors p.verity.now) (j + 1) ≤ n * read_cost c (mapped p.device.0)
@@ -558,7 +558,7 @@ module _ {c : Configuration} {p : VerityPart} {n : ℕ} {found : List FoundRecor
     was-read : (made : List (List ℕ)) (x : List ℕ) → AreReadAhead c p j r out made did.old → j < r → IsRead c p did.old j (take (j * p.verity.now.data_block + p.verity.now.data_block - j * p.verity.now.data_block) (drop (j * p.verity.now.data_block) out)) (get_or made j x)
     was-read made x ahead within = subst (λ (l : List ℕ). IsRead c p did.old j l (get_or made j x)) (sym (part-is out)) (ahead j (omega arith) within x)
 
-    -- the digest that was made of the bytes that stand there
+    -- the digest that was made of the bytes that are stored there
     pub digest-made : (made : List (List ℕ)) (x : List ℕ) → AreReadAhead c p j r out made did.old → j < r → get_or made j x ≡ digest p.verity.now.salt (take (j * p.verity.now.data_block + p.verity.now.data_block - j * p.verity.now.data_block) (drop (j * p.verity.now.data_block) out))
     digest-made made x ahead within = (was-read made x ahead within).made_is
 

@@ -70,7 +70,7 @@ module _ (c : Configuration) (k : Counter) (x : CryptPart) (n : ℕ) (loaded : I
       let same : write_budget c k x.lower first m ≡ write_budget c k x.lower (unit_first x.units x.first) n = ap (λ (s : ℕ). write_budget c k x.lower s m) at ∙ ap (write_budget c k x.lower (unit_first x.units x.first)) count in
       omega (arith, paid, same, units-at-once c k x n loaded.valid units.aligned units.whole some)
 
-  -- one behind a sectors
+  -- one step after a sectors
   pub step-paid : (a first m : ℕ) (old mid new : List Device) → a % per_unit x.units ≡ 0 → first ≡ unit_first x.units x.first + a → m ≡ per_unit x.units → CountsAtMost k (crypt_write_budget c k x a) old mid
       → CountsAtMost k (write_budget c k x.lower first m) mid new → CountsAtMost k (crypt_write_budget c k x (a + per_unit x.units)) old new
   step-paid a first m old mid new even at one so_far paid =

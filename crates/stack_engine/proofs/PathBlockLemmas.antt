@@ -25,7 +25,7 @@ use Rattle.stack_engine.proofs.lemmas.WalkLemmas.{walk_down, walk_stops, walk_en
 abbrev pub bytes : Vec ℕ Global → List ℕ
 bytes = λ v. v.items
 
--- a block that was read where it stands, as one of the place that a name means
+-- a block that was read where it is stored, as one of the place that a name means
 pub checked_as : {old new : List Device} (c : Configuration) (name : List ℕ) (lower : Lower) (first n : ℕ) (salt expected : List ℕ) (result : Result (Vec ℕ Global) IoFault) (e : Extent) → named c name ≡ Some lower
     → e ≡ record { lower = lower; first = first; sectors = n } → Gets (checked_expected bytes (place_of c e.lower) e.first e.sectors salt expected) old new result
     → Gets (checked_expected bytes (place_named c name) first n salt expected) old new result
@@ -33,7 +33,7 @@ checked_as {old = old} {new = new} c name lower first n salt expected result e i
     subst (λ (x : Place). Gets (checked_expected bytes x first n salt expected) old new result) (sym (place-named c name lower is))
     (subst (λ (x : Extent). Gets (checked_expected bytes (place_of c x.lower) x.first x.sectors salt expected) old new result) at q)
 
--- where the hash block of a level stands on the way to a data block
+-- the place of the hash block of a level on the way to a data block
 abbrev pub hash_place_of : Verity → Tree → ℕ → ℕ → Extent
 hash_place_of v tree level index = record { lower = tree.hash; first = hash_start v level index; sectors = hash_sectors v }
 
@@ -46,7 +46,7 @@ hash-lies c v tree level index loaded is there low =
     let room = hash-inside c v tree loaded is place (position-lt (tree_of v) valid level (ancestor (tree_of v) (level + 1) index) low (ancestor-lt (tree_of v) valid level index there)) in
     record { value = refl; lies = record { some = size.some; few = size.most; inside = room } }
 
--- a block that was read where it stands
+-- a block that was read where it is stored
 pub block_there : (c : Configuration) (v : Verity) (tree : Tree) (level index : ℕ) {expected : List ℕ} {old new : List Device} (e : Extent) → IsExtent c tree.hash (hash_start v level index) (hash_sectors v) e → (result : Result (Vec ℕ Global) IoFault)
     → Gets (checked_expected bytes (place_of c e.lower) e.first e.sectors v.salt expected) old new result
     → Gets (checked_expected bytes (place_of c tree.hash) (hash_start v level index) (hash_sectors v) v.salt expected) old new result

@@ -32,13 +32,13 @@ use Rattle.stack_engine.proofs.CachedLemmas.{kept-read, hit, cached-one}
 pub path-read : (c : Configuration) {old new : List Device} {n : ℕ} (path : List CachedBlock) → AreRead old n new → All (IsCached c old) path → All (IsCached c new) path
 path-read c path a all = kept-read c (record { capacity = 0; blocks = path }) a all
 
--- one that stands there is what a read of its place gives
+-- a block that the path has is what a read of its place gives
 pub path-hit : (c : Configuration) {salt : List ℕ} {key : Key} {extent : Extent} → IsPlaceOf c salt key extent → (leaves : List Device) (path : List CachedBlock) (k : ℕ) (x : CachedBlock) (expected : List ℕ)
     → All (IsCached c leaves) path → k < length path → (get_or path k x).key ≡ key → (get_or path k x).digest ≡ expected
     → Gets (checked_expected (λ (block : List ℕ). block) (place_of c extent.lower) extent.first extent.sectors salt expected) leaves leaves (Ok ((get_or path k x).bytes))
 path-hit c at leaves path k x expected all there key digest = hit c at (λ (block : List ℕ). block) ((get_or path k x).bytes) expected leaves (get_or path k x) key digest refl (all k x there)
 
--- what stands there after a block was got
+-- what the path has after a block was fetched
 pub path-put : (c : Configuration) {salt : List ℕ} {key : Key} {extent : Extent} → IsPlaceOf c salt key extent → {A : Type 0} (bytes_of : A → List ℕ) (block : A) (expected : List ℕ) {old new : List Device} (path : List CachedBlock) (k : ℕ)
     → All (IsCached c old) path → Gets (checked_expected bytes_of (place_of c extent.lower) extent.first extent.sectors salt expected) old new (Ok block)
     → All (IsCached c new) (take k path ++ (record { key = key; digest = expected; bytes = bytes_of block } ∷ []))
@@ -54,7 +54,7 @@ checked-at c name lower first n salt expected {old = old} {new = new} result e i
 
 module _ (c : Configuration) (v : Verity) (tree : Tree) (index : ℕ) (loaded : IsLoaded c) (is : IsTreeOf c v tree) {expected : List ℕ} {path : List (List ℕ)} {old mid new : List Device} (n level : ℕ) (above : n ≡ suc level)
     (walked : IsWalked (block_in c v index) n expected path old mid) (extent : Extent) (at : IsExtent c tree.hash (hash_start v level index) (hash_sectors v) extent) where
-  -- a hash block of a level stands on the path
+  -- a hash block of a level is on the path
   pub path-down : (block : List ℕ) → Gets (checked_expected (λ (block : List ℕ). block) (place_of c extent.lower) extent.first extent.sectors v.salt expected) mid new (Ok block)
       → IsWalked (block_in c v index) level (next_digest v level index block) (path ++ (block ∷ [])) old new
   path-down block q =

@@ -1,4 +1,4 @@
--- The bytes of a run, and those before and behind it.
+-- The bytes of a run, and those before and after it.
 use Rattle.std.proofs.Common.{◌≡◌, ◌⊎◌, inl, inr, false, ◌<◌, ◌≤◌, ◌+◌, ◌/◌, ◌*◌, ◌-◌, ◌%◌, length, take, drop, ℕ, List, [], ◌++◌, sym, ap, ◌∙◌, subst, arith}
 use Rattle.std.proofs.lemmas.List.{length-take, length-drop, take-append-drop, nil_from_length}
 use Rattle.std.proofs.Math.Seq.{take-add}

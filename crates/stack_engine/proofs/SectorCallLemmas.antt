@@ -23,7 +23,7 @@ use Rattle.stack_engine.specs.LeafCalls.{IsLeafCall}
 use Rattle.stack_engine.specs.SectorCalls.{Gives, Hands, Writes, WriteTo, WriteCalls, at_once, in_steps, bytes_before, part_encrypted, part_decrypted, unit_sectors, unit_with, leaf_read, leaf_unread, none_read, line_read, line_unread, units_read, units_unread, part_read, part_unread, leaf_written, leaf_unwritten, none_written, line_written, line_unwritten, units_written, each_written, part_written, part_lost, none_stepped, step_written, step_unwritten}
 use Rattle.stack_engine.proofs.LeafCallLemmas.{makes-none, makes-one, makes-as, makes-then}
 
--- ---- what stands before the others
+-- ---- what is before the others
 
 -- the first bytes of a write, up to byte `at`: with the calls that write the others, all are written
 abbrev pub WritesUpTo : {D : Type 0} → (D → Call → D → Type 0) → Configuration → (ℕ → WriteTo) → ℕ → ℕ → List ℕ → List D → List D → Type 0

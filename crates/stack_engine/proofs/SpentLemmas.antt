@@ -33,7 +33,7 @@ use Rattle.stack_engine.proofs.BlocksLemmas.{BlocksAt, path_cost, read_cost_so_f
 
 -- ---- run by run
 
--- behind a sectors from the first on the next one begins a run, or there is none
+-- after a sectors from the first on the next one begins a run, or there is none
 abbrev pub IsCutBehind : Configuration → ℕ → ℕ → ℕ → ℕ → Type 0
 IsCutBehind c d first a all = (a ≡ 0) ⊎ ((a ≡ all) ⊎ (in_one_run c d (first + a - 1) ≡ false))
 

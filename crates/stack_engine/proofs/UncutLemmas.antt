@@ -257,7 +257,7 @@ unread-then old mid new p q = q ∙ p
 
 -- ---- runs of a device
 
--- the next run, behind a sectors
+-- the next run, after a sectors
 pub device-uncut : (c : Configuration) (d first a count left all : ℕ) (source : Source) → IsLoaded c → 0 < count → a + count ≤ all → a + left ≡ all → IsCutBehind c d first a all → EndsRun (in_one_run c d) (first + a) left count
     → IsServed c d (first + a) count source → CutsNone c (mapped d) first all → SourceCutsNone c source count
 device-uncut c d first a count left all source loaded some fits whole cut ends served cuts =

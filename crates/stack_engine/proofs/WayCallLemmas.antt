@@ -49,7 +49,7 @@ together-more {p = p} {last = last} {many = many} more here unlike h = record {
   ];
 }
 
--- the same place, by the tree of a part's line
+-- a place by the tree of a part's line is the part's place
 pub place-same : (x : VerityPart) (tree : Tree) (i : ℕ) {hash : Option Lower} → hash ≡ Some tree.hash → hash ≡ Some x.hash → tree.data ≡ x.data → place_in x.verity.now tree i ≡ place_at x i
 place-same x tree i is own under =
     let both : Some tree.hash ≡ Some x.hash = sym is ∙ own in

@@ -1,4 +1,4 @@
--- What the lines of a configuration stand on, as the clauses of reads and writes see it.
+-- What is beneath the lines of a configuration, as the clauses of reads and writes see it.
 use Rattle.std.specs.Prelude.{ℕ, Bool, List, Result, map}
 use Rattle.block_device.specs.Device.{Device}
 use Rattle.stack_rules.specs.Records.{Configuration}
@@ -32,10 +32,10 @@ IsBacking state c backing = IsStack c (leaves_in state backing) backing.cache
 abbrev pub StaysSound : {D : Type 0} → (D → Device) → Configuration → Backing D → Backing D → Type 0
 StaysSound state c old new = KeepsCache c (leaves_in state new) old.cache new.cache
 
--- it ends at the first device call that fails, and asks only these leaves
+-- it ends at the first device call that fails, and accesses only these leaves
 abbrev pub Asks : {D A : Type 0} → (D → Device) → (ℕ → Bool) → Backing D → Backing D → Result A IoFault → Type 0
 Asks state these old new result = AsksOnly these (leaves_in state old) (leaves_in state new) result
 
--- a read: the leaves and the chains that were found, before and behind it
+-- a read: the leaves and the chains that were found, before and after it
 abbrev pub did : {D : Type 0} → (D → Device) → Backing D → List FoundRecord → Backing D → List FoundRecord → LeafRead
 did state old before new after = record { old = leaves_in state old; new = leaves_in state new; before = before; after = after }

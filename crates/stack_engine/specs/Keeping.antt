@@ -27,12 +27,12 @@ abbrev pub handed_out : Chains → List FoundRecord → FoundRecord → List Fou
 handed_out Kept out one = out ++ (one ∷ [])
 handed_out Dropped out one = out
 
--- The chains that were found before a read and those found behind it: all are handed out, or none of those that it found.
+-- The chains that were found before a read and after it: all are handed out, or none of those that the read found.
 abbrev pub AreHandedOut : Chains → List FoundRecord → List FoundRecord → List FoundRecord → Type 0
 AreHandedOut Kept before after out = out ≡ after
 AreHandedOut Dropped before after out = out ≡ before
 
--- the same read, by all chains that were found
+-- a read whose chains after it are all those that were found
 abbrev pub with_chains : LeafRead → List FoundRecord → LeafRead
 with_chains did found = record { old = did.old; new = did.new; before = did.before; after = found }
 

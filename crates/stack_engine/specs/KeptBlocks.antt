@@ -12,20 +12,20 @@ use Rattle.stack_lines.specs.Standing.{key_stands_on}
 use Rattle.stack_engine.specs.Stacks.{StackRecord}
 
 -- No more are kept than may be, and no two under one key. Each has the digest that it is kept under, as a hash block of its
--- line; and where the leaves beneath are steady, it is what stands at its place.
+-- line; and if the leaves beneath are steady, it is what is stored at its place.
 pub record AreChecked (w : StackRecord) : Type 0 where
   pub few : length w.kept ≤ w.capacity
   pub distinct : IsDistinct same_key (map (λ b. b.key) w.kept)
   pub each : All (IsCached w.config w.leaves) w.kept
 
--- After a read of n sectors of mapped device d, from the first on: where no `verity` line is on their way those are kept
+-- After a read of n sectors of mapped device d, from the first on: if no `verity` line is on their way those are kept
 -- that were; and all that are kept were checked, whatever the leaves answered.
 pub record ReadKeeps (w : StackRecord) (d first n : ℕ) (w' : StackRecord) : Type 0 where
   pub same : (MeetVerity (said_at w.config (mapped d)) first n → ⊥) → w'.kept ≡ w.kept
   pub checked : AreChecked w'
 
 -- After a write: what is kept was kept before; and of a leaf that was written nothing is kept of a line whose hash device is
--- that leaf or stands on it. A leaf was written where its counter of writes, or its image if it is steady, isn't as it was.
+-- that leaf or is stacked on it. A leaf was written if its counter of writes, or its image if it is steady, isn't as it was.
 pub record WriteKeeps (w w' : StackRecord) : Type 0 where
   pub adds_none : All (Contains w.kept) w'.kept
   pub written : (i : ℕ) (d : Device) → (IsUnwritten (slice_index_or w.leaves i d) (slice_index_or w'.leaves i d) → ⊥) → All (λ b. key_stands_on w.config i b.key ≡ false) w'.kept

@@ -79,8 +79,8 @@ SpansStandOnLeaves = (c : Configuration) (lower : Lower) (images other : Images)
     → All (λ i. slice_index_or images i [] ≡ slice_index_or other i []) (leaves_beneath c lower)
     → (first n : ℕ) → span (sector c images lower) first n ≡ span (sector c other lower) first n
 
--- So what a piece answers depends on them alone: where they are steady it is what the stack means over any images that
--- have theirs, whatever the other leaves are and hold.
+-- What a piece answers depends on the leaves beneath its device alone: if they are steady it is what the stack means over any
+-- images that have theirs, whatever the other leaves are and hold.
 abbrev pub OtherLeavesChangeNoAnswer : Type 0
 OtherLeavesChangeNoAnswer = (w w' : StackRecord) (d first n : ℕ) (answer : Result AnswerRecord IoFault) → EachPiece w d first n answer w'
     → AreSteady (leaves_of w.config (mapped d)) w.leaves
@@ -100,7 +100,7 @@ pub record IsSha256Collision (a b : List ℕ) : Type 0 where
   pub same : sha256 a ≡ sha256 b
 
 -- An answered chain whose content isn't the formatted block: at the topmost place where it differs from the chain
--- formed of the blocks stand two different inputs of one digest.
+-- formed of the blocks are two different inputs of one digest.
 abbrev pub ForgedAnswersCollide : Type 0
 ForgedAnswersCollide = (c : Configuration) → IsLoaded c → (lower : Lower) (first n : ℕ) (bytes : List ℕ) (chains : List FoundRecord) → MayBe c lower first n bytes chains
     → (x : FoundRecord) → Contains chains x → (v : Verity) → HasVerity c x.device x.line v
@@ -109,7 +109,7 @@ ForgedAnswersCollide = (c : Configuration) → IsLoaded c → (lower : Lower) (f
     → (place : Place) × (IsTopmostDifference (formed (tree_of v) v.salt blocks x.chain.index) x.chain place
     × IsSha256Collision (v.salt ++ chain_block (formed (tree_of v) v.salt blocks x.chain.index) place) (v.salt ++ chain_block x.chain place))
 
--- The same of the chains of a piece of which none was handed out.
+-- A chain of a piece whose chains weren't handed out, with other content than the block under the root, gives a SHA-256 collision.
 abbrev pub ForgedBytesCollide : Type 0
 ForgedBytesCollide = (c : Configuration) → IsLoaded c → (lower : Lower) (first n : ℕ) (bytes : List ℕ) (may : MayBeBytes c lower first n bytes)
     → (x : FoundRecord) → Contains may.chains x → (v : Verity) → HasVerity c x.device x.line v
@@ -146,6 +146,6 @@ IgnoredBlocksCollide = (v : Verity) (block : List ℕ) → IsTrue (is_ignored v 
 
 -- ---- hash blocks that are kept
 
--- What a write says of the kept blocks (`forgets`), leaf by leaf: of one that was written none is kept that stands on it.
+-- What a write says of the kept blocks (`forgets`), leaf by leaf: of a leaf that was written no block of a line on it is kept.
 abbrev pub WrittenLeavesAreForgotten : Type 0
 WrittenLeavesAreForgotten = (w w' : StackRecord) (d first : ℕ) (bytes : List ℕ) (result : Result Unit IoFault) → AnyWrite w d first bytes result w' → WriteKeeps w w'

@@ -30,8 +30,8 @@ pub record MakesCalls {D : Type 0} (does : D → Call → D → Type 0) (Are : L
   pub are : Are calls
   pub made : LeafCalls does old calls new
 
--- The same of devices of which the records alone are seen: some devices have these records, and the calls lead from them to
--- devices that have those.
+-- Calls on devices of which only the records are known: some devices have the old records, and the calls lead from them to
+-- devices that have the new records.
 pub record ServesCalls {D : Type 0} (state : D → Device) (does : D → Call → D → Type 0) (Are : List LeafCall → Type 0) (old new : List Device) : Type 0 where
   pub before : List D
   pub after : List D

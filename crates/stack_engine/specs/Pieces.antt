@@ -41,7 +41,7 @@ MeetsVerity w d first n = MeetVerity (said_at w.config (mapped d)) first n
 abbrev pub piece_budget : StackRecord → ℕ → ℕ → ℕ → ℕ
 piece_budget w d first n = budget w.config (mapped d) first n
 
--- where no `verity` line is on their way: nothing behind the first fault is asked for
+-- if no `verity` line is on their way, nothing after the first fault is read
 abbrev pub PieceStops : {A : Type 0} → StackRecord → ℕ → ℕ → ℕ → Result A IoFault → StackRecord → Type 0
 PieceStops w d first n result w' = (MeetsVerity w d first n → ⊥) → ReadStops (said_at w.config (mapped d)) first n w.leaves w'.leaves result
 

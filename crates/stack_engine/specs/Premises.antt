@@ -1,4 +1,4 @@
--- What each call of a read or a write stands on, on its way down to the leaves.
+-- What each call of a read or a write depends on, on its way down to the leaves.
 use Rattle.std.specs.Prelude.{ℕ, ◌/◌, List, length}
 use Rattle.block_device.specs.Device.{Device}
 use Rattle.stack_rules.specs.Records.{Configuration}

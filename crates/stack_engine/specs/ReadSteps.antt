@@ -108,7 +108,7 @@ expected_in extent salt digest = record { extent = extent; salt = salt; digest =
 abbrev pub GivesData : {D : Type 0} → (D → Call → D → Type 0) → Configuration → DataPlace → List ℕ → Backing D → Backing D → Result (List ℕ) IoFault → Type 0
 GivesData does c p expected old new answer = (last : List ℕ) → ReadsOn does c (data_of p 0 expected last one_block) old new answer
 
--- the hash block on the way to a place, which stands on the path; or the fault
+-- the hash block on the way to a place, which is on the path; or the fault
 abbrev pub GivesOnWay : {D : Type 0} → (D → Call → D → Type 0) → Configuration → DataPlace → WantedBlock → List CachedBlock → Backing D → Backing D → Result Unit IoFault → Type 0
 GivesOnWay does c p wanted path old new result = (x : CachedBlock) → ReadsOn does c (hash_of (expected_hash p wanted.level wanted.digest)) old new (buffer_answer result ((get_or path wanted.at x).bytes))
 

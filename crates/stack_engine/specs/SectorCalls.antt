@@ -114,8 +114,8 @@ pub record AreReadTogether (p : DataPlace) (last : List ℕ) (left many : ℕ) :
   pub known : (k : ℕ) → 0 < k → k < many → p.verity.ignore_zero_blocks ≡ true → 32 * (slot (tree_of p.verity) (ancestor (tree_of p.verity) 0 p.index) + k) + 32 ≤ length last
   pub used : (k : ℕ) → 0 < k → k < many → is_ignored p.verity (digest_after p last k) ≡ false
 
--- What is read: n sectors of a source; an expected block, or one that may be kept; what stands beneath so many levels of hash blocks,
--- where a digest is expected of the next block, after a hash block of those bytes; so many data blocks from a place on, of which
+-- What is read: n sectors of a source; an expected block, or one that may be kept; what is beneath so many levels of hash blocks,
+-- when a digest is expected of the next block, after a hash block of those bytes; so many data blocks from a place on, of which
 -- those bytes were read before.
 pub data ReadOf : Type 0 where
   sectors_of : Source → ℕ → ReadOf

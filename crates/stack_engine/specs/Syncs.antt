@@ -1,4 +1,4 @@
--- Leaves whose writes are put on their media.
+-- Leaves that are synced.
 use Rattle.std.specs.Prelude.{◌≡◌, ℕ, suc, ◌-◌, ◌≤◌, Bool, true, false, List, [], ◌∷◌, ◌++◌, IsTrue, All, map, set, take, drop, Result, Ok, Err, if◌then◌else◌}
 use Rattle.std.specs.List.{slice_index_or}
 use Rattle.block_device.specs.Call.{Call, DeviceDoes, Sync}
@@ -8,11 +8,11 @@ use Rattle.stack_meaning.specs.declared.fault.IoFault.TheVariants as io
 use Rattle.stack_meaning.specs.Leaves.{LeafFailed}
 use Rattle.stack_engine.specs.LeafCalls.{LeafCall, ServesCalls}
 
--- the writes to the first i leaves are on their media
+-- the first i leaves are synced
 abbrev pub synced_first : ℕ → List Device → List Device
 synced_first i leaves = map synced (take i leaves) ++ drop i leaves
 
--- The writes to leaf i, of which there were some, couldn't be put on its medium; those to the leaves before it were.
+-- Leaf i, which was dirty, couldn't be synced; the leaves before it were synced.
 -- Nothing else changed.
 pub record LeafUnsynced (i : ℕ) (old new : List Device) : Type 0 where
   pub failed : LeafFailed i old new

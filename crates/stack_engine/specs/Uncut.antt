@@ -24,7 +24,7 @@ pub record Seam : Type 1 where
   pub ends : Type 0
   pub goes_on : Bool
 
--- where there are no units
+-- if there are no units
 abbrev pub plain_seam : Seam
 plain_seam = record { begins = Unit {0}; ends = Unit {0}; goes_on = true }
 
@@ -60,7 +60,7 @@ seam_rule c below (device d) s = let here = sector_rule c plain_seam (λ i s. pl
 abbrev pub seam_at : Configuration → Lower → ℕ → Seam
 seam_at c = descend (λ s. plain_seam) (seam_rule c)
 
--- A write of n sectors from s on cuts no unit: not at its beginning, nor at its end, nor where it is cut in two on its way.
+-- A write of n sectors from s on splits no unit: not at its beginning, nor at its end, nor where it is split in two on its way.
 pub record CutsNone (c : Configuration) (lower : Lower) (s n : ℕ) : Type 0 where
   pub begins : (seam_at c lower s).begins
   pub ends : (seam_at c lower (s + n - 1)).ends

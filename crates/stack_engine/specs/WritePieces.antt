@@ -64,7 +64,7 @@ pub record AnyWrite (w : StackRecord) (d first : ℕ) (bytes : List ℕ) (result
   pub fails : EndsAtFailure w.leaves w'.leaves result
   pub short : result ≡ Err io.NoMemory → w'.kept ≡ w.kept
 
--- Where the leaves beneath are steady: what the put leaves, no leaf sector that isn't reached is changed, and what stands before the
+-- If the leaves beneath are steady: what the put leaves, no leaf sector that isn't reached is changed, and what is before the
 -- sectors that failed is put.
 pub record SteadyWrite (w : StackRecord) (d first : ℕ) (bytes : List ℕ) (result : Result Unit IoFault) (w' : StackRecord) : Type 0 where
   pub any : AnyWrite w d first bytes result w'
@@ -90,7 +90,7 @@ pub record EachWrite (w : StackRecord) (d first : ℕ) (bytes : List ℕ) (resul
 -- ---- several pieces
 
 -- Pieces of a write one after another, each from where the one before it ended, up to the last one or the first that
--- ends by a fault; the bytes behind that one aren't written.
+-- ends by a fault; the bytes after that piece aren't written.
 pub data InTurn (d first : ℕ) (w : StackRecord) : List ℕ → Result Unit IoFault → StackRecord → Type 0 where
   nothing : InTurn d first w [] (Ok tt) w
   next : {x y : List ℕ} {w' w'' : StackRecord} → InTurn d first w x (Ok tt) w' → EachWrite w' d (first + length x / 512) y (Ok tt) w'' → InTurn d first w (x ++ y) (Ok tt) w''

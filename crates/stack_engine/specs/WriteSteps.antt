@@ -40,7 +40,7 @@ abbrev pub write_beneath : Configuration → Lower → ℕ → ℕ → WriteRun
 write_beneath c lower first n = record { cuts_none = CutsNone c lower first n; most = λ k. write_budget c k lower first n; leaves = leaves_of c lower }
 
 -- What a write leaves, whatever it answers. No more is read or written than what it costs, and nothing is read if no unit is cut.
--- Kept hash blocks stay sound, and are forgotten only of lines whose hash device is one of these leaves or stands on one.
+-- Kept hash blocks stay sound, and are forgotten only of lines whose hash device is one of these leaves or is stacked on one.
 pub record IsWriteStep (c : Configuration) (run : WriteRun) (old new : BackingRecord) : Type 0 where
   pub uncut : run.cuts_none → NoneRead old.leaves new.leaves
   pub paid : (k : Counter) → CountsAtMost k (run.most k) old.leaves new.leaves

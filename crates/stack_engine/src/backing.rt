@@ -1,9 +1,9 @@
-//! What the lines of a configuration stand on.
+//! The devices and the cache beneath the lines of a configuration.
 use block_device::BlockDev;
 use stack_lines::Cache;
 use std::alloc::Global;
 
-/// The devices of the leaves in order, the hash blocks that are kept, and the allocator: reads and writes go over it.
+/// The devices of the leaves in order, the hash blocks that are kept, and the allocator, which reads and writes use.
 #[derive(Drop)]
 pub(crate) struct Backing<D: BlockDev> {
     pub(crate) alloc: Global,

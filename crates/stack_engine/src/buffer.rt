@@ -42,7 +42,7 @@ pub(crate) fn zero_block(alloc: Global, size: u32) -> Result<Vec<u8>, OutOfMemor
     copied(alloc, &zeros[..size as usize])
 }
 
-/// The bytes of a write once more where a line on its way encrypts some of them; else none.
+/// The bytes of a write once more if a line on its way encrypts some of them; else none.
 pub(crate) fn bytes_to_encrypt(
     alloc: Global,
     config: &Config,

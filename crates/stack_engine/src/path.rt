@@ -39,7 +39,7 @@ pub(crate) struct WantedBlock {
     pub(crate) digest: Digest,
 }
 
-/// Whether that block stands there, and was checked by that digest.
+/// Whether the path has that block at that index, checked by that digest.
 pub(crate) fn stands(path: &[PathBlock], at: usize, key: Key, digest: &Digest) -> bool
     ensures { IsTrue result → (at < length path.now) × ((x : CachedBlock) → ((get_or path.now at x).key ≡ key) × ((get_or path.now at x).digest ≡ digest.now)) }
 {
@@ -50,7 +50,7 @@ pub(crate) fn stands(path: &[PathBlock], at: usize, key: Key, digest: &Digest) -
     one.key == key && one.digest == *digest
 }
 
-/// Puts a block there; what stood below is dropped.
+/// Stores a block at that index of the path, and drops the blocks below it.
 pub(crate) fn put(path: &mut Vec<PathBlock>, at: usize, one: PathBlock) -> Result<(), OutOfMemory>
     requires { at ≤ length path.old.items }
     ensures ok { OnOk result (path.new.items ≡ take at path.old.items ++ (one ∷ [])) }
@@ -61,7 +61,7 @@ pub(crate) fn put(path: &mut Vec<PathBlock>, at: usize, one: PathBlock) -> Resul
     push(path, one)
 }
 
-/// Whether the chains of data blocks are handed out.
+/// Whether the chains of data blocks are returned.
 #[derive(Clone, Copy)]
 pub(crate) enum Chains {
     Kept,
@@ -69,7 +69,7 @@ pub(crate) enum Chains {
 }
 
 impl Chains {
-    /// Keeps the chain of a data block of a part's line, by its number in the line from 0, behind those that were found
+    /// Appends the chain of a data block of a part's line, by its number in the line from 0, to those that were found
     /// before; or none.
     pub(crate) fn keep(
         self,
@@ -90,7 +90,7 @@ impl Chains {
         }
     }
 
-    /// Hands out the chains from place `at` on, or drops them.
+    /// Keeps the chains from place `at` on, which are returned, or drops them.
     pub(crate) fn hand_out(self, found: &mut Vec<Found>, at: usize)
         requires { at ≤ length found.old.items }
         ensures { AreHandedOut self (take at found.old.items) found.old.items found.new.items }
@@ -102,7 +102,7 @@ impl Chains {
     }
 }
 
-/// The chain of a data block of a part's line, by its number in the line from 0, behind those that were found before.
+/// The chains found before, and after them that of a data block of a part's line, by its number in the line from 0.
 fn keep_chain(
     part: &VerityPart<'_>,
     index: u64,

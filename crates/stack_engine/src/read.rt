@@ -57,7 +57,7 @@ fn read_leaf<D: BlockDev>(
     }
 }
 
-/// The sectors of a leaf or a mapped device, from that one on. The chains that are found are handed out or dropped.
+/// The sectors of a leaf or a mapped device, from `first` on. The chains that are found are kept or dropped.
 #[cycle(read)]
 fn read_lower<D: BlockDev>(
     config: &Config,
@@ -364,7 +364,7 @@ fn walk<D: BlockDev>(
     }
 }
 
-/// The data block of which that digest is expected. One that the line ignores is zeros, and isn't asked for.
+/// The data block of which that digest is expected. One that the line ignores is zeros, and isn't read.
 #[cycle(read)]
 fn read_data<D: BlockDev>(
     config: &Config,
@@ -425,7 +425,7 @@ fn hash_block<D: BlockDev>(
     }
 }
 
-/// A hash block of a path: the one that stands there, or it is got, and then stands there.
+/// A hash block of a path: the one that the path has, or one that is fetched and stored in the path.
 #[cycle(read)]
 fn path_block<D: BlockDev>(
     config: &Config,
@@ -464,7 +464,7 @@ fn path_block<D: BlockDev>(
     }
 }
 
-/// The digest that is expected of a data block. Hash blocks that stand on the path of the block before aren't got again.
+/// The digest that is expected of a data block. Hash blocks that are on the path of the block before aren't read again.
 #[cycle(read)]
 fn walk_path<D: BlockDev>(
     config: &Config,

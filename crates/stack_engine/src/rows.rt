@@ -10,7 +10,7 @@ use stack_lines::tree::{Tree, is_ignored};
 use tree_shape::{Digest, digest_in};
 
 /// The next of `count` data blocks, the way to which was walked: its number in the line, its place among them, how many
-/// of them were gone over when data were read last, and whether the line ignores it.
+/// of them were scanned when data were read last, and whether the line ignores it.
 #[derive(Clone, Copy)]
 pub(crate) struct NextBlock {
     pub(crate) block: u64,
@@ -21,7 +21,7 @@ pub(crate) struct NextBlock {
 }
 
 /// How many data blocks are taken in a row, at least one and so many at most: those that the line doesn't ignore, as far as
-/// the last hash block on the way to the first one tells.
+/// the last hash block on the way to the first one shows.
 fn taken_in_a_row(
     config: &Config,
     verity: &Verity,
@@ -56,7 +56,7 @@ fn taken_in_a_row(
     many
 }
 
-/// How many data blocks are read from that one on: none where it is ignored or was read; else all, or those that the line
+/// How many data blocks are read from that one on: none if it is ignored or was read; else all, or those that the line
 /// doesn't ignore.
 pub(crate) fn row_len(
     config: &Config,
@@ -85,7 +85,7 @@ pub(crate) fn row_len(
     taken_in_a_row(config, verity, tree, path, next.block, most)
 }
 
-/// How many of the blocks were gone over behind a read of so many from that one on.
+/// How many of the blocks are scanned after a read of so many from that one on.
 pub(crate) fn read_as_far(next: NextBlock, many: usize) -> usize
     requires { next.at + many ≤ next.count }
     ensures { result ≡ max next.read (next.at + many) }
@@ -97,7 +97,7 @@ pub(crate) fn read_as_far(next: NextBlock, many: usize) -> usize
     end
 }
 
-/// Whether a data block may be answered: zeros are put in the place of one that is ignored, and another one must have the digest.
+/// Whether a data block may be answered: one that is ignored is replaced by zeros, and another one must have the digest.
 pub(crate) fn settle(ignored: bool, made: &Digest, expected: &Digest, block: &mut [u8]) -> bool
     ensures zeros { IsTrue result → ignored ≡ true → block.new ≡ replicate (length block.old) 0 }
     ensures same { IsTrue result → ignored ≡ false → (made.now ≡ expected.now) × (block.new ≡ block.old) }

@@ -53,8 +53,8 @@ impl<D: BlockDev> Model for Stack<D> {
 }
 
 impl<D: BlockDev> Stack<D> {
-    /// A stack of that configuration, whose leaves the devices are, in order. Its cache keeps at most `capacity`
-    /// hash blocks, and needs no memory before it keeps one.
+    /// Returns a stack of that configuration over the devices of its leaves, in order. Its cache keeps at most `capacity`
+    /// hash blocks, and allocates nothing before it keeps one.
     pub fn over(alloc: Global, config: Config, devices: Vec<D>, capacity: u32) -> Stack<D>
         requires { ServeLeaves config.leaves (map D.state devices.items) }
         ensures { result ≡ stack_over config (map D.state devices.items) capacity }
@@ -70,7 +70,11 @@ impl<D: BlockDev> Stack<D> {
         Stack { config, backing }
     }
 
-    /// The same stack as `over` returns. It never fails.
+    /// Returns the stack that `over` returns.
+    ///
+    /// # Errors
+    ///
+    /// None: the result is always `Ok`.
     pub fn new(
         alloc: Global,
         config: Config,
@@ -83,7 +87,7 @@ impl<D: BlockDev> Stack<D> {
         Ok(Stack::over(alloc, config, devices, capacity))
     }
 
-    /// The configuration and the devices of its leaves, in order.
+    /// Returns the configuration and the devices of its leaves, in order.
     pub fn into_parts(self) -> (Config, Vec<D>)
         ensures config { result.0 ≡ self.config }
         ensures leaves { map D.state result.1.items ≡ self.leaves }
@@ -97,11 +101,19 @@ impl<D: BlockDev> Stack<D> {
         (config, devices)
     }
 
-    /// The `n` sectors of a device from `first` on, and the chains of the verity lines on their way. They lie
-    /// inside the device, and are 1 to 128. `exact` in `steady` is what the stack means; `any` holds whatever the
-    /// leaves answer. Where no `verity` line is on the way, a leaf that only sectors after a fault reach isn't accessed
-    /// (`stops`), and the bytes are those that its calls of the leaves' devices gave, decrypted (`given`). It moves at most
-    /// what reading each unit and data block that it touches once takes (`spent`).
+    /// Reads `n` sectors of a mapped device from sector `first` on, 1 to 128 that lie inside the device. Returns their bytes, 512
+    /// for each sector, and the chains of the `verity` lines on their way. `exact` in `steady` is what the stack means; `any`
+    /// holds whatever the leaves answer. The bytes are those that its calls of the leaves' devices gave, decrypted by the
+    /// `crypt` lines and verified by the `verity` lines on the way (`given`). If no `verity` line is on the way, a leaf that
+    /// only sectors after a fault reach isn't accessed (`stops`). It reads at most what reading each unit and data block that
+    /// it touches once takes (`spent`).
+    ///
+    /// # Errors
+    ///
+    /// - `Stack(ErrorTarget)` if the way of a sector leads to an `error` line.
+    /// - `Stack(Mismatch)` if a block on the way of a sector doesn't have the digest stored in its parent, or the root hash.
+    /// - `Device` with the leaf whose read failed, counted from 1.
+    /// - `NoMemory` if an allocation was refused.
     pub fn read_piece(&mut self, d: DevId, first: u64, n: u32) -> Result<Answer, IoFault>
         requires some { 1 ≤ n }
         requires most { n ≤ 128 }
@@ -131,9 +143,13 @@ impl<D: BlockDev> Stack<D> {
         }
     }
 
-    /// The sectors of a device from `first` on into the slice, which has room for 1 to 128. They lie inside the device.
-    /// As `read_piece`, but no chain is handed out: that there are some which show the bytes is what `any` says. Behind
-    /// a fault nothing is known of the slice. It takes memory only where a `verity` line is on the way.
+    /// Reads sectors of a mapped device from sector `first` on into the slice, which has room for 1 to 128 that lie inside the
+    /// device. It reads as `read_piece` does, but returns no chains: `any` states that there are chains which show the bytes.
+    /// After a fault the slice's content is unspecified. It allocates only if a `verity` line is on the way.
+    ///
+    /// # Errors
+    ///
+    /// The faults of `read_piece`; `NoMemory` only if a `verity` line is on the way (`memory`).
     pub fn read_bytes(&mut self, d: DevId, first: u64, out: &mut [u8]) -> Result<(), IoFault>
         requires piece { ArePiece out.old }
         requires inside { first + length out.old / 512 ≤ size self.old.config (mapped d.0) }
@@ -156,13 +172,19 @@ impl<D: BlockDev> Stack<D> {
         )
     }
 
-    /// Writes whole sectors of a device, 1 to 128, from `first` on, in rising order up to the first fault: `stops` in
-    /// `any` says that nothing after it was accessed, `behind` in `steady` what is written before it. They lie
-    /// inside the device, which may be written. `exact` in `steady` is what the stack means; `any` holds whatever the
-    /// leaves answer. It takes memory only where a `crypt` line is on the way, once and before the first access.
-    /// Where it cuts no unit of a `crypt` line, nothing is read (`uncut`). It moves at most what writing each unit
-    /// once takes (`wrote`), and reading once those that are cut (`needed`). Its calls of the leaves' devices hand over
-    /// exactly the bytes, encrypted by the `crypt` lines on the way, in order, none after the first that fails (`handed`).
+    /// Writes the bytes of 1 to 128 whole sectors to a mapped device from sector `first` on, in rising order up to the first
+    /// fault: `stops` in `any` states that nothing after it was accessed, `behind` in `steady` what is written before it. The
+    /// sectors lie inside the device, which may be written. `exact` in `steady` is what the stack means; `any` holds whatever
+    /// the leaves answer. It allocates only if a `crypt` line is on the way, once and before the first access. If it splits no
+    /// unit of a `crypt` line, nothing is read (`uncut`). It writes at most what writing each unit once takes (`wrote`), and
+    /// reads at most the units that are split, each once (`needed`). Its calls of the leaves' devices write exactly the bytes,
+    /// encrypted by the `crypt` lines on the way, in order, none after the first that fails (`handed`).
+    ///
+    /// # Errors
+    ///
+    /// - `Stack(ErrorTarget)` if the way of a sector leads to an `error` line.
+    /// - `Device` with the leaf whose read or write failed, counted from 1.
+    /// - `NoMemory` if an allocation was refused; no leaf was accessed.
     pub fn write_piece(&mut self, d: DevId, first: u64, bytes: &[u8]) -> Result<(), IoFault>
         requires piece { ArePiece bytes.now }
         requires inside { first + length bytes.now / 512 ≤ size self.old.config (mapped d.0) }
@@ -186,7 +208,11 @@ impl<D: BlockDev> Stack<D> {
         write_device(&self.config, &mut self.backing, d, first, plain, copy)
     }
 
-    /// Puts the devices of a text in, all or none.
+    /// Adds the devices of a text, all or none. On `Ok` no hash block is kept.
+    ///
+    /// # Errors
+    ///
+    /// `Refused` if a rule refuses the configuration with them, or `NoMemory` if an allocation was refused.
     pub fn load(&mut self, text: &StackText) -> Result<(), LoadFault>
         ensures ok { OnOk result (first_refusal self.old.config text.now ≡ None) }
         ensures after { OnOk result (self.new ≡ record self.old { config = after_load self.old.config text.now; kept = [] }) }
@@ -195,7 +221,7 @@ impl<D: BlockDev> Stack<D> {
         ensures same { OnErr result (self.new ≡ self.old) }
     {
         let outcome = load(&mut self.config, text);
-        // As in `new`.
+        // As in `over`.
         let _loaded = self.config.count();
         if outcome.is_ok() {
             self.backing.cache.start_over(&self.config);
@@ -203,7 +229,11 @@ impl<D: BlockDev> Stack<D> {
         outcome
     }
 
-    /// Removes the mapped device of that name; later ones move up by one place.
+    /// Removes the mapped device of that name; later ones move up by one place. On `Ok` no hash block is kept.
+    ///
+    /// # Errors
+    ///
+    /// `NoSuchDevice` if there is none, or `InUse` if another device names it.
     pub fn remove(&mut self, name: &[u8]) -> Result<(), RemoveFault>
         ensures ok { OnOk result (removal_fault self.old.config name.now ≡ None) }
         ensures after { OnOk result (self.new ≡ record self.old { config = after_removal self.old.config name.now; kept = [] }) }
@@ -211,7 +241,7 @@ impl<D: BlockDev> Stack<D> {
         ensures same { OnErr result (self.new ≡ self.old) }
     {
         let outcome = remove(&mut self.config, name);
-        // As in `new`.
+        // As in `over`.
         let _loaded = self.config.count();
         if outcome.is_ok() {
             self.backing.cache.start_over(&self.config);
@@ -219,7 +249,7 @@ impl<D: BlockDev> Stack<D> {
         outcome
     }
 
-    /// The configuration, as the last load or removal left it.
+    /// Returns the configuration, as the last load or removal left it.
     pub fn config(&self) -> &Config
         ensures value { result.now ≡ self.now.config }
         ensures sound { IsSound self.now.config self.now.leaves }
@@ -227,7 +257,7 @@ impl<D: BlockDev> Stack<D> {
         &self.config
     }
 
-    /// How many hash blocks are kept, which is never more than may be.
+    /// Returns how many hash blocks are kept.
     pub fn cached(&self) -> usize
         ensures value { result ≡ length self.now.kept }
         ensures checked { AreChecked self.now }
@@ -235,7 +265,7 @@ impl<D: BlockDev> Stack<D> {
         self.backing.cache.count()
     }
 
-    /// How many sectors the leaves have read and written, each sum at most the greatest `u64`.
+    /// Returns how many sectors the leaves have read and written, each sum at most the greatest `u64`.
     pub fn moved(&self) -> (u64, u64)
         ensures { result ≡ (capped (reads_of self.now.leaves), capped (writes_of self.now.leaves)) }
     {
@@ -244,9 +274,12 @@ impl<D: BlockDev> Stack<D> {
 }
 
 impl<D: SyncDev> Stack<D> {
-    /// Has what was written to the leaves put on their media: leaf by leaf in order, those that are dirty. Behind Ok
-    /// none is. The fault names the first leaf of which that failed, counted from 1; those behind it aren't asked then.
-    /// Its calls of the leaves' devices are one sync of each dirty leaf, up to the first that fails (`called`).
+    /// Syncs the dirty leaves in order. Its calls of the leaves' devices are one sync of each dirty leaf, up to the first that
+    /// fails (`called`). On `Ok` no leaf is dirty.
+    ///
+    /// # Errors
+    ///
+    /// `Device` with the first leaf whose sync failed, counted from 1; later leaves aren't synced then.
     pub fn sync(&mut self) -> Result<(), IoFault>
         ensures ok { OnOk result (self.new.leaves ≡ map synced self.old.leaves) }
         ensures config { self.new.config ≡ self.old.config }
@@ -256,7 +289,7 @@ impl<D: SyncDev> Stack<D> {
         ensures sure { NeverFail self.old.leaves → IsOk result }
         ensures called { MakesSyncs D.state D.does self.old.leaves result self.new.leaves }
     {
-        // As in `new`.
+        // As in `over`.
         let _loaded = self.config.count();
         sync_leaves(self.backing.devices.as_mut_slice())
     }

@@ -1,4 +1,4 @@
-//! Has what was written to the leaves put on their media.
+//! Syncs the leaves.
 ghost use Rattle.std.specs.Prelude.{◌≡◌, ◌≤◌, IsOk, IsTrue, OnErr, OnOk, IfErr, is_ok, length, map};
 ghost use Rattle.block_device.specs.Call.{DeviceDoes, Sync};
 ghost use Rattle.block_device.specs.Device.{IsUnsynced, synced};
@@ -24,7 +24,7 @@ pub(crate) fn sync_leaves<D: SyncDev>(devices: &mut [D]) -> Result<(), IoFault>
     Ok(())
 }
 
-// Syncs a device, unless all that was written to it is on its medium.
+// Syncs a device if it is dirty.
 fn sync_leaf<D: SyncDev>(device: &mut D) -> Result<(), DeviceFault>
     ensures ok { OnOk result (D.state device.new ≡ synced (D.state device.old)) }
     ensures err { OnErr result (IsUnsynced (D.state device.old) (D.state device.new)) }

@@ -42,7 +42,7 @@ fn write_sectors<D: BlockDev>(
     }
 }
 
-/// The sectors of a leaf, before which the lines whose hash device stands on it lose their blocks in the cache.
+/// Writes the sectors of a leaf, after the blocks of the lines whose hash device is on the leaf were dropped from the cache.
 fn write_leaf<D: BlockDev>(
     config: &Config,
     backing: &mut Backing<D>,
@@ -68,7 +68,7 @@ fn held<'a>(plain: &'a [u8], buffer: &'a [u8]) -> &'a [u8]
     if plain.is_empty() { buffer } else { plain }
 }
 
-/// What lies between two places, as far as the bytes go.
+/// Returns the bytes from `at` to `end`, or up to their end if it is earlier.
 fn between(bytes: &[u8], at: usize, end: usize) -> &[u8]
     requires { at ≤ end }
     ensures { result.now ≡ take (end - at) (drop at bytes.now) }
@@ -78,7 +78,7 @@ fn between(bytes: &[u8], at: usize, end: usize) -> &[u8]
     &bytes[from..to]
 }
 
-/// The sectors of a leaf or a mapped device. Their bytes are the caller's, `plain`, where no line encrypts them; else
+/// The sectors of a leaf or a mapped device. Their bytes are the caller's, `plain`, if no line encrypts them; else
 /// they are those of `buffer` and are encrypted there, each part by the lines on its way. The other one is empty.
 #[cycle(write)]
 fn write_lower<D: BlockDev>(
@@ -126,7 +126,7 @@ fn write_run<D: BlockDev>(
     }
 }
 
-/// Whole units of a crypt line, which are encrypted in place. They are written at once where that makes no difference,
+/// Whole units of a crypt line, which are encrypted in place. They are written at once if that makes no difference,
 /// and else each by itself.
 #[cycle(write)]
 fn write_units<D: BlockDev>(

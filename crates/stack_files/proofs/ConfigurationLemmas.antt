@@ -43,7 +43,7 @@ unfolding configuration_of
 configuration_of-ok leaves text entries none is passes =
     ap (λ o. with_leaves leaves o (stack_of text)) none ∙ (ap (with_text (leaves_alone leaves)) is ∙ ap (with_entries (leaves_alone leaves) entries) passes)
 
--- the same, of the configuration that was made
+-- the configuration that was made is that of the leaves and the text
 pub configuration_of-passes : (leaves : List LeafRecord) (text : List ℕ) (entries : List Entry) (config after : Configuration) → config ≡ leaves_alone leaves → first_leaf_fault leaves ≡ None
     → stack_of text ≡ Ok entries → first_refusal config entries ≡ None → after ≡ after_load config entries → configuration_of leaves text ≡ Ok after
 configuration_of-passes leaves text entries config after is none read passes loads =

@@ -1,4 +1,4 @@
--- Images that are given back, from the last one to the first.
+-- Images that are closed, from the last one to the first.
 use Rattle.std.proofs.Common.{◌≡◌, ◌<◌, ◌≤◌, ◌+◌, ℕ, zero, suc, List, [], ◌∷◌, ◌++◌, length, map, take, drop, get_or, arith, refl, sym, ap, subst, ◌∙◌, append_assoc}
 use Rattle.block_device.specs.Device.{Device}
 use Rattle.command_line.specs.declared.bindings.Binding.{Binding}
@@ -6,7 +6,7 @@ use Rattle.command_line.specs.Bindings.{BackingRecord, backing_record, binding_r
 use Rattle.image_files.specs.Opener.{Calls, Opener, calls}
 use Rattle.stack_files.specs.Bindings.{ClosesBacking, ClosesEach, backings_of}
 
--- all but the first ones are given back
+-- all but the first ones are closed
 pub record AreClosed {S D : Type 0} (w : Calls S D) (backings : List BackingRecord) (all left : List D) : Type 0 where
   pub done : List D
   pub are : all ≡ left ++ done
@@ -48,7 +48,7 @@ module _ {S D : Type 0} (o : Opener S D) (state : D → Device) where
   pub AreClosed-all : (old new : S) (backings : List BackingRecord) (all : List D) → AreClosed (calls o state old new) backings all [] → ClosesEach (calls o state old new) backings all
   AreClosed-all old new backings all closed = subst (λ (ds : List D). ClosesEach (calls o state old new) backings ds) (sym closed.are) closed.closed
 
-  -- one more is given back
+  -- one more is closed
   pub AreClosed-more : (old between new : S) (bindings : List Binding) (all before left : List D) (x : D) (d : Binding)
       → before ≡ left ++ x ∷ [] → length left < length bindings → AreClosed (calls o state old between) (backings_of (map binding_record bindings)) all before
       → ClosesBacking (calls o state between new) (backing_record (get_or bindings (length left) d).backing) x
@@ -63,7 +63,7 @@ module _ {S D : Type 0} (o : Opener S D) (state : D → Device) where
         closed = subst (λ (bs : List BackingRecord). ClosesEach (calls o state old new) bs (x ∷ so_far.done)) (sym (drop-at bindings (length left) d there)) (between, closed, last);
       }
 
-  -- the same, where one is looked up
+  -- one more is closed, whose binding is looked up by its index
   pub AreClosed-found : (old between new : S) (bindings : List Binding) (all before left : List D) (x : D) (binding : Binding) (n : ℕ)
       → before ≡ left ++ x ∷ [] → n ≡ length left → n < length bindings → binding ≡ get_or bindings n binding → AreClosed (calls o state old between) (backings_of (map binding_record bindings)) all before
       → ClosesBacking (calls o state between new) (backing_record binding.backing) x

@@ -45,7 +45,7 @@ room-at [] i d there = absurd (omega (arith, there))
 room-at (b ∷ bs) zero d there = le-first (binding_room (binding_record b)) (sum_by binding_room (map binding_record bs)) _ (sum_by-cons binding_room (binding_record b) (map binding_record bs))
 room-at (b ∷ bs) (suc i) d there = le-second _ (binding_room (binding_record b)) (sum_by binding_room (map binding_record bs)) _ (sum_by-cons binding_room (binding_record b) (map binding_record bs)) (room-at bs i d (omega (arith, there)))
 
--- a part that is refused ends the opening of what stands behind its name
+-- a part that is refused ends the opening of what its name is bound to
 pub part-refused : {S D : Type 0} (w : Calls S D) (files : List FileUse) (path : List ℕ) (writable : Bool) (at : PartRecord) (unopened : UnopenedPart)
     → RefusesPart w files path writable (device_part at) unopened → IsBackingEnd w files (part path writable at) (part_ending unopened)
 part-refused w files path writable at (File file) refused = refused
@@ -102,7 +102,7 @@ module _ {S D : Type 0} (o : Opener S D) (state : D → Device) where
         served = served;
       }
 
-  -- memory ran out, behind the one that was opened last
+  -- memory ran out after the last one was opened
   pub runs_out-behind : (old between new : S) (files more files' : List FileUse) (backings first rest : List BackingRecord) (devices : List D) (backing : BackingRecord) (device : D)
       → backings ≡ first ++ backing ∷ rest → OpensEach (calls o state old between) files first devices more
       → OpensBacking (calls o state between new) more backing device files' → RunsOut (calls o state old new) files backings

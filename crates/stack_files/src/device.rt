@@ -61,7 +61,7 @@ pub fn open_device_and_output<'a, I: Images>(
     Ok((stack, device, image))
 }
 
-/// Makes the stack of a text over the open backing devices, and finds the device with that name.
+/// Returns the stack of a text over the open backing devices, and its device with that name.
 ///
 /// # Errors
 ///

@@ -55,7 +55,7 @@ pub fn open_leaves<'a, I: Images>(
     Ok(Stack::over(alloc, config, devices, cache))
 }
 
-/// Makes the stack of a text over the open backing devices.
+/// Returns the stack of a text over the open backing devices.
 ///
 /// # Errors
 ///

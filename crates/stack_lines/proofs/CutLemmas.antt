@@ -28,7 +28,7 @@ use Rattle.stack_meaning.proofs.lemmas.UnitLemmas.{unit-more}
 
 -- ---- steps
 
--- steps that end with units end behind whole units
+-- steps that end with units end after whole units
 step-unit : (size skip u n : ℕ) → 0 < u → size % u ≡ 0 → skip % u ≡ 0 → (skip + n) % size ≡ 0 → n % u ≡ 0
 step-unit size skip u n some even begins ends =
     let q : ℕ = (skip + n) / size in
@@ -40,7 +40,7 @@ step-unit size skip u n some even begins ends =
     let split : skip + n ≡ q * p * u + 0 = omega (arith, all, grouped, turned) in
     sym (unit-more u skip n some begins).1 ∙ ap (λ (k : ℕ). k % u) split ∙ mod-mul-add (q * p) u 0 some
 
--- the steps behind a sectors
+-- the steps after a sectors
 pub step-later : (size a n : ℕ) → 0 < size → (a + n) % size ≡ 0 → (a % size + n) % size ≡ 0
 step-later size a n some ends =
     let r : ℕ = a % size + n in
@@ -125,7 +125,7 @@ module _ (c : Configuration) (d first at n : ℕ) (source : Source) (steps : Ste
       ∙ then_assoc (put_on c (mapped d) first xs images) (put_on c (mapped d) (first + length xs) y1) (put_on c (mapped d) (first + length (xs ++ y1)) y2)
       ∙ then_same (put_on c (mapped d) first xs images) _ _ (λ i. sym (rest i))
 
-  -- behind its begin
+  -- sectors that end after the begin of the run
   late : (xs ys : List (List ℕ)) (images : Images) → at < length xs → 0 < length ys → length xs + length ys ≤ at + n → EndsStep steps (length xs)
       → put_on c (mapped d) first (xs ++ ys) images ≡ then_put (put_on c (mapped d) first xs images) (put_on c (mapped d) (first + length xs) ys)
   late xs ys images high more fits ends =

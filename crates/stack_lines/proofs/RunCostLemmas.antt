@@ -3,7 +3,7 @@ use Rattle.std.proofs.Common.{◌≡◌, ℕ, zero, suc, ◌+◌, ◌<◌, ◌�
 use Rattle.std.proofs.lemmas.Bool.{cases_lt}
 use Rattle.stack_lines.specs.Prices.{Pricing, run_and_behind, by_runs}
 
--- several sectors cost no more than those before and those behind some place
+-- several sectors cost no more than those before and those after some place
 abbrev pub CostsLess : Pricing → Type 0
 CostsLess f = (s a b : ℕ) → f s (a + b) ≤ f s a + f (s + a) b
 
@@ -22,7 +22,7 @@ cond-both true x y x' y' z p q = p refl
 cond-both false x y x' y' z p q = q
 
 module _ (tog : ℕ → Bool) (price : Pricing) (less : (s a b : ℕ) → ((j : ℕ) → j < a → tog (s + j) ≡ true) → price s (a + b) ≤ price s a + price (s + a) b) where
-  -- a run that is cut in two, and what is behind it
+  -- a run that is split in two, and what is after it
   behind-less : (s k j b : ℕ) → ((i : ℕ) → i < suc k → tog (s + i) ≡ true) → run_and_behind tog price s (k + suc j) b ≤ price s (suc k) + run_and_behind tog price (s + suc k) j b
   behind-less s k j zero all =
       let sum : suc (k + suc j) ≡ suc k + suc j = omega arith in

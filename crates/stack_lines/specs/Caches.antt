@@ -25,8 +25,8 @@ pub record IsCached (c : Configuration) (leaves : List Device) (b : CachedBlock)
   pub block : IsBlockOfDigest (hash_sectors verity) verity.salt b.digest b.bytes
   pub exact : AreSteady (λ i. name_stands_on c i verity.hash) leaves → span (λ s. (said_by_name c verity.hash s).means (steady_images leaves)) (hash_place verity b.key.level b.key.block) (hash_sectors verity) ≡ Ok b.bytes
 
--- The blocks that are kept; the leaves on which each mapped device stands; and those on which the hash devices of
--- the kept blocks' lines stand, and maybe others.
+-- The blocks that are kept; the leaves beneath each mapped device; and the leaves beneath the hash devices of
+-- the kept blocks' lines, and maybe others.
 pub record StackCache : Type 0 where
   pub blocks : CacheRecord
   pub beneath : List LeafSet
@@ -53,7 +53,7 @@ pub record KeepsCache (c : Configuration) (leaves : List Device) (before after :
   pub capacity : after.blocks.capacity ≡ before.blocks.capacity
   pub sound : IsCacheOf c leaves after
 
--- the key is that of a hash block of a verity line with that salt, which stands in the extent, inside its device
+-- the key is that of a hash block of a verity line with that salt, which is stored in the extent, inside its device
 pub record IsPlaceOf (c : Configuration) (salt : List ℕ) (key : Key) (extent : Extent) : Type 0 where
   pub verity : Verity
   pub line : HasVerity c key.device key.line verity

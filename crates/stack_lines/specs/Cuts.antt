@@ -13,12 +13,12 @@ pub record AreSteps (steps : Steps) : Type 0 where
   pub begins : steps.skip < steps.size
   pub few : steps.size ≤ 8
 
--- a step ends behind n sectors
+-- a step ends after n sectors
 abbrev pub EndsStep : Steps → ℕ → Type 0
 EndsStep steps n = (steps.skip + n) % steps.size ≡ 0
 
 -- Of at most n sectors from the first on, a put is that of the sectors before the end of any step and then that of
--- those behind it.
+-- those after it.
 abbrev pub PutsInSteps : (ℕ → Putting) → ℕ → ℕ → Steps → Type 0
 PutsInSteps puts first n steps = (xs ys : List (List ℕ)) (images : Images) → 0 < length xs → 0 < length ys → length xs + length ys ≤ n → EndsStep steps (length xs)
     → puts first (xs ++ ys) images ≡ then_put (puts first xs images) (puts (first + length xs) ys)

@@ -6,14 +6,14 @@ use Rattle.stack_rules.specs.Records.{Configuration}
 use Rattle.verified_cache.specs.Cache.{CachedBlock, blocks_without}
 use Rattle.stack_lines.specs.Standing.{key_stands_on}
 
--- a device that wasn't written: its counter of writes is as it was, and so is its image where it is steady
+-- a device that wasn't written: its counter of writes is as it was, and so is its image if it is steady
 pub record IsUnwritten (old new : Device) : Type 0 where
   pub steady : new.steady ≡ old.steady
   pub writes : new.writes ≡ old.writes
   pub image : IsTrue old.steady → new.image ≡ old.image
 
 -- No leaf was written but some of these, maybe none. Of what was kept before all is kept in its order but the blocks of lines
--- whose hash device is one of those or stands on one, and nothing else is kept.
+-- whose hash device is one of those or is stacked on one, and nothing else is kept.
 pub record Forgets (c : Configuration) (these : ℕ → Bool) (old new : List Device) (before after : List CachedBlock) : Type 0 where
   pub written : List ℕ
   pub within : All (λ i. IsTrue (these i)) written

@@ -1,4 +1,4 @@
--- What some sectors of a device cost, where each run of them has a price.
+-- What some sectors of a device cost, if each run of them has a price.
 use Rattle.std.specs.Prelude.{ℕ, zero, suc, ◌+◌, Bool, List, if◌then◌else◌}
 use Rattle.stack_rules.specs.declared.lower.Lower.{Lower}
 use Rattle.stack_rules.specs.declared.lower.Lower.TheVariants.{Leaf as leaf, Device as device}
@@ -20,7 +20,7 @@ use Rattle.stack_lines.specs.declared.source.Source.TheVariants.{Below, Units, U
 abbrev pub Pricing : Type 0
 Pricing = ℕ → ℕ → ℕ
 
--- a run from sector s on that has k sectors more, and n sectors behind it, where those that go down together are one run
+-- a run from sector s on that has k sectors more, and n sectors after it, where those that go down together are one run
 abbrev pub run_and_behind : (ℕ → Bool) → Pricing → ℕ → ℕ → ℕ → ℕ
 run_and_behind together price s k zero = price s (suc k)
 run_and_behind together price s k (suc n) =

@@ -109,7 +109,7 @@ IsPlacedAt d l x = (x.device.0 ≡ d) × (x.line ≡ l)
 abbrev pub AreTogether : Target → ℕ → ℕ → Type 0
 AreTogether target w n = (j : ℕ) → suc j < n → IsTrue (together target (w + j))
 
--- A run of n sectors from s on, of at most so many, is the longest where it has as many, or its last sector doesn't go
+-- A run of n sectors from s on, of at most so many, is the longest if it has as many, or its last sector doesn't go
 -- down together with the next one.
 abbrev pub EndsRun : (ℕ → Bool) → ℕ → ℕ → ℕ → Type 0
 EndsRun together s most n = (n ≡ most) ⊎ (together (s + n - 1) ≡ false)
@@ -160,7 +160,7 @@ source_cost c (Blocks x) = read_cost c (mapped x.device.0)
 abbrev pub source_place : Configuration → Source → Place
 source_place c source = record { said = source_said c source; cost = source_cost c source; leaves = source_leaves c source }
 
--- how deep the devices stand, for the measure of the recursion
+-- how deep the devices are, for the measure of the recursion
 abbrev pub source_depth : Configuration → Source → ℕ
 source_depth c (Below lower first) = depth c lower + 1
 source_depth c (Units u) = depth c u.lower + 1

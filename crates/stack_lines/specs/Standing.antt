@@ -1,4 +1,4 @@
--- The leaves on which devices and lines stand.
+-- The leaves beneath devices and lines.
 use Rattle.std.specs.Prelude.{◌≡◌, ℕ, ◌<◌, Bool, true, false, IsTrue, ◌==◌, List, length, slice_get, is_some, All}
 use Rattle.std.specs.Int.{bit_at}
 use Rattle.std.specs.List.{list_any, slice_index_or}
@@ -22,27 +22,27 @@ pub use Rattle.stack_meaning.specs.LeavesBeneath.{stands_on, name_stands_on}
 abbrev pub has_leaf : LeafSet → ℕ → Bool
 has_leaf set i = bit_at set.bits i == 1
 
--- set d, where there is none the empty one
+-- set d, or the empty one if there is none
 abbrev pub leaf_set_at : List LeafSet → ℕ → LeafSet
 leaf_set_at sets d = slice_index_or sets d (record { bits = 0; clear = false })
 
--- ---- what stands on a leaf
+-- ---- what is stacked on a leaf
 
 abbrev pub is_verity : Target → Bool
 is_verity target = is_some (verity_of target)
 
--- the target is that of a verity line, whose hash device is leaf i or stands on it
+-- the target is that of a verity line, whose hash device is leaf i or is stacked on it
 abbrev pub hashes_stand_on : Configuration → ℕ → Target → Bool
 hashes_stand_on c i target = option_map_or (λ v. name_stands_on c i v.hash) (verity_of target) false
 
--- the same of the line of a key
+-- the line of a key is a verity line whose hash device is leaf i or is stacked on it
 abbrev pub line_stands_on : Configuration → ℕ → ℕ → ℕ → Bool
 line_stands_on c i d l = option_map_or (λ line. hashes_stand_on c i line.target) (slice_get (lines_of c d) l) false
 
 abbrev pub key_stands_on : Configuration → ℕ → Key → Bool
 key_stands_on c i key = line_stands_on c i key.device key.line
 
--- what is left of a cache without the blocks of the lines whose hash device is leaf i or stands on it
+-- what is left of a cache without the blocks of the lines whose hash device is leaf i or is stacked on it
 abbrev pub cache_without_leaf : Configuration → ℕ → CacheRecord → CacheRecord
 cache_without_leaf c i = cache_without (key_stands_on c i)
 
@@ -53,12 +53,12 @@ abbrev pub IsPossibleLower : Lower → Type 0
 IsPossibleLower (leaf i) = i < most_leaves
 IsPossibleLower (device d) = d.0 < most_devices
 
--- the set has the leaves on which it stands, and its flag is true only if it is clear
+-- the set has the leaves beneath it, and its flag is true only if it is clear
 pub record HasLeaves (c : Configuration) (lower : Lower) (set : LeafSet) : Type 0 where
   pub leaves : (i : ℕ) → has_leaf set i ≡ stands_on c i lower
   pub clear : IsTrue set.clear → IsClear c lower
 
--- the same of a line of that target, by its names
+-- the set has the leaves of these names, and its flag is true only if the line of that target is clear
 pub record HasLineLeaves (c : Configuration) (names : List (List ℕ)) (target : Target) (set : LeafSet) : Type 0 where
   pub leaves : (i : ℕ) → has_leaf set i ≡ list_any (name_stands_on c i) names
   pub clear : IsTrue set.clear → IsClearLine c target
@@ -76,6 +76,6 @@ AreSetsBelow c deep sets = (d : ℕ) → d < length c.devices → depth c (mappe
 abbrev pub AreLeafSets : Configuration → List LeafSet → Type 0
 AreLeafSets c sets = (d : ℕ) → d < length c.devices → HasLeaves c (mapped d) (leaf_set_at sets d)
 
--- the set has each leaf on which the hash device of a kept block's line stands
+-- the set has each leaf beneath the hash device of a kept block's line
 abbrev pub CoversBlocks : Configuration → LeafSet → List CachedBlock → Type 0
 CoversBlocks c set blocks = All (λ b. (i : ℕ) → i < most_leaves → key_stands_on c i b.key ≡ true → has_leaf set i ≡ true) blocks

@@ -46,7 +46,7 @@ failures_behind (Err fault) failures = failures_by fault failures
 abbrev pub EndsAtFailure : {A : Type 0} → List Device → List Device → Result A IoFault → Type 0
 EndsAtFailure old new result = failures_of new ≡ failures_behind result (failures_of old)
 
--- It ends there, and asks only these.
+-- It ends there, and accesses only these leaves.
 pub record AsksOnly {A : Type 0} (these : ℕ → Bool) (old new : List Device) (result : Result A IoFault) : Type 0 where
   pub leaf : (i : ℕ) (d : Device) → these i ≡ false → slice_index_or new i d ≡ slice_index_or old i d
   pub fault : IfErr result (NamesOneOf these)
@@ -54,11 +54,11 @@ pub record AsksOnly {A : Type 0} (these : ℕ → Bool) (old new : List Device) 
 
 -- ---- which leaves there are
 
--- those on which a leaf or device stands
+-- the leaves beneath a device, or the leaf itself
 abbrev pub leaves_of : Configuration → Lower → ℕ → Bool
 leaves_of c lower i = stands_on c i lower
 
--- those on which what a source reads stands: the lower device, or the one that has the line
+-- the leaves beneath what a source reads: the lower device, or the one that has the line
 abbrev pub source_leaves : Configuration → Source → ℕ → Bool
 source_leaves c (Below lower first) = leaves_of c lower
 source_leaves c (Units u) = leaves_of c u.lower

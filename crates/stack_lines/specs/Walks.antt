@@ -77,7 +77,7 @@ block_in c v i = record { verity = v; on_data = place_named c v.data; on_hash = 
 abbrev pub means_below : DataBlock → Images → ℕ → List ℕ → Outcome
 means_below b images l expected = block_below b.verity (λ s. (b.on_data.said s).means images) (λ s. (b.on_hash.said s).means images) b.index l expected
 
--- of itself, where that digest is expected of it
+-- of itself, if that digest is expected of it
 abbrev pub data_expected : {A : Type 0} → (A → List ℕ) → DataBlock → List ℕ → Expected A
 data_expected bytes_of b expected = record {
   is = λ x. IsBlockOfDigest (block_sectors b.verity) b.verity.salt expected (bytes_of x);
@@ -102,7 +102,7 @@ chain_expected b = record {
 abbrev pub GetsChain : DataBlock → List Device → List Device → Result ChainRecord IoFault → Type 0
 GetsChain b old new result = Gets (chain_expected b) old new result
 
--- what stands once the path was read, where l levels are left and that digest is expected of the next block
+-- what holds once the path was read, if l levels are left and that digest is expected of the next block
 pub record IsWalked (b : DataBlock) (l : ℕ) (expected : List ℕ) (path : List (List ℕ)) (old new : List Device) : Type 0 where
   pub count : length path + l ≡ levels (tree_of b.verity)
   pub moved : AreRead old (length path * (hash_sectors b.verity * b.on_hash.cost)) new

@@ -66,19 +66,19 @@ destination_of c lower = record { said = said_at c lower; puts = put_on c lower;
 abbrev pub SomeEncrypt : (ℕ → Said) → ℕ → ℕ → Type 0
 SomeEncrypt said first n = SomeOf (λ s. (said s).encrypts) first n
 
--- The bytes of a write: a buffer's, where they may be encrypted on the way, or the caller's, where none is. The
+-- The bytes of a write: a buffer's, if they may be encrypted on the way, or the caller's, if none is. The
 -- other ones are none.
 abbrev pub AreHeld : (ℕ → Said) → ℕ → List ℕ → List ℕ → Type 0
 AreHeld said first plain buffer = (plain ≡ []) ⊎ ((buffer ≡ []) × (SomeEncrypt said first (length plain / 512) → ⊥))
 
--- a buffer for a write of some bytes: it has all of them where some may be encrypted, and else none
+-- a buffer for a write of some bytes: it has all of them if some may be encrypted, and else none
 pub record IsBufferFor (said : ℕ → Said) (first : ℕ) (bytes buffer : List ℕ) : Type 0 where
   pub held : AreHeld said first (drop (length buffer) bytes) buffer
   pub same : drop (length buffer) bytes ++ buffer ≡ bytes
 
 -- ---- where a write stops that a fault ends
 
--- Whatever the leaves answer, of n sectors from the first on: behind so many of them some failed, and what only later
+-- Whatever the leaves answer, of n sectors from the first on: after so many of them some failed, and what only later
 -- ones reach is as it was. So is a leaf that only later ones reach, with its counters: it wasn't asked.
 pub record StopsAt (said : ℕ → Said) (first n : ℕ) (fault : IoFault) (old new : List Device) : Type 0 where
   pub before : ℕ

@@ -21,9 +21,9 @@ use verified_cache::{BlockCache, Key};
 #[derive(Drop)]
 pub struct Cache {
     blocks: BlockCache,
-    // The leaves on which each mapped device stands, and whether it is clear.
+    // The leaves beneath each mapped device, and whether it is clear.
     beneath: [LeafSet; 64],
-    // Those on which the hash devices of the kept blocks' lines stand, and maybe further ones.
+    // The leaves beneath the hash devices of the kept blocks' lines, and maybe further ones.
     covered: LeafSet,
 }
 
@@ -36,7 +36,7 @@ impl Model for Cache {
 }
 
 impl Cache {
-    /// An empty cache of at most `capacity` blocks. It needs no memory before a block is kept.
+    /// Returns an empty cache of at most `capacity` blocks. It allocates nothing before a block is kept.
     pub fn new(alloc: Global, config: &Config, capacity: u32) -> Cache
         requires { IsLoaded config.now }
         ensures { IsFreshCache config.now capacity result }
@@ -48,7 +48,7 @@ impl Cache {
         }
     }
 
-    /// Drops all blocks, and computes anew on which leaves each device stands and whether it is clear.
+    /// Drops all blocks, and computes anew which leaves are beneath each device and whether it is clear.
     pub fn start_over(&mut self, config: &Config)
         requires { IsLoaded config.now }
         ensures { IsFreshCache config.now self.old.blocks.capacity self.new }
@@ -66,7 +66,11 @@ impl Cache {
         lower_leaves(&self.beneath, lower).clear
     }
 
-    /// A copy of the block kept under that key and that digest, if there is one.
+    /// Returns a copy of the block kept under that key and that digest, if there is one.
+    ///
+    /// # Errors
+    ///
+    /// `OutOfMemory` if memory for the copy was refused.
     pub fn copy_of(
         &mut self,
         alloc: Global,
@@ -96,6 +100,10 @@ impl Cache {
     }
 
     /// Keeps a copy of the block.
+    ///
+    /// # Errors
+    ///
+    /// `AllocError` if memory for the copy was refused.
     pub fn keep_copy(
         &mut self,
         alloc: Global,
@@ -115,7 +123,7 @@ impl Cache {
         self.blocks.keep(key, digest, copy)
     }
 
-    /// How many blocks are kept.
+    /// Returns how many blocks are kept.
     pub fn count(&self) -> usize
         ensures value { result ≡ length self.now.blocks.blocks }
         ensures within { result ≤ self.now.blocks.capacity }
@@ -123,8 +131,8 @@ impl Cache {
         self.blocks.len()
     }
 
-    /// Drops the blocks of the lines whose hash device is the leaf, or stands on it, and looks at each block once.
-    /// Where no block was kept for such a line since the last time, that is known at once.
+    /// Drops the blocks of the lines whose hash device is the leaf, or is stacked on it, and looks at each block once.
+    /// If no block was kept for such a line since the last time, no block is looked at.
     pub fn forget_leaf(&mut self, config: &Config, leaf: u32)
         requires loaded { IsLoaded config.now }
         requires leaf { leaf < most_leaves }

@@ -1,4 +1,4 @@
-//! Whether a write may be cut in two, which asks no device.
+//! Whether a write may be split in two, which accesses no device.
 ghost use Rattle.std.specs.Prelude.{◌≡◌, false, IsTrue};
 ghost use Rattle.stack_rules.specs.Names.{mapped};
 ghost use Rattle.stack_rules.specs.Rules.{IsLoaded};
@@ -13,14 +13,14 @@ use crate::serve::run_at;
 use crate::source::{CryptPart, Source};
 use stack_config::{Config, DevId, Lower};
 
-/// Steps of so many sectors, one after another. Of the first one, `skip` sectors lie before those that are asked for.
+/// Steps of so many sectors, one after another. Of the first one, `skip` sectors lie before those of the request.
 #[derive(Clone, Copy)]
 pub struct Steps {
     pub size: u64,
     pub skip: u64,
 }
 
-/// Whole units of a `crypt` line, behind each step.
+/// Whether a put of whole units of a `crypt` line may be split at the end of each step.
 fn units_cut(config: &Config, part: CryptPart<'_>, count: u64, steps: Steps) -> bool
     requires loaded { IsLoaded config.now }
     requires inside { AreUnits config.now part count }
@@ -35,8 +35,8 @@ fn units_cut(config: &Config, part: CryptPart<'_>, count: u64, steps: Steps) -> 
     steps.skip % sectors == 0
 }
 
-/// Whether a write of so many sectors of a leaf or a mapped device, from that one on, may be split after each step. `false`
-/// if that isn't known, and only if some of the sectors are encrypted.
+/// Returns whether a write of `count` sectors of a leaf or a mapped device, from sector `first` on, may be split after each
+/// step. Returns `false` if that isn't known, and only if some of the sectors are encrypted.
 #[cycle(cuts)]
 pub fn lower_cuts(config: &Config, lower: Lower, first: u64, count: u64, steps: Steps) -> bool
     requires loaded { IsLoaded config.now }
@@ -50,7 +50,7 @@ pub fn lower_cuts(config: &Config, lower: Lower, first: u64, count: u64, steps: 
     }
 }
 
-/// The sectors of one run, behind each step.
+/// Whether a put of the sectors of one run may be split at the end of each step.
 #[cycle(cuts)]
 fn run_cuts(config: &Config, source: Source<'_>, count: u64, steps: Steps) -> bool
     requires loaded { IsLoaded config.now }
@@ -72,7 +72,7 @@ fn run_cuts(config: &Config, source: Source<'_>, count: u64, steps: Steps) -> bo
     }
 }
 
-/// The sectors of a mapped device, behind each step.
+/// Whether a put of the sectors of a mapped device may be split at the end of each step.
 #[cycle(cuts)]
 fn device_cuts(config: &Config, d: DevId, first: u64, count: u64, steps: Steps) -> bool
     requires loaded { IsLoaded config.now }

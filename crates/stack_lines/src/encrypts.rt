@@ -1,4 +1,4 @@
-//! Whether a write of sectors encrypts some of them, which asks no device.
+//! Whether a write of sectors encrypts some of them, which accesses no device.
 ghost use Rattle.std.specs.Prelude.{◌↔◌, ◌<◌, ◌≤◌, ◌+◌, IsTrue};
 ghost use Rattle.stack_rules.specs.Names.{mapped, size};
 ghost use Rattle.stack_rules.specs.Rules.{IsLoaded};
@@ -41,7 +41,7 @@ fn run_encrypts(config: &Config, source: Source<'_>, count: u64) -> bool
     }
 }
 
-/// Whether a write of so many sectors of a mapped device, from that one on, encrypts some of them.
+/// Returns whether a write of `count` sectors of a mapped device, from sector `first` on, encrypts some of them.
 #[cycle(encrypts)]
 pub fn device_encrypts(config: &Config, d: DevId, first: u64, count: u64) -> bool
     requires loaded { IsLoaded config.now }

@@ -1,4 +1,4 @@
-//! The keys of the hash blocks that stand on a leaf.
+//! The keys of the hash blocks that are stored on a leaf.
 ghost use Rattle.std.specs.Prelude.{◌≡◌, ◌<◌, length};
 ghost use Rattle.stack_rules.specs.Names.{lines_of};
 ghost use Rattle.stack_rules.specs.Rules.{IsLoaded, most_leaves};
@@ -9,11 +9,11 @@ use crate::leaf_sets::{is_verity, lower_leaves};
 use stack_config::{Config, DevId};
 use verified_cache::{Key, Keys};
 
-/// The keys of the `verity` lines whose hash device is a leaf, or stands on it.
+/// The keys of the `verity` lines whose hash device is a leaf, or is stacked on it.
 #[derive(Clone, Copy)]
 pub(crate) struct KeysOnLeaf<'a> {
     pub(crate) config: &'a Config,
-    /// The leaves on which each mapped device stands.
+    /// The leaves beneath each mapped device.
     pub(crate) beneath: &'a [LeafSet; 64],
     pub(crate) leaf: u32,
 }
@@ -35,7 +35,7 @@ impl Keys for KeysOnLeaf<'_> {
     }
 }
 
-// Whether the hash device of a line is the leaf, or stands on it.
+// Whether the hash device of a line is the leaf, or is stacked on it.
 fn is_hashed_on(config: &Config, beneath: &[LeafSet; 64], d: DevId, line: u32, leaf: u32) -> bool
     requires loaded { IsLoaded config.now }
     requires device { d.0 < length config.now.devices }

@@ -1,7 +1,7 @@
-//! What a leaf or device stands on.
+//! The leaves beneath a leaf or device.
 
 /// Some of the leaves of a configuration, by their places: a bit for each of 64. And whether it is known that no sector of
-/// what stands on them meets a fault of a line.
+/// what is stacked on them meets a fault of a line.
 #[derive(Clone, Copy)]
 pub(crate) struct LeafSet {
     pub(crate) bits: u64,
@@ -50,7 +50,7 @@ impl LeafSet {
         }
     }
 
-    /// What is in this set or in the other.
+    /// The leaves that are in this set or in the other.
     pub(crate) fn union(self, other: LeafSet) -> LeafSet
         ensures leaves { (i : ℕ) → has_leaf result i ≡ (has_leaf self i || has_leaf other i) }
         ensures clear { result.clear ≡ (self.clear && other.clear) }

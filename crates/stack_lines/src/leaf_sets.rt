@@ -1,4 +1,4 @@
-//! The leaves on which each mapped device stands, and whether it is clear.
+//! The leaves beneath each mapped device, and whether it is clear.
 ghost use Rattle.std.specs.Prelude.{◌≡◌, ◌<◌, ◌+◌, length};
 ghost use Rattle.stack_rules.specs.Descend.{depth};
 ghost use Rattle.stack_rules.specs.Lines.{names_at};
@@ -13,10 +13,10 @@ use dm_table::Target;
 use stack_config::{Config, DevId, Lower, verity_of};
 use stack_rules::name_count;
 
-/// The depth of the deepest.
+/// The depth of the deepest device.
 const MOST_DEPTH: u32 = 8;
 
-/// The leaves on which a leaf or device stands, by the sets of the devices.
+/// The leaves beneath a device, by the sets of the devices, or the leaf itself.
 pub(crate) fn lower_leaves(sets: &[LeafSet; 64], lower: Lower) -> LeafSet
     requires { IsPossibleLower lower }
     ensures { (c : Configuration) → IsLoaded c → KnowsLeaves c sets.now lower → HasLeaves c lower result }
@@ -49,7 +49,7 @@ fn adds_no_fault(target: &Target) -> bool
     }
 }
 
-/// The leaves on which one line stands, by the `count` devices that it names, and whether it is known to be clear.
+/// The leaves beneath one line, by the `count` devices that it names, and whether it is known to be clear.
 fn line_leaves(
     config: &Config,
     sets: &[LeafSet; 64],
@@ -72,7 +72,7 @@ fn line_leaves(
     leaves
 }
 
-/// Those of a device, by its lines.
+/// The leaves beneath a device, by the sets of its lines.
 fn device_leaves(config: &Config, sets: &[LeafSet; 64], d: DevId) -> LeafSet
     requires loaded { IsLoaded config.now }
     requires device { d.0 < length config.now.devices }

@@ -1,4 +1,4 @@
-//! What the lines of mapped devices make of runs of sectors, before a device is asked.
+//! What the lines of mapped devices make of runs of sectors, before a device is accessed.
 #![tactic(auto)]
 
 mod cache;

@@ -52,8 +52,8 @@ fn go_at_once(
     cache.is_clear(part.data)
 }
 
-/// A run from that sector of a device on, of at most so many sectors, where those chains were found: the longest, or
-/// the first of its data blocks, where these can't be read at once.
+/// Returns the run to read from `sector` of a device on, of at most `most` sectors, after the chains in `found` were found: the
+/// longest run, or only its first data block if its data blocks can't be read at once.
 pub fn run_to_read<'a>(
     config: &'a Config,
     cache: &Cache,

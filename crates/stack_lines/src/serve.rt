@@ -206,7 +206,7 @@ fn line_run<'a>(
     }
 }
 
-/// The longest run from that sector of a device on, of at most so many sectors: those of one line that one source has.
+/// Returns the longest run from `sector` of a device on, of at most `most` sectors: sectors of one line with one source.
 pub fn run_at(config: &Config, d: DevId, sector: u64, most: u64) -> Run<'_>
     requires loaded { IsLoaded config.now }
     requires some { 0 < most }

@@ -34,7 +34,7 @@ pub struct Extent {
     pub sectors: u32,
 }
 
-/// Where the blocks of a part's line lie.
+/// Returns where the blocks of a part's line lie.
 pub fn tree_of(config: &Config, part: &VerityPart<'_>) -> Tree
     requires loaded { IsLoaded config.now }
     requires part { IsVerityPart config.now part.now }
@@ -61,7 +61,7 @@ pub fn tree_of(config: &Config, part: &VerityPart<'_>) -> Tree
     }
 }
 
-/// Where the hash block of a level stands on the way to a data block. Levels count from 0 above the data blocks.
+/// Returns the extent of the hash block of a level on the way to data block `index`. Levels count from 0 above the data blocks.
 pub fn hash_extent(config: &Config, verity: &Verity, tree: &Tree, level: u32, index: u64) -> Extent
     requires loaded { IsLoaded config.now }
     requires block { HasDataBlock config.now verity.now tree.now index }
@@ -79,7 +79,7 @@ pub fn hash_extent(config: &Config, verity: &Verity, tree: &Tree, level: u32, in
     }
 }
 
-/// The key under which a cache keeps that hash block.
+/// Returns the key under which a cache keeps the hash block of a level on the way to data block `index`.
 pub fn hash_key(tree: &Tree, level: u32, index: u64) -> Key
     requires { index < tree.now.shape.blocks }
     ensures { result ≡ record { device = tree.now.device.0; line = tree.now.line; level = level; block = ancestor tree.now.shape (level + 1) index } }
@@ -92,7 +92,7 @@ pub fn hash_key(tree: &Tree, level: u32, index: u64) -> Key
     }
 }
 
-/// Where a data block stands; blocks count from 0.
+/// Returns the extent of data block `index`; blocks count from 0.
 pub fn data_extent(config: &Config, verity: &Verity, tree: &Tree, index: u64) -> Extent
     requires loaded { IsLoaded config.now }
     requires block { HasDataBlock config.now verity.now tree.now index }
@@ -106,7 +106,7 @@ pub fn data_extent(config: &Config, verity: &Verity, tree: &Tree, index: u64) ->
     }
 }
 
-/// Whether the line ignores a data block of that digest, which is then one of zeros.
+/// Returns whether the line ignores a data block with that digest, and reads it as zeros.
 pub fn is_ignored(config: &Config, verity: &Verity, tree: &Tree, expected: &Digest) -> bool
     requires { IsTreeOf config.now verity.now tree.now }
     ensures { result ≡ is_ignored verity.now expected.now }
@@ -120,7 +120,7 @@ pub fn is_ignored(config: &Config, verity: &Verity, tree: &Tree, expected: &Dige
     }
 }
 
-/// The place of the chain of that block in the list, if it was found.
+/// Returns the place in the list of the chain of data block `index` of a line, or `None` if it isn't in the list.
 pub fn find(found: &[Found], device: u32, line: u32, index: u64) -> Option<usize>
     ensures some { IfSome result (λ k. (k < length found.now) × ((x : FoundRecord) → found_entry (get_or found.now k x) ≡ (device, line, index))) }
     ensures none { IfNone result ((k : ℕ) → k < length found.now → (x : FoundRecord) → found_entry (get_or found.now k x) ≡ (device, line, index) → ⊥) }
@@ -136,7 +136,7 @@ pub fn find(found: &[Found], device: u32, line: u32, index: u64) -> Option<usize
     None
 }
 
-/// The sectors of a found chain's content, from that one on, as many as fill the buffer.
+/// Copies sectors of the content of the found chain at place `at`, from its sector `within` on, as many as fill the buffer.
 pub fn copy_part(found: &[Found], at: usize, within: u64, out: &mut [u8])
     requires at { at < length found.now }
     requires small { within ≤ 8 }

@@ -27,7 +27,7 @@ pub struct WholeUnit<'a> {
     pub within: u32,
 }
 
-/// Where the unit lies that has the first sector of a part.
+/// Returns the extent of the unit that has the first sector of a part.
 pub fn unit_at(part: &CryptPart<'_>) -> UnitAt
     requires { unit_first part.now.units part.now.first < 2 ^ 64 }
     ensures { IsUnitAt part.now result }
@@ -38,7 +38,7 @@ pub fn unit_at(part: &CryptPart<'_>) -> UnitAt
     UnitAt { first, index }
 }
 
-/// The unit that has the first sector of a part.
+/// Returns the whole unit that has the first sector of a part.
 pub fn whole_unit<'a>(part: &CryptPart<'a>) -> WholeUnit<'a>
     ensures whole { IsWholeOf part.now result }
     ensures some { 1 ≤ result.sectors }
@@ -136,7 +136,7 @@ pub fn encrypt(part: &CryptPart<'_>, k: u64, units: &mut [u8])
     }
 }
 
-/// The sectors of a unit from that one on, as many as fill the buffer.
+/// Copies sectors of a unit from its sector `within` on, as many as fill the buffer.
 pub fn take_sectors(unit: &[u8], within: u32, out: &mut [u8])
     requires { 512 * within + length out.old ≤ length unit.now }
     ensures { out.new ≡ take (length out.old) (drop (512 * within) unit.now) }
@@ -145,7 +145,7 @@ pub fn take_sectors(unit: &[u8], within: u32, out: &mut [u8])
     out.copy_from_slice(&unit[from..from + out.len()]);
 }
 
-/// Sectors in the place of those of a unit, from that one on.
+/// Replaces sectors of a unit, from its sector `within` on, by these bytes.
 pub fn put_sectors(unit: &mut [u8], within: u32, bytes: &[u8])
     requires { 512 * within + length bytes.now ≤ length unit.old }
     ensures { unit.new ≡ take (512 * within) unit.old ++ bytes.now ++ drop (512 * within + length bytes.now) unit.old }

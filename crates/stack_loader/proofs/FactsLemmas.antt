@@ -15,7 +15,7 @@ use Rattle.stack_rules.specs.Records.{Configuration, DeviceRecord}
 use Rattle.stack_rules.proofs.lemmas.KeptLemmas.{length-each_mapped, length-lowers}
 use Rattle.stack_loader.specs.Facts.{facts_at}
 
--- the first of what is left of a list from place k on, and what is left behind it
+-- the first of what is left of a list from place k on, and what is left after it
 pub rest-head : {X : Type 0} (xs ys : List X) (k : ℕ) (x d : X) → x ∷ ys ≡ drop k xs → (k < length xs) × (x ≡ get_or xs k d) × (ys ≡ drop (k + 1) xs)
 rest-head {X} xs ys k x d is =
     let inside : k < length xs = omega (arith, ap (λ (l : List X). length l) is, length-drop k xs) in

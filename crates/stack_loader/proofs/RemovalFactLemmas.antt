@@ -63,7 +63,7 @@ unused-of c d inside none = record { inside = inside; unnamed = λ e. go e (name
         let some = list_any_at (λ e. names_device c e d) (range_with_len 0 (length c.devices)) e 0 (omega (arith, low, long)) (ap (λ e. names_device c e d) place ∙ is) in
         sym some ∙ none
 
--- ---- the rule that refuses, and what stands after
+-- ---- the rule that refuses, and the configuration after it
 
 pub fault-none : (c : Configuration) (name : List ℕ) → device_named c name ≡ None → removal_fault c name ≡ Some NoSuchDevice
 unfolding removal_fault

@@ -1,4 +1,4 @@
--- No rule refuses what stands after a removal.
+-- No rule refuses the configuration after a removal.
 use Rattle.std.proofs.Common.{subst, ◌≡◌, ◌+◌, ◌-◌, ◌≤◌, ℕ, zero, suc, List, [], ◌∷◌, ◌++◌, refl, sym, ap, ◌∙◌, Bool, true, false, not, ◌==◌, Option, Some, None, length, map, take, nat_lt, arith}
 use Rattle.std.specs.Prelude.{flat_map, slice_get, is_none}
 use Rattle.std.specs.List.{AllByRecursion, enumerate_from, list_any, remove}

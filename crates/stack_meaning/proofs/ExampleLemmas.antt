@@ -135,7 +135,7 @@ puts_single_chunks : put_on single_chunks (mapped 0) 1 (x ∷ y ∷ z ∷ []) (e
 unfolding descend
 puts_single_chunks = refl
 
--- two lines over the same sectors: the later one stands
+-- two lines over the same sectors: the later one holds
 abbrev overlapping : Configuration
 overlapping = record {
   leaves = leaf_of (codes "D") 4 ∷ [];

@@ -28,7 +28,7 @@ copied-lost reads r old new none p = record {
   image = λ steady. p.image steady ∙ sym (copied_image-push 0 reads r old.image ∙ none (0 + length (all_states reads)) r.count (copied_image 0 reads old.image));
 }
 
--- a piece that is written where it stands
+-- a piece that is written where it is stored
 pub copied-had : (reads : List PieceRead) (n at k : ℕ) (bytes : List ℕ) (after : StackRecord) (ok : Bool) (old mid new : Device) → at ≡ length (all_states reads) → k ≡ n → IsCopied reads old mid
     → IsWritten mid at k ok new → (IsTrue mid.steady → new.image ≡ spliced mid.image at (sectors_of k bytes))
     → IsCopied (reads ++ (record { count = n; found = had bytes; after = after }) ∷ []) old new

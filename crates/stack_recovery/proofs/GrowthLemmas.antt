@@ -1,37 +1,70 @@
 -- How the limit on pieces changes while no read fails.
-use Rattle.std.proofs.Common.{◌≡◌, ℕ, ◌+◌, ◌*◌, ◌/◌, ◌≤◌, Bool, false, List, [], ◌∷◌, ◌++◌, length, nat_lt, refl, sym, ap, ◌∙◌, subst, arith}
+use Rattle.std.proofs.Common.{◌≡◌, ℕ, ◌+◌, ◌*◌, ◌/◌, ◌≤◌, ◌<◌, Bool, List, [], ◌∷◌, length, None, refl, ap, ◌∙◌, arith}
 use Rattle.std.specs.Prelude.{min, max, if◌then◌else◌}
-use Rattle.std.proofs.lemmas.Bool.{le-ltb}
+use Rattle.std.proofs.lemmas.Bool.{le-ltb, lt-ltb}
 use Rattle.std.proofs.lemmas.List.{length-replicate}
+use Rattle.stack_rules.specs.Names.{mapped, size}
 use Rattle.stack_recovery.specs.declared.piece_limit.PieceLimit.{PieceLimit}
-use Rattle.stack_recovery.specs.PassLaws.{AreHad, AreLongestPieces, AreUnfailed, IsHad, IsUnfailed}
-use Rattle.stack_recovery.specs.PassPieces.{AreInPieces, Pass, limit_after, limit_found, limit_from}
-use Rattle.stack_recovery.specs.PieceLimits.{first_limit, limit_after_bytes}
+use Rattle.stack_recovery.specs.PassLaws.{AreHad, AreLongestPieces, AreSingle, IsHad, IsLongestPiece}
+use Rattle.stack_recovery.specs.PassPieces.{Pass, limit_after, limit_found, limit_from}
+use Rattle.stack_recovery.specs.PieceLimits.{limit_after_bytes, limit_of_run}
+use Rattle.stack_recovery.specs.Skims.{AreSkims, IsSkimFound, Skim, marks_of}
+use Rattle.stack_recovery.specs.Skips.{most_skip, skip_after}
 use Rattle.stack_recovery.specs.Surveys.{Finding, PieceRead, SectorState, again, had, kept, lost, states_found, states_of}
 
 -- after the doubtful sectors
 most-grown : (limit : PieceLimit) (n at : ℕ) → limit.doubt ≤ at → (limit_after_bytes limit n at).most ≡ min (max n limit.most) 64 * 2
 most-grown limit n at past = ap (λ (t : Bool). if t then max (n / 2) 1 else min (max n limit.most) 64 * 2) (le-ltb at limit.doubt past)
 
--- the first limit stays
-first-stays : (n at : ℕ) → limit_after_bytes first_limit n at ≡ first_limit
-first-stays n at =
-    let grown : (limit_after_bytes first_limit n at).most ≡ 128 = most-grown first_limit n at (omega arith) ∙ omega arith in
-    ap (λ (m : ℕ). record { most = m; doubt = 0 }) grown
+-- before their end
+most-small : (limit : PieceLimit) (n at : ℕ) → at < limit.doubt → (limit_after_bytes limit n at).most ≡ max (n / 2) 1
+most-small limit n at low = ap (λ (t : Bool). if t then max (n / 2) 1 else min (max n limit.most) 64 * 2) (lt-ltb at limit.doubt low)
 
-unfailed-stays : (first n : ℕ) (found : Finding) → IsUnfailed found → limit_found first_limit first n found ≡ first_limit
-unfailed-stays first n (had bytes) h = first-stays n (first + n)
-unfailed-stays first n (lost fault) h = absurd h
-unfailed-stays first n (again fault) h = absurd h
-unfailed-stays first n kept h = refl
+-- ---- the first pass
 
-pub unfailed-longest : (p : Pass) (first : ℕ) (reads more : List PieceRead) → AreInPieces p first first_limit (reads ++ more) → AreUnfailed reads → AreLongestPieces p first reads
-unfailed-longest p first [] more h unfailed = tt
-unfailed-longest p first (r ∷ reads) more h unfailed = (
-  h.0,
-  unfailed-longest p (first + length (states_of r)) reads more
-      (subst (λ (l : PieceLimit). AreInPieces p (first + length (states_of r)) l (reads ++ more)) (unfailed-stays first r.count r.found unfailed.0) h.1) unfailed.1,
+longest-found : (p : Pass) (first wanted n : ℕ) (found : Finding) (skip : ℕ) → IsSkimFound p first wanted n found skip → IsLongestPiece p first n found
+longest-found p first wanted n (had bytes) skip h = h.0
+longest-found p first wanted n (lost fault) skip h = absurd h
+longest-found p first wanted n (again fault) skip h = h.1
+longest-found p first wanted n kept skip h = tt
+
+pub skimmed-longest : (p : Pass) (first wanted : ℕ) (skims : List Skim) → AreSkims p first wanted skims → AreLongestPieces p first skims
+skimmed-longest p first wanted [] h = tt
+skimmed-longest p first wanted (s ∷ more) h = (
+  longest-found p first wanted s.piece.count s.piece.found s.skip h.0,
+  skimmed-longest p (first + length (marks_of s)) (skip_after (most_skip (size p.config (mapped p.d))) wanted s.piece.found) more h.1,
 )
+
+-- ---- the beginning of a run
+
+small-most : (limit : PieceLimit) (first n : ℕ) (found : Finding) → IsHad found → n ≡ 1 → first + 1 < limit.doubt → (limit_found limit first n found).most ≡ 1
+small-most limit first n (had bytes) h one low = most-small limit n (first + n) (omega (arith, one, low)) ∙ omega (arith, one)
+small-most limit first n (lost fault) h one low = absurd h
+small-most limit first n (again fault) h one low = absurd h
+small-most limit first n kept h one low = absurd h
+
+small-doubt : (limit : PieceLimit) (first n : ℕ) (found : Finding) → IsHad found → (limit_found limit first n found).doubt ≡ limit.doubt
+small-doubt limit first n (had bytes) h = refl
+small-doubt limit first n (lost fault) h = absurd h
+small-doubt limit first n (again fault) h = absurd h
+small-doubt limit first n kept h = absurd h
+
+length-found : (n : ℕ) (found : Finding) → IsHad found → length (states_found n found) ≡ n
+length-found n (had bytes) h = length-replicate {A = SectorState} n None
+length-found n (lost fault) h = absurd h
+length-found n (again fault) h = absurd h
+length-found n kept h = absurd h
+
+-- single sectors before the end of the doubtful ones leave a limit of one sector
+stays-small : (limit : PieceLimit) (first : ℕ) (reads : List PieceRead) → limit.most ≡ 1 → AreSingle reads → first + length reads < limit.doubt → (limit_from limit first reads).most ≡ 1
+stays-small limit first [] one h low = one
+stays-small limit first (r ∷ more) one h low =
+    stays-small (limit_after limit first r) (first + length (states_of r)) more
+    (small-most limit first r.count r.found h.0.0 h.0.1 (omega (arith, low))) h.1
+    (omega (arith, low, h.0.1, length-found r.count r.found h.0.0, small-doubt limit first r.count r.found h.0.0))
+
+pub begins-small : (first : ℕ) (reads : List PieceRead) → AreSingle reads → length reads < 128 → (limit_from (limit_of_run first) first reads).most ≡ 1
+begins-small first reads h few = stays-small (limit_of_run first) first reads refl h (omega (arith, few))
 
 -- ---- growth
 

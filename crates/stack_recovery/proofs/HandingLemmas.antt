@@ -26,11 +26,12 @@ pub record IsHanding {O : Type 0} (Did : O → Call → O → Type 0) (makes_map
 
 module _ {O L : Type 0} (Did : O → Call → O → Type 0) (makes_map : Bool) (before : List Bool) (d : ℕ) (old now : Sides) (at : ℕ) (tally : Tally) (noted : Option (List Run)) (limit : PieceLimit) (out out' : O) (h : IsHanding Did makes_map before d old now at tally noted limit out out') (a b : L) where
   -- all sectors are done
-  pub hands-over : at ≡ size old.stack.config (mapped d) → HandsOver Did before d (parties old.stack out a) (parties now.stack out' b)
+  pub hands-over : at ≡ size old.stack.config (mapped d) → HandsOver Did before d (parties old.stack out a) noted (parties now.stack out' b)
   hands-over all = record {
     reads = h.under.reads;
     survey = h.under.survey;
     whole = sym h.under.here ∙ all;
+    noted = h.under.noted;
     made = subst (λ (l : List Call). Calls Did out l out') h.under.written h.did;
   }
 

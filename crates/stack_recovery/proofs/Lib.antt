@@ -8,6 +8,7 @@ mod GrowthLemmas
 mod HandingLemmas
 mod MeantLemmas
 mod PieceLemmas
+mod RetryLemmas
 mod SkimEndLemmas
 mod SkimLemmas
 mod SkimPieceLemmas

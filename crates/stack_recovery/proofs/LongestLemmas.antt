@@ -46,7 +46,7 @@ record IsRunFrom (s : ℕ) (states : List SectorState) (r : LostRun) : Type 0 wh
   before : (t : ℕ) → s ≤ t → suc t ≡ r.first → state_at s states t ≢ Some r.kind
   behind : state_at s states (r.first + r.count) ≢ Some r.kind
 
--- runs from s on, each behind the one before
+-- runs from s on, each after the one before
 abbrev AreRunsFrom : ℕ → ℕ → List SectorState → List LostRun → Type 0
 AreRunsFrom low s states [] = Unit {0}
 AreRunsFrom low s states (r ∷ more) = (low ≤ r.first) × IsRunFrom s states r × AreRunsFrom (r.first + r.count) s states more
@@ -87,7 +87,7 @@ first-run s (Some g ∷ states) f rs is e = go (runs_of is_same_fault (suc s) st
         split true by = (run s (1 + x.count) g, more, sym by, refl, same)
         split false by = (run s 1 g, x ∷ more, sym by, refl, same)
 
--- one sector, behind which none is lost by its fault
+-- one sector, after which none is lost by its fault
 alone : (s : ℕ) (f : IoFault) (more : List SectorState) → state_at (suc s) more (suc s) ≢ Some f → IsRunFrom s (Some f ∷ more) (run s 1 f)
 alone s f more none = record {
   some = omega arith;
@@ -97,7 +97,7 @@ alone s f more none = record {
   behind = λ e. let next : s + 1 ≡ suc s = omega arith in none (sym (state_at-more s (suc s) (Some f) more (omega arith)) ∙ ap (state_at s (Some f ∷ more)) (sym next) ∙ e);
 }
 
--- one sector and a run of its fault behind it
+-- one sector and a run of its fault after it
 grown : (s : ℕ) (f : IoFault) (more : List SectorState) (b : LostRun) → b.first ≡ s + 1 → f ≡ b.kind → IsRunFrom (suc s) more b → IsRunFrom s (Some f ∷ more) (run s (1 + b.count) f)
 grown s f more b at same p = record {
   some = omega arith;

@@ -1,5 +1,5 @@
 -- What is found over leaves that are steady and never fail.
-use Rattle.std.proofs.Common.{Bool, ◌≡◌, ◌≢◌, ◌⊎◌, ℕ, zero, suc, ◌+◌, ◌-◌, ◌<◌, List, [], ◌∷◌, ◌++◌, length, get_or, replicate, true, false, Some, None, Ok, Err, inl, inr, refl, sym, ap, ◌∙◌, subst, arith}
+use Rattle.std.proofs.Common.{Bool, ◌≡◌, ◌≢◌, ◌⊎◌, ℕ, zero, suc, ◌+◌, ◌-◌, ◌<◌, List, [], ◌∷◌, ◌++◌, length, get_or, map, replicate, true, false, Some, None, Ok, Err, inl, inr, refl, sym, ap, ◌∙◌, subst, arith}
 use Rattle.std.proofs.lemmas.Bool.{false≢true}
 use Rattle.std.proofs.lemmas.List.{get_or-replicate, length-append, length-replicate}
 use Rattle.block_device.specs.Device.{Device, in_memory}
@@ -20,7 +20,9 @@ use Rattle.stack_recovery.specs.Laws.{AreSure, MarksAreMeant, StatesAreMeant, Su
 use Rattle.rescue_map.specs.Maps.{marks}
 use Rattle.stack_recovery.specs.FirstPasses.{unread_marks}
 use Rattle.stack_recovery.specs.Skims.{IsSkimOver, Skim, is_read, marks_of, skim_marks}
-use Rattle.stack_recovery.specs.Surveys.{Finding, IsPieceSurveyed, SectorState, again, all_states, had, kept, lost, states_found, states_of}
+use Rattle.stack_recovery.specs.Recoveries.{is_had}
+use Rattle.stack_recovery.specs.Retries.{AfterPass, IsSilentPass, Steps, after_pass, no_step, one_more}
+use Rattle.stack_recovery.specs.Surveys.{Finding, IsPieceSurveyed, IsSurveyOver, PieceRead, SectorState, again, all_states, had, kept, lost, states_found, states_of}
 use Rattle.stack_recovery.proofs.AheadLemmas.{marks-none}
 use Rattle.stack_recovery.proofs.lemmas.LostLemmas.{span-fault}
 
@@ -218,12 +220,56 @@ skims-known before d first w (s ∷ more) w' none h sure =
     let rest = skims-known before d (first + length (marks_of s)) s.piece.after more w' none h.1 left.sure in
     (then-left d w s.piece.after w' left rest.0, skim-known before d first w s more none h.0 sure left rest.1)
 
+-- ---- the passes between the first one and the last
+
+survey-left : (before : List Bool) (d first : ℕ) (w : StackRecord) (reads : List PieceRead) (w' : StackRecord) → IsSurveyOver before d first w reads w' → AreSure (λ i. stands_on w.config i (mapped d)) w.leaves → IsLeft d w w'
+survey-left before d first w [] w' s sure = same-left d w w' s sure
+survey-left before d first w (r ∷ more) w' s sure =
+    let left : IsLeft d w r.after = piece-left before d first w r.count r.found r.after s.0 sure in
+    then-left d w r.after w' left (survey-left before d (first + length (states_of r)) r.after more w' s.1 left.sure)
+
+read-state : (s : SectorState) → is_had s ≡ true → s ≡ None
+read-state None e = refl
+read-state (Some fault) e = absurd (false≢true e)
+
+-- a sector that is marked means bytes, if the marks are those of what the sectors mean
+meant-marked : (at : ℕ → Outcome) (first n k : ℕ) → get_or (map is_had (meant_states at first n)) k false ≡ true → meant_state (at (first + k)) ≡ None
+meant-marked at first zero k e = absurd (false≢true e)
+meant-marked at first (suc n) zero e = let here : first + 0 ≡ first = omega arith in ap (λ (t : ℕ). meant_state (at t)) here ∙ read-state (meant_state (at first)) e
+meant-marked at first (suc n) (suc k) e = let step : first + suc k ≡ suc first + k = omega arith in ap (λ (t : ℕ). meant_state (at t)) step ∙ meant-marked at (suc first) n k e
+
+-- what a pass leaves, and that the sectors that its map marks mean bytes
+silent-known : (d : ℕ) (old new : AfterPass Device) → IsSilentPass d old new → MarksAreMeant (marks old.map) d old.stack → AreSure (λ i. stands_on old.stack.config i (mapped d)) old.stack.leaves
+    → IsLeft d old.stack new.stack × MarksAreMeant (marks new.map) d new.stack
+silent-known d old new p known sure =
+    let over = p.3 in
+    let n : ℕ = length (all_states over.reads) in
+    let at : ℕ → Outcome = sector old.stack.config (steady_images old.stack.leaves) (mapped d) in
+    let left : IsLeft d old.stack new.stack = survey-left (marks old.map) d 0 old.stack over.reads new.stack over.survey sure in
+    let meant : all_states over.reads ≡ meant_states at 0 n = surveys-meant (marks old.map) d 0 old.stack over.reads new.stack over.survey known sure in (
+      left,
+      λ k is.
+          let here : 0 + k ≡ k = omega arith in
+          left-state d old.stack new.stack k left ∙ ap (λ (t : ℕ). meant_state (at t)) (sym here) ∙ meant-marked at 0 n k (sym (ap (λ (l : List Bool). get_or l k false) (over.noted ∙ ap (map is_had) meant)) ∙ is),
+    )
+
+steps-known : (d : ℕ) (first : AfterPass Device) → MarksAreMeant (marks first.map) d first.stack → AreSure (λ i. stands_on first.stack.config i (mapped d)) first.stack.leaves
+    → {n : ℕ} {last : AfterPass Device} → Steps (λ (k : ℕ). IsSilentPass d) first n last → IsLeft d first.stack last.stack × MarksAreMeant (marks last.map) d last.stack
+steps-known d first known sure no_step = (same-left d first.stack first.stack refl sure, known)
+steps-known d first known sure (one_more {n} {now} {next} before step) =
+    let so_far = steps-known d first known sure before in
+    let here = silent-known d now next step so_far.1 so_far.0.sure in
+    (then-left d first.stack now.stack next.stack so_far.0 here.0, here.1)
+
 pub states-meant : StatesAreMeant
-states-meant d old counts new r sure =
+states-meant t old counts new r sure =
+    let d : ℕ = t.d in
     let n : ℕ = length (all_states r.rescues.reads) in
     let p = skims-known (unread_marks old.stack.config d) d 0 old.stack r.skims.skims r.between.stack (unmarked (size old.stack.config (mapped d))) r.skims.survey sure in
     let known : MarksAreMeant (marks r.map) d r.between.stack =
     λ k is. let here : k ≡ 0 + k = omega arith in
     left-state d old.stack r.between.stack k p.0 ∙ ap (λ (t : ℕ). meant_state (sector old.stack.config (steady_images old.stack.leaves) (mapped d) t)) here
     ∙ p.1 k (sym (ap (λ (l : List Bool). get_or l k false) r.skims.noted) ∙ is) in
-    surveys-meant (marks r.map) d 0 r.between.stack r.rescues.reads new.stack r.rescues.survey known p.0.sure ∙ left-states d old.stack r.between.stack 0 n p.0
+    let q = steps-known d (after_pass r.between.stack r.between.out r.map) known p.0.sure r.retries.steps in
+    surveys-meant (marks r.left.map) d 0 r.left.stack r.rescues.reads new.stack r.rescues.survey q.1 q.0.sure
+    ∙ left-states d old.stack r.left.stack 0 n (then-left d old.stack r.between.stack r.left.stack p.0 q.0)

@@ -54,7 +54,7 @@ skim-ends-any by_map before d old new recovery.Output p = record {
 
 -- ---- what the pass leaves
 
-found-config : (marks : List Bool) (d first : ℕ) (w : StackRecord) (n : ℕ) (found : Finding) (w' : StackRecord) → AnswersFinding w d first n found w' → w'.config ≡ w.config
+pub found-config : (marks : List Bool) (d first : ℕ) (w : StackRecord) (n : ℕ) (found : Finding) (w' : StackRecord) → AnswersFinding w d first n found w' → w'.config ≡ w.config
 found-config marks d first w n (had bytes) w' a = a.any.config
 found-config marks d first w n (lost fault) w' a = a.any.config
 found-config marks d first w n (again fault) w' a = a.any.config

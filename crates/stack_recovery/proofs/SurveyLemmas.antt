@@ -8,7 +8,7 @@ use Rattle.stack_recovery.specs.Surveys.{IsPieceSurveyed, IsSurveyOver, PieceRea
 pub states-push : (reads : List PieceRead) (r : PieceRead) → all_states (reads ++ r ∷ []) ≡ all_states reads ++ states_of r
 states-push reads r = flat_map-append states_of reads (r ∷ []) ∙ ap (λ (l : List SectorState). all_states reads ++ l) (append-nil (states_of r))
 
--- a piece behind those so far
+-- a piece after those so far
 pub survey-push : (marks : List Bool) (d first : ℕ) (w : StackRecord) (reads : List PieceRead) (mid : StackRecord) (r : PieceRead) → IsSurveyOver marks d first w reads mid
     → IsPieceSurveyed marks d (first + length (all_states reads)) mid r → IsSurveyOver marks d first w (reads ++ r ∷ []) r.after
 survey-push marks d first w [] mid r s p =

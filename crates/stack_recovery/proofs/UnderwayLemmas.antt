@@ -1,4 +1,4 @@
--- A device that is gone over, while sectors are left.
+-- A device that is scanned, while sectors are left.
 use Rattle.std.proofs.Common.{◌≡◌, ◌≢◌, ◌⊎◌, ℕ, ◌+◌, ◌-◌, ◌≤◌, ◌^◌, Bool, true, false, IsTrue, List, [], ◌∷◌, ◌++◌, length, replicate, Option, Some, None, is_some, Ok, Err, inl, inr, refl, sym, ap, ◌∙◌, subst, arith}
 use Rattle.std.proofs.lemmas.List.{append-nil, length-append, length-replicate}
 use Rattle.block_device.specs.Call.{Call, Write}
@@ -24,7 +24,7 @@ use Rattle.stack_recovery.specs.Handing.{calls_found, copy_calls}
 use Rattle.stack_recovery.specs.Listings.{Listed, Tells}
 use Rattle.stack_recovery.specs.Losses.{StopsInPiece}
 use Rattle.stack_recovery.specs.PassPieces.{ArePassPieces, IsNextPiece, IsPieceFound, limit_after, limit_from, pass_over}
-use Rattle.stack_recovery.specs.PieceLimits.{first_limit, limit_after_bytes, limit_after_failure, limit_after_loss}
+use Rattle.stack_recovery.specs.PieceLimits.{limit_after_bytes, limit_after_loss, limit_of_run, limit_up_to}
 use Rattle.stack_recovery.specs.Recoveries.{EndsEarly, FailsOutput, FindsNoMemory, GoesOver, IsBegunOver, AreMarksNoted, IsMapRefused, NotesMore, RunsShort, Sides, sides}
 use Rattle.stack_recovery.specs.Surveys.{AreMarked, IsPieceSurveyed, IsSurveyOver, PieceRead, SectorState, again, all_states, had, kept, lost, states_of}
 use Rattle.stack_recovery.specs.Texts.{lost_text}
@@ -49,10 +49,10 @@ pub record IsUnderway (makes_map : Bool) (before : List Bool) (d : ℕ) (old new
   pub printed : Tells old.printed new.printed (lost_text closed)
   pub noted : AreMarksNoted made (all_states reads)
   pub pieces : ArePassPieces (pass_over old.stack.config d before makes_map) reads
-  pub limited : limit ≡ limit_from first_limit 0 reads
+  pub limited : limit ≡ limit_from (limit_of_run 0) 0 reads
   pub written : calls ≡ copy_calls 0 reads
 
-pub underway-none : (makes_map : Bool) (before : List Bool) (d : ℕ) (old : Sides) (noted : Option (List Run)) (limit : PieceLimit) → AreMarksNoted noted [] → limit ≡ first_limit
+pub underway-none : (makes_map : Bool) (before : List Bool) (d : ℕ) (old : Sides) (noted : Option (List Run)) (limit : PieceLimit) → AreMarksNoted noted [] → limit ≡ limit_of_run 0
     → IsUnderway makes_map before d old old 0 (record { last = None; lost = 0 }) noted limit []
 underway-none makes_map before d old noted limit p first = record {
   reads = [];
@@ -138,16 +138,16 @@ module _ (makes_map : Bool) (before : List Bool) (d : ℕ) (old now : Sides) (at
   next-pieces : (r : PieceRead) → IsPieceFound (pass_over old.stack.config d before makes_map) at limit.most r.count r.found → ArePassPieces (pass_over old.stack.config d before makes_map) (u.reads ++ r ∷ [])
   next-pieces r h =
       let here : at ≡ 0 + length (all_states u.reads) = omega (arith, u.here) in
-      pieces-push (pass_over old.stack.config d before makes_map) 0 first_limit u.reads r u.pieces
+      pieces-push (pass_over old.stack.config d before makes_map) 0 (limit_of_run 0) u.reads r u.pieces
       (subst (λ (l : PieceLimit). IsPieceFound (pass_over old.stack.config d before makes_map) (0 + length (all_states u.reads)) l.most r.count r.found) u.limited
       (subst (λ (k : ℕ). IsPieceFound (pass_over old.stack.config d before makes_map) k limit.most r.count r.found) here h))
 
-  next-limit : (r : PieceRead) → limit_after limit at r ≡ limit_from first_limit 0 (u.reads ++ r ∷ [])
+  next-limit : (r : PieceRead) → limit_after limit at r ≡ limit_from (limit_of_run 0) 0 (u.reads ++ r ∷ [])
   next-limit r =
       let here : at ≡ 0 + length (all_states u.reads) = omega (arith, u.here) in
       ap (λ (l : PieceLimit). limit_after l at r) u.limited
-      ∙ ap (λ (k : ℕ). limit_after (limit_from first_limit 0 u.reads) k r) here
-      ∙ sym (limit-push first_limit 0 u.reads r)
+      ∙ ap (λ (k : ℕ). limit_after (limit_from (limit_of_run 0) 0 u.reads) k r) here
+      ∙ sym (limit-push (limit_of_run 0) 0 u.reads r)
 
   next-calls : (r : PieceRead) → calls ++ calls_found at r.found ≡ copy_calls 0 (u.reads ++ r ∷ [])
   next-calls r =
@@ -180,12 +180,12 @@ module _ (makes_map : Bool) (before : List Bool) (d : ℕ) (old now : Sides) (at
       })
 
   -- sectors that were had before
-  pub underway-kept : (n : ℕ) (printed : Listed) (next : Tally) (more : Option (List Run)) → 1 ≤ n → AreMarked before at n true → NotesMore noted more (replicate n true)
-      → Tells now.printed printed (lost_text (listed tally.last)) → next ≡ record { last = None; lost = tally.lost } → IsUnderway makes_map before d old (sides now.stack now.out printed) (at + n) next more limit calls
-  underway-kept n printed next more some marked noting told is =
+  pub underway-kept : (n : ℕ) (printed : Listed) (next : Tally) (more : Option (List Run)) (after : PieceLimit) → after ≡ limit_of_run (at + n) → 1 ≤ n → AreMarked before at n true → NotesMore noted more (replicate n true)
+      → Tells now.printed printed (lost_text (listed tally.last)) → next ≡ record { last = None; lost = tally.lost } → IsUnderway makes_map before d old (sides now.stack now.out printed) (at + n) next more after calls
+  underway-kept n printed next more after begins some marked noting told is =
       let r : PieceRead = record { count = n; found = kept; after = now.stack } in
       let states : all_states (u.reads ++ r ∷ []) ≡ all_states u.reads ++ replicate n None = states-push u.reads r in
-      subst (λ (t : Tally). IsUnderway makes_map before d old (sides now.stack now.out printed) (at + n) t more limit calls) (sym is) (record {
+      subst (λ (t : Tally). IsUnderway makes_map before d old (sides now.stack now.out printed) (at + n) t more after calls) (sym is) (record {
         reads = u.reads ++ r ∷ [];
         closed = u.closed ++ listed tally.last;
         survey = next-survey r (record { answered = refl; may = some; marked = marked });
@@ -196,12 +196,12 @@ module _ (makes_map : Bool) (before : List Bool) (d : ℕ) (old now : Sides) (at
         printed = runs-then old.printed now.printed printed u.closed (listed tally.last) u.printed told;
         noted = rw states (noted-more noted more (all_states u.reads) n None u.noted noting);
         pieces = next-pieces r tt;
-        limited = next-limit r;
+        limited = begins ∙ next-limit r;
         written = sym (append-nil calls) ∙ next-calls r;
       })
 
   -- a piece that is lost, and told
-  pub underway-lost : (n : ℕ) (fault : IoFault) (stack : StackRecord) (printed : Listed) (next : Tally) (more : Option (List Run)) (after : PieceLimit) → IsNextPiece (pass_over old.stack.config d before makes_map) at limit.most n → after ≡ limit_after_loss
+  pub underway-lost : (n : ℕ) (fault : IoFault) (stack : StackRecord) (printed : Listed) (next : Tally) (more : Option (List Run)) (after : PieceLimit) → IsNextPiece (pass_over old.stack.config d before makes_map) at limit.most n → after ≡ limit_after_loss limit
       → 1 ≤ n → EachBytes now.stack d at n (Err fault) stack → AreMarked before at n false → NotesMore noted more (replicate n false) → AreAlike now.stack.config d at n → fault ≢ NoMemory
       → Tells now.printed printed (lost_text (closed_by is_same_fault tally.last (run at n fault))) → next ≡ record { last = Some (opened_by is_same_fault tally.last (run at n fault)); lost = tally.lost + n }
       → IsUnderway makes_map before d old (sides stack now.out printed) (at + n) next more after calls
@@ -224,9 +224,9 @@ module _ (makes_map : Bool) (before : List Bool) (d : ℕ) (old now : Sides) (at
       })
 
   -- a piece that is read again
-  pub underway-again : (n : ℕ) (fault : IoFault) (stack : StackRecord) (after : PieceLimit) → IsNextPiece (pass_over old.stack.config d before makes_map) at limit.most n → after ≡ limit_after_failure n (at + n)
+  pub underway-again : (n : ℕ) (fault : IoFault) (stack : StackRecord) (after : PieceLimit) → IsNextPiece (pass_over old.stack.config d before makes_map) at limit.most n → (2 ≤ n) × (n ≤ limit.most) → after ≡ limit_up_to (at + n)
       → EachBytes now.stack d at n (Err fault) stack → AreMarked before at n false → IsUnderway makes_map before d old (sides stack now.out now.printed) at tally noted after calls
-  underway-again n fault stack after piece grown p marked =
+  underway-again n fault stack after piece small grown p marked =
       let r : PieceRead = record { count = n; found = again fault; after = stack } in
       let states : all_states (u.reads ++ r ∷ []) ≡ all_states u.reads = states-push u.reads r ∙ append-nil (all_states u.reads) in
       record {
@@ -239,7 +239,7 @@ module _ (makes_map : Bool) (before : List Bool) (d : ℕ) (old now : Sides) (at
         copied = copied-lost u.reads r old.out now.out (λ first m image. refl) u.copied;
         printed = u.printed;
         noted = rw states u.noted;
-        pieces = next-pieces r piece;
+        pieces = next-pieces r (piece, small);
         limited = grown ∙ next-limit r;
         written = sym (append-nil calls) ∙ next-calls r;
       }

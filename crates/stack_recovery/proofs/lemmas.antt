@@ -1,2 +1,3 @@
 -- What callers may cite.
 pub mod LostLemmas
+pub mod StepLemmas

@@ -21,6 +21,7 @@ use Rattle.runs.specs.Runs.{runs_of}
 use Rattle.stack_recovery.specs.LostRuns.{LostRun, is_same_fault}
 use Rattle.stack_recovery.specs.declared.recovery.Counts.{Counts}
 use Rattle.stack_recovery.specs.Recoveries.{Sides}
+use Rattle.stack_recovery.specs.Retries.{Retried}
 use Rattle.stack_recovery.specs.Surveys.{IsSurveyOver, PieceRead, SectorState, all_states}
 use Rattle.stack_recovery.specs.TwoPasses.{Recovers}
 
@@ -51,10 +52,10 @@ abbrev pub SurveysAreMeant : Type 0
 SurveysAreMeant = (marks : List Bool) (d first : ℕ) (w : StackRecord) (reads : List PieceRead) (w' : StackRecord) → IsSurveyOver marks d first w reads w' → MarksAreMeant marks d w → AreSure (λ i. stands_on w.config i (mapped d)) w.leaves
     → all_states reads ≡ meant_states (sector w.config (steady_images w.leaves) (mapped d)) first (length (all_states reads))
 
--- and in a recovery in two passes
+-- and in a recovery in passes
 abbrev pub StatesAreMeant : Type 0
-StatesAreMeant = (d : ℕ) (old : Sides) (counts : Counts) (new : Sides) (r : Recovers d old counts new) → AreSure (λ i. stands_on old.stack.config i (mapped d)) old.stack.leaves
-    → all_states r.rescues.reads ≡ meant_states (sector old.stack.config (steady_images old.stack.leaves) (mapped d)) 0 (length (all_states r.rescues.reads))
+StatesAreMeant = (t : Retried) (old : Sides) (counts : Counts) (new : Sides) (r : Recovers t old counts new) → AreSure (λ i. stands_on old.stack.config i (mapped t.d)) old.stack.leaves
+    → all_states r.rescues.reads ≡ meant_states (sector old.stack.config (steady_images old.stack.leaves) (mapped t.d)) 0 (length (all_states r.rescues.reads))
 
 -- ---- runs
 

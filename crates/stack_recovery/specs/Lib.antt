@@ -10,6 +10,7 @@ pub mod PassLaws
 pub mod PassPieces
 pub mod Pieces
 pub mod Recoveries
+pub mod Retries
 pub mod Skims
 pub mod Skips
 pub mod Surveys

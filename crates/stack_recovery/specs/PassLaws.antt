@@ -1,29 +1,24 @@
 -- Laws of the pieces of a pass.
-use Rattle.std.specs.Prelude.{◌≡◌, ℕ, ◌+◌, ◌≤◌, List, [], ◌∷◌, ◌++◌, length}
+use Rattle.std.specs.Prelude.{◌≡◌, ℕ, ◌+◌, ◌≤◌, ◌<◌, List, [], ◌∷◌, length}
 use Rattle.stack_recovery.specs.declared.piece_limit.PieceLimit.{PieceLimit}
-use Rattle.stack_recovery.specs.PassPieces.{AreInPieces, IsPieceFound, Pass, limit_from}
-use Rattle.stack_recovery.specs.PieceLimits.{first_limit}
-use Rattle.stack_recovery.specs.Surveys.{Finding, PieceRead, again, had, kept, lost, states_of}
+use Rattle.stack_recovery.specs.PassPieces.{IsNextPiece, Pass, limit_from}
+use Rattle.stack_recovery.specs.PieceLimits.{limit_of_run}
+use Rattle.stack_recovery.specs.Skims.{AreSkims, Skim, marks_of}
+use Rattle.stack_recovery.specs.Surveys.{Finding, PieceRead, had, kept}
 
--- the read of the piece didn't fail
-abbrev pub IsUnfailed : Finding → Type 0
-IsUnfailed (had bytes) = Unit {0}
-IsUnfailed (lost fault) = ⊥
-IsUnfailed (again fault) = ⊥
-IsUnfailed kept = Unit {0}
+-- a piece that is read is the one of at most 128 sectors; sectors that were read before are in none
+abbrev pub IsLongestPiece : Pass → ℕ → ℕ → Finding → Type 0
+IsLongestPiece p first n kept = Unit {0}
+IsLongestPiece p first n other = IsNextPiece p first 128 n
 
-abbrev pub AreUnfailed : List PieceRead → Type 0
-AreUnfailed [] = Unit {0}
-AreUnfailed (r ∷ more) = IsUnfailed r.found × AreUnfailed more
-
--- each piece is the one of at most 128 sectors
-abbrev pub AreLongestPieces : Pass → ℕ → List PieceRead → Type 0
+-- each piece of the first pass is the one of at most 128 sectors
+abbrev pub AreLongestPieces : Pass → ℕ → List Skim → Type 0
 AreLongestPieces p first [] = Unit {0}
-AreLongestPieces p first (r ∷ more) = IsPieceFound p first 128 r.count r.found × AreLongestPieces p (first + length (states_of r)) more
+AreLongestPieces p first (s ∷ more) = IsLongestPiece p first s.piece.count s.piece.found × AreLongestPieces p (first + length (marks_of s)) more
 
--- Before the first failed read each piece has at most 128 sectors, and no other limit.
-abbrev pub UnfailedPiecesAreLongest : Type 0
-UnfailedPiecesAreLongest = (p : Pass) (first : ℕ) (reads more : List PieceRead) → AreInPieces p first first_limit (reads ++ more) → AreUnfailed reads → AreLongestPieces p first reads
+-- In the first pass each piece has at most 128 sectors, and no other limit.
+abbrev pub SkimmedPiecesAreLongest : Type 0
+SkimmedPiecesAreLongest = (p : Pass) (first wanted : ℕ) (skims : List Skim) → AreSkims p first wanted skims → AreLongestPieces p first skims
 
 -- the piece was read
 abbrev pub IsHad : Finding → Type 0
@@ -42,3 +37,15 @@ pieces_to_grow = 7
 abbrev pub LimitsGrowBack : Type 0
 LimitsGrowBack = (limit : PieceLimit) (first : ℕ) (reads : List PieceRead) → 1 ≤ limit.most → limit.doubt ≤ first → AreHad reads → pieces_to_grow ≤ length reads
     → (limit_from limit first reads).most ≡ 128
+
+-- the piece is one sector, and was read
+abbrev pub IsSingle : PieceRead → Type 0
+IsSingle r = IsHad r.found × (r.count ≡ 1)
+
+abbrev pub AreSingle : List PieceRead → Type 0
+AreSingle [] = Unit {0}
+AreSingle (r ∷ more) = IsSingle r × AreSingle more
+
+-- In the second pass a run begins with single sectors: fewer than 128 that are read leave the limit at one sector.
+abbrev pub RunsBeginWithSingleSectors : Type 0
+RunsBeginWithSingleSectors = (first : ℕ) (reads : List PieceRead) → AreSingle reads → length reads < 128 → (limit_from (limit_of_run first) first reads).most ≡ 1

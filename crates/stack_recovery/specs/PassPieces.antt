@@ -3,7 +3,7 @@ use Rattle.std.specs.Prelude.{◌≡◌, ℕ, ◌+◌, ◌-◌, ◌≤◌, Bool,
 use Rattle.stack_rules.specs.Names.{mapped, size}
 use Rattle.stack_rules.specs.Records.{Configuration}
 use Rattle.stack_recovery.specs.declared.piece_limit.PieceLimit.{PieceLimit}
-use Rattle.stack_recovery.specs.PieceLimits.{first_limit, limit_after_bytes, limit_after_failure, limit_after_loss}
+use Rattle.stack_recovery.specs.PieceLimits.{limit_after_bytes, limit_after_loss, limit_of_run, limit_up_to}
 use Rattle.stack_recovery.specs.Pieces.{EndsAligned}
 use Rattle.stack_recovery.specs.Surveys.{AreMarked, Finding, PieceRead, again, had, kept, lost, states_of}
 
@@ -26,19 +26,21 @@ pub record IsNextPiece (p : Pass) (first most n : ℕ) : Type 0 where
   pub whole : p.makes_map ≡ false → end ≡ size p.config (mapped p.d)
   pub ends : EndsAligned p.config p.d first end most n
 
--- the limit after a piece from sector `first` on, by its result
+-- the limit after a piece from sector `first` on, by its result; after sectors that were read before, a run begins
 abbrev pub limit_found : PieceLimit → ℕ → ℕ → Finding → PieceLimit
 limit_found limit first n (had bytes) = limit_after_bytes limit n (first + n)
-limit_found limit first n (lost fault) = limit_after_loss
-limit_found limit first n (again fault) = limit_after_failure n (first + n)
-limit_found limit first n kept = limit
+limit_found limit first n (lost fault) = limit_after_loss limit
+limit_found limit first n (again fault) = limit_up_to (first + n)
+limit_found limit first n kept = limit_of_run (first + n)
 
 abbrev pub limit_after : PieceLimit → ℕ → PieceRead → PieceLimit
 limit_after limit first r = limit_found limit first r.count r.found
 
--- sectors that were read before are no piece
+-- Sectors that were read before are no piece. A piece that is read again has two sectors or more, and no more than its limit:
+-- single sectors, and sectors that are lost together beyond the limit, aren't.
 abbrev pub IsPieceFound : Pass → ℕ → ℕ → ℕ → Finding → Type 0
 IsPieceFound p first most n kept = Unit {0}
+IsPieceFound p first most n (again fault) = IsNextPiece p first most n × ((2 ≤ n) × (n ≤ most))
 IsPieceFound p first most n other = IsNextPiece p first most n
 
 -- the pieces one after the other, from sector `first` on and with that limit for the first one
@@ -51,6 +53,6 @@ abbrev pub limit_from : PieceLimit → ℕ → List PieceRead → PieceLimit
 limit_from limit first [] = limit
 limit_from limit first (r ∷ more) = limit_from (limit_after limit first r) (first + length (states_of r)) more
 
--- the pieces of a whole pass
+-- the pieces of a whole second pass
 abbrev pub ArePassPieces : Pass → List PieceRead → Type 0
-ArePassPieces p reads = AreInPieces p 0 first_limit reads
+ArePassPieces p reads = AreInPieces p 0 (limit_of_run 0) reads

@@ -1,9 +1,7 @@
--- The effects of a recovery in two passes: the first one skips ahead after failed reads, the second one reads what is left.
-use Rattle.std.specs.Prelude.{◌≡◌, ◌⊎◌, ℕ, Bool, false, List}
+-- The effects of a recovery in passes: the first one skips ahead after failed reads, the others read what is left.
+use Rattle.std.specs.Prelude.{◌≡◌, ◌⊎◌, ℕ, false, List, Some}
 use Rattle.block_device.specs.Call.{Call}
 use Rattle.block_device.specs.Device.{Device}
-use Rattle.stack_rules.specs.declared.lower.DevId.{DevId}
-use Rattle.stack_engine.specs.Stacks.{StackRecord}
 use Rattle.rescue_map.specs.declared.map.Run.{Run}
 use Rattle.rescue_map.specs.Maps.{marks}
 use Rattle.stack_recovery.specs.declared.fault.RecoveryFault.{RecoveryFault}
@@ -13,64 +11,76 @@ use Rattle.stack_recovery.specs.FirstPasses.{EndsSkim, HandsSkims, HandsSkimsPar
 use Rattle.stack_recovery.specs.Handing.{HandsOver, HandsOverPart}
 use Rattle.stack_recovery.specs.Listings.{Listed}
 use Rattle.stack_recovery.specs.Recoveries.{IsRescueEnd, Parties, Rescues, Sides, parties, seen_sides, sides}
+use Rattle.stack_recovery.specs.Retries.{AfterPass, EndsReadingAgain, HandsAgain, HandsAgainPart, ReadsAgain, Retried, after_pass}
 
 -- the stack and the output device
 abbrev pub transfer_of : Sides → Transfer Device
 transfer_of s = transfer s.stack s.out
 
--- Each sector of device d was read in the first pass, or else it was read in the second pass or is lost. The counts are those of
--- the second pass, to which the sectors read in the first one count as read before.
-pub record Recovers (d : ℕ) (old : Sides) (counts : Counts) (new : Sides) : Type 0 where
+-- The sectors of the device were read in the first pass, and what it left in the passes after it. Each sector was read, or is lost in
+-- the last pass, by a read of that pass. The counts are those of the last pass, to which sectors read earlier count as read before.
+pub record Recovers (t : Retried) (old : Sides) (counts : Counts) (new : Sides) : Type 0 where
   pub between : Transfer Device
   pub map : List Run
+  pub left : AfterPass Device
   pub rescued : Rescued
-  pub skims : Skims false (unread_marks old.stack.config d) d (transfer_of old) map between
-  pub rescues : Rescues (marks map) d (sides between.stack between.out old.printed) rescued new
+  pub skims : Skims false (unread_marks old.stack.config t.d) t.d (transfer_of old) map between
+  pub retries : ReadsAgain t (after_pass between.stack between.out map) left
+  pub rescues : Rescues (marks left.map) t.d (sides left.stack left.out old.printed) rescued new
   pub counted : counts ≡ rescued.counts
 
--- the second pass ended early
-pub record IsSecondPassEnd (d : ℕ) (old new : Sides) (fault : RecoveryFault) : Type 0 where
+-- a pass after the first one ended early: one that reports nothing, or the last one
+abbrev pub IsLaterEnd : Retried → AfterPass Device → Sides → Sides → RecoveryFault → Type 0
+IsLaterEnd t first old new fault =
+    (EndsReadingAgain t first new.stack new.out fault × (new.printed ≡ old.printed))
+    ⊎ ((left : AfterPass Device) × ReadsAgain t first left × IsRescueEnd (marks left.map) t.d (sides left.stack left.out old.printed) new fault)
+
+pub record IsLaterPassEnd (t : Retried) (old new : Sides) (fault : RecoveryFault) : Type 0 where
   pub between : Transfer Device
   pub map : List Run
-  pub skims : Skims false (unread_marks old.stack.config d) d (transfer_of old) map between
-  pub ends : IsRescueEnd (marks map) d (sides between.stack between.out old.printed) new fault
+  pub skims : Skims false (unread_marks old.stack.config t.d) t.d (transfer_of old) map between
+  pub ends : IsLaterEnd t (after_pass between.stack between.out map) old new fault
 
 -- the first pass ended early, and nothing was printed
 abbrev pub IsFirstPassEnd : ℕ → Sides → Sides → RecoveryFault → Type 0
 IsFirstPassEnd d old new fault = EndsSkim false (unread_marks old.stack.config d) d (transfer_of old) (transfer_of new) fault × (new.printed ≡ old.printed)
 
-abbrev pub IsRecoveryEnd : ℕ → Sides → Sides → RecoveryFault → Type 0
-IsRecoveryEnd d old new fault = IsFirstPassEnd d old new fault ⊎ IsSecondPassEnd d old new fault
+abbrev pub IsRecoveryEnd : Retried → Sides → Sides → RecoveryFault → Type 0
+IsRecoveryEnd t old new fault = IsFirstPassEnd t.d old new fault ⊎ IsLaterPassEnd t old new fault
 
 -- ---- the calls on the output device
 
--- those of the first pass, and then those of the second
-pub record HandsTwice {O L : Type 0} (Did : O → Call → O → Type 0) (d : ℕ) (old new : Parties O L) : Type 0 where
+-- those of the first pass, of the passes that report nothing, and of the last one
+pub record HandsPasses {O L : Type 0} (Did : O → Call → O → Type 0) (t : Retried) (old new : Parties O L) : Type 0 where
   pub between : Transfer O
-  pub after : List Bool
-  pub first : HandsSkims Did (unread_marks old.stack.config d) d (transfer old.stack old.out) after between
-  pub second : HandsOver Did after d (parties between.stack between.out old.listing) new
+  pub map : List Run
+  pub left : AfterPass O
+  pub made : List Run
+  pub first : HandsSkims Did (unread_marks old.stack.config t.d) t.d (transfer old.stack old.out) (marks map) between
+  pub again : HandsAgain Did t (after_pass between.stack between.out map) left
+  pub last : HandsOver Did (marks left.map) t.d (parties left.stack left.out old.listing) (Some made) new
 
--- the second pass ended early
-pub record HandsSecondPart {O L : Type 0} (Did : O → Call → O → Type 0) (d : ℕ) (old new : Parties O L) (fault : RecoveryFault) : Type 0 where
+-- a pass after the first one ended early
+abbrev pub IsLaterPart : {O L : Type 0} → (O → Call → O → Type 0) → Retried → AfterPass O → Parties O L → Parties O L → RecoveryFault → Type 0
+IsLaterPart {O} Did t first old new fault =
+    HandsAgainPart Did t first new.stack new.out fault
+    ⊎ ((left : AfterPass O) × HandsAgain Did t first left × HandsOverPart Did (marks left.map) t.d (parties left.stack left.out old.listing) new fault)
+
+pub record HandsLaterPart {O L : Type 0} (Did : O → Call → O → Type 0) (t : Retried) (old new : Parties O L) (fault : RecoveryFault) : Type 0 where
   pub between : Transfer O
-  pub after : List Bool
-  pub first : HandsSkims Did (unread_marks old.stack.config d) d (transfer old.stack old.out) after between
-  pub second : HandsOverPart Did after d (parties between.stack between.out old.listing) new fault
+  pub map : List Run
+  pub first : HandsSkims Did (unread_marks old.stack.config t.d) t.d (transfer old.stack old.out) (marks map) between
+  pub later : IsLaterPart Did t (after_pass between.stack between.out map) old new fault
 
 -- one of the passes ended early
-abbrev pub HandsTwicePart : {O L : Type 0} → (O → Call → O → Type 0) → ℕ → Parties O L → Parties O L → RecoveryFault → Type 0
-HandsTwicePart Did d old new fault =
-    HandsSkimsPart Did (unread_marks old.stack.config d) d (transfer old.stack old.out) (transfer new.stack new.out) fault ⊎ HandsSecondPart Did d old new fault
+abbrev pub HandsPassesPart : {O L : Type 0} → (O → Call → O → Type 0) → Retried → Parties O L → Parties O L → RecoveryFault → Type 0
+HandsPassesPart Did t old new fault =
+    HandsSkimsPart Did (unread_marks old.stack.config t.d) t.d (transfer old.stack old.out) (transfer new.stack new.out) fault ⊎ HandsLaterPart Did t old new fault
 
 -- ---- in terms of the arguments of a call
 
-abbrev pub RecoversBy : {O L : Type 0} → (O → Device) → (L → Listed) → ℕ → Parties O L → Parties O L → Counts → Type 0
-RecoversBy state told d old new counts = Recovers d (seen_sides state told old) counts (seen_sides state told new)
+abbrev pub RecoversBy : {O L : Type 0} → (O → Device) → (L → Listed) → Retried → Parties O L → Parties O L → Counts → Type 0
+RecoversBy state told t old new counts = Recovers t (seen_sides state told old) counts (seen_sides state told new)
 
--- a recovery of a device, by its index and the arguments before and after the call
-abbrev pub Recovered : {O L : Type 0} → (O → Device) → (L → Listed) → DevId → StackRecord → O → L → StackRecord → O → L → Counts → Type 0
-Recovered state told d stack out listing stack' out' listing' counts = RecoversBy state told d.0 (parties stack out listing) (parties stack' out' listing') counts
-
-abbrev pub EndsRecovery : {O L : Type 0} → (O → Device) → (L → Listed) → ℕ → Parties O L → Parties O L → RecoveryFault → Type 0
-EndsRecovery state told d old new fault = IsRecoveryEnd d (seen_sides state told old) (seen_sides state told new) fault
+abbrev pub EndsRecovery : {O L : Type 0} → (O → Device) → (L → Listed) → Retried → Parties O L → Parties O L → RecoveryFault → Type 0
+EndsRecovery state told t old new fault = IsRecoveryEnd t (seen_sides state told old) (seen_sides state told new) fault

@@ -1,13 +1,13 @@
 //! Laws of recoveries: each function's contract states the law, and a call of the function provides it.
 ghost use Rattle.stack_recovery.specs.Laws.{LostBlocksAreLost, RunsAreLongest, StatesAreMeant, SurveysAreMeant};
-ghost use Rattle.stack_recovery.specs.PassLaws.{LimitsGrowBack, UnfailedPiecesAreLongest};
+ghost use Rattle.stack_recovery.specs.PassLaws.{LimitsGrowBack, RunsBeginWithSingleSectors, SkimmedPiecesAreLongest};
 
 /// If the backing devices are steady and never fail, a recovery loses a sector exactly if it means a fault, and by that fault.
 pub fn states_are_meant()
     ensures { StatesAreMeant }
 {}
 
-/// The same holds of a scan by a map, as `rescue` makes it, if the sectors that the map marks mean bytes.
+/// If the devices are steady and never fail and a map marks sectors that mean bytes, `rescue` by it loses those that mean a fault.
 pub fn rescues_are_meant()
     ensures { SurveysAreMeant }
 {}
@@ -23,9 +23,14 @@ pub fn runs_are_longest()
     ensures { RunsAreLongest }
 {}
 
-/// Before the first failed read each piece ends as `aligned_len` says of at most 128 sectors.
-pub fn unfailed_pieces_are_longest()
-    ensures { UnfailedPiecesAreLongest }
+/// In the first pass each piece ends as `aligned_len` says of at most 128 sectors.
+pub fn skimmed_pieces_are_longest()
+    ensures { SkimmedPiecesAreLongest }
+{}
+
+/// In the second pass a run begins with single sectors: as long as they are read, up to the end of a piece of 128 sectors.
+pub fn runs_begin_with_single_sectors()
+    ensures { RunsBeginWithSingleSectors }
 {}
 
 /// After a failed read, seven pieces that are read after its end bring the limit back to 128 sectors.

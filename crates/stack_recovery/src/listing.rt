@@ -65,3 +65,16 @@ impl Listing for KeptRuns {
         }
     }
 }
+
+/// Reports nothing.
+#[derive(Drop)]
+pub struct NoListing;
+
+impl Listing for NoListing {
+    ghost use Rattle.std.specs.Prelude.{None, true};
+    ghost use Rattle.stack_recovery.specs.Listings.{listed};
+
+    ghost told = { λ _. listed None true };
+
+    fn tell(&mut self, _run: LostRun) {}
+}

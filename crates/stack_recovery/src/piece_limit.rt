@@ -1,12 +1,12 @@
 //! The lengths of the next pieces of a recovery.
-ghost use Rattle.std.specs.Prelude.{◌≡◌, ◌≤◌, ◌<◌};
+ghost use Rattle.std.specs.Prelude.{◌≡◌, ◌≤◌, ◌<◌, ◌^◌};
 ghost use Rattle.stack_recovery.specs.Pieces.{IsPieceLimit};
-ghost use Rattle.stack_recovery.specs.PieceLimits.{first_limit, limit_after_bytes, limit_after_failure, limit_after_loss};
+ghost use Rattle.stack_recovery.specs.PieceLimits.{first_limit, limit_after_bytes, limit_after_failure, limit_after_loss, limit_of_run, limit_up_to};
 
 /// The most sectors of a piece, unless more are lost together.
 pub(crate) const MOST_PIECE: u32 = 128;
 
-/// The most sectors of the next piece, and the end of the last piece that couldn't be read whole. Pieces get shorter up to this
+/// The most sectors of the next piece, and the end of the last piece that couldn't be read whole. Pieces get no longer up to this
 /// sector, and longer after it.
 #[derive(Clone, Copy)]
 pub struct PieceLimit {
@@ -23,6 +23,28 @@ impl PieceLimit {
         PieceLimit {
             most: MOST_PIECE,
             doubt: 0,
+        }
+    }
+
+    /// Returns the limit of the second pass at the beginning of a run that the first pass left: one sector, up to the end of a
+    /// piece of 128 sectors, which the first pass couldn't read.
+    pub(crate) fn of_run(first: u64) -> PieceLimit
+        requires { first ≤ 2 ^ 54 }
+        ensures piece_limit { IsPieceLimit result.most }
+        ensures value { result ≡ limit_of_run first }
+    {
+        PieceLimit::up_to(first + u64::from(MOST_PIECE))
+    }
+
+    /// Returns the limit of the second pass from the beginning of a piece that couldn't be read: one sector, up to its end.
+    pub(crate) fn up_to(end: u64) -> PieceLimit
+        ensures piece_limit { IsPieceLimit result.most }
+        ensures least { result.most ≡ 1 }
+        ensures value { result ≡ limit_up_to end }
+    {
+        PieceLimit {
+            most: 1,
+            doubt: end,
         }
     }
 
@@ -44,12 +66,15 @@ impl PieceLimit {
         }
     }
 
-    /// Returns the limit after lost sectors: one sector.
-    pub fn after_loss() -> PieceLimit
+    /// Returns the limit after lost sectors: one sector, also up to the end of the last piece that couldn't be read whole.
+    pub fn after_loss(self) -> PieceLimit
         ensures piece_limit { IsPieceLimit result.most }
-        ensures value { result ≡ limit_after_loss }
+        ensures value { result ≡ limit_after_loss self }
     {
-        PieceLimit { most: 1, doubt: 0 }
+        PieceLimit {
+            most: 1,
+            doubt: self.doubt,
+        }
     }
 
     /// Returns the limit after a piece of `count` sectors, which ends before sector `end`, couldn't be read whole: half of it.

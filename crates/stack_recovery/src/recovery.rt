@@ -8,7 +8,8 @@ ghost use Rattle.rescue_map.specs.Aheads.{marks_ahead};
 ghost use Rattle.stack_recovery.specs.Handing.{HandsOver, HandsOverPart};
 ghost use Rattle.stack_recovery.specs.Losses.{ListsLost, NotesLost, StopsInPiece, TalliesLost};
 ghost use Rattle.stack_recovery.specs.Recoveries.{EndsEarlyBy, GoesOverBy, AreMarksNoted, parties};
-ghost use Rattle.stack_recovery.specs.TwoPasses.{EndsRecovery, HandsTwice, HandsTwicePart, Recovered};
+ghost use Rattle.stack_recovery.specs.Retries.{retried, retried_by};
+ghost use Rattle.stack_recovery.specs.TwoPasses.{EndsRecovery, HandsPasses, HandsPassesPart, RecoversBy};
 ghost use Rattle.runs.specs.Runs.{run};
 ghost use Rattle.runs.specs.Tallies.{EndsAt};
 
@@ -19,6 +20,7 @@ use crate::notes::note;
 use crate::piece::{Piece, piece_at};
 use crate::piece_limit::PieceLimit;
 use crate::rescued::rescue;
+use crate::retries::read_again;
 use crate::skimming::skim_ahead;
 use crate::tally::Tally;
 use block_device::BlockDev;
@@ -35,6 +37,13 @@ pub struct Counts {
     pub lost: u64,
 }
 
+/// A mapped device to be recovered, and how many times its lost sectors are read again.
+#[derive(Clone, Copy, Debug, PartialEq, Eq)]
+pub struct RecoveryPlan {
+    pub device: DevId,
+    pub retries: u64,
+}
+
 /// The size of the longest piece in bytes.
 pub(crate) const ROOM: usize = 65536;
 
@@ -43,7 +52,7 @@ pub(crate) const ROOM: usize = 65536;
 /// piece that is read is written by one call, in order, and nothing is called after a failed write.
 ///
 /// The device is read in two passes: the first one skips ahead after failed reads, as [`skim`](crate::skim) does, and the second
-/// one reads what the first one left.
+/// one reads what the first one left: each failed piece by single sectors.
 ///
 /// # Errors
 ///
@@ -59,15 +68,20 @@ pub fn recover<D: BlockDev, O: BlockDev, L: Listing>(
     requires device { d.0 < length stack.old.config.devices }
     requires room { size stack.old.config (mapped d.0) ≤ (O.state out.old).size }
     requires allowed { IsTrue (O.state out.old).may_write }
-    ensures ok { IfOk result (Recovered O.state L.told d stack.old out.old listing.old stack.new out.new listing.new) }
-    ensures err { IfErr result (EndsRecovery O.state L.told d.0 (parties stack.old out.old listing.old) (parties stack.new out.new listing.new)) }
-    ensures handed { OnOk result (HandsTwice (DeviceDoes O.state O.does) d.0 (parties stack.old out.old listing.old) (parties stack.new out.new listing.new)) }
-    ensures stopped { IfErr result (HandsTwicePart (DeviceDoes O.state O.does) d.0 (parties stack.old out.old listing.old) (parties stack.new out.new listing.new)) }
+    ensures ok { IfOk result (RecoversBy O.state L.told (retried d.0 0) (parties stack.old out.old listing.old) (parties stack.new out.new listing.new)) }
+    ensures err { IfErr result (EndsRecovery O.state L.told (retried d.0 0) (parties stack.old out.old listing.old) (parties stack.new out.new listing.new)) }
+    ensures handed { OnOk result (HandsPasses (DeviceDoes O.state O.does) (retried d.0 0) (parties stack.old out.old listing.old) (parties stack.new out.new listing.new)) }
+    ensures stopped { IfErr result (HandsPassesPart (DeviceDoes O.state O.does) (retried d.0 0) (parties stack.old out.old listing.old) (parties stack.new out.new listing.new)) }
 {
-    recover_with(alloc, stack, d, out, listing, &mut NoProgress)
+    let plan = RecoveryPlan {
+        device: d,
+        retries: 0,
+    };
+    recover_with(alloc, stack, plan, out, listing, &mut NoProgress)
 }
 
-/// Recovers a device as `recover` does, and reports progress.
+/// Recovers a device as `recover` does, and reports progress. After the second pass, sectors that are lost are read again, at most
+/// `retries` times, and only the last pass reports lost sectors.
 ///
 /// # Errors
 ///
@@ -76,22 +90,24 @@ pub fn recover<D: BlockDev, O: BlockDev, L: Listing>(
 pub fn recover_with<D: BlockDev, O: BlockDev, L: Listing, P: Progress>(
     alloc: Global,
     stack: &mut Stack<D>,
-    d: DevId,
+    plan: RecoveryPlan,
     out: &mut O,
     listing: &mut L,
     progress: &mut P,
 ) -> Result<Counts, RecoveryFault>
-    requires device { d.0 < length stack.old.config.devices }
-    requires room { size stack.old.config (mapped d.0) ≤ (O.state out.old).size }
+    requires device { plan.device.0 < length stack.old.config.devices }
+    requires room { size stack.old.config (mapped plan.device.0) ≤ (O.state out.old).size }
     requires allowed { IsTrue (O.state out.old).may_write }
-    ensures ok { IfOk result (Recovered O.state L.told d stack.old out.old listing.old stack.new out.new listing.new) }
-    ensures err { IfErr result (EndsRecovery O.state L.told d.0 (parties stack.old out.old listing.old) (parties stack.new out.new listing.new)) }
-    ensures handed { OnOk result (HandsTwice (DeviceDoes O.state O.does) d.0 (parties stack.old out.old listing.old) (parties stack.new out.new listing.new)) }
-    ensures stopped { IfErr result (HandsTwicePart (DeviceDoes O.state O.does) d.0 (parties stack.old out.old listing.old) (parties stack.new out.new listing.new)) }
+    ensures ok { IfOk result (RecoversBy O.state L.told (retried_by plan) (parties stack.old out.old listing.old) (parties stack.new out.new listing.new)) }
+    ensures err { IfErr result (EndsRecovery O.state L.told (retried_by plan) (parties stack.old out.old listing.old) (parties stack.new out.new listing.new)) }
+    ensures handed { OnOk result (HandsPasses (DeviceDoes O.state O.does) (retried_by plan) (parties stack.old out.old listing.old) (parties stack.new out.new listing.new)) }
+    ensures stopped { IfErr result (HandsPassesPart (DeviceDoes O.state O.does) (retried_by plan) (parties stack.old out.old listing.old) (parties stack.new out.new listing.new)) }
 {
+    let d = plan.device;
     let ahead = Ahead::unread(stack.config().sectors(d));
     let map = skim_ahead(alloc, stack, d, out, ahead, progress)?;
-    let rescued = rescue(alloc, stack, d, out, &map, listing, progress)?;
+    let left = read_again(alloc, stack, plan, out, map, progress)?;
+    let rescued = rescue(alloc, stack, d, out, &left, listing, progress)?;
     Ok(rescued.counts)
 }
 
@@ -115,7 +131,7 @@ pub(crate) fn go_over<D: BlockDev, O: BlockDev, L: Listing, P: Progress>(
     ensures ok { IfOk result (GoesOverBy O.state L.told (marks_ahead ahead.entry) d.0 (parties stack.old out.old listing.old) noted.new (parties stack.new out.new listing.new)) }
     ensures err { IfErr result (EndsEarlyBy O.state L.told (is_some noted.old) (marks_ahead ahead.entry) d.0 (parties stack.old out.old listing.old) (parties stack.new out.new listing.new)) }
     ensures noted { OnOk result (is_some noted.new ≡ is_some noted.old) }
-    ensures handed { OnOk result (HandsOver (DeviceDoes O.state O.does) (marks_ahead ahead.entry) d.0 (parties stack.old out.old listing.old) (parties stack.new out.new listing.new)) }
+    ensures handed { OnOk result (HandsOver (DeviceDoes O.state O.does) (marks_ahead ahead.entry) d.0 (parties stack.old out.old listing.old) noted.new (parties stack.new out.new listing.new)) }
     ensures stopped { IfErr result (HandsOverPart (DeviceDoes O.state O.does) (marks_ahead ahead.entry) d.0 (parties stack.old out.old listing.old) (parties stack.new out.new listing.new)) }
 {
     // The call provides the bound on a device's sectors.
@@ -155,12 +171,12 @@ fn go_over_by<D: BlockDev, O: BlockDev, L: Listing, P: Progress>(
     ensures ok { IfOk result (GoesOverBy O.state L.told (marks_ahead ahead.entry) d.0 (parties stack.old out.old listing.old) noted.new (parties stack.new out.new listing.new)) }
     ensures err { IfErr result (EndsEarlyBy O.state L.told (is_some noted.old) (marks_ahead ahead.entry) d.0 (parties stack.old out.old listing.old) (parties stack.new out.new listing.new)) }
     ensures noted { OnOk result (is_some noted.new ≡ is_some noted.old) }
-    ensures handed { OnOk result (HandsOver (DeviceDoes O.state O.does) (marks_ahead ahead.entry) d.0 (parties stack.old out.old listing.old) (parties stack.new out.new listing.new)) }
+    ensures handed { OnOk result (HandsOver (DeviceDoes O.state O.does) (marks_ahead ahead.entry) d.0 (parties stack.old out.old listing.old) noted.new (parties stack.new out.new listing.new)) }
     ensures stopped { IfErr result (HandsOverPart (DeviceDoes O.state O.does) (marks_ahead ahead.entry) d.0 (parties stack.old out.old listing.old) (parties stack.new out.new listing.new)) }
 {
     let sectors = stack.config().sectors(d);
     let mut tally = Tally::new();
-    let mut piece_limit = PieceLimit::new();
+    let mut piece_limit = PieceLimit::of_run(0);
     let mut at = 0;
     'pieces: while at < sectors {
         let run = ahead.next_run();
@@ -169,6 +185,7 @@ fn go_over_by<D: BlockDev, O: BlockDev, L: Listing, P: Progress>(
             tally.close(listing);
             ahead.pass(run.count);
             at += run.count;
+            piece_limit = PieceLimit::of_run(at);
         } else {
             tell(progress, at, sectors);
             let piece = piece_at(stack.config(), d, at, at + run.count, piece_limit.most);
@@ -187,9 +204,9 @@ fn go_over_by<D: BlockDev, O: BlockDev, L: Listing, P: Progress>(
                     if lose_piece(noted, &mut tally, listing, at, piece, fault)? {
                         ahead.pass(count);
                         at += count;
-                        piece_limit = PieceLimit::after_loss();
+                        piece_limit = piece_limit.after_loss();
                     } else {
-                        piece_limit = PieceLimit::after_failure(piece.count, at + count);
+                        piece_limit = PieceLimit::up_to(at + count);
                     }
                 }
             }
@@ -199,7 +216,7 @@ fn go_over_by<D: BlockDev, O: BlockDev, L: Listing, P: Progress>(
     Ok(tally.counts(sectors))
 }
 
-// Handles a piece whose read failed: returns whether its sectors are lost. If not, they are read again in smaller pieces.
+// Handles a piece whose read failed: returns whether its sectors are lost. If not, they are read again one by one.
 fn lose_piece<L: Listing>(
     noted: &mut Option<Map>,
     tally: &mut Tally,

@@ -1,9 +1,9 @@
 //! Recovers a mapped device with a map of the sectors that were read before.
-ghost use Rattle.std.specs.Prelude.{◌≡◌, ◌≤◌, ◌<◌, length, IsTrue, IfOk, IfErr, OnOk};
+ghost use Rattle.std.specs.Prelude.{◌≡◌, ◌≤◌, ◌<◌, length, IsTrue, IfOk, IfErr};
 ghost use Rattle.block_device.specs.Call.{DeviceDoes};
 ghost use Rattle.stack_rules.specs.Names.{mapped, size};
 ghost use Rattle.rescue_map.specs.Maps.{marks};
-ghost use Rattle.stack_recovery.specs.Handing.{HandsOver, HandsOverPart};
+ghost use Rattle.stack_recovery.specs.Handing.{HandsOverPart, RescueHands};
 ghost use Rattle.stack_recovery.specs.Recoveries.{EndsRescue, RescuesBy, parties};
 
 use crate::fault::RecoveryFault;
@@ -44,7 +44,7 @@ pub fn rescue<D: BlockDev, O: BlockDev, L: Listing, P: Progress>(
     requires allowed { IsTrue (O.state out.old).may_write }
     ensures ok { IfOk result (RescuesBy O.state L.told (marks map.now) d.0 (parties stack.old out.old listing.old) (parties stack.new out.new listing.new)) }
     ensures err { IfErr result (EndsRescue O.state L.told (marks map.now) d.0 (parties stack.old out.old listing.old) (parties stack.new out.new listing.new)) }
-    ensures handed { OnOk result (HandsOver (DeviceDoes O.state O.does) (marks map.now) d.0 (parties stack.old out.old listing.old) (parties stack.new out.new listing.new)) }
+    ensures handed { IfOk result (RescueHands (DeviceDoes O.state O.does) (marks map.now) d.0 (parties stack.old out.old listing.old) (parties stack.new out.new listing.new)) }
     ensures stopped { IfErr result (HandsOverPart (DeviceDoes O.state O.does) (marks map.now) d.0 (parties stack.old out.old listing.old) (parties stack.new out.new listing.new)) }
 {
     let mut noted = Some(Map::new(alloc));

@@ -3,7 +3,7 @@ use Rattle.std.proofs.Common.{◌≡◌, ◌+◌, ◌-◌, ◌*◌, ◌/◌, ◌
 use Rattle.tree_shape.specs.Shape.{ShapeRecord, per_block, levels, area_blocks, area_end, end_of}
 use Rattle.tree_shape.proofs.lemmas.ShapeLemmas.{over, levels-one, levels-up, levels-le, area_blocks-one, thrice}
 
--- one level fewer stands over the blocks of level 0
+-- one level fewer is over the blocks of level 0
 pub levels-step : (s : ShapeRecord) (n : ℕ) → 2 ≤ per_block s → 1 < n → levels (over s n) ≡ suc (levels (over s ((n - 1) / per_block s + 1)))
 levels-step s zero two more = absurd (omega (arith, more))
 levels-step s (suc zero) two more = absurd (omega (arith, more))

@@ -68,7 +68,7 @@ three = record {
   devices = record { name = codes "mid"; writable = true; table = line 0 16 (Linear (base (codes "D") 0)) ∷ [] } ∷ record { name = codes "top"; writable = true; table = line 0 16 (Linear (base (codes "/dev/mapper/mid") 0)) ∷ [] } ∷ [];
 }
 
--- the devices that stand on a replaced one are checked with it
+-- the devices that are stacked on a replaced one are checked with it
 replaced_under : first_refusal three (entry 1 (codes "mid") true (line 0 8 (Linear (base (codes "D") 0)) ∷ []) ∷ []) ≡ refused BeyondDevice 2 1
 unfolding first_refusal is_on_cycle leads_below descend
 replaced_under = refl

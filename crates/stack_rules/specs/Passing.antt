@@ -13,7 +13,7 @@ use Rattle.stack_rules.specs.Records.{Configuration}
 use Rattle.stack_rules.specs.Names.{named, names}
 use Rattle.stack_rules.specs.Rules.{first, refuse, most_lines}
 
--- the most elements that one allocation of a check or a load asks for
+-- the most elements of one allocation of a check or a load
 abbrev pub largest_load_allocation : ℕ
 largest_load_allocation = most_lines + most_name
 

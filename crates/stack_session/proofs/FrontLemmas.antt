@@ -1,4 +1,4 @@
--- The first lines of an input, where a session stops within them or behind them.
+-- The first lines of an input, where a session stops within them or after them.
 use Rattle.std.proofs.Common.{◌≡◌, ◌≤◌, ℕ, inr, List, [], ◌∷◌, ◌++◌, refl, ap, sym, ◌∙◌, append_assoc, append-nil, subst, Option}
 use Rattle.std.specs.Prelude.{flat_map, Result, Ok, Err, OnErr, IsErrOf}
 use Rattle.std.proofs.KnownBytes.{Appends-nil, Appends-trans}
@@ -28,7 +28,7 @@ front-one replies first last line reply one r = record {
   joined = sym (append-nil reply);
 }
 
--- behind the whole lines of an input, those of its rest and of what comes then
+-- after the whole lines of an input, those of its rest and of what comes then
 pub front-then : {S : Type 0} {replies : Replying S} {first now last : S} {input rest output tail : List ℕ} (more : List ℕ)
     → ServesWhole replies first input now rest output → ServesFront replies now (rest ++ more) last tail → ServesFront replies first (input ++ more) last (output ++ tail)
 front-then {replies = replies} {first = first} {now = now} {last = last} {input = input} {rest = rest} {output = output} {tail = tail} more w f =
@@ -51,7 +51,7 @@ front-whole {replies = replies} {first = first} {now = now} {input = input} {res
     subst (λ t. ServesFront replies first t now output) (append-nil input)
     (subst (λ t. ServesFront replies first (input ++ []) now t) (append-nil output) (front-then [] w (front-none replies now (rest ++ []))))
 
--- what stands behind a newline changes nothing
+-- what follows a newline changes nothing
 pub front-longer : {S : Type 0} {replies : Replying S} {first last : S} {input output : List ℕ} (more : List ℕ) → ServesFront replies first input last output → ServesFront replies first (input ++ 10 ∷ more) last output
 front-longer {input = input} more f = record {
   lines = f.lines;
@@ -66,7 +66,7 @@ front-longer {input = input} more f = record {
 
 -- ---- what is written of them
 
--- the replies to the whole lines, and then to those of the front behind them
+-- the replies to the whole lines, and then to those of the front after them
 pub grows-then : {S : Type 0} {replies : Replying S} {first now last : S} {input rest : List ℕ} {old mid new : Option (List ℕ)} (more : List ℕ)
     → Grows old mid (ServesWhole replies first input now rest) → Grows mid new (ServesFront replies now (rest ++ more) last) → Grows old new (ServesFront replies first (input ++ more) last)
 grows-then {old = old} {mid = mid} {new = new} more f g = record {

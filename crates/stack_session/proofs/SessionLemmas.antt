@@ -7,7 +7,7 @@ use Rattle.stack_session.specs.Session.{Replying, ended, IsOneLine, ServesLines,
 use Rattle.std.proofs.lemmas.Grind.{flat_map-append}
 use Rattle.std.proofs.lemmas.List.Elements.{All-append, All-nil, All-push}
 
--- the same error in a result of another type
+-- an error is the same one in a result of another type
 pub same_error : {T U E : Type 0} (fault error : E) → IsErrOf {T = T} (Err fault) error → IsErrOf {T = U} (Err fault) error
 same_error fault error is = let same : fault ≡ error = cc in ap Err same
 

@@ -16,6 +16,10 @@ use std::io::Write;
 const SECTOR: usize = 512;
 
 /// Writes `loaded K`.
+///
+/// # Errors
+///
+/// `WriteFault` if the writer failed.
 pub fn say_loaded<W: Write>(writer: &mut Counted<W>, count: usize) -> Result<(), WriteFault>
     ensures { Writes W.contents writer.old writer.new (loaded_text count) result }
 {
@@ -23,6 +27,10 @@ pub fn say_loaded<W: Write>(writer: &mut Counted<W>, count: usize) -> Result<(),
 }
 
 /// Writes `busy`.
+///
+/// # Errors
+///
+/// `WriteFault` if the writer failed.
 pub fn say_busy<W: Write>(writer: &mut Counted<W>) -> Result<(), WriteFault>
     ensures { Writes W.contents writer.old writer.new busy_text result }
 {
@@ -30,6 +38,10 @@ pub fn say_busy<W: Write>(writer: &mut Counted<W>) -> Result<(), WriteFault>
 }
 
 /// Writes `text fault E L K NAME`.
+///
+/// # Errors
+///
+/// `WriteFault` if the writer failed.
 pub fn say_text_fault<W: Write>(writer: &mut Counted<W>, fault: TextFault) -> Result<(), WriteFault>
     ensures { Writes W.contents writer.old writer.new (fault_text fault) result }
 {
@@ -39,6 +51,10 @@ pub fn say_text_fault<W: Write>(writer: &mut Counted<W>, fault: TextFault) -> Re
 }
 
 /// Writes `refused K NAME device D line L`.
+///
+/// # Errors
+///
+/// `WriteFault` if the writer failed.
 pub fn say_refusal<W: Write>(writer: &mut Counted<W>, refusal: Refusal) -> Result<(), WriteFault>
     ensures { Writes W.contents writer.old writer.new (load_refusal_text refusal) result }
 {
@@ -48,6 +64,10 @@ pub fn say_refusal<W: Write>(writer: &mut Counted<W>, refusal: Refusal) -> Resul
 }
 
 /// Writes `ticket T`.
+///
+/// # Errors
+///
+/// `WriteFault` if the writer failed.
 pub fn say_ticket<W: Write>(writer: &mut Counted<W>, ticket: Ticket) -> Result<(), WriteFault>
     ensures { Writes W.contents writer.old writer.new (ticket_text ticket.0) result }
 {
@@ -56,6 +76,10 @@ pub fn say_ticket<W: Write>(writer: &mut Counted<W>, ticket: Ticket) -> Result<(
 }
 
 /// Writes `more`.
+///
+/// # Errors
+///
+/// `WriteFault` if the writer failed.
 pub fn say_more<W: Write>(writer: &mut Counted<W>) -> Result<(), WriteFault>
     ensures { Writes W.contents writer.old writer.new more_reply result }
 {
@@ -63,6 +87,10 @@ pub fn say_more<W: Write>(writer: &mut Counted<W>) -> Result<(), WriteFault>
 }
 
 /// Writes `refused 1 NoSuchTicket`.
+///
+/// # Errors
+///
+/// `WriteFault` if the writer failed.
 pub fn say_no_ticket<W: Write>(writer: &mut Counted<W>) -> Result<(), WriteFault>
     ensures { Writes W.contents writer.old writer.new no_ticket_text result }
 {
@@ -70,6 +98,10 @@ pub fn say_no_ticket<W: Write>(writer: &mut Counted<W>) -> Result<(), WriteFault
 }
 
 /// Writes `refused K NAME`, or `no memory`.
+///
+/// # Errors
+///
+/// `WriteFault` if the writer failed.
 pub fn say_submit_fault<W: Write>(
     writer: &mut Counted<W>,
     fault: SubmitFault,
@@ -83,6 +115,10 @@ pub fn say_submit_fault<W: Write>(
 }
 
 /// Writes `removed`.
+///
+/// # Errors
+///
+/// `WriteFault` if the writer failed.
 pub fn say_removed<W: Write>(writer: &mut Counted<W>) -> Result<(), WriteFault>
     ensures { Writes W.contents writer.old writer.new removed_text result }
 {
@@ -90,6 +126,10 @@ pub fn say_removed<W: Write>(writer: &mut Counted<W>) -> Result<(), WriteFault>
 }
 
 /// Writes `refused K NAME`.
+///
+/// # Errors
+///
+/// `WriteFault` if the writer failed.
 pub fn say_removal_fault<W: Write>(
     writer: &mut Counted<W>,
     fault: RemoveFault,
@@ -100,6 +140,10 @@ pub fn say_removal_fault<W: Write>(
 }
 
 /// Writes `written`.
+///
+/// # Errors
+///
+/// `WriteFault` if the writer failed.
 pub fn say_written<W: Write>(writer: &mut Counted<W>) -> Result<(), WriteFault>
     ensures { Writes W.contents writer.old writer.new written_text result }
 {
@@ -157,6 +201,10 @@ fn say_sector<W: Write>(
 }
 
 /// Writes the sectors with these bytes; the first of them has the number `first`.
+///
+/// # Errors
+///
+/// `WriteFault` if the writer failed.
 pub fn say_sectors<W: Write>(
     writer: &mut Counted<W>,
     first: u64,
@@ -177,6 +225,10 @@ pub fn say_sectors<W: Write>(
 }
 
 /// Writes the result of a request that began at sector `first`: its sectors, or `written`.
+///
+/// # Errors
+///
+/// `WriteFault` if the writer failed.
 pub fn say_reply<W: Write>(
     writer: &mut Counted<W>,
     first: u64,
@@ -191,6 +243,10 @@ pub fn say_reply<W: Write>(
 }
 
 /// Writes `sectors S depth D read R write W`.
+///
+/// # Errors
+///
+/// `WriteFault` if the writer failed.
 pub fn say_cost<W: Write>(
     writer: &mut Counted<W>,
     config: &Config,
@@ -207,6 +263,10 @@ pub fn say_cost<W: Write>(
 }
 
 /// Writes `moved R W`.
+///
+/// # Errors
+///
+/// `WriteFault` if the writer failed.
 pub fn say_moved<W: Write>(
     writer: &mut Counted<W>,
     reads: u64,

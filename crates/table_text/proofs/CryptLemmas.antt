@@ -25,7 +25,7 @@ crypt-few (a ∷ b ∷ c ∷ []) few = refl
 crypt-few (a ∷ b ∷ c ∷ d ∷ []) few = refl
 crypt-few (a ∷ b ∷ c ∷ d ∷ e ∷ more) few = absurd (omega arith)
 
--- a key's length is told by its digits
+-- a key's length follows from its digits
 key_at-grammar : (word : Word) (key : List ℕ) → key_at word ≡ Ok key → ((length key ≡ 32) ⊎ (length key ≡ 64)) × IsBytes key
 unfolding key_at
 key_at-grammar word key e = elim (cases_Bool (eqb (length word) 128)) [

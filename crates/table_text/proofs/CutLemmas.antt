@@ -89,7 +89,7 @@ words-first text start end' s e some =
 pub words-empty : (text : List ℕ) (start end' : ℕ) → start ≡ prefix_len is_white text → end' ≡ position_or_len is_white (drop start text) → end' ≡ 0 → words text ≡ []
 words-empty text start end' s e none = words-none text (ap (λ n. position_or_len is_white (drop n text)) (sym s) ∙ sym e ∙ none)
 
--- the same of pieces
+-- the pieces of a text are the one before the first separator, and those of the rest
 pub pieces-more : (c : ℕ) (text rest : Bor (List ℕ)) (n : ℕ) → n ≡ position_or_len (λ b. eqb b c) text.now → n < length text.now → rest.now ≡ drop (n + 1) text.now → pieces_left c (Some text) ≡ take n text.now ∷ pieces_left c (Some rest)
 unfolding pieces_left
 pieces-more c text rest n e lt r =

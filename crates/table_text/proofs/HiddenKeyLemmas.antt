@@ -71,7 +71,7 @@ pub one_line-printed : (show : Bool) (line : Line) → IsLineOfGrammar line → 
 one_line-printed true line h = line-shown line h
 one_line-printed false line h = ap table_of (line_text-hidden line) ∙ line-shown (line_without_key line) (line-without_key line h)
 
--- the same of a table
+-- what was printed gives the table back, with its keys or without them
 pub table-printed : (show : Bool) (lines : List Line) → IsTableOfGrammar lines → table_of (printed_table show lines) ≡ Ok (printed_lines show lines)
 table-printed true lines h = table-shown lines h
 table-printed false lines h =

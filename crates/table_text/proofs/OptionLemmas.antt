@@ -30,12 +30,12 @@ bytes_eq-flip a b e = elim (cases_Bool (bytes_eq b a)) [
   | inr other ↦ other
 ]
 
--- a name stands in a list that has it in the middle
+-- a name is in a list that has it in the middle
 named-middle : (word same : Word) (before rest : List Word) → option_name word ≡ option_name same → has_name_of same (before ++ word ∷ rest) ≡ true
 named-middle word same [] rest is = ap (λ b. b || has_name_of same rest) ((bytes_eq-Decides (option_name word) (option_name same)).1 is)
 named-middle word same (b ∷ before) rest is = ap (λ t. bytes_eq (option_name b) (option_name same) || t) (named-middle word same before rest is) ∙ or-true (bytes_eq (option_name b) (option_name same))
 
--- the first word that is unknown, or whose name stands a second time
+-- the first word that is unknown, or whose name is there a second time
 repeated : (known : List Word) (word : Word) (before rest : List Word) → has_name_of word before ≡ true → are_options known (before ++ word ∷ rest) ≡ false
 repeated known word [] rest e = cc
 repeated known word (b ∷ before) rest e = elim (cases_Bool (bytes_eq (option_name b) (option_name word))) [

@@ -39,7 +39,7 @@ crypt-printed crypt h =
     let options = options-printed crypt_options crypt.options h.options in
     rw (key, first, base, options) refl
 
--- each word may stand in a text
+-- each word may be in a text
 printed-crypt : (crypt : Crypt) → IsCryptOfGrammar crypt → ArePrinted (crypt_words true crypt)
 unfolding crypt_words
 printed-crypt crypt h = (

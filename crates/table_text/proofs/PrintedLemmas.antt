@@ -20,7 +20,7 @@ use Rattle.dm_table.specs.Arguments.{number_at, base_at}
 use Rattle.dm_table.specs.Grammar.{IsBaseOfGrammar}
 use Rattle.dm_table.proofs.lemmas.ReadLineLemmas.{number-some}
 
--- a word that may stand in a text
+-- a word that may be in a text
 abbrev pub IsPrinted : Word → Type 0
 IsPrinted word = (0 < length word) × (list_all is_graphic word ≡ true)
 

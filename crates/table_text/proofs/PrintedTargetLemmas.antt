@@ -14,7 +14,7 @@ abbrev pub AreRead : Target → List Word → Type 0
 AreRead target [] = ⊥
 AreRead target (word ∷ arguments) = target_at word arguments ≡ Ok target
 
--- they may stand in a text, and read as the target
+-- they may be in a text, and read as the target
 pub record ReadBack (target : Target) (words : List Word) : Type 0 where
   pub printed : ArePrinted words
   pub read : AreRead target words

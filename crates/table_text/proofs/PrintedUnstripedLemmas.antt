@@ -33,7 +33,7 @@ unstriped-printed line h =
     let stripe = stripe_at-printed line.stripes line.stripe h.stripe (omega (arith, h.stripe, h.stripes)) in
     rw (stripes, chunk, stripe, base_at-printed line.base h.base) refl
 
--- each word may stand in a text
+-- each word may be in a text
 printed-unstriped : (line : Unstriped) → IsUnstripedOfGrammar line → ArePrinted (unstriped_words line)
 unfolding unstriped_words
 printed-unstriped line h =

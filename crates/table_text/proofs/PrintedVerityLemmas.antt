@@ -112,7 +112,7 @@ printed-option : (verity : Verity) → ArePrinted (options_words (verity_options
 printed-option verity =
     printed-options known_verity_options (verity_options verity) known-printed (options-read verity.corruption verity.ignore_zero_blocks verity.in_tasklet).grammar
 
--- each word may stand in a text
+-- each word may be in a text
 printed-verity : (verity : Verity) → IsVerityOfGrammar verity → ArePrinted (verity_words verity)
 unfolding verity_words
 printed-verity verity h =

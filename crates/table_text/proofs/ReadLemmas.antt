@@ -39,7 +39,7 @@ exit_part (Ok x) fault part answer h p f = absurd h
 exit_part (Err e) (line_fault.Kind kind) part answer h p f = rw h (f kind p)
 exit_part (Err e) line_fault.NoMemory part answer h p f = rw h p
 
--- the same with a text's fault
+-- a part's fault, of a text's fault
 pub exit_text : {A B : Type 0} (r : Result A ParseFault) (fault : ParseFault) (part : Result B TextFault) (answer : Result A TextFault) → IsErrAnd r (λ e. e ≡ fault) → IsAnswer {A = B} (Err fault) part → ((f : TextFault) → part ≡ Err f → answer ≡ Err f) → IsAnswer r answer
 exit_text (Ok x) fault part answer h p f = absurd h
 exit_text (Err e) (parse_fault.Text first) part answer h p f = rw h (f first p)

@@ -25,7 +25,7 @@ unstriped-count (a ∷ b ∷ c ∷ d ∷ []) other = refl
 unstriped-count (a ∷ b ∷ c ∷ d ∷ e ∷ []) other = absurd (other refl)
 unstriped-count (a ∷ b ∷ c ∷ d ∷ e ∷ f ∷ more) other = refl
 
--- five words, and none behind them
+-- five words, and none after them
 pub five-words : {a b c d e : Word} (words rest : List Word) → words ≡ a ∷ b ∷ c ∷ d ∷ e ∷ rest → length words ≡ 5 → words ≡ a ∷ b ∷ c ∷ d ∷ e ∷ []
 five-words words [] is five = is
 five-words words (f ∷ more) is five = let long = ap length is in absurd (omega (arith, long, five))

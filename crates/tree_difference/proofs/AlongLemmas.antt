@@ -71,7 +71,7 @@ none-above s valid i m inside high =
 abbrev pub IsTop : ℕ → ℕ → ℕ → ℕ → Type 0
 IsTop p most i k = (k ≡ most) ⊎ (i % p ^ suc k ≢ 0)
 
--- behind a subtree that begins at a: what is a top there has the same blocks above it
+-- after a subtree that begins at a, what is a top there has the same blocks above it
 pub next-same : (p most a b k : ℕ) → 0 < p → a % p ^ b ≡ 0 → b ≤ most → k ≤ most → ((m : ℕ) → most < m → (a + p ^ b) / p ^ m ≡ a / p ^ m) → IsTop p most (a + p ^ b) k
     → (b ≤ k) × ((m : ℕ) → k < m → (a + p ^ b) / p ^ m ≡ a / p ^ m)
 next-same p most a b k some begins few high above (inl top) = (omega (arith, top, few), λ m low. above m (omega (arith, top, low)))

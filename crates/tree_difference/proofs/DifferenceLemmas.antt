@@ -8,7 +8,7 @@ use Rattle.tree_shape.specs.Shape.{ShapeRecord, IsShape, levels}
 use Rattle.verity_format.specs.declared.verifying.VerifyFault.TheVariants.{Super, TooSmall, Device as DeviceFailed, NoMemory as NoRoom}
 use Rattle.verity_format.specs.Blocks.{IsFullRead, IsOnlyRead}
 use Rattle.verity_format.specs.Image.{tree_sectors}
-use Rattle.verity_format.specs.Superblock.{SuperRecord, shape_of}
+use Rattle.verity_format.specs.declared.tree.VerityTree.{VerityTree}
 use Rattle.tree_path.specs.Path.{PathRecord, LeadsTo, AreStored}
 use Rattle.verity_format.proofs.lemmas.DeviceLemmas.{failed-then, full_read-then, steady-then}
 use Rattle.tree_path.proofs.lemmas.PathLemmas.{leads-down, stored-down}
@@ -25,7 +25,7 @@ use Rattle.tree_difference.specs.Causes.{IsWalkCause}
 use Rattle.tree_difference.specs.Comparisons.{AreStatesSeen, Compares, ReadsDiffering, difference_world}
 use Rattle.tree_difference.specs.Differences.{AreShapes, CanCompare, CanCompareTrees, HaveTrees, IsAligned, IsComparisonCause, IsDifferenceCause, IsWalkOf, sectors_before, trees_in, trees_of}
 use Rattle.tree_difference.specs.RootBlocks.{root_sectors}
-use Rattle.tree_difference.specs.Superblocks.{unlike}
+use Rattle.tree_difference.specs.Likeness.{unlike}
 use Rattle.tree_difference.specs.Trees.{Trees, AreComparable, IsStoredAs, common_levels}
 use Rattle.tree_difference.specs.Walks.{AreSameTrees, IsOn, walk_sides}
 use Rattle.tree_difference.proofs.WalkLemmas.{bad-same, on-read}
@@ -44,20 +44,20 @@ all-same true true false e = let clash : Some Salt ≡ None = e in cc
 pub alike-of : (pair : TreePair) → unlike pair.first pair.second ≡ None → AreComparable (trees_of pair)
 unfolding field_by
 alike-of pair none =
-    let a : SuperRecord = pair.first in
-    let b : SuperRecord = pair.second in
-    let parts = all-same (a.data_block == b.data_block) (a.hash_block == b.hash_block) (bytes_eq a.salt b.salt) none in
+    let a : VerityTree = pair.first in
+    let b : VerityTree = pair.second in
+    let parts = all-same (a.shape.data_block == b.shape.data_block) (a.shape.hash_block == b.shape.hash_block) (bytes_eq a.salt b.salt) none in
     record {
-      data_block = sym (eqb-true a.data_block b.data_block parts.0);
-      hash_block = sym (eqb-true a.hash_block b.hash_block parts.1);
+      data_block = sym (eqb-true a.shape.data_block b.shape.data_block parts.0);
+      hash_block = sym (eqb-true a.shape.hash_block b.shape.hash_block parts.1);
       salt = sym ((bytes_eq-Decides a.salt b.salt).0 parts.2);
     }
 
 -- both trees lie on the devices
 pub have-trees : (pair : TreePair) (w : Walk) (d d' e e' : Device) → IsWalkOf (trees_of pair) w → CanCompareTrees pair d e → AreShapes (trees_of pair) → d'.size ≡ d.size → e'.size ≡ e.size → HaveTrees w d' e'
 have-trees pair w d d' e e' of can valid ds es =
-    let first_shape : w.first.shape ≡ shape_of pair.first = ap (λ (x : Trees). x.first) of.trees in
-    let second_shape : w.second.shape ≡ shape_of pair.second = ap (λ (x : Trees). x.second) of.trees in
+    let first_shape : w.first.shape ≡ pair.first.shape = ap (λ (x : Trees). x.first) of.trees in
+    let second_shape : w.second.shape ≡ pair.second.shape = ap (λ (x : Trees). x.second) of.trees in
     record {
       of = subst (λ (x : Trees). IsWalkOf x w) (sym of.trees) of;
       alike = subst AreComparable (sym of.trees) (alike-of pair can.alike);
@@ -146,10 +146,10 @@ reads-was t d e d' e' d'' e'' old new n m p q r = record {
 
 module _ (pair : TreePair) (w : Walk) (d d' e e' d'' e'' : Device) (old new : Option (List ℕ)) (failed : Bool) (of : trees_in w ≡ trees_of pair) (p : IsOnlyRead d d') (q : IsOnlyRead e e') (df : d'.failures ≡ d.failures) (ef : e'.failures ≡ e.failures) where
   first-path : PathRecord
-  first-path = record { shape = shape_of pair.first; salt = pair.first.salt; root = pair.roots.first; blocks = [] }
+  first-path = record { shape = pair.first.shape; salt = pair.first.salt; root = pair.roots.first; blocks = [] }
 
   second-path : PathRecord
-  second-path = record { shape = shape_of pair.second; salt = pair.second.salt; root = pair.roots.second; blocks = [] }
+  second-path = record { shape = pair.second.shape; salt = pair.second.salt; root = pair.roots.second; blocks = [] }
 
   pub walk-cause : (fault : DifferenceFault) → IsWalkCause w d' e' d'' e'' fault → IsDifferenceCause (difference_world d e d'' e'' old new) pair failed fault
   unfolding first-path second-path

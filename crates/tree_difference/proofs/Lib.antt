@@ -6,6 +6,5 @@ pub mod RootLemmas
 pub mod LawLemmas
 pub mod ReportLemmas
 pub mod RestLemmas
-pub mod SuperblockLemmas
 pub mod UnderwayLemmas
 pub mod WalkLemmas

@@ -6,7 +6,7 @@ use Rattle.tree_shape.specs.Digests.{digest}
 use Rattle.tree_shape.specs.Shape.{ShapeRecord, IsShape, ancestor, levels}
 use Rattle.verity_format.specs.declared.verifying.VerifyFault.TheVariants.{Super, TooSmall, Device as DeviceFailed, NoMemory as NoRoom}
 use Rattle.verity_format.specs.Blocks.{IsFullRead}
-use Rattle.verity_format.specs.Superblock.{SuperRecord, shape_of}
+use Rattle.verity_format.specs.declared.tree.VerityTree.{VerityTree}
 use Rattle.tree_path.specs.Path.{PathRecord, IsPathOf, LeadsTo, AreStored, block_of, stored_block}
 use Rattle.tree_path.specs.Steps.{IsDown, IsStopped, steps}
 use Rattle.tree_path.proofs.lemmas.PathLemmas.{digest_on-top}
@@ -49,18 +49,18 @@ module _ (s : ShapeRecord) (salt root : List ℕ) (p q : PathRecord) (d d' : Dev
       subst₃ (λ (x : ShapeRecord) (y z : List ℕ). IsBadBlock x y z d level number) is.shape_is is.salt_is is.root_is
       (bad-block p q d d' 0 (root_level s) level number here leads (λ steady. stored) some (omega (arith, high)) number-is)
 
-pub root-cause : (s : SuperRecord) (root : List ℕ) (p q : PathRecord) (d d' : Device) (which : Which) (fault : DifferenceFault) → IsPathOf (shape_of s) s.salt root p → IsShape (shape_of s)
-    → IsWayCause (steps p q d d' 0 (levels (shape_of s))) which (root_level (shape_of s)) fault → IsRootCause s root d d' which fault
-root-cause s root p q d d' which (Hash tree level number) is valid h = (h.0, root-bad (shape_of s) s.salt root p q d d' is level number valid h.1 h.2)
-root-cause s root p q d d' which (Image tree DeviceFailed) is valid h = h
-root-cause s root p q d d' which (Image tree (Super f)) is valid h = absurd h
-root-cause s root p q d d' which (Image tree TooSmall) is valid h = absurd h
-root-cause s root p q d d' which (Image tree NoRoom) is valid h = absurd h
-root-cause s root p q d d' which (Unaligned tree) is valid h = absurd h
-root-cause s root p q d d' which (Unpinned tree mismatch) is valid h = absurd h
-root-cause s root p q d d' which (Unlike f) is valid h = absurd h
-root-cause s root p q d d' which NoMemory is valid h = absurd h
-root-cause s root p q d d' which Write is valid h = absurd h
+pub root-cause : (t : VerityTree) (root : List ℕ) (p q : PathRecord) (d d' : Device) (which : Which) (fault : DifferenceFault) → IsPathOf t.shape t.salt root p → IsShape t.shape
+    → IsWayCause (steps p q d d' 0 (levels t.shape)) which (root_level t.shape) fault → IsRootCause t root d d' which fault
+root-cause t root p q d d' which (Hash tree level number) is valid h = (h.0, root-bad t.shape t.salt root p q d d' is level number valid h.1 h.2)
+root-cause t root p q d d' which (Image tree DeviceFailed) is valid h = h
+root-cause t root p q d d' which (Image tree (Super f)) is valid h = absurd h
+root-cause t root p q d d' which (Image tree TooSmall) is valid h = absurd h
+root-cause t root p q d d' which (Image tree NoRoom) is valid h = absurd h
+root-cause t root p q d d' which (Unaligned tree) is valid h = absurd h
+root-cause t root p q d d' which (Unpinned tree mismatch) is valid h = absurd h
+root-cause t root p q d d' which (Unlike f) is valid h = absurd h
+root-cause t root p q d d' which NoMemory is valid h = absurd h
+root-cause t root p q d d' which Write is valid h = absurd h
 
 module _ (pair : TreePair) (d d' e : Device) (old new : Option (List ℕ)) (failed : Bool) where
   pub first-cause : (fault : DifferenceFault) → IsRootCause pair.first pair.roots.first d d' First fault → IsDifferenceCause (difference_world d e d' e old new) pair failed fault

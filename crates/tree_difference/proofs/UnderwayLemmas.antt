@@ -146,7 +146,7 @@ module _ (w0 w w' : Walk) (d e : Device) (have : HaveTrees w0 d e) (i i' : Diffe
     second_leads = on.second_leads;
   }
 
-  -- the digests that stand on the devices
+  -- the digests that are on the devices
   first-stored : (j m : ℕ) → IsTrue i.first.steady → m ≤ w0.levels → level ≤ m → IsOn w' i.first i.second j level → digest_on w'.first j m ≡ first_digest (trees_in w0) (hash_images i) j m
   first-stored j m steady few le on =
       digest_on-stored w'.first i.first.image j m (omega (arith, few, have.of.levels, ap levels n.trees.first.shape_is)) (λ low. (on.first_stored steady).up m le low)

@@ -48,7 +48,7 @@ have-then w w' d e d' e' i t ds es h = record {
   second_fits = omega (arith, h.second_fits, es, ap tree_sectors t.second.shape_is);
 }
 
--- the same where the devices were read
+-- reads change neither side of a walk at a block
 pub on-read : (w : Walk) (d e d' e' : Device) (i k : ℕ) → IsOnlyRead d d' → IsOnlyRead e e' → IsOn w d e i k → IsOn w d' e' i k
 on-read w d e d' e' i k p q on = record {
   first_leads = on.first_leads;
@@ -116,7 +116,7 @@ bad-same p q d d' level number is read b = record {
   stored = λ steady. subst (λ (im : List (List ℕ)). AreStored b.path im b.index level) (read.image steady) (b.stored (steady-then read.same steady));
 }
 
--- a cause behind calls that did not fail
+-- a cause stays one after calls that did not fail
 pub cause-then : (w w' : Walk) (d e dm em d' e' : Device) (fault : DifferenceFault) → AreSameTrees w w' → IsOnlyRead d dm → IsOnlyRead e em → dm.failures ≡ d.failures → em.failures ≡ e.failures → IsWalkCause w' dm em d' e' fault → IsWalkCause w d e d' e' fault
 cause-then w w' d e dm em d' e' (Hash First level number) t p q df ef h = bad-same w.first w'.first d dm level number t.first p h
 cause-then w w' d e dm em d' e' (Hash Second level number) t p q df ef h = bad-same w.second w'.second e em level number t.second q h

@@ -4,7 +4,6 @@ use Rattle.allocation.specs.Refusal.{IsOutOfMemory}
 use Rattle.block_device.specs.Device.{Device, HasFailed}
 use Rattle.tree_shape.specs.Shape.{ShapeRecord, IsShape, levels}
 use Rattle.verity_format.specs.Image.{tree_sectors}
-use Rattle.verity_format.specs.Superblock.{shape_of}
 use Rattle.verity_format.specs.declared.verifying.VerifyFault.TheVariants.{Device as DeviceFailed}
 use Rattle.tree_path.specs.Path.{largest_block}
 use Rattle.tree_path.specs.Steps.{IsDown, steps}
@@ -24,15 +23,15 @@ use Rattle.tree_difference.specs.Causes.{IsBadBlock, IsWalkCause}
 use Rattle.tree_difference.specs.Comparisons.{Compares, ReadsDiffering, DifferenceWorld, IsReported, difference_world}
 use Rattle.tree_difference.specs.Rests.{last_runs}
 use Rattle.tree_difference.specs.RootBlocks.{IsRootRead, root_sectors}
-use Rattle.tree_difference.specs.Superblocks.{unlike}
+use Rattle.tree_difference.specs.Likeness.{unlike}
 use Rattle.tree_difference.specs.Trees.{Trees, AreComparable, common_blocks, common_levels}
 use Rattle.tree_difference.specs.Walks.{IsOn, WalkSides, walk_sides}
 
--- the trees of two superblocks and two root hashes
+-- two trees and their root hashes
 abbrev pub trees_of : TreePair → Trees
 trees_of pair = record {
-  first = shape_of pair.first;
-  second = shape_of pair.second;
+  first = pair.first.shape;
+  second = pair.second.shape;
   first_salt = pair.first.salt;
   second_salt = pair.second.salt;
   first_root = pair.roots.first;
@@ -42,8 +41,8 @@ trees_of pair = record {
 -- the trees can be compared, and fit on the devices
 pub record CanCompareTrees (pair : TreePair) (first second : Device) : Type 0 where
   pub alike : unlike pair.first pair.second ≡ None
-  pub first_fits : tree_sectors (shape_of pair.first) ≤ first.size
-  pub second_fits : tree_sectors (shape_of pair.second) ≤ second.size
+  pub first_fits : tree_sectors pair.first.shape ≤ first.size
+  pub second_fits : tree_sectors pair.second.shape ≤ second.size
 
 -- both shapes are valid
 abbrev pub AreShapes : Trees → Type 0
@@ -108,17 +107,17 @@ sectors_before s t = root_sectors s + (levels s - common_levels t) * (s.hash_blo
 
 -- both root hash blocks were read, and the trees compared
 pub record IsDifference (w : DifferenceWorld) (pair : TreePair) (most : Option ℕ) (totals : Totals) : Type 0 where
-  pub first_root : IsRootRead (shape_of pair.first) pair.first.salt pair.roots.first w.first
-  pub second_root : IsRootRead (shape_of pair.second) pair.second.salt pair.roots.second w.second
+  pub first_root : IsRootRead pair.first.shape pair.first.salt pair.roots.first w.first
+  pub second_root : IsRootRead pair.second.shape pair.second.salt pair.roots.second w.second
   pub compares : Compares (trees_of pair) w most totals
-  pub reads : ReadsDiffering (trees_of pair) w (sectors_before (shape_of pair.first) (trees_of pair)) (sectors_before (shape_of pair.second) (trees_of pair))
+  pub reads : ReadsDiffering (trees_of pair) w (sectors_before pair.first.shape (trees_of pair)) (sectors_before pair.second.shape (trees_of pair))
 
 -- why two trees weren't compared to the end
 abbrev pub IsDifferenceCause : DifferenceWorld → TreePair → Bool → DifferenceFault → Type 0
 IsDifferenceCause w pair failed (Image First DeviceFailed) = HasFailed w.first w.first'
 IsDifferenceCause w pair failed (Image Second DeviceFailed) = HasFailed w.second w.second'
-IsDifferenceCause w pair failed (Hash First level number) = IsBadBlock (shape_of pair.first) pair.first.salt pair.roots.first w.first level number
-IsDifferenceCause w pair failed (Hash Second level number) = IsBadBlock (shape_of pair.second) pair.second.salt pair.roots.second w.second level number
+IsDifferenceCause w pair failed (Hash First level number) = IsBadBlock pair.first.shape pair.first.salt pair.roots.first w.first level number
+IsDifferenceCause w pair failed (Hash Second level number) = IsBadBlock pair.second.shape pair.second.salt pair.roots.second w.second level number
 IsDifferenceCause w pair failed NoMemory = (w.first'.failures ≡ w.first.failures) × (w.second'.failures ≡ w.second.failures) × IsOutOfMemory largest_block
 IsDifferenceCause w pair failed Write = failed ≡ true
 IsDifferenceCause w pair failed fault = ⊥

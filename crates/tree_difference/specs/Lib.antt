@@ -1,5 +1,5 @@
 pub mod Trees
-pub mod Superblocks
+pub mod Likeness
 pub mod Rests
 pub mod Walks
 pub mod Causes

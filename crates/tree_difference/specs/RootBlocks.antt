@@ -6,7 +6,7 @@ use Rattle.tree_shape.specs.Digests.{digest}
 use Rattle.tree_shape.specs.Shape.{ShapeRecord, levels}
 use Rattle.verity_format.specs.declared.verifying.VerifyFault.TheVariants.{Device as DeviceFailed}
 use Rattle.verity_format.specs.Blocks.{IsFullRead}
-use Rattle.verity_format.specs.Superblock.{SuperRecord, shape_of}
+use Rattle.verity_format.specs.declared.tree.VerityTree.{VerityTree}
 use Rattle.tree_path.specs.Path.{largest_block, stored_block}
 use Rattle.tree_difference.specs.declared.fault.DifferenceFault.{DifferenceFault}
 use Rattle.tree_difference.specs.declared.fault.DifferenceFault.TheVariants.{Image, Hash, NoMemory}
@@ -29,16 +29,16 @@ pub record IsRootRead (s : ShapeRecord) (salt root : List ℕ) (device : Device)
   pub stored : IsTrue device.steady → 0 < levels s → block ≡ stored_block s device.image (root_level s) 0
 
 -- the root hash block has another digest, the device failed, or an allocation was refused before a read
-abbrev pub IsRootCause : SuperRecord → List ℕ → Device → Device → Which → DifferenceFault → Type 0
-IsRootCause s root device device' which (Hash tree level number) = (tree ≡ which) × IsBadBlock (shape_of s) s.salt root device level number
-IsRootCause s root device device' which (Image tree DeviceFailed) = (tree ≡ which) × HasFailed device device'
-IsRootCause s root device device' which NoMemory = (device' ≡ device) × IsOutOfMemory largest_block
-IsRootCause s root device device' which fault = ⊥
+abbrev pub IsRootCause : VerityTree → List ℕ → Device → Device → Which → DifferenceFault → Type 0
+IsRootCause t root device device' which (Hash tree level number) = (tree ≡ which) × IsBadBlock t.shape t.salt root device level number
+IsRootCause t root device device' which (Image tree DeviceFailed) = (tree ≡ which) × HasFailed device device'
+IsRootCause t root device device' which NoMemory = (device' ≡ device) × IsOutOfMemory largest_block
+IsRootCause t root device device' which fault = ⊥
 
 -- ---- relations for calls: the device before and after, as a proof sees it
 
-abbrev pub ChecksRoot : {H : Type 0} → (H → Device) → H → H → SuperRecord → List ℕ → Type 0
-ChecksRoot state h h' s root = IsRootRead (shape_of s) s.salt root (state h) × IsFullRead (state h) (root_sectors (shape_of s)) (state h')
+abbrev pub ChecksRoot : {H : Type 0} → (H → Device) → H → H → VerityTree → List ℕ → Type 0
+ChecksRoot state h h' tree root = IsRootRead tree.shape tree.salt root (state h) × IsFullRead (state h) (root_sectors tree.shape) (state h')
 
-abbrev pub FailsToCheckRoot : {H : Type 0} → (H → Device) → H → H → Which → SuperRecord → List ℕ → DifferenceFault → Type 0
-FailsToCheckRoot state h h' which s root = IsRootCause s root (state h) (state h') which
+abbrev pub FailsToCheckRoot : {H : Type 0} → (H → Device) → H → H → Which → VerityTree → List ℕ → DifferenceFault → Type 0
+FailsToCheckRoot state h h' which tree root = IsRootCause tree root (state h) (state h') which

@@ -29,7 +29,7 @@ pub struct Totals {
     pub added: u64,
 }
 
-/// Compares two trees from their roots down, whose superblocks were read. It reports a line for each longest run of data blocks
+/// Compares two trees from their roots down. It reports a line for each longest run of data blocks
 /// that differ, in rising order: at most `most` lines, then `more`.
 ///
 /// Both root hash blocks are read and checked, even if the root hashes are equal. Below them a subtree is read only if its
@@ -74,16 +74,17 @@ fn begin(alloc: Global, pair: &TreePair) -> Result<Walk, OutOfMemory>
     ensures ok { IfOk result (IsWalkOf (trees_of pair.now)) }
     ensures err { OnErr result (IsOutOfMemory largest_block) }
 {
-    let shape = pair.first.shape();
-    let other = pair.second.shape();
-    let first = TreePath::new(alloc, shape, pair.first.salt(), pair.roots.first)?;
-    let second = TreePath::new(alloc, other, pair.second.salt(), pair.roots.second)?;
+    let shape = pair.first.shape;
+    let other = pair.second.shape;
+    let blocks = shape.blocks().min(other.blocks());
+    let first = TreePath::new(alloc, shape, pair.first.salt, pair.roots.first)?;
+    let second = TreePath::new(alloc, other, pair.second.salt, pair.roots.second)?;
     Ok(Walk {
         first,
         second,
         shape,
         levels: shape.levels().min(other.levels()),
-        blocks: shape.blocks().min(other.blocks()),
+        blocks,
     })
 }
 

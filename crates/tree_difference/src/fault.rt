@@ -14,7 +14,7 @@ pub enum Which {
     Second,
 }
 
-/// The first difference of two superblocks that makes the digests of their trees incomparable.
+/// The first difference of two trees that makes their digests incomparable.
 #[derive(Clone, Copy, Debug, PartialEq, Eq)]
 pub enum Unlike {
     DataBlockSize,
@@ -22,7 +22,7 @@ pub enum Unlike {
     Salt,
 }
 
-/// Why a comparison of two trees ends early.
+/// Why two trees aren't compared, or not to the end.
 #[derive(Clone, Copy, Debug, PartialEq, Eq)]
 pub enum DifferenceFault {
     /// A hash image has no superblock, is too small for its tree, or failed.
@@ -31,7 +31,7 @@ pub enum DifferenceFault {
     Unaligned(Which),
     /// A superblock differs from its pin.
     Unpinned(Which, Mismatch),
-    /// The superblocks make the trees incomparable.
+    /// The trees are incomparable.
     Unlike(Unlike),
     /// The hash block of a level, by its index, fails verification: its digest isn't stored in its parent.
     Hash(Which, u32, u64),

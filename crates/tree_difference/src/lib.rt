@@ -6,10 +6,9 @@ mod fault;
 pub mod laws;
 mod reading;
 mod root_block;
-mod superblocks;
 mod trees;
 mod walk;
 
 pub use difference::{Totals, compare_trees};
 pub use fault::{DifferenceFault, Unlike, Which};
-pub use trees::{Roots, TreePair, TreeStarts, TrustedTrees, read_trees};
+pub use trees::{Roots, TreePair, check_alike};

@@ -2,7 +2,6 @@
 ghost use Rattle.std.specs.Prelude.{◌≤◌, OnOk, IfErr};
 ghost use Rattle.verity_format.specs.Blocks.{IsOnlyRead};
 ghost use Rattle.verity_format.specs.Image.{tree_sectors};
-ghost use Rattle.verity_format.specs.Superblock.{shape_of};
 ghost use Rattle.tree_difference.specs.Causes.{IsFirstBlock};
 ghost use Rattle.tree_difference.specs.RootBlocks.{ChecksRoot, FailsToCheckRoot};
 
@@ -12,7 +11,7 @@ use block_device::BlockDev;
 use std::alloc::Global;
 use tree_path::TreePath;
 use tree_shape::Digest;
-use verity_format::Superblock;
+use verity_format::VerityTree;
 
 /// Reads the root hash block of a tree, and checks it against the root hash. A tree of one data block has no hash block, and
 /// nothing is read.
@@ -26,16 +25,17 @@ pub(crate) fn check_root_block<H: BlockDev>(
     alloc: Global,
     device: &mut H,
     which: Which,
-    superblock: &Superblock,
+    tree: &VerityTree,
     root: Digest,
 ) -> Result<(), DifferenceFault>
-    requires { tree_sectors (shape_of superblock.now) ≤ (H.state device.old).size }
+    requires { tree_sectors tree.now.shape ≤ (H.state device.old).size }
     ensures read { IsOnlyRead (H.state device.old) (H.state device.new) }
-    ensures ok { OnOk result (ChecksRoot H.state device.old device.new superblock.now root) }
-    ensures err { IfErr result (FailsToCheckRoot H.state device.old device.new which superblock.now root) }
+    ensures ok { OnOk result (ChecksRoot H.state device.old device.new tree.now root) }
+    ensures err { IfErr result (FailsToCheckRoot H.state device.old device.new which tree.now root) }
     ensures first { IfErr result IsFirstBlock }
 {
-    let mut path = TreePath::new(alloc, superblock.shape(), superblock.salt(), root)?;
-    let top = path.levels();
+    let _blocks = tree.shape.blocks();
+    let top = tree.shape.levels();
+    let mut path = TreePath::new(alloc, tree.shape, tree.salt, root)?;
     read_down(&mut path, device, which, 0, top, top.saturating_sub(1))
 }

@@ -26,7 +26,7 @@ full = refl
 abbrev small : ShapeRecord
 small = record { data_block = 512; hash_block = 512; blocks = 17; start = 1 }
 
--- a block that is all entries; one with one entry, and zeros; and with another byte behind it, just there or as the last one
+-- a block that is all entries; one with one entry, and zeros; and with another byte right after the entry, or as the last one
 tests : is_unused_zero small 0 0 (replicate 512 7) ∷ is_unused_zero small 0 1 (replicate 32 7 ++ replicate 480 0)
     ∷ is_unused_zero small 0 1 (replicate 33 7 ++ replicate 479 0) ∷ is_unused_zero small 0 1 (replicate 32 7 ++ replicate 479 0 ++ 7 ∷ []) ∷ []
     ≡ true ∷ true ∷ false ∷ false ∷ []

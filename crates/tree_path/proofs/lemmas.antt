@@ -2,4 +2,5 @@
 pub mod ChainLemmas
 pub mod AtMostLemmas
 pub mod PathLemmas
+pub mod ReadCallLemmas
 pub mod SpanLemmas

@@ -23,7 +23,7 @@ pub record IsPathOf (shape : ShapeRecord) (salt root : List ℕ) (p : PathRecord
   pub salt_is : p.salt ≡ salt
   pub root_is : p.root ≡ root
 
--- the largest size of a hash block in bytes; no allocation for a path asks for more elements
+-- the largest size of a hash block in bytes; no allocation for a path has more elements
 abbrev pub largest_block : ℕ
 largest_block = 4096
 

@@ -2,6 +2,8 @@
 use Rattle.std.specs.Prelude.{◌≡◌, ◌≢◌, ℕ, ◌+◌, ◌-◌, ◌*◌, ◌/◌, ◌<◌, ◌≤◌, Bool, IsTrue, List, length, Option, Some, None}
 use Rattle.std.specs.Str.{bytes_eq}
 use Rattle.std.specs.Prelude.{slice_set}
+use Rattle.block_device.specs.Call.{Call, Calls}
+use Rattle.block_device.specs.CallList.{AllReads}
 use Rattle.block_device.specs.Device.{Device, HasFailed, capped}
 use Rattle.tree_shape.specs.Digests.{digest}
 use Rattle.tree_shape.specs.Shape.{levels, position, ancestor}
@@ -75,3 +77,9 @@ HasCome w to (Some level) = IsStopped w to level
 -- at most n sectors were read, including those of failed calls
 abbrev pub HasReadAtMost : Device → ℕ → Device → Type 0
 HasReadAtMost old n new = new.reads ≤ old.reads + n
+
+-- only reads were called
+pub record MakesReads {D : Type 0} (does : D → Call → D → Type 0) (old new : D) : Type 0 where
+  pub calls : List Call
+  pub made : Calls does old calls new
+  pub reads : AllReads calls

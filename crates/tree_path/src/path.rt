@@ -1,12 +1,13 @@
 //! The hash blocks on the path to a data block.
 ghost use Rattle.std.specs.Prelude.{◌≡◌, ◌≤◌, ◌<◌, ◌+◌, ◌-◌, ◌*◌, ◌/◌, IsTrue, IsOk, OnErr, IfOk};
 ghost use Rattle.allocation.specs.Refusal.{IsOutOfMemory};
+ghost use Rattle.block_device.specs.Call.{DeviceDoes};
 ghost use Rattle.block_device.specs.Device.{HasFailed};
 ghost use Rattle.tree_shape.specs.Shape.{ancestor, levels};
 ghost use Rattle.verity_format.specs.Blocks.{IsOnlyRead};
 ghost use Rattle.verity_format.specs.Image.{tree_sectors};
 ghost use Rattle.tree_path.specs.Path.{IsPathOf, block_of, digest_on, largest_block};
-ghost use Rattle.tree_path.specs.Steps.{CanDescend, HasCome, HasReadAtMost, IsKeptAbove, IsStepLoaded, IsUnloaded, steps};
+ghost use Rattle.tree_path.specs.Steps.{CanDescend, HasCome, HasReadAtMost, IsKeptAbove, IsStepLoaded, IsUnloaded, MakesReads, steps};
 ghost use Rattle.tree_path.specs.Unused.{is_unused_zero};
 
 use crate::reading::{read_block, zero_blocks};
@@ -129,6 +130,7 @@ impl TreePath {
         ensures fault { OnErr result (IsUnloaded (steps self.old self.new (H.state device.old) (H.state device.new) index level)) }
         ensures sure { IsTrue (H.state device.old).never_fails → IsOk result }
         ensures asked { HasReadAtMost (H.state device.old) (self.old.shape.hash_block / 512) (H.state device.new) }
+        ensures calls { MakesReads (DeviceDoes H.state H.does) device.old device.new }
         ensures counted { (H.state device.old).failures ≤ (H.state device.new).failures }
     {
         let place = self
@@ -160,6 +162,7 @@ impl TreePath {
         ensures kept { OnErr result (IsKeptAbove (steps self.old self.new (H.state device.old) (H.state device.new) index from)) }
         ensures sure { IsTrue (H.state device.old).never_fails → IsOk result }
         ensures asked { HasReadAtMost (H.state device.old) ((from - to) * (self.old.shape.hash_block / 512)) (H.state device.new) }
+        ensures calls { MakesReads (DeviceDoes H.state H.does) device.old device.new }
         ensures counted { (H.state device.old).failures ≤ (H.state device.new).failures }
     {
         let mut level = from;

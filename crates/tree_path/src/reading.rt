@@ -1,6 +1,7 @@
 //! Reading blocks from a device, and buffers for them.
-ghost use Rattle.std.specs.Prelude.{◌≡◌, ◌≤◌, ◌/◌, IsTrue, IsOk, OnOk, OnErr, IfOk, All, length, max};
+ghost use Rattle.std.specs.Prelude.{◌≡◌, ◌≤◌, ◌*◌, ◌/◌, IsTrue, IsOk, OnOk, OnErr, IfOk, All, is_ok, length, max};
 ghost use Rattle.allocation.specs.Refusal.{IsOutOfMemory};
+ghost use Rattle.block_device.specs.Call.{DeviceDoes, Read};
 ghost use Rattle.verity_format.specs.Blocks.{IsBlockRead, IsOnlyRead};
 ghost use Rattle.verity_format.specs.Premises.{IsBlockOn};
 ghost use Rattle.tree_path.specs.Steps.{HasFailedOnce, HasReadAtMost};
@@ -38,6 +39,7 @@ pub(crate) fn read_block<D: BlockDev>(
     ensures read { IsOnlyRead (D.state device.old) (D.state device.new) }
     ensures ok { OnOk result (IsBlockRead (D.state device.old) (length block.old) index block.new (D.state device.new)) }
     ensures fault { OnErr result (HasFailedOnce (D.state device.old) (D.state device.new)) }
+    ensures call { DeviceDoes D.state D.does device.old (Read (index * (length block.old / 512)) block.new (is_ok result)) device.new }
     ensures sure { IsTrue (D.state device.old).never_fails → IsOk result }
     ensures asked { HasReadAtMost (D.state device.old) (length block.old / 512) (D.state device.new) }
     ensures counted { (D.state device.old).failures ≤ (D.state device.new).failures }

@@ -32,7 +32,7 @@ module _ (s : ShapeRecord) where
       let rest : blocks_above s m + a < blocks_above s (l + 1) = higher-before d (l + 1) m a (omega (arith, at)) low inside in
       omega (arith, step, rest)
 
-  -- a block of a higher level stands before each of a lower one
+  -- a block of a higher level is before each of a lower one
   levels-order : (l m a b : ℕ) → l < m → m < levels s → b < level_blocks s m → position s m b < position s l a
   unfolding position
   levels-order l m a b up low inside =
@@ -113,7 +113,7 @@ place-inside s (suc l) i place =
     block-inside (position s l (ancestor s (l + 1) i)) (area_end s) (s.hash_block / 512)
     (position-lt s place.valid l (ancestor s (l + 1) i) (omega (arith, place.high)) (ancestor-lt s place.valid l i place.inside))
 
--- ---- what stands above the same block is the same
+-- ---- what is above the same block is the same
 
 pub above-from : (s : ShapeRecord) → IsShape s → (d h m i k : ℕ) → m ≡ h + d → ancestor s h k ≡ ancestor s h i → ancestor s m k ≡ ancestor s m i
 above-from s valid zero h m i k at same = let here : h ≡ m = omega (arith, at) in subst (λ (x : ℕ). ancestor s x k ≡ ancestor s x i) here same

@@ -95,7 +95,7 @@ by-parity : (write : Bool) (m : Mended) → IsTrue write → m ≡ mended.Parity
 by-parity true m writes is = ap (found_of true) is
 by-parity false m writes is = absurd (false≢true writes)
 
--- a block that came back is good behind that visit
+-- a block that came back is good after that visit
 back-good : (write : Bool) (s : ShapeRecord) (h i : ℕ) (b : BadBlock) (us : List Visit) → IsTrue write → b.place.height ≡ h → ancestor s h b.place.index ≡ ancestor s h i → IsBackIn s b us → IsGoodThenIn write s h i us
 back-good write s h i b [] writes high same at = absurd at
 back-good write s h i b (u ∷ more) writes high same (inl (at, is)) =
@@ -138,7 +138,7 @@ all-good-pass {j} {w} {x} {y} {old} {new} {a} {b} blocks notes on none are back 
           visits-good j back.visits h i vs (λ never. (notes.any refl (clean never)).1) each ((notes.passed refl by).1 h i (omega arith, (few, inside)));
     }
 
--- behind passes before it
+-- all is good after a pass that follows others
 pub all-good-behind : {j : Job} {w x y : RepairWorld} {old new : Option (List ℕ)} → HasRun j w x old new None → IsAllGood j x y → IsAllGood j w y
 all-good-behind {j} {w} {x} {y} run all = record {
   visits = run.visits ++ all.visits;

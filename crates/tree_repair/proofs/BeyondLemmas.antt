@@ -1,4 +1,4 @@
--- What is lost behind the last pass is beyond parity.
+-- What is lost after the last pass is beyond parity.
 use Rattle.std.proofs.Common.{◌≡◌, ◌≤◌, ◌<◌, ℕ, Bool, true, false, List, [], ◌∷◌, ◌++◌, refl, sym, subst, arith, inl, inr}
 use Rattle.std.specs.Prelude.{◌⊎◌}
 use Rattle.std.specs.List.{flat_map}
@@ -25,7 +25,7 @@ use Rattle.tree_repair.proofs.UnfailedLemmas.{AreCounting, counting-read, counti
 
 -- ---- a block that is sought
 
--- why it isn't made again
+-- why the block isn't reconstructed
 unmade-beyond : (j : Job) (p : PathRecord) (h i : ℕ) (t : Trial) (k : ℕ) → AreCounting t.w t.w' t.parity_dev t.parity_dev' → HaveCountedNone t.w t.w' t.parity_dev t.parity_dev' → IsBlockUnmade t k → IsRoundBeyond j p h i t k
 unmade-beyond j p h i t k more sure (TooManyLost count, (of, (is, many, unasked))) = inl (rw (sym is) many)
 unmade-beyond j p h i t k more sure (TooSmall needed, (of, (is, small, unasked))) = inr (inl (rw (sym is) small))
@@ -37,7 +37,7 @@ vain-beyond j p h i t more sure (inl off) = inl off
 vain-beyond j p h i t more sure (inr (k, (at, inl unmade))) = inr (k, (at, unmade-beyond j p h i t k more sure unmade))
 vain-beyond j p h i t more sure (inr (k, (at, inr other))) = inr (k, (at, inr (inr other)))
 
--- how it ends, behind a reading
+-- how a trial ends, after a reading
 pub record IsEnded (j : Job) (h i : ℕ) (t : Trial) : Type 0 where
   pub a : RepairWorld
   pub read : IsWorldRead t.w a
@@ -160,7 +160,7 @@ here-sought j l lost h i b w a w' p q back later valid high sure at here behind 
       outcome = ended.outcome;
     }
 
--- behind others
+-- a block that was sought after other visits
 later-sought : (j : Job) (l : Layout) (lost : List ℕ) (h i : ℕ) (vs : List Visit) (w a w' : RepairWorld) (p q : Device) → VisitsAll j vs w a → IsParityRead p q → IsSoughtIn j l lost h i a w' q → IsSoughtIn j l lost h i w w' p
 later-sought j l lost h i vs w a w' p q before read x = record {
   beside = x.beside;

@@ -94,7 +94,7 @@ at_most-left n old new p = record { count = p.count; each = λ j low d. omega (a
 
 -- ---- all devices of an image
 
--- as much more before as behind
+-- a has at most as much more than b as c has more than e
 pub record IsMore (a b c e : Bill) : Type 0 where
   pub data_reads : a.data_reads + e.data_reads ≤ c.data_reads + b.data_reads
   pub hash_reads : a.hash_reads + e.hash_reads ≤ c.hash_reads + b.hash_reads

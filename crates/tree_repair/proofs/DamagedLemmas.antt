@@ -163,7 +163,7 @@ module _ (form : FormedChainsAreGood) (j : Job) (valid : IsShape j.tree.shape) (
         ]
       ]
 
-  -- what counts as lost behind visits wasn't as it was formatted before them
+  -- what counts as lost after visits wasn't as it was formatted before them
   lost-damaged : j.write ≡ true → (vs : List Visit) (w w' : RepairWorld) → VisitsAll j vs w w' → IsImageUnfailed w w' → IsReady j.tree.shape w → (lost : List ℕ)
       → AreCovered j.tree.shape l (flat_map (bad_of j) vs) lost → (n : ℕ) → IsAmong lost n → IsAsFormed l f w n → Collide j.tree.salt
   lost-damaged write [] w w' runs sure ready lost are n among is = absurd (among-none n (subst (λ (xs : List ℕ). IsAmong xs n) are among))

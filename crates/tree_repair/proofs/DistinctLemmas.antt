@@ -6,7 +6,7 @@ use Rattle.std.proofs.lemmas.Bool.{and_from, and_right, cases_Bool, cases_eq, eq
 use Rattle.std.proofs.lemmas.List.Sums.{sum_by-cons}
 use Rattle.fec_area.specs.Restoring.{IsAmong}
 
--- no number stands twice in the list
+-- no number is twice in the list
 abbrev pub AreDifferent : List ℕ → Type 0
 AreDifferent [] = Unit {0}
 AreDifferent (x ∷ xs) = (IsAmong xs x → ⊥) × AreDifferent xs

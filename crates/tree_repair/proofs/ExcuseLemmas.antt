@@ -66,7 +66,7 @@ look-counted l bytes done mended.Parity found =
 look-counted l bytes done mended.Lost found =
     times-then l.old found.seen l.new (first_counts found.bad) 0 _ (omega arith) (bad-counted l.old l.first l.w found.seen found.bad found.more) (more-none found.seen l.new found.beneath_more)
 
--- the bytes that stand there haven't the digest
+-- the bytes that are stored there haven't the digest
 abbrev HasOther : Device → ℕ → Wanted → Type 0
 HasOther old first w = IsTrue old.steady → digest w.salt (bytes_on_device old first w.sectors) ≢ w.digest_is
 
@@ -170,7 +170,7 @@ module _ (form : FormedChainsAreGood) (j : Job) (contents : List (List ℕ)) (ar
 
 -- ---- where a device counts none
 
--- the calls before and behind some count none either
+-- the calls before and after some count none either
 none-within : (a b c e : Device) (n : ℕ) → HasFailedTimes a 0 b → HasFailedTimes b n c → HasFailedTimes c 0 e → HasCountedNone a e → n ≡ 0
 none-within a b c e n before at behind none = elim (times-then a b e 0 n n (omega arith) before (times-then b c e n 0 n (omega arith) at behind)) [
   | inl few ↦ omega (arith, few, none.none)
@@ -206,7 +206,7 @@ not-unread : (j : Job) (v : Visit) (a b : RepairWorld) (n : ℕ) → n ≡ 0 →
 not-unread j v a b n none (inl unread) = absurd (omega (arith, none, unread))
 not-unread j v a b n none (inr right) = right
 
--- a run behind calls that count from another world
+-- a run after calls that count from another world
 left-alone : (j : Job) (visits : List Visit) (x w w' : RepairWorld) (runs : VisitsAll j visits w w') → ((h : ℕ) → HasFailedTimes (own h x) 0 (own h w))
     → Throughout j (λ v a b here. HasCountedNone (own v.height x) (own v.height w') → IsTreatedRightly j v a b) visits w w' runs
 left-alone j [] x w w' runs before = tt

@@ -106,7 +106,7 @@ pub any-none : (any : Bool) (o : Option Bool) → any_after any o ≡ false → 
 any-none any None clean = (clean, refl)
 any-none any (Some found) clean = absurd (true≢false clean)
 
--- ---- behind a pass
+-- ---- after a pass
 
 some-of : (some by : Bool) → not (some || by) ≡ false → IsTrue some ⊎ IsTrue by
 some-of true by is = inl refl

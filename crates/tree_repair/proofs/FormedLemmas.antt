@@ -53,7 +53,7 @@ part f p c i sized =
     ∙ take-concat 32 (map f (range_with_len (i * p) (c - i * p))) p (All-map (λ (d : List ℕ). length d ≡ 32) f (range_with_len (i * p) (c - i * p)) (λ n d inside. sized _))
     ∙ ap concat (take-map f p (range_with_len (i * p) (c - i * p)) ∙ ap (map f) (take-range p (i * p) (c - i * p) (min p (c - i * p)) refl))
 
--- ---- the tree over the data that stand there
+-- ---- the tree over the data that are stored there
 
 module _ (s : ShapeRecord) (valid : IsShape s) (salt : List ℕ) (data_image hash_image : List (List ℕ)) where
   two : 2 ≤ per_block s

@@ -1,4 +1,4 @@
--- What stands at each place of a formatted image.
+-- What is stored at each place of a formatted image.
 use Rattle.std.proofs.Common.{◌≡◌, ◌≤◌, ◌<◌, ◌+◌, ◌-◌, ◌*◌, ◌/◌, ℕ, zero, suc, List, [], ◌∷◌, length, get_or, add-one, zero-add, refl, sym, ap, ◌∙◌, subst, arith, inl, inr, ◌⊎◌}
 use Rattle.std.specs.Prelude.{slice_get}
 use Rattle.std.proofs.lemmas.Bool.{cases_lt}
@@ -36,7 +36,7 @@ length-path : (s : ShapeRecord) (salt : List ℕ) (ds : List (List ℕ)) (n i : 
 length-path s salt ds zero i = refl
 length-path s salt ds (suc l) i = ap suc (length-path s salt ds l i)
 
--- beneath all hash blocks stands the content
+-- beneath all hash blocks is the content
 content-below : (path : List (List ℕ)) (content : List ℕ) (d : ℕ) → length path ≤ d → chain_block_below path content d ≡ content
 content-below [] content d few = refl
 content-below (b ∷ path) content zero few = absurd (omega (arith, few))
@@ -47,7 +47,7 @@ hangs-top : (s : ShapeRecord) (salt : List ℕ) (i : ℕ) (e : List ℕ) (path :
 hangs-top s salt i e [] content hangs = hangs.1
 hangs-top s salt i e (b ∷ path) content hangs = hangs.1
 
--- and each further one the digest that stands in the block above it
+-- and each further one the digest that is stored in the block above it
 hangs-link : (s : ShapeRecord) (salt : List ℕ) (i : ℕ) (e : List ℕ) (path : List (List ℕ)) (content : List ℕ) → HangsFrom s salt i e path content → (d h : ℕ) → length path ≡ h + suc d
     → digest salt (chain_block_below path content (suc d)) ≡ digest_in (chain_block_below path content d) (slot s (ancestor s h i))
 hangs-link s salt i e [] content hangs d h count = absurd (omega (arith, count))
@@ -195,7 +195,7 @@ module _ (form : FormedChainsAreGood) (j : Job) (valid : IsShape j.tree.shape) (
   former-formed zero i high inside = former-data j.tree valid f former i inside
   former-formed (suc l) i high inside = former-hash j.tree valid f former l i (omega (arith, high)) inside
 
-  -- where one stands good it is that of the image, or two blocks collide
+  -- if one is good it is that of the image, or two blocks collide
   pub former-stands : (h i : ℕ) (w : RepairWorld) → i < j.tree.shape.blocks → StandsGood j h i w → (standing_bytes j h i w ≡ former_bytes j.tree.shape f h i) ⊎ Collide j.tree.salt
   former-stands h i w inside stands =
       let contents : List (List ℕ) = data_blocks_of j.tree valid f former in

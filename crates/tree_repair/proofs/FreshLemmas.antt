@@ -57,7 +57,7 @@ module _ (s : SuperRecord) (valid : IsSuperblock s) (data_image hash_image : Lis
   image-is : image_sectors (shape_of s) ≡ sectors + count * sectors
   image-is = grind arith
 
-  -- hash block 0, the tree, and what else stood there
+  -- hash block 0, the tree, and what else was stored there
   parts : whole ≡ cut_into sectors (first_block s) ++ (cut_into (count * sectors) bytes ++ rest)
   parts =
       ap (λ (n : ℕ). cut_into n (first_block s ++ bytes) ++ rest) image-is

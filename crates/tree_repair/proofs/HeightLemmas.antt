@@ -43,7 +43,7 @@ module _ (s : ShapeRecord) (valid : IsShape s) (row : Row) (is : IsRow s row) wh
   abbrev n_behind : ℕ
   n_behind = s.blocks - row.first - per_block s ^ (row.height + 1)
 
-  -- a block of the row leaves what is due behind the row
+  -- a block of the row leaves what is due after the row
   pub row-left : (i : ℕ) → i % per_block s ^ row.height ≡ 0 → i < row.end → n_behind ≤ s.blocks - i - per_block s ^ row.height
   row-left i begins below = omega (arith, block-fits (per_block s) (per_block-some s valid) row.height row.first i is.begins begins (omega (arith, below, is.few)))
 
@@ -109,7 +109,7 @@ module _ (s : ShapeRecord) (valid : IsShape s) (row : Row) (is : IsRow s row) wh
         hash_once = omega (arith, hash-more s valid row.height n_behind n_here rows-fewer);
       })
 
--- a row behind another
+-- a row after another
 pub rows-next : (blocks first width big end : ℕ) → width ≡ min big blocks → end ≡ min (first + width) blocks → blocks - end ≡ blocks - first - big
 rows-next blocks first width big end width_is end_is = omega (arith, width_is, end_is)
 

@@ -67,7 +67,7 @@ module _ (s : ShapeRecord) (valid : IsShape s) (h i : ℕ) where
   fewer-behind : at_behind ≤ at_here
   fewer-behind = omega (arith, left-next s h (ancestor s h i))
 
-  -- what may be asked behind the visit, and before the block is read back
+  -- what may be read after the visit, and before the block is read back
   abbrev unchecked : Bill
   unchecked = record (visits_over s h at_behind) { data_reads = sectors_over s zero at_behind + data_over s h at_here; hash_reads = hash_up_to s h at_behind + hash_over s h at_here }
 
@@ -88,7 +88,7 @@ module _ (s : ShapeRecord) (valid : IsShape s) (h i : ℕ) where
         hash_once = omega arith;
       })
 
--- ---- a run, and a reading behind it
+-- ---- a run, and a reading after it
 
 pub runs-before : (j : Job) (vs : List Visit) (a b c : RepairWorld) → VisitsAll j vs a b → IsWorldRead b c → VisitsAll j vs a c
 runs-before j [] a b c runs read = world-then a b c runs read

@@ -32,8 +32,11 @@ mod PassLemmas
 mod PieceLemmas
 mod PutLemmas
 mod RecordedLemmas
+mod RepairCallLemmas
 mod RepairLemmas
+mod RestoredCallLemmas
 mod RowLemmas
+mod RunCallLemmas
 mod RunLemmas
 mod WantedBlockLemmas
 mod SourceLemmas

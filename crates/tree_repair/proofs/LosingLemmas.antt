@@ -24,7 +24,7 @@ use Rattle.tree_repair.specs.ParitySearches.{AreSought, IsBlockUnmade, IsMadeOth
 use Rattle.tree_repair.specs.Worlds.{RepairWorld}
 use Rattle.tree_path.specs.Path.{PathRecord}
 
--- ---- those that pass a test stand between two places
+-- ---- those that pass a test are between two places
 
 not-counted : (p : ℕ → Bool) (x : ℕ) (xs : List ℕ) → p x ≡ false → count_by p xs ≡ count_by p (x ∷ xs)
 not-counted p x xs fails = sym (sum_by-cons (λ y. cond (p y) 1 0) x xs ∙ ap (λ (b : Bool). cond b 1 0 + count_by p xs) fails ∙ zero-add (count_by p xs))
@@ -44,7 +44,7 @@ counted-before p (suc b) (x ∷ xs) none =
     let f : ℕ → ℕ = λ y. cond (p y) 1 0 in
     sum_by-cons f x (take b xs) ∙ ap (λ (n : ℕ). cond (p x) 1 0 + n) (counted-before p b xs (λ k behind inside. none (suc k) (omega (arith, behind)) (omega (arith, inside)))) ∙ sym (sum_by-cons f x xs)
 
--- what doesn't pass stands before the first place, or so far behind it
+-- nothing before place a passes, and nothing from the nth place after it on
 record IsApart (p : ℕ → Bool) (xs : List ℕ) (a n : ℕ) : Type 0 where
   some : n ≤ length (drop a xs)
   before : (k : ℕ) → k < a → k < length xs → p (get_or xs k 0) ≡ false
@@ -68,7 +68,7 @@ among-between p xs a n j apart passes (k, (inside, is)) =
     let high : k - a < n = until p xs a n (k - a) apart here (ap p there ∙ passes) in
     (k - a, (omega (arith, length-take-le n (drop a xs) apart.some, high), get_or-take n (drop a xs) (k - a) 0 high ∙ there))
 
--- ---- those of one round stand together where the numbers are in the order of their rounds
+-- ---- those of one round are together if the numbers are in the order of their rounds
 
 other-test : (a b c : Bool) → b ≡ false → (a && b && c) ≡ false
 other-test a b c fails = rw (fails, and-false) refl

@@ -1,4 +1,4 @@
--- Hash blocks made again, digest by digest.
+-- Hash blocks that are reconstructed, digest by digest.
 use Rattle.std.proofs.Common.{◌≡◌, ◌≤◌, ◌<◌, ◌+◌, ◌-◌, ◌*◌, ◌^◌, ◌++◌, ◌∷◌, [], ℕ, zero, suc, min, List, length, map, take, drop, replicate, IsTrue, length-append, refl, sym, ap, ◌∙◌, arith, ◌⊎◌, subst, inl, inr}
 use Rattle.std.specs.Int.{div_ceil}
 use Rattle.std.specs.List.{concat, range_with_len}
@@ -37,7 +37,7 @@ level_blocks-few s valid l = div_ceil-few s.blocks (per_block s ^ (l + 1)) (pow_
 
 -- ---- a hash block with one digest more
 
--- the digests so far, and zeros behind them
+-- the digests so far, and zeros after them
 pub filled-next : (size slot : ℕ) (bytes d : List ℕ) → length bytes ≡ 32 * slot → length d ≡ 32
     → take (32 * slot) (filled size bytes) ++ d ++ drop (32 * slot + 32) (filled size bytes) ≡ filled size (bytes ++ d)
 filled-next size slot bytes d at long =

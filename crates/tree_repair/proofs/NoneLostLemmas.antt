@@ -57,7 +57,7 @@ module _ (form : FormedChainsAreGood) (j : Job) (valid : IsShape j.tree.shape) (
           | inl is ↦ inl (covered-same l back.behind b k (read-images j.tree.shape back.behind b back.read_back ready_behind) ∙ is)
         ]
 
-    -- so is one that stands there by now
+    -- a block that is stored there by now is formed too
     by-now-formed : (beside : ℕ) (a b : RepairWorld) → ancestor j.tree.shape h beside ≡ ancestor j.tree.shape h i → IsWorldRead a b → IsGoodBehind j h beside a
         → IsReady j.tree.shape a → IsAsFormed l f b k ⊎ Collide j.tree.salt
     by-now-formed beside a b same read good ready =

@@ -1,4 +1,4 @@
--- A covered block's number tells where it stands.
+-- A covered block's offset follows from its number.
 use Rattle.std.proofs.Common.{◌≡◌, ◌≤◌, ◌<◌, ◌+◌, ◌-◌, ◌*◌, ◌/◌, min, ℕ, zero, suc, IsTrue, List, [], ◌∷◌, length, drop, replicate, All, add-one, refl, sym, ap, ◌∙◌, subst, arith, inl, inr}
 use Rattle.std.proofs.lemmas.Bool.{cases_lt}
 use Rattle.std.proofs.lemmas.List.{length-drop, length-replicate, length-take}
@@ -91,7 +91,7 @@ module _ (s : ShapeRecord) (valid : IsShape s) (l : Layout) (laid : IsLayout l) 
   index-same : (i m : ℕ) → ancestor s zero m ≡ ancestor s zero i → m ≡ i
   index-same i m same = sym (ancestor-none s valid m) ∙ same ∙ ancestor-none s valid i
 
-  -- the same block has one number
+  -- a block has only one number among the covered blocks
   pub covered-one : (h i m k n : ℕ) → ancestor s h m ≡ ancestor s h i → IsCoveredAt s l h i k → IsCoveredAt s l h m n → n ≡ k
   covered-one zero i m k n same here there = (of-data l laid m n there.is).0 ∙ index-same i m same ∙ sym (of-data l laid i k here.is).0
   covered-one (suc g) i m k n same here there =

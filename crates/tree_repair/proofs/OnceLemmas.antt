@@ -59,7 +59,7 @@ module _ (s : ShapeRecord) where
         same = sym here.same ∙ subst (λ (n : ℕ). ancestor s n u.index ≡ ancestor s n is.beside) here.height_is is.same;
       }
 
-  -- one part behind the other
+  -- one part after the other
   pub once-then : (Due First Next : ℕ → ℕ → Type 0) → AreParts s Due First Next → (vs us : List Visit) → AreVisitsDue s First vs → AreVisitsDue s Next us
       → AreVisitedOnce s vs → AreVisitedOnce s us → AreVisitedOnce s (vs ++ us)
   once-then Due First Next parts [] us first next before behind = behind

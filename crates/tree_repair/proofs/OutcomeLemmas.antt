@@ -1,4 +1,4 @@
--- Behind a pass each block stands good, unless one on its way was lost or the hash device failed.
+-- After a pass each block is good, unless one on its way was lost or the hash device failed.
 use Rattle.std.proofs.Common.{◌≡◌, ◌≤◌, ◌<◌, ◌+◌, ◌-◌, ℕ, suc, false, IsTrue, List, [], ◌∷◌, ◌++◌, All, Option, None, Result, Ok, Err, refl, sym, ap, ◌∙◌, subst, arith, inl, inr, ◌⊎◌, add-one}
 use Rattle.std.specs.Prelude.{IsErrAnd, OnOk}
 use Rattle.std.proofs.lemmas.Bool.{cases_lt}
@@ -58,7 +58,7 @@ visited-or s h i (v ∷ more) (inr later) = elim (visited-or s h i more later) [
 
 -- ---- a block that was passed by
 
--- where all hash blocks above it stand good none of them isn't
+-- if all hash blocks above a block are good, none of them is corrupt
 cut-clash : (j : Job) → IsShape j.tree.shape → (h i k : ℕ) (a : RepairWorld) → IsTrue a.hash_dev.steady → ancestor j.tree.shape (h + 1) k ≡ ancestor j.tree.shape (h + 1) i → (cut : IsCutOff j.tree k h a.hash_dev)
     → StandsGood j (suc cut.l) i a → Collide j.tree.salt
 cut-clash j valid h i k a steady beside cut stands =

@@ -1,4 +1,4 @@
--- Blocks brought back by parity are visits of the image.
+-- Blocks restored by parity are visits of the image.
 use Rattle.std.proofs.Common.{◌≡◌, ◌≢◌, ◌≤◌, ◌<◌, ◌+◌, ◌*◌, ◌/◌, ◌^◌, ℕ, zero, suc, refl, sym, ap, ◌∙◌, subst, arith, true, false, Bool, List, Option, Some, None, Result, Ok, Err, IsTrue, inr}
 use Rattle.std.specs.Prelude.{IfErr, IfNone, IfOk, IfSome, IsErrAnd, OnErr}
 use Rattle.std.proofs.lemmas.Bool.{false≢true}

@@ -34,7 +34,7 @@ module _ {w x y : RepairWorld} {p q r : Device} (s : ShapeRecord) (l : Layout) (
   work-next one two =
       work-then s l 0 0 0 0 0 0 (sought_among (take i bs)) (tries_of (get_or bs i b).found) (sought_among (take (i + 1) bs)) refl refl (sym (sum_by_more (λ (c : BadBlock). tries_of c.found) bs i b inside)) one two
 
-  -- and of those behind it nothing is known
+  -- of the blocks after the last one nothing is known
   pub work-last : IsAskedWithin (parity_bill s l 0 0 (sought_among (take i bs))) w x p q → IsAskedWithin (parity_bill s l 0 0 (tries_of (get_or bs i b).found)) x y q r → IsAskedWithin (parity_bill s l 0 0 (sought_among bs)) w y p r
   work-last one two =
       let f : BadBlock → ℕ = λ c. tries_of c.found in
@@ -78,7 +78,7 @@ back-one (suc l) some = omega arith
 pub tells-none : {j : Job} {w x : RepairWorld} {old new : Option (List ℕ)} {fault : Option RepairFault} (h : ℕ) → HasRun j w x old new fault → TellsOfHash j h w x old new fault false
 tells-none h run = record { run = run; came = λ told. absurd (false≢true told) }
 
--- one that didn't, behind a result that hands its fault on
+-- a pass that didn't come to its end, of a result that hands its fault on
 pub tells-from : {j : Job} {w x : RepairWorld} {old new : Option (List ℕ)} {fault : RepairFault} (h : ℕ) (r : Result Bool RepairFault) → IsErrAnd r (λ e. e ≡ fault) → HasRun j w x old new (Some fault) → TellsOfHash j h w x old new (result_err r) (told_of r)
 tells-from h (Ok told) is run = absurd is
 tells-from {j} {w} {x} {old} {new} h (Err e) is run = tells-none h (subst (λ (f : RepairFault). HasRun j w x old new (Some f)) (sym is) run)
@@ -176,7 +176,7 @@ pub runs-from : {j : Job} {l : Layout} {w x : RepairWorld} {p q : Device} {old n
 runs-from (Ok done) is run = absurd is
 runs-from {j} {l} {w} {x} {p} {q} {old} {new} {T} {most} (Err e) is run = subst (λ (f : RepairFault). RunsInPasses j l most w x p q old new (Some f) false) (sym is) run
 
--- the same of one pass, which tells whether one more is due
+-- what holds of a pass that didn't come to its end holds of its result, which also says whether another pass is due
 pub runs-told : {j : Job} {l : Layout} {w x : RepairWorld} {p q : Device} {old new : Option (List ℕ)} {most : ℕ} {fault : RepairFault} (r : Result ParityOutcome RepairFault) → IsErrAnd r (λ e. e ≡ fault) → RunsInPasses j l most w x p q old new (Some fault) false → RunsInPasses j l most w x p q old new (result_err r) (tree_told r)
 runs-told (Ok told) is run = absurd is
 runs-told {j} {l} {w} {x} {p} {q} {old} {new} {most} (Err e) is run = subst (λ (f : RepairFault). RunsInPasses j l most w x p q old new (Some f) false) (sym is) run

@@ -149,7 +149,7 @@ noted-not run same = record {
   flaws = λ end. absurd (true≢false end);
 }
 
--- behind one that did
+-- a part that ended early, after one that came to its end
 pub noted-ends : {j : Job} {Due First Next : ℕ → ℕ → Type 0} {w x y : RepairWorld} {old now new : Option (List ℕ)} {a b c : BadBlocks} {fault : RepairFault} → HasNoted j First w x old now a b None → HasNoted j Next x y now new b c (Some fault) → HasNoted j Due w y old new a c (Some fault)
 noted-ends p q = noted-not (has-then p.run q.run) (q.asked ∙ p.asked)
 
@@ -178,7 +178,7 @@ pass-of {j} {l} {w} {x} {y} {old} {new} {a} {b} {p} {p'} {hash_came} blocks agai
 pub passes-first : {j : Job} {l : Layout} {w w' : RepairWorld} {p p' : Device} {again : Bool} → IsPass j l w w' p p' again → ArePasses j l 0 w w' p p' again
 passes-first {j} {l} {w} {w'} {p} {p'} {again} pass = record { earlier = []; last = w; last_parity = p; before = world-none w; parity_read = parity-none p; due = (world-none w, parity-none p); pass = pass }
 
--- one that was due behind those so far, which are as the run has them
+-- a pass that was due after those so far, which are as the run has them
 pub passes-next : {j : Job} {l : Layout} {n : ℕ} {w x w' : RepairWorld} {p q p' : Device} {old new : Option (List ℕ)} {fault : Option RepairFault} {so_far again : Bool} → HasRun j w x old new fault → IsParityRead p q → ArePasses j l n w x p q so_far → IsTrue so_far → IsPass j l x w' q p' again
     → ArePasses j l (suc n) w w' p p' again
 passes-next {j} {l} {n} {w} {x} {w'} {p} {q} {p'} {old} {new} {fault} {so_far} {again} run read before due pass = record {

@@ -106,7 +106,7 @@ module _ (l : BlockCheck) (bytes : List ℕ) (steady : IsTrue l.old.steady) (ins
       put-length r.between l.first l.w.sectors bytes l.new (steady-then r.read.same steady) (room r.between (r.read.image steady)) l.write r.put ∙ ap length (r.read.image steady)
   look-length mended.Lost found = ap length (lost-image l bytes true found steady)
 
-  -- a block that isn't lost stands there with its digest
+  -- a block that isn't lost is stored there with its digest
   pub look-good : (m : Mended) → IsMended l bytes true m → IsNotLost m → IsTrue l.write → digest l.w.salt (bytes_on_device l.new l.first l.w.sectors) ≡ l.w.digest_is
   look-good mended.Good found kept writes =
       ap (λ (im : List (List ℕ)). digest l.w.salt (concat (run_of im l.first l.w.sectors))) (found.read.image steady) ∙ ap (digest l.w.salt) (sym (found.there.stand steady)) ∙ found.there.good

@@ -1,4 +1,4 @@
--- Which blocks a pass knows as bad, and what stands of the others.
+-- Which blocks a pass knows as bad, and what holds of the others.
 use Rattle.std.proofs.Common.{◌≡◌, ◌<◌, ◌+◌, ◌/◌, ℕ, zero, suc, Bool, true, false, IsTrue, List, [], ◌∷◌, ◌++◌, Option, None, Some, refl, sym, ap, ◌∙◌, subst, arith, inl, inr, ◌⊎◌}
 use Rattle.std.specs.List.{concat, flat_map}
 use Rattle.std.proofs.lemmas.Bool.{cases_Bool}
@@ -104,7 +104,7 @@ visited-or j h i (v ∷ more) w w' (a, (b, (read, (here, rest)))) (inr there) =
       | inr lost ↦ inr (recorded-right j.tree.shape h i false (bad_of j v) (flat_map (bad_of j) more) lost)
     ]
 
--- a block that isn't recorded behind a visit stands good
+-- a block that isn't recorded after a visit is good
 abbrev IsTold : Bool → Mended → Type 0
 IsTold write m = (found : Bool) × (found_of write m ≡ Some found)
 
@@ -149,7 +149,7 @@ module _ (j : Job) (valid : IsShape j.tree.shape) where
   stands-or h i mended.Parity bytes done a b here sure ready = found-stands h i mended.Parity bytes done a b here sure ready tt tt refl
   stands-or h i mended.Lost bytes done a b here sure ready = inr (false, refl)
 
--- ---- covered blocks that stand good
+-- ---- covered blocks that are good
 
 module _ (form : FormedChainsAreGood) (j : Job) (valid : IsShape j.tree.shape) (f : FormerImage) (former : IsFormerOf j.tree f) (l : Layout) (fits : HasTreeSizes j.tree.shape l) where
   module _ (w : RepairWorld) where
@@ -181,7 +181,7 @@ module _ (form : FormedChainsAreGood) (j : Job) (valid : IsShape j.tree.shape) (
     formed-on vs a b runs sure ready (inl is) = runs-kept form j valid f former l fits vs a b runs sure ready k at.inside is
     formed-on vs a b runs sure ready (inr clash) = inr clash
 
-    -- behind visits one that was visited is recorded, or is as it was formatted
+    -- after visits a block that was visited is recorded, or is as it was formatted
     pub visited-formed : (vs : List Visit) (w w' : RepairWorld) → VisitsAll j vs w w' → IsImageUnfailed w w' → IsReady j.tree.shape w → IsVisitedIn j.tree.shape h i vs
         → ((found : Bool) × IsRecordedIn j.tree.shape h i found (flat_map (bad_of j) vs)) ⊎ (IsAsFormed l f w' k ⊎ Collide j.tree.salt)
     visited-formed [] w w' runs sure ready there = absurd there

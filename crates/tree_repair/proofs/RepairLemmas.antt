@@ -49,7 +49,7 @@ pub err-from : {T E : Type 0} (r : Result T E) (P : E → Type 0) (fault : E) �
 err-from (Ok done) P fault is holds = tt
 err-from (Err e) P fault is holds = subst P (sym is) holds
 
--- the same of a result that is known to be a fault
+-- what holds of a fault holds of the result that is known to be that fault
 pub is_err-from : {T E : Type 0} (r : Result T E) (P : E → Type 0) (fault : E) → IsErrAnd r (λ e. e ≡ fault) → P fault → IsErrAnd r P
 is_err-from (Ok done) P fault is holds = absurd is
 is_err-from (Err e) P fault is holds = subst P (sym is) holds

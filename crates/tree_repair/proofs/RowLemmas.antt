@@ -26,7 +26,7 @@ way-along t valid a i h p begins from below way =
       leads = leads-along p a i h (subst (λ (s : ShapeRecord). (m : ℕ) → h < m → ancestor s m a ≡ ancestor s m i) (sym way.is.shape_is) same) way.leads;
     }
 
--- a row behind another
+-- a row after another
 pub row-next : (p h first width blocks end : ℕ) → first % p ^ (h + 1) ≡ 0 → width ≡ min (p ^ (h + 1)) blocks → end ≡ min (first + width) blocks → end < blocks → end % p ^ (h + 1) ≡ 0
 row-next p h first width blocks end begins width_is end_is low =
     let big : ℕ = p ^ (h + 1) in

@@ -1,4 +1,4 @@
--- Runs over blocks, one behind the other.
+-- Runs over blocks, one after the other.
 use Rattle.std.proofs.Common.{◌≡◌, ◌≤◌, ℕ, zero, suc, Bool, true, false, IsTrue, List, [], ◌∷◌, ◌++◌, Option, None, Some, Result, Ok, Err, refl, sym, ap, ◌∙◌, subst, arith}
 use Rattle.std.specs.Prelude.{All, IfSome, IsErrAnd}
 use Rattle.std.specs.List.{flat_map}
@@ -44,7 +44,7 @@ parity-none p = record { read = only_read-none p; more = omega arith }
 pub parity-then : {a b c : Device} → IsParityRead a b → IsParityRead b c → IsParityRead a c
 parity-then p q = record { read = only_read-then p.read q.read; more = omega (arith, p.more, q.more) }
 
--- ---- one behind the other
+-- ---- one run after the other
 
 pub runs-read : (j : Job) (vs : List Visit) (a b c : RepairWorld) → IsWorldRead a b → VisitsAll j vs b c → VisitsAll j vs a c
 runs-read j [] a b c read runs = world-then a b c read runs
@@ -60,7 +60,7 @@ has-none {j} {w} {old} = record { visits = []; runs = world-none w; done = λ en
 abbrev pub has-read : {j : Job} {a b : RepairWorld} {old : Option (List ℕ)} → IsWorldRead a b → HasRun j a b old old None
 has-read {j} {a} {b} {old} read = record { visits = []; runs = read; done = λ end. All-nil IsDone; printed = λ end. Appends-nil old; cause = tt }
 
--- a cause is one behind visits of which no write failed
+-- a cause stays one after visits of which no write failed
 pub cause-then : (vs us : List Visit) (fault : Option RepairFault) → All IsDone vs → IfSome fault (IsEndCause us) → IfSome fault (IsEndCause (vs ++ us))
 cause-then vs us None before cause = tt
 cause-then vs us (Some (Image (Super f))) before cause = absurd cause
@@ -87,7 +87,7 @@ has-then {j} {a} {b} {c} {old} {now} {new} {fault} p q = record {
   cause = cause-then p.visits q.visits fault (p.done refl) q.cause;
 }
 
--- one behind a reading
+-- a run after a reading
 abbrev pub has-behind : {j : Job} {a b c : RepairWorld} {old new : Option (List ℕ)} {fault : Option RepairFault} → IsWorldRead a b → HasRun j b c old new fault → HasRun j a c old new fault
 has-behind {j} {a} {b} {c} read run = record { visits = run.visits; runs = runs-read j run.visits a b c read run.runs; done = run.done; printed = run.printed; cause = run.cause }
 
@@ -103,11 +103,11 @@ refused-within n few refused = (n, few, refused)
 pub memory-within : (n : ℕ) → n ≤ largest_allocation → IsOutOfMemory n → IsOutOfMemory largest_allocation
 memory-within n few memory = (memory.0, omega (arith, memory.1, few), memory.2)
 
--- a reading behind which an allocation was refused
+-- a reading after which an allocation was refused
 pub ends-read : {j : Job} {a b : RepairWorld} {old new : Option (List ℕ)} → IsWorldRead a b → IsOutOfMemory largest_allocation → HasRun j a b old new (Some (Image NoMemory))
 ends-read read memory = record { visits = []; runs = read; done = λ end. absurd (true≢false end); printed = λ end. absurd (true≢false end); cause = (All-nil IsDone, memory) }
 
--- the same, if what was refused is this fault's cause
+-- a run that ends after a reading, by the fault that a refused allocation gives
 pub ends-refused : {j : Job} {a b : RepairWorld} {old new : Option (List ℕ)} (fault : RepairFault) → IsRefusal fault → IsWorldRead a b → HasRun j a b old new (Some fault)
 ends-refused {j} {a} {b} {old} {new} fault refused read = subst (λ (f : RepairFault). HasRun j a b old new (Some f)) (sym refused.0) (ends-read read refused.1)
 

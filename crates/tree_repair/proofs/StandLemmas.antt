@@ -1,4 +1,4 @@
--- A block that a visit left good stands good behind all later visits.
+-- A block that a visit left good is good after all later visits.
 use Rattle.std.proofs.Common.{◌≡◌, ◌≤◌, ◌<◌, ◌+◌, ◌/◌, ℕ, zero, suc, Bool, true, IsTrue, List, [], ◌∷◌, All, length, refl, sym, ap, ◌∙◌, subst, arith, inl, inr, ◌⊎◌}
 use Rattle.std.specs.List.{concat}
 use Rattle.std.proofs.lemmas.List.Elements.{All-head, All-tail}
@@ -72,7 +72,7 @@ module _ (j : Job) (valid : IsShape j.tree.shape) where
   stands-same : (h i g k : ℕ) (w : RepairWorld) → IsSamePlace j.tree.shape h i g k → StandsGood j g k w → StandsGood j h i w
   stands-same h i g k w same stands = stands-beside h i k w same.1 (subst (λ (n : ℕ). StandsGood j n k w) same.0 stands)
 
--- the same bytes
+-- a block stays good if its bytes stay the same
 pub stands-as : (j : Job) (h i : ℕ) (a b : RepairWorld) → standing_bytes j h i b ≡ standing_bytes j h i a → StandsGood j h i a → StandsGood j h i b
 stands-as j h i a b same stands = record { p = stands.p; way = stands.way; good = ap (digest j.tree.salt) same ∙ stands.good }
 
@@ -86,7 +86,7 @@ module _ (j : Job) (p : PathRecord) (bytes : List ℕ) (a b : RepairWorld) (read
   place-room : (g k : ℕ) → IsPlace j.tree.shape g k → sector_at j.tree.shape g k + size_at j.tree.shape g / 512 ≤ length (own g a).image
   place-room g k place = omega (arith, place-inside j.tree.shape g k place, (own-ready j.tree.shape g a ready).room)
 
-  -- the block stands good, unless it is lost
+  -- the block is good, unless it is lost
   own-stands : (g k : ℕ) (m : Mended) → IsTrue j.write → IsPlace j.tree.shape g k → IsWay j.tree k g p → IsMended (look_at j p g k a b) bytes true m → IsNotLost m → StandsGood j g k b
   own-stands g k m write place way looked kept = record {
     p = p;
@@ -149,7 +149,7 @@ module _ (j : Job) (valid : IsShape j.tree.shape) (write : IsTrue j.write) where
     visit-stands : IsNotLost v.mended → StandsGood j v.height v.index b
     visit-stands kept = own-stands j here.p v.bytes a b ready v.height v.index v.mended write place here.way looked kept
 
-    -- what stands good stays so
+    -- what is good stays so
     visit-keeps : (h i : ℕ) → IsPlace j.tree.shape h i → StandsGood j h i a → StandsGood j h i b
     visit-keeps h i at stands = elim (lost-or v.mended) [
       | inl lost ↦

@@ -55,7 +55,7 @@ look-sure l bytes done mended.Parity found none steady =
     ]
 look-sure l bytes done mended.Lost found none steady = inl (lost-image l bytes done found steady)
 
--- ---- what stands on both devices
+-- ---- what is stored on both devices
 
 pub record HaveSameImages (a b : RepairWorld) : Type 0 where
   pub data_same : b.data_dev.image ≡ a.data_dev.image
@@ -86,7 +86,7 @@ other-steady s (suc l) w ready = ready.data_ready.steady
 
 module _ (j : Job) (valid : IsShape j.tree.shape) where
   module _ (v : Visit) (a b : RepairWorld) (here : IsVisited j v a b) (sure : IsImageUnfailed a b) (ready : IsReady j.tree.shape a) where
-    -- leaves both devices as they are, or its block was written, and stands good
+    -- leaves both devices as they are, or its block was written, and is good
     visit-sure : HaveSameImages a b ⊎ (IsTrue j.write × ((v.done ≡ true) × IsNotLost v.mended))
     visit-sure =
         elim (look-sure (look_at j here.p v.height v.index a b) v.bytes v.done v.mended here.mended_as (own-sure v.height a b sure) (own-steady j.tree.shape v.height a ready)) [

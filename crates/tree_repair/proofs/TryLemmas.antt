@@ -26,7 +26,7 @@ pub made-or : (j : Job) (p : PathRecord) (h i : ℕ) (t : Trial) (k : ℕ) (byte
 made-or j p h i t k bytes true at made is = tt
 made-or j p h i t k bytes false at made is = λ place. inr (k, (at, inr (record { bytes = bytes; other = is_same-cases (digest j.tree.salt bytes) (digest_on p i h) false is; made = made })))
 
--- what was put came back, or stands there
+-- what was written came back, or is there
 pub tried-placed : {E : Type 0} (j : Job) (h i : ℕ) (l : Layout) (lost : List ℕ) (w a w' : RepairWorld) (p p' : Device) (bytes : List ℕ) (r : Result Bool E) → IsWorldRead w a → IsParityRead p p' → IfOk r (IsPlacedAndRead j h i bytes a w')
     → IfOk r (IsTried j h i (trial l lost w w' p p'))
 tried-placed j h i l lost w a w' p p' bytes (Ok true) read parity placed = (record { between = a; read = read; bytes = bytes; behind = placed.0; visited = placed.1.0; read_back = placed.1.1 }, parity)

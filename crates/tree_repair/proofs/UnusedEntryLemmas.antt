@@ -23,7 +23,7 @@ zeros-all : (n : ℕ) → list_all (λ b. b == 0) (replicate n 0) ≡ true
 zeros-all zero = refl
 zeros-all (suc n) = zeros-all n
 
--- what zeros are put behind ends in zeros
+-- what zeros are appended to ends in zeros
 filled-zero : (n size : ℕ) (bytes : List ℕ) → length bytes ≡ n → list_all (λ b. b == 0) (drop n (bytes ++ replicate size 0)) ≡ true
 filled-zero n size bytes count = ap (list_all (λ b. b == 0)) (drop_at bytes (replicate size 0) n count) ∙ zeros-all size
 

@@ -13,7 +13,7 @@ use Rattle.tree_repair.proofs.RunLemmas.{parity-none, parity-then, runs-then, wo
 
 -- ---- one of them
 
--- it was sought from one world to another, behind visits and before others
+-- it was sought from one world to another, after visits and before others
 pub record IsTriedIn (j : Job) (l : Layout) (lost : List ℕ) (h i : ℕ) (w w' : RepairWorld) (p p' : Device) : Type 0 where
   pub beside : ℕ
   pub inside : beside < j.tree.shape.blocks

@@ -1,4 +1,4 @@
--- A data block stands good where it and all hash blocks above it do, each by a way of its own.
+-- A data block is good if it and all hash blocks above it are, each by a way of its own.
 use Rattle.std.proofs.Common.{◌≡◌, ◌≤◌, ◌<◌, ◌+◌, ◌-◌, ℕ, zero, suc, List, None, refl, sym, ap, ◌∙◌, subst, arith, inl, inr, ◌⊎◌, add-one}
 use Rattle.std.proofs.lemmas.Bool.{cases_lt}
 use Rattle.tree_shape.specs.Digests.{digest}
@@ -44,7 +44,7 @@ module _ (t : Tree) (i : ℕ) (p q : PathRecord) where
   pub ways-agree : (h : ℕ) → IsWay t i h p → IsWay t i h q → (digest_on p i h ≡ digest_on q i h) ⊎ Collide t.salt
   ways-agree h way way' = agree (levels t.shape - h) h (omega (arith, way.few)) way way'
 
--- the digest to which a way leads stands there, where its block does
+-- the digest to which a way leads is stored where its block is stored
 stored-by : (t : Tree) (p : PathRecord) (image : List (List ℕ)) (i h : ℕ) → IsWay t i h p → (h < levels t.shape → block_of p h ≡ stored_block t.shape image h i) → digest_on p i h ≡ stored_digest t.shape t.root image i h
 stored-by t p image i h way same =
     digest_on-stored p image i h (omega (arith, way.few, ap levels way.is.shape_is))
@@ -66,7 +66,7 @@ each-or P C (suc n) each = elim (each-or P C n (λ l low. each l (omega (arith, 
   ]
 ]
 
--- ---- blocks that all stand good
+-- ---- blocks that all are good
 
 data-block : (j : Job) (i : ℕ) (w : RepairWorld) → block_at w.data_dev.image j.tree.shape.data_block i ≡ standing_bytes j zero i w
 unfolding block_at
@@ -77,7 +77,7 @@ unfolding block_at
 hash-block j l i w = refl
 
 module _ (j : Job) (i : ℕ) (w : RepairWorld) (all : (h : ℕ) → h ≤ levels j.tree.shape → StandsGood j h i w) where
-  -- the hash block that stands there is that of the way to it
+  -- the hash block that is stored is that of the way to it
   block-stands : (l : ℕ) (few : l ≤ levels j.tree.shape) → l < levels j.tree.shape → (block_of (all l few).p l ≡ stored_block j.tree.shape w.hash_dev.image l i) ⊎ Collide j.tree.salt
   block-stands l few low =
       let t = j.tree in
@@ -92,7 +92,7 @@ module _ (j : Job) (i : ℕ) (w : RepairWorld) (all : (h : ℕ) → h ≤ levels
             (way-block t i l here.p here.way low ∙ ap (digest_on here.p i) up ∙ same ∙ sym above.good ∙ ap (digest t.salt) (sym (hash-block j l i w)))
       ]
 
-  -- the digest to which the way leads stands there
+  -- the digest to which the way leads is the stored one
   digest-stands : (h : ℕ) (few : h ≤ levels j.tree.shape) → (digest_on (all h few).p i h ≡ stored_digest j.tree.shape j.tree.root w.hash_dev.image i h) ⊎ Collide j.tree.salt
   digest-stands h few = elim (cases_lt h (levels j.tree.shape)) [
     | inl low ↦ elim (block-stands h few low) [

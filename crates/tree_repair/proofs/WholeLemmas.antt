@@ -1,4 +1,4 @@
--- Where all blocks were visited, and each was good behind its visit, all stand good behind the run.
+-- If all blocks were visited, and each was good after its visit, all are good after the run.
 use Rattle.std.proofs.Common.{◌≡◌, ◌≤◌, ◌<◌, ◌/◌, ℕ, zero, suc, Bool, true, false, IsTrue, List, [], ◌∷◌, ◌++◌, All, Option, None, refl, sym, ap, ◌∙◌, subst, arith, inl, inr, ◌⊎◌}
 use Rattle.std.specs.Prelude.{◌||◌, ◌&&◌, not}
 use Rattle.std.specs.List.{concat}
@@ -139,7 +139,7 @@ module _ (j : Job) (valid : IsShape j.tree.shape) (never : j.write ≡ false) wh
   held-stands h i a b held steady stands =
       stands-as j h i a b (ap (λ (im : List (List ℕ)). concat (run_of im (sector_at j.tree.shape h i) (size_at j.tree.shape h / 512))) (own-held h a b held steady)) stands
 
-  -- a block that was found good stood there
+  -- a block that was found good was stored there
   found-stands : (v : Visit) (a b : RepairWorld) → IsVisited j v a b → v.mended ≡ mended.Good → AreBothSteady a → StandsGood j v.height v.index a
   found-stands v a b here is steady =
       let found = subst (λ (m : Mended). IsMended (look_at j here.p v.height v.index a b) v.bytes v.done m) is here.mended_as in
@@ -193,7 +193,7 @@ all-good-of plan parity w w' vs lies runs done each unfailed = record {
       all-stored (job_of plan parity) vs w w' runs done (record { valid = lies.valid; steady = steady; data_fits = lies.data_fits; tree_fits = lies.tree_fits }) i inside (λ h few. each h i few inside);
 }
 
--- ---- what is known behind a pass
+-- ---- what is known after a pass
 
 pub outcome-by : (good sure : Bool) (n : ℕ) (P : Outcome → Type 0) → (IsTrue good → IsTrue sure → P (Whole n)) → ((good ≡ false) ⊎ (sure ≡ false) → P Partly) → P (pass_outcome (good && sure) n)
 outcome-by true true n P all partly = all refl refl

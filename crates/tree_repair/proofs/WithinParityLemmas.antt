@@ -1,4 +1,4 @@
--- What is lost behind the last pass is past what parity can bring back.
+-- What is lost after the last pass is past what parity can restore.
 use Rattle.std.proofs.Common.{◌≡◌, ◌≤◌, ◌<◌, ◌+◌, ℕ, zero, suc, true, false, Bool, IsTrue, List, [], ◌++◌, sym, ap, ◌∙◌, subst, arith, inl, inr, ◌⊎◌}
 use Rattle.std.specs.List.{flat_map}
 use Rattle.block_device.specs.Device.{Device}

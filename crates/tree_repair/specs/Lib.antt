@@ -2,8 +2,10 @@ pub mod Sources
 pub mod Worlds
 pub mod Mending
 pub mod BlockChecks
+pub mod RepairCalls
 pub mod Remaking
 pub mod Runs
+pub mod RunCalls
 pub mod Jobs
 pub mod StoredTrees
 pub mod Visits

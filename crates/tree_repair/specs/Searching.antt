@@ -1,6 +1,7 @@
 -- What functions that restore blocks by parity state of their arguments: the image and the parity before and after; `state`
 -- gives the parity device.
 use Rattle.std.specs.Prelude.{ℕ, Bool, false, IfOk, List, OnErr, OnOk, Option, Result}
+use Rattle.block_device.specs.Call.{Call}
 use Rattle.block_device.specs.Device.{Device}
 use Rattle.program_io.specs.Counted.{CountedRecord}
 use Rattle.fec_area.specs.declared.layout.Layout.{Layout}
@@ -17,10 +18,11 @@ use Rattle.tree_repair.specs.Mending.{IsBlockReplaced}
 use Rattle.tree_repair.specs.Parity.{FailsToPlace, IsNotBack, IsPlace, IsPlaced, IsPlacedAndRead, IsPutOr}
 use Rattle.tree_repair.specs.ParityBounds.{IsAskedWithin, IsMadeWithin, ParityBill, RunsInAll, RunsInOne, TellsBack, parity_bill, sought_among, tries_of}
 use Rattle.tree_repair.specs.Passes.{EndsInPass, IsPass}
+use Rattle.tree_repair.specs.RepairCalls.{HandsTo, IsPlaceWrite}
 use Rattle.tree_repair.specs.Runs.{size_at}
 use Rattle.tree_repair.specs.Sources.{due}
 use Rattle.tree_repair.specs.ParitySearches.{HasSought, IsMadeOrVain, IsSought, IsTried, Trial, trial}
-use Rattle.tree_repair.specs.Worlds.{RepairWorld}
+use Rattle.tree_repair.specs.Worlds.{ImageRecord, RepairWorld}
 
 -- ---- how often devices are accessed
 
@@ -95,6 +97,10 @@ IsMissingRead m bytes w w' put = IsPlacedAndRead (job m.repair.now) m.place.heig
 -- the block's bytes can't be written
 abbrev pub FailsToPutMissing : Missing → List ℕ → RepairWorld → RepairWorld → Type 0
 FailsToPutMissing m bytes w w' = FailsToPlace (job m.repair.now) m.place.height m.place.index bytes w w'
+
+-- the calls for the block: its device was read, and at most one write of its valid bytes was made there
+abbrev pub HandsMissing : {D H : Type 0} → (D → Call → D → Type 0) → (H → Call → H → Type 0) → Missing → Bool → ImageRecord D H → ImageRecord D H → Type 0
+HandsMissing asks does m done i i' = HandsTo asks does m.place.height (IsPlaceWrite (job m.repair.now) m.path.now m.place.height m.place.index) done i i'
 
 -- the block is sought by parity
 abbrev pub TriesMissing : {P E : Type 0} → (P → Device) → Missing → Losses → RepairWorld → RepairWorld → P → P → Result Bool E → Type 0

@@ -19,6 +19,18 @@ pub record RepairWorld : Type 0 where
 abbrev pub repair_world : Device → Device → List Device → List Device → RepairWorld
 repair_world data_dev hash_dev data_copies hash_copies = record { data_dev = data_dev; hash_dev = hash_dev; data_copies = data_copies; hash_copies = hash_copies }
 
+-- the devices of an image and their states: clauses on states name the world, clauses on calls the devices
+pub record ImageRecord (D H : Type 0) : Type 0 where
+  pub world : RepairWorld
+  pub data_dev : D
+  pub hash_dev : H
+
+abbrev pub image_record : {D H : Type 0} → RepairWorld → D → H → ImageRecord D H
+image_record world data_dev hash_dev = record { world = world; data_dev = data_dev; hash_dev = hash_dev }
+
+abbrev pub world_of : {D H : Type 0} → ImageRecord D H → RepairWorld
+world_of image = image.world
+
 -- all devices were only read, and the failure counters of the data device and the hash device didn't decrease
 pub record IsWorldRead (w w' : RepairWorld) : Type 0 where
   pub data_read : IsOnlyRead w.data_dev w'.data_dev

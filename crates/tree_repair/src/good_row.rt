@@ -1,5 +1,6 @@
 //! Verifies whole rows of data blocks at once.
-ghost use Rattle.std.specs.Prelude.{◌≤◌, ◌<◌, ◌+◌, ◌-◌, ◌*◌, ◌/◌, ◌^◌, IfSome, IsTrue, length};
+ghost use Rattle.std.specs.Prelude.{◌≤◌, ◌<◌, ◌+◌, ◌-◌, ◌*◌, ◌/◌, ◌^◌, true, IfSome, IsTrue, length};
+ghost use Rattle.block_device.specs.Call.{DeviceDoes};
 ghost use Rattle.tree_shape.specs.Shape.{IsShape};
 ghost use Rattle.tree_survey.specs.Pieces.{LieOnDevice, IsRunRead};
 ghost use Rattle.verity_format.specs.Blocks.{IsOnlyRead};
@@ -8,6 +9,7 @@ ghost use Rattle.tree_path.specs.Steps.{HasReadAtMost};
 ghost use Rattle.tree_repair.specs.AccessBudgets.{LeavesWorld, ReadsData, nothing_due, piece_of, row_reads};
 ghost use Rattle.tree_repair.specs.Coverage.{AreDigestsOn, AreGoodFrom, AreGoodInRow, IsGoodRow};
 ghost use Rattle.tree_repair.specs.Jobs.{job};
+ghost use Rattle.tree_repair.specs.RepairCalls.{HandsToData, IsNoWrite, MakesRepairCalls};
 ghost use Rattle.tree_repair.specs.Worlds.{IsWorldRead};
 
 use crate::image::DamagedImage;
@@ -31,11 +33,12 @@ pub(crate) fn is_good_row<D: BlockDev, H: BlockDev, C: BlockDev>(
 ) -> bool
     requires valid { IsShape repair.now.shape }
     requires inside { row.end ≤ repair.now.shape.blocks }
-    requires fits { data_sectors repair.now.shape ≤ image.old.data_dev.size }
+    requires fits { data_sectors repair.now.shape ≤ image.old.world.data_dev.size }
     requires room { 65536 ≤ length memory.old }
-    ensures read { IsWorldRead image.old image.new }
-    ensures good { IsTrue result → IsGoodRow (job repair.now) path.now row image.old.data_dev }
-    ensures asked { LeavesWorld (row_reads repair.now.shape row) nothing_due image.old image.new }
+    ensures read { IsWorldRead image.old.world image.new.world }
+    ensures good { IsTrue result → IsGoodRow (job repair.now) path.now row image.old.world.data_dev }
+    ensures asked { LeavesWorld (row_reads repair.now.shape row) nothing_due image.old.world image.new.world }
+    ensures called { HandsToData (DeviceDoes D.state D.does) IsNoWrite true image.old image.new }
 {
     if row.height > 0 {
         return false;
@@ -59,6 +62,7 @@ fn are_good<D: BlockDev>(
     ensures good { IsTrue result → AreGoodInRow (job repair.now) path.now row (D.state data_dev.old) }
     ensures asked { ReadsData D.state repair.now.shape (row.end - row.first) data_dev.old data_dev.new }
     ensures counted { (D.state data_dev.old).failures ≤ (D.state data_dev.new).failures }
+    ensures called { MakesRepairCalls (DeviceDoes D.state D.does) IsNoWrite true data_dev.old data_dev.new }
 {
     let mut index = row.first;
     'pieces: while index < row.end {
@@ -90,6 +94,7 @@ fn good_piece<D: BlockDev>(
     ensures good { IfSome result (AreGoodFrom (job repair.now) path.now (D.state data_dev.old) first) }
     ensures asked { ReadsData D.state repair.now.shape (piece_of (end - first) result) data_dev.old data_dev.new }
     ensures counted { (D.state data_dev.old).failures ≤ (D.state data_dev.new).failures }
+    ensures called { MakesRepairCalls (DeviceDoes D.state D.does) IsNoWrite true data_dev.old data_dev.new }
 {
     let size = repair.shape.data_block() as usize;
     let count = (end - first).min((ROOM / size) as u64);
@@ -120,6 +125,7 @@ fn read_run<D: BlockDev>(
     ensures good { IsTrue result → IsRunRead (D.state device.old) salt.now size first digests.new (D.state device.new) }
     ensures asked { HasReadAtMost (D.state device.old) (length digests.old * (size / 512)) (D.state device.new) }
     ensures counted { (D.state device.old).failures ≤ (D.state device.new).failures }
+    ensures called { MakesRepairCalls (DeviceDoes D.state D.does) IsNoWrite true device.old device.new }
 {
     match device.read(first * (size / 512) as u64, run) {
         Ok(()) => {

@@ -13,9 +13,9 @@ pub struct DamagedImage<D: BlockDev, H: BlockDev, C: BlockDev> {
 
 impl<D: BlockDev, H: BlockDev, C: BlockDev> Model for DamagedImage<D, H, C> {
     ghost use Rattle.std.specs.Prelude.{map};
-    ghost use Rattle.tree_repair.specs.Worlds.{RepairWorld, repair_world};
+    ghost use Rattle.tree_repair.specs.Worlds.{ImageRecord, image_record, repair_world};
 
-    ghost Value = { RepairWorld };
+    ghost Value = { ImageRecord D H };
 
-    ghost view = { λ i. repair_world (D.state i.data) (H.state i.hash) (map C.state i.data_copies.items) (map C.state i.hash_copies.items) };
+    ghost view = { λ i. image_record (repair_world (D.state i.data) (H.state i.hash) (map C.state i.data_copies.items) (map C.state i.hash_copies.items)) i.data i.hash };
 }

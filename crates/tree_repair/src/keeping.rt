@@ -1,10 +1,12 @@
 //! Reads blocks back after they were written.
 ghost use Rattle.std.specs.Prelude.{◌≡◌, ◌≤◌, ◌<◌, ◌&&◌, true, length};
+ghost use Rattle.block_device.specs.Call.{DeviceDoes};
 ghost use Rattle.tree_survey.specs.Surveys.{IsWay};
 ghost use Rattle.tree_repair.specs.AccessBudgets.{LeavesWorld, block_read, nothing_due};
 ghost use Rattle.tree_repair.specs.Flaws.{IsReadOr};
 ghost use Rattle.tree_repair.specs.Jobs.{job};
 ghost use Rattle.tree_repair.specs.Noting.{was_put};
+ghost use Rattle.tree_repair.specs.RepairCalls.{ReadsAt};
 ghost use Rattle.tree_repair.specs.Runs.{CanRun, size_at};
 ghost use Rattle.tree_repair.specs.Worlds.{IsWorldRead};
 
@@ -25,13 +27,14 @@ pub(crate) fn is_kept<D: BlockDev, H: BlockDev, C: BlockDev>(
     image: &mut DamagedImage<D, H, C>,
     memory: &mut [u8],
 ) -> bool
-    requires can { CanRun (job repair.now) image.old }
+    requires can { CanRun (job repair.now) image.old.world }
     requires inside { place.index < repair.now.shape.blocks }
     requires way { IsWay (job repair.now).tree place.index place.height path.now }
     requires room { size_at repair.now.shape place.height ≤ length memory.old }
-    ensures read { IsWorldRead image.old image.new }
-    ensures kept { IsReadOr (job repair.now) place.height place.index (was_put repair.now.write mended) image.old image.new result }
-    ensures asked { LeavesWorld (block_read repair.now.shape place.height) nothing_due image.old image.new }
+    ensures read { IsWorldRead image.old.world image.new.world }
+    ensures kept { IsReadOr (job repair.now) place.height place.index (was_put repair.now.write mended) image.old.world image.new.world result }
+    ensures asked { LeavesWorld (block_read repair.now.shape place.height) nothing_due image.old.world image.new.world }
+    ensures called { ReadsAt (DeviceDoes D.state D.does) (DeviceDoes H.state H.does) place.height image.old image.new }
 {
     if !was_put(mended, repair.write) {
         return true;
@@ -47,13 +50,14 @@ fn is_read_back<D: BlockDev, H: BlockDev, C: BlockDev>(
     image: &mut DamagedImage<D, H, C>,
     memory: &mut [u8],
 ) -> bool
-    requires can { CanRun (job repair.now) image.old }
+    requires can { CanRun (job repair.now) image.old.world }
     requires inside { place.index < repair.now.shape.blocks }
     requires way { IsWay (job repair.now).tree place.index place.height path.now }
     requires room { size_at repair.now.shape place.height ≤ length memory.old }
-    ensures read { IsWorldRead image.old image.new }
-    ensures kept { IsReadOr (job repair.now) place.height place.index true image.old image.new result }
-    ensures asked { LeavesWorld (block_read repair.now.shape place.height) nothing_due image.old image.new }
+    ensures read { IsWorldRead image.old.world image.new.world }
+    ensures kept { IsReadOr (job repair.now) place.height place.index true image.old.world image.new.world result }
+    ensures asked { LeavesWorld (block_read repair.now.shape place.height) nothing_due image.old.world image.new.world }
+    ensures called { ReadsAt (DeviceDoes D.state D.does) (DeviceDoes H.state H.does) place.height image.old image.new }
 {
     let Place { height, index } = place;
     let size = block_size(&repair.shape, height);

@@ -1,6 +1,7 @@
 //! Repairs the blocks of a height, row by row.
 ghost use Rattle.std.specs.Prelude.{◌≡◌, ◌<◌, ◌≤◌, false, IfOk, OnOk, OnErr, length, IfErr};
 ghost use Rattle.allocation.specs.Refusal.{IsOutOfMemory};
+ghost use Rattle.block_device.specs.Call.{DeviceDoes};
 ghost use Rattle.tree_shape.specs.Shape.{levels};
 ghost use Rattle.tree_survey.specs.Surveys.{IsWay};
 ghost use Rattle.tree_path.specs.Path.{largest_block};
@@ -9,6 +10,8 @@ ghost use Rattle.tree_repair.specs.AccessBudgets.{LeavesWorld, LeavesChecked, Le
 ghost use Rattle.tree_repair.specs.Jobs.{IsRow, job};
 ghost use Rattle.tree_repair.specs.ParityBounds.{LeavesNoted, NotesInHeight, NotesInRow};
 ghost use Rattle.tree_repair.specs.Notes.{NotesAt, NotesHeight, NotesRow};
+ghost use Rattle.tree_repair.specs.RepairCalls.{wrote_all};
+ghost use Rattle.tree_repair.specs.RunCalls.{MakesRepair};
 ghost use Rattle.tree_repair.specs.Runs.{CanRun, IsWriterCause};
 ghost use Rattle.tree_repair.specs.ParitySearches.{IsOfTree};
 ghost use Rattle.tree_repair.specs.Visits.{IsBlockKept};
@@ -40,14 +43,15 @@ pub(crate) fn repair_height<D: BlockDev, H: BlockDev, C: BlockDev, W: Write>(
     bad: &mut BadBlocks,
     writer: &mut Counted<W>,
 ) -> Result<(), RepairFault>
-    requires can { CanRun (job repair.now) image.old }
+    requires can { CanRun (job repair.now) image.old.world }
     requires height { height ≤ levels repair.now.shape }
     requires few { height ≤ 14 }
     requires room { 65536 ≤ length memory.old }
-    ensures notes { NotesHeight W.contents repair.now height image.old image.new bad.old bad.new writer.old writer.new result }
+    ensures notes { NotesHeight W.contents repair.now height image.old.world image.new.world bad.old bad.new writer.old writer.new result }
     ensures told { IfErr result (IsWriterCause writer.new) }
-    ensures asked { LeavesHeight repair.now.shape height image.old image.new }
+    ensures asked { LeavesHeight repair.now.shape height image.old.world image.new.world }
     ensures few { OnOk result (NotesInHeight repair.now.shape height bad.old bad.new) }
+    ensures handed { MakesRepair (DeviceDoes D.state D.does) (DeviceDoes H.state H.does) (job repair.now) (wrote_all result) image.old image.new }
 {
     let blocks = repair.shape.blocks();
     let width = span(&repair.shape, height + 1, blocks);
@@ -79,15 +83,16 @@ fn repair_row<D: BlockDev, H: BlockDev, C: BlockDev, W: Write>(
     writer: &mut Counted<W>,
 ) -> Result<(), RepairFault>
     requires tree { IsOfTree (job repair.now).tree last_path.old.path }
-    requires can { CanRun (job repair.now) image.old }
+    requires can { CanRun (job repair.now) image.old.world }
     requires row { IsRow repair.now.shape row }
     requires some { row.first < repair.now.shape.blocks }
     requires room { 65536 ≤ length memory.old }
-    ensures notes { NotesRow W.contents repair.now row image.old image.new bad.old bad.new writer.old writer.new result }
+    ensures notes { NotesRow W.contents repair.now row image.old.world image.new.world bad.old bad.new writer.old writer.new result }
     ensures told { IfErr result (IsWriterCause writer.new) }
-    ensures asked { LeavesRow height_over repair.now.shape row image.old image.new }
+    ensures asked { LeavesRow height_over repair.now.shape row image.old.world image.new.world }
     ensures tree { IsOfTree (job repair.now).tree last_path.new.path }
     ensures few { OnOk result (NotesInRow repair.now.shape row bad.old bad.new) }
+    ensures handed { MakesRepair (DeviceDoes D.state D.does) (DeviceDoes H.state H.does) (job repair.now) (wrote_all result) image.old image.new }
 {
     if !last_path.reach(repair, image, row.first, row.height) {
         bad.pass_by();
@@ -106,14 +111,15 @@ fn repair_unless_good<D: BlockDev, H: BlockDev, C: BlockDev, W: Write>(
     bad: &mut BadBlocks,
     writer: &mut Counted<W>,
 ) -> Result<(), RepairFault>
-    requires can { CanRun (job repair.now) image.old }
+    requires can { CanRun (job repair.now) image.old.world }
     requires row { IsRow repair.now.shape row }
     requires way { IsWay (job repair.now).tree row.first row.height path.now }
     requires room { 65536 ≤ length memory.old }
-    ensures notes { NotesRow W.contents repair.now row image.old image.new bad.old bad.new writer.old writer.new result }
+    ensures notes { NotesRow W.contents repair.now row image.old.world image.new.world bad.old bad.new writer.old writer.new result }
     ensures told { IfErr result (IsWriterCause writer.new) }
-    ensures asked { LeavesRow rows_over repair.now.shape row image.old image.new }
+    ensures asked { LeavesRow rows_over repair.now.shape row image.old.world image.new.world }
     ensures few { OnOk result (NotesInRow repair.now.shape row bad.old bad.new) }
+    ensures handed { MakesRepair (DeviceDoes D.state D.does) (DeviceDoes H.state H.does) (job repair.now) (wrote_all result) image.old image.new }
 {
     if is_good_row(path, repair, row, image, memory) {
         return Ok(());
@@ -131,14 +137,15 @@ fn repair_blocks<D: BlockDev, H: BlockDev, C: BlockDev, W: Write>(
     bad: &mut BadBlocks,
     writer: &mut Counted<W>,
 ) -> Result<(), RepairFault>
-    requires can { CanRun (job repair.now) image.old }
+    requires can { CanRun (job repair.now) image.old.world }
     requires row { IsRow repair.now.shape row }
     requires way { IsWay (job repair.now).tree row.first row.height path.now }
     requires room { 65536 ≤ length memory.old }
-    ensures notes { NotesRow W.contents repair.now row image.old image.new bad.old bad.new writer.old writer.new result }
+    ensures notes { NotesRow W.contents repair.now row image.old.world image.new.world bad.old bad.new writer.old writer.new result }
     ensures told { IfErr result (IsWriterCause writer.new) }
-    ensures asked { LeavesRow checks_over repair.now.shape row image.old image.new }
+    ensures asked { LeavesRow checks_over repair.now.shape row image.old.world image.new.world }
     ensures few { OnOk result (NotesInRow repair.now.shape row bad.old bad.new) }
+    ensures handed { MakesRepair (DeviceDoes D.state D.does) (DeviceDoes H.state H.does) (job repair.now) (wrote_all result) image.old image.new }
 {
     let Row {
         height,
@@ -165,15 +172,16 @@ fn repair_block<D: BlockDev, H: BlockDev, C: BlockDev, W: Write>(
     bad: &mut BadBlocks,
     writer: &mut Counted<W>,
 ) -> Result<(), RepairFault>
-    requires can { CanRun (job repair.now) image.old }
+    requires can { CanRun (job repair.now) image.old.world }
     requires inside { place.index < repair.now.shape.blocks }
     requires way { IsWay (job repair.now).tree place.index place.height path.now }
     requires room { 65536 ≤ length memory.old }
-    ensures notes { NotesAt W.contents repair.now place image.old image.new bad.old bad.new writer.old writer.new result }
+    ensures notes { NotesAt W.contents repair.now place image.old.world image.new.world bad.old bad.new writer.old writer.new result }
     ensures told { IfErr result (IsWriterCause writer.new) }
-    ensures kept { OnOk result (bad.new.unkept ≡ false → IsBlockKept (job repair.now) place.height place.index image.old image.new) }
-    ensures asked { LeavesChecked repair.now.shape place.height place.index image.old image.new }
+    ensures kept { OnOk result (bad.new.unkept ≡ false → IsBlockKept (job repair.now) place.height place.index image.old.world image.new.world) }
+    ensures asked { LeavesChecked repair.now.shape place.height place.index image.old.world image.new.world }
     ensures few { OnOk result (LeavesNoted 1 0 bad.old bad.new) }
+    ensures handed { MakesRepair (DeviceDoes D.state D.does) (DeviceDoes H.state H.does) (job repair.now) (wrote_all result) image.old image.new }
 {
     let mended = visit(path, repair, place, image, memory)?;
     say_mended(writer, repair, place, mended)?;

@@ -4,6 +4,7 @@
 #![tactic(auto)]
 
 mod bad;
+mod covered;
 mod fault;
 mod good_row;
 mod image;

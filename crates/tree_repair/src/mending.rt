@@ -5,6 +5,8 @@ ghost use Rattle.block_device.specs.Device.{IsInside};
 ghost use Rattle.tree_repair.specs.AccessBudgets.{AsksOnce};
 ghost use Rattle.tree_repair.specs.Mending.{IsNotRemade, IsPutAt, put_calls};
 ghost use Rattle.tree_repair.specs.BlockChecks.{FailsToMend, MendsBlock};
+ghost use Rattle.tree_repair.specs.RepairCalls.{IsBlockWrite, MakesRepairCalls};
+ghost use Rattle.tree_repair.specs.Sources.{due};
 
 use crate::place::Repair;
 use crate::seeking::{is_there, seek};
@@ -53,6 +55,7 @@ pub(crate) fn mend<B: BlockDev, C: BlockDev>(
     ensures plain { IfOk result IsNotRemade }
     ensures err { FailsToMend B.state C.state sought.now block.old device.old device.new copies.old copies.new result }
     ensures asked { AsksOnce B.state C.state block.old device.old device.new copies.old copies.new }
+    ensures handed { MakesRepairCalls (DeviceDoes B.state B.does) (IsBlockWrite sought.now.first (due sought.now.repair.now.salt sought.now.digest block.old)) (is_ok result) device.old device.new }
 {
     let WantedBlock {
         repair,

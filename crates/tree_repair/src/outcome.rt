@@ -28,8 +28,8 @@ impl Failures {
     pub(crate) fn of<D: BlockDev, H: BlockDev, C: BlockDev>(
         image: &DamagedImage<D, H, C>,
     ) -> Failures
-        ensures data { result.data ≡ image.now.data_dev.failures }
-        ensures hash { result.hash ≡ image.now.hash_dev.failures }
+        ensures data { result.data ≡ image.now.world.data_dev.failures }
+        ensures hash { result.hash ≡ image.now.world.hash_dev.failures }
     {
         Failures {
             data: image.data.failures(),
@@ -42,8 +42,8 @@ impl Failures {
         self,
         image: &DamagedImage<D, H, C>,
     ) -> bool
-        ensures none { IsTrue result → AreUncounted self image.now }
-        ensures some { result ≡ false → AreUncounted self image.now → ⊥ }
+        ensures none { IsTrue result → AreUncounted self image.now.world }
+        ensures some { result ≡ false → AreUncounted self image.now.world → ⊥ }
     {
         let now = Failures::of(image);
         if now.data != self.data || now.hash != self.hash {

@@ -1,27 +1,30 @@
 //! Restores blocks by parity.
-ghost use Rattle.std.specs.Prelude.{◌≡◌, ◌<◌, ◌+◌, ◌++◌, ◌&&◌, ◌||◌, false, IfOk, IsTrue, OnOk, length, IfErr};
-ghost use Rattle.allocation.specs.Asked.{WasRefused};
-ghost use Rattle.fec_area.specs.Layouts.{IsLaidOn, IsLayout, covered_blocks};
+ghost use Rattle.std.specs.Prelude.{◌≡◌, ◌<◌, ◌+◌, ◌&&◌, ◌||◌, IfOk, IsTrue, OnOk, length, IfErr};
+ghost use Rattle.block_device.specs.Call.{DeviceDoes};
+ghost use Rattle.fec_area.specs.Layouts.{IsLaidOn, covered_blocks};
 ghost use Rattle.tree_shape.specs.Digests.{digest};
 ghost use Rattle.tree_shape.specs.Shape.{levels};
 ghost use Rattle.tree_repair.specs.Jobs.{job};
 ghost use Rattle.tree_repair.specs.ParityBounds.{TellsCame, along_bill, round_bill};
 ghost use Rattle.tree_repair.specs.Passes.{AreBack};
-ghost use Rattle.tree_repair.specs.Parity.{IsBack, IsPlace};
+ghost use Rattle.tree_repair.specs.Parity.{IsBack};
+ghost use Rattle.tree_repair.specs.RepairCalls.{ReadsBoth, wrote_all};
+ghost use Rattle.tree_repair.specs.RunCalls.{MakesRepair};
 ghost use Rattle.tree_repair.specs.Runs.{CanRun, IsRefusal, IsWriterCause, Ran};
-ghost use Rattle.tree_repair.specs.ParitySearches.{AreCovered, IsCoveredOr, IsOfTree, is_hash_back, listed_number};
+ghost use Rattle.tree_repair.specs.ParitySearches.{IsOfTree, is_hash_back};
 ghost use Rattle.tree_repair.specs.Worlds.{IsParityRead, IsWorldRead};
 ghost use Rattle.tree_repair.specs.Searching.{AreGoodFor, AsksWithin, IsInTree, IsReached, LacksBlock, MakesMissing, MakesWithin, SeeksBlock, SeeksEach, SeeksWithin, TellsMissing, TellsPlace, TriesMissing, TriesWithin, missing_size};
 
 use crate::bad::BadBlock;
+use crate::covered::{covered_at, covered_of, is_place};
 use crate::fault::{RepairFault, unrestored};
 use crate::image::DamagedImage;
 use crate::keeping::are_both;
 use crate::losses::Losses;
-use crate::place::{Place, Repair, block_size};
+use crate::place::{Repair, block_size};
 use crate::putting::{Missing, put_restored};
 use crate::verified_path::VerifiedPath;
-use allocation::{OutOfMemory, push, zeros};
+use allocation::zeros;
 use block_device::BlockDev;
 use fec_area::{Layout, LostBlock, restore_block};
 use program_io::Counted;
@@ -47,15 +50,16 @@ pub(crate) fn restore_bad<D: BlockDev, H: BlockDev, C: BlockDev, P: BlockDev, W:
     writer: &mut Counted<W>,
 ) -> Result<ParityOutcome, RepairFault>
     requires asked { IsTrue repair.now.parity }
-    requires can { CanRun (job repair.now) image.old }
-    requires laid { IsLaidOn layout.now image.old.data_dev image.old.hash_dev }
+    requires can { CanRun (job repair.now) image.old.world }
+    requires laid { IsLaidOn layout.now image.old.world.data_dev image.old.world.hash_dev }
     ensures parity { IsParityRead (P.state parity.old) (P.state parity.new) }
-    ensures run { Ran W.contents (job repair.now) image.old image.new writer.old writer.new result }
+    ensures run { Ran W.contents (job repair.now) image.old.world image.new.world writer.old writer.new result }
     ensures told { IfErr result (IsWriterCause writer.new) }
-    ensures sought { SeeksEach P.state repair.now layout.now blocks.now image.old image.new parity.old parity.new result }
-    ensures back { IfOk result (λ came. IsTrue came.all → AreBack (job repair.now) blocks.now image.old image.new) }
-    ensures within { SeeksWithin P.state repair.now layout.now blocks.now image.old image.new parity.old parity.new }
-    ensures came { TellsCame W.contents (job repair.now) image.old image.new writer.old writer.new result }
+    ensures sought { SeeksEach P.state repair.now layout.now blocks.now image.old.world image.new.world parity.old parity.new result }
+    ensures back { IfOk result (λ came. IsTrue came.all → AreBack (job repair.now) blocks.now image.old.world image.new.world) }
+    ensures within { SeeksWithin P.state repair.now layout.now blocks.now image.old.world image.new.world parity.old parity.new }
+    ensures came { TellsCame W.contents (job repair.now) image.old.world image.new.world writer.old writer.new result }
+    ensures handed { MakesRepair (DeviceDoes D.state D.does) (DeviceDoes H.state H.does) (job repair.now) (wrote_all result) image.old image.new }
 {
     let lost = covered_of(repair, layout, blocks)?;
     let losses = Losses::of(layout, lost);
@@ -87,69 +91,6 @@ fn is_in_tree(tree: bool, back: bool, bad: &BadBlock) -> bool
     tree || back && bad.place.height > 0
 }
 
-// The indices of the blocks that parity covers.
-fn covered_of(
-    repair: &Repair,
-    layout: &Layout,
-    blocks: &[BadBlock],
-) -> Result<Vec<u64>, OutOfMemory>
-    requires { IsLayout layout.now }
-    ensures ok { IfOk result (λ covered. AreCovered repair.now.shape layout.now blocks.now covered.items) }
-    ensures err { IfErr result (WasRefused 1) }
-{
-    let mut covered = Vec::new(repair.alloc);
-    'covered: for bad in blocks {
-        let index = covered_at(repair, layout, bad.place);
-        push_some(&mut covered, index)?;
-    }
-    Ok(covered)
-}
-
-fn push_some(covered: &mut Vec<u64>, index: Option<u64>) -> Result<(), OutOfMemory>
-    ensures ok { OnOk result (covered.new.items ≡ covered.old.items ++ listed_number index) }
-    ensures err { IfErr result (WasRefused 1) }
-{
-    match index {
-        None => Ok(()),
-        Some(index) => push(covered, index),
-    }
-}
-
-// The index of a block among those that parity covers.
-fn covered_at(repair: &Repair, layout: &Layout, place: Place) -> Option<u64>
-    requires { IsLayout layout.now }
-    ensures { IsCoveredOr repair.now.shape layout.now place.height place.index result }
-{
-    if !is_place(repair, place) {
-        return None;
-    }
-    let Place { height, index } = place;
-    let size = block_size(&repair.shape, height);
-    if layout.block as usize != size {
-        return None;
-    }
-    if height == 0 {
-        return layout.covered_data(index);
-    }
-    let level = height - 1;
-    let number = repair.shape.block_on_path(level, index);
-    layout.covered_hash(repair.shape.position(level, number))
-}
-
-// Whether the tree has this block.
-fn is_place(repair: &Repair, place: Place) -> bool
-    ensures some { IsTrue result → IsPlace repair.now.shape place.height place.index }
-    ensures none { result ≡ false → IsPlace repair.now.shape place.height place.index → ⊥ }
-{
-    if place.index >= repair.shape.blocks() {
-        return false;
-    }
-    if place.height > repair.shape.levels() {
-        return false;
-    }
-    true
-}
-
 // Restores a block that was found nowhere, if all hash blocks above it verify and parity can restore it.
 fn restore_block_at<D: BlockDev, H: BlockDev, C: BlockDev, P: BlockDev, W: Write>(
     last_path: &mut VerifiedPath,
@@ -163,15 +104,16 @@ fn restore_block_at<D: BlockDev, H: BlockDev, C: BlockDev, P: BlockDev, W: Write
 ) -> Result<bool, RepairFault>
     requires tree { IsOfTree (job repair.now).tree last_path.old.path }
     requires asked { IsTrue repair.now.parity }
-    requires can { CanRun (job repair.now) image.old }
-    requires laid { IsLaidOn losses.now.layout image.old.data_dev image.old.hash_dev }
+    requires can { CanRun (job repair.now) image.old.world }
+    requires laid { IsLaidOn losses.now.layout image.old.world.data_dev image.old.world.hash_dev }
     ensures tree { IsOfTree (job repair.now).tree last_path.new.path }
     ensures parity { IsParityRead (P.state parity.old) (P.state parity.new) }
-    ensures run { Ran W.contents (job repair.now) image.old image.new writer.old writer.new result }
+    ensures run { Ran W.contents (job repair.now) image.old.world image.new.world writer.old writer.new result }
     ensures told { IfErr result (IsWriterCause writer.new) }
-    ensures sought { SeeksBlock P.state repair.now losses.now bad.now image.old image.new parity.old parity.new result }
-    ensures within { TriesWithin P.state repair.now losses.now bad.now image.old image.new parity.old parity.new }
-    ensures came { TellsPlace W.contents repair.now bad.now.place image.old image.new writer.old writer.new result }
+    ensures sought { SeeksBlock P.state repair.now losses.now bad.now image.old.world image.new.world parity.old parity.new result }
+    ensures within { TriesWithin P.state repair.now losses.now bad.now image.old.world image.new.world parity.old parity.new }
+    ensures came { TellsPlace W.contents repair.now bad.now.place image.old.world image.new.world writer.old writer.new result }
+    ensures handed { MakesRepair (DeviceDoes D.state D.does) (DeviceDoes H.state H.does) (job repair.now) (wrote_all result) image.old image.new }
 {
     if bad.found {
         return Ok(false);
@@ -201,16 +143,17 @@ fn restore_missing<D: BlockDev, H: BlockDev, C: BlockDev, P: BlockDev, W: Write>
     kept: &mut bool,
 ) -> Result<bool, RepairFault>
     requires asked { IsTrue missing.now.repair.now.parity }
-    requires can { CanRun (job missing.now.repair.now) image.old }
-    requires laid { IsLaidOn losses.now.layout image.old.data_dev image.old.hash_dev }
+    requires can { CanRun (job missing.now.repair.now) image.old.world }
+    requires laid { IsLaidOn losses.now.layout image.old.world.data_dev image.old.world.hash_dev }
     requires place { IsInTree missing.now }
     requires way { IsReached missing.now }
     ensures parity { IsParityRead (P.state parity.old) (P.state parity.new) }
-    ensures run { Ran W.contents (job missing.now.repair.now) image.old image.new writer.old writer.new result }
+    ensures run { Ran W.contents (job missing.now.repair.now) image.old.world image.new.world writer.old writer.new result }
     ensures told { IfErr result (IsWriterCause writer.new) }
-    ensures tried { TriesMissing P.state missing.now losses.now image.old image.new parity.old parity.new result }
-    ensures within { AsksWithin P.state (along_bill losses.now.layout) image.old image.new parity.old parity.new }
-    ensures came { TellsMissing W.contents missing.now image.old image.new writer.old writer.new result }
+    ensures tried { TriesMissing P.state missing.now losses.now image.old.world image.new.world parity.old parity.new result }
+    ensures within { AsksWithin P.state (along_bill losses.now.layout) image.old.world image.new.world parity.old parity.new }
+    ensures came { TellsMissing W.contents missing.now image.old.world image.new.world writer.old writer.new result }
+    ensures handed { MakesRepair (DeviceDoes D.state D.does) (DeviceDoes H.state H.does) (job missing.now.repair.now) (wrote_all result) image.old image.new }
 {
     let repair = missing.repair;
     let size = block_size(&repair.shape, missing.place.height);
@@ -233,15 +176,16 @@ fn make_again<D: BlockDev, H: BlockDev, C: BlockDev, P: BlockDev>(
     parity: &mut P,
     bytes: &mut [u8],
 ) -> Result<bool, RepairFault>
-    requires laid { IsLaidOn losses.now.layout image.old.data_dev image.old.hash_dev }
+    requires laid { IsLaidOn losses.now.layout image.old.world.data_dev image.old.world.hash_dev }
     requires way { IsReached missing.now }
     requires size { length bytes.old ≡ missing_size missing.now }
-    ensures read { IsWorldRead image.old image.new }
+    ensures read { IsWorldRead image.old.world image.new.world }
     ensures parity { IsParityRead (P.state parity.old) (P.state parity.new) }
     ensures good { IfOk result (λ made. IsTrue made → AreGoodFor missing.now bytes.new) }
-    ensures vain { MakesMissing P.state missing.now losses.now image.old image.new parity.old parity.new result }
-    ensures within { MakesWithin P.state missing.now losses.now image.old image.new parity.old parity.new result }
+    ensures vain { MakesMissing P.state missing.now losses.now image.old.world image.new.world parity.old parity.new result }
+    ensures within { MakesWithin P.state missing.now losses.now image.old.world image.new.world parity.old parity.new result }
     ensures err { IfErr result IsRefusal }
+    ensures called { ReadsBoth (DeviceDoes D.state D.does) (DeviceDoes H.state H.does) image.old image.new }
 {
     let repair = missing.repair;
     let place = missing.place;
@@ -266,15 +210,16 @@ fn restore<D: BlockDev, H: BlockDev, C: BlockDev, P: BlockDev>(
     parity: &mut P,
     bytes: &mut [u8],
 ) -> Result<bool, RepairFault>
-    requires laid { IsLaidOn losses.now.layout image.old.data_dev image.old.hash_dev }
+    requires laid { IsLaidOn losses.now.layout image.old.world.data_dev image.old.world.hash_dev }
     requires index { index < covered_blocks losses.now.layout }
     requires size { length bytes.old ≡ losses.now.layout.block }
-    ensures read { IsWorldRead image.old image.new }
+    ensures read { IsWorldRead image.old.world image.new.world }
     ensures parity { IsParityRead (P.state parity.old) (P.state parity.new) }
-    ensures bytes { IfOk result (IsBack losses.now image.old (P.state parity.old) index bytes.new) }
-    ensures none { IfOk result (LacksBlock P.state losses.now index image.old image.new parity.old parity.new) }
-    ensures within { AsksWithin P.state (round_bill losses.now.layout) image.old image.new parity.old parity.new }
+    ensures bytes { IfOk result (IsBack losses.now image.old.world (P.state parity.old) index bytes.new) }
+    ensures none { IfOk result (LacksBlock P.state losses.now index image.old.world image.new.world parity.old parity.new) }
+    ensures within { AsksWithin P.state (round_bill losses.now.layout) image.old.world image.new.world parity.old parity.new }
     ensures err { IfErr result IsRefusal }
+    ensures called { ReadsBoth (DeviceDoes D.state D.does) (DeviceDoes H.state H.does) image.old image.new }
 {
     let sought = LostBlock {
         layout: &losses.layout,

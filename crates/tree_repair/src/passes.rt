@@ -1,11 +1,14 @@
 //! Repairs an image in passes, with parity.
-ghost use Rattle.std.specs.Prelude.{◌≤◌, ◌^◌, IfErr, IfOk, IsTrue, OnOk};
+ghost use Rattle.std.specs.Prelude.{◌≤◌, ◌^◌, IfErr, IfOk, IsTrue, OnOk, true};
+ghost use Rattle.block_device.specs.Call.{DeviceDoes};
 ghost use Rattle.fec_area.specs.Layouts.{IsLaidOn};
 ghost use Rattle.verity_format.specs.Blocks.{IsOnlyRead};
 ghost use Rattle.tree_repair.specs.Jobs.{job};
 ghost use Rattle.tree_repair.specs.Outcomes.{IsAllGood, IsParityOutcome};
 ghost use Rattle.tree_repair.specs.ParityBounds.{IsParityWithin};
-ghost use Rattle.tree_repair.specs.Repairs.{IsAllowed, IsParityRepair, IsParityUnrepaired, IsSoughtByParity};
+ghost use Rattle.tree_repair.specs.RepairCalls.{wrote_all};
+ghost use Rattle.tree_repair.specs.Repairs.{IsAllowed, IsParityRepair, IsParityUnrepaired, IsSoughtByParity, job_of};
+ghost use Rattle.tree_repair.specs.RunCalls.{MakesRepair};
 ghost use Rattle.tree_repair.specs.Runs.{CanRun, IsWriterCause, Ran};
 ghost use Rattle.tree_repair.specs.Searching.{EndsPasses, MakesPass, RunsPass, RunsPasses};
 ghost use Rattle.tree_repair.specs.Worlds.{IsParityRead};
@@ -43,15 +46,16 @@ pub fn repair_with_parity<D: BlockDev, H: BlockDev, C: BlockDev, P: BlockDev, W:
     writer: &mut Counted<W>,
 ) -> Result<Outcome, RepairFault>
     requires first { plan.now.copy_first ≤ 2 ^ 55 }
-    requires allowed { IsAllowed plan.now.write image.old.data_dev image.old.hash_dev }
-    requires laid { IsLaidOn layout.now image.old.data_dev image.old.hash_dev }
+    requires allowed { IsAllowed plan.now.write image.old.world.data_dev image.old.world.hash_dev }
+    requires laid { IsLaidOn layout.now image.old.world.data_dev image.old.world.hash_dev }
     ensures parity { IsOnlyRead (P.state parity_dev.old) (P.state parity_dev.new) }
-    ensures ok { OnOk result (IsParityRepair W.contents plan.now image.old image.new writer.old writer.new) }
-    ensures err { IfErr result (IsParityUnrepaired W.contents plan.now image.old image.new writer.old writer.new) }
+    ensures ok { OnOk result (IsParityRepair W.contents plan.now image.old.world image.new.world writer.old writer.new) }
+    ensures err { IfErr result (IsParityUnrepaired W.contents plan.now image.old.world image.new.world writer.old writer.new) }
     ensures told { IfErr result (IsWriterCause writer.new) }
-    ensures within { IsParityWithin W.contents plan.now layout.now image.old image.new (P.state parity_dev.old) (P.state parity_dev.new) writer.old writer.new result }
-    ensures whole { IfOk result (IsParityOutcome plan.now image.old image.new) }
-    ensures sought { OnOk result (IsSoughtByParity P.state plan.now layout.now image.old image.new parity_dev.old parity_dev.new) }
+    ensures within { IsParityWithin W.contents plan.now layout.now image.old.world image.new.world (P.state parity_dev.old) (P.state parity_dev.new) writer.old writer.new result }
+    ensures whole { IfOk result (IsParityOutcome plan.now image.old.world image.new.world) }
+    ensures sought { OnOk result (IsSoughtByParity P.state plan.now layout.now image.old.world image.new.world parity_dev.old parity_dev.new) }
+    ensures handed { MakesRepair (DeviceDoes D.state D.does) (DeviceDoes H.state H.does) (job_of plan.now true) (wrote_all result) image.old image.new }
 {
     let before = Failures::of(image);
     check_room(image, &plan.tree.shape)?;
@@ -72,14 +76,15 @@ fn run_passes<D: BlockDev, H: BlockDev, C: BlockDev, P: BlockDev, W: Write>(
     writer: &mut Counted<W>,
 ) -> Result<bool, RepairFault>
     requires asked { IsTrue repair.now.parity }
-    requires can { CanRun (job repair.now) image.old }
-    requires laid { IsLaidOn layout.now image.old.data_dev image.old.hash_dev }
+    requires can { CanRun (job repair.now) image.old.world }
+    requires laid { IsLaidOn layout.now image.old.world.data_dev image.old.world.hash_dev }
     ensures parity { IsParityRead (P.state parity.old) (P.state parity.new) }
-    ensures run { Ran W.contents (job repair.now) image.old image.new writer.old writer.new result }
+    ensures run { Ran W.contents (job repair.now) image.old.world image.new.world writer.old writer.new result }
     ensures told { IfErr result (IsWriterCause writer.new) }
-    ensures asks { EndsPasses P.state repair.now layout.now image.old image.new parity.old parity.new result }
-    ensures whole { IfOk result (λ all. IsTrue all → IsAllGood (job repair.now) image.old image.new) }
-    ensures within { RunsPasses W.contents P.state repair.now layout.now image.old image.new parity.old parity.new writer.old writer.new result }
+    ensures asks { EndsPasses P.state repair.now layout.now image.old.world image.new.world parity.old parity.new result }
+    ensures whole { IfOk result (λ all. IsTrue all → IsAllGood (job repair.now) image.old.world image.new.world) }
+    ensures within { RunsPasses W.contents P.state repair.now layout.now image.old.world image.new.world parity.old parity.new writer.old writer.new result }
+    ensures handed { MakesRepair (DeviceDoes D.state D.does) (DeviceDoes H.state H.does) (job repair.now) (wrote_all result) image.old image.new }
 {
     let mut left = layout.hash_blocks;
     let mut came = run_pass(repair, layout, image, parity, writer)?;
@@ -100,14 +105,15 @@ fn run_pass<D: BlockDev, H: BlockDev, C: BlockDev, P: BlockDev, W: Write>(
     writer: &mut Counted<W>,
 ) -> Result<ParityOutcome, RepairFault>
     requires asked { IsTrue repair.now.parity }
-    requires can { CanRun (job repair.now) image.old }
-    requires laid { IsLaidOn layout.now image.old.data_dev image.old.hash_dev }
+    requires can { CanRun (job repair.now) image.old.world }
+    requires laid { IsLaidOn layout.now image.old.world.data_dev image.old.world.hash_dev }
     ensures parity { IsParityRead (P.state parity.old) (P.state parity.new) }
-    ensures run { Ran W.contents (job repair.now) image.old image.new writer.old writer.new result }
+    ensures run { Ran W.contents (job repair.now) image.old.world image.new.world writer.old writer.new result }
     ensures told { IfErr result (IsWriterCause writer.new) }
-    ensures pass { MakesPass P.state repair.now layout.now image.old image.new parity.old parity.new result }
-    ensures whole { IfOk result (λ came. IsTrue came.all → IsAllGood (job repair.now) image.old image.new) }
-    ensures within { RunsPass W.contents P.state repair.now layout.now image.old image.new parity.old parity.new writer.old writer.new result }
+    ensures pass { MakesPass P.state repair.now layout.now image.old.world image.new.world parity.old parity.new result }
+    ensures whole { IfOk result (λ came. IsTrue came.all → IsAllGood (job repair.now) image.old.world image.new.world) }
+    ensures within { RunsPass W.contents P.state repair.now layout.now image.old.world image.new.world parity.old parity.new writer.old writer.new result }
+    ensures handed { MakesRepair (DeviceDoes D.state D.does) (DeviceDoes H.state H.does) (job repair.now) (wrote_all result) image.old image.new }
 {
     let mut bad = BadBlocks::new(repair.alloc, true);
     repair_heights(repair, image, &mut bad, writer)?;

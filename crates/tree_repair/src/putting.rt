@@ -1,12 +1,15 @@
 //! Writes blocks that parity restored.
-ghost use Rattle.std.specs.Prelude.{◌≡◌, ◌<◌, ◌≤◌, ◌+◌, ◌/◌, false, IfOk, IsTrue, OnErr, length, IfErr};
+ghost use Rattle.std.specs.Prelude.{◌≡◌, ◌<◌, ◌≤◌, ◌+◌, ◌/◌, false, IfOk, IsTrue, OnErr, is_ok, length, IfErr};
+ghost use Rattle.block_device.specs.Call.{DeviceDoes};
 ghost use Rattle.block_device.specs.Device.{IsInside};
 ghost use Rattle.tree_shape.specs.Digests.{digest};
 ghost use Rattle.tree_repair.specs.Jobs.{job};
 ghost use Rattle.tree_repair.specs.ParityBounds.{IsAskedAlone, IsReplacedOnce, kept_bill, put_bill};
 ghost use Rattle.tree_repair.specs.Parity.{IsPlace, end_at};
+ghost use Rattle.tree_repair.specs.RepairCalls.{IsBlockWrite, MakesRepairCalls, wrote_all};
 ghost use Rattle.tree_repair.specs.Runs.{CanRun, IsWriterCause, Ran, sector_at, size_at};
-ghost use Rattle.tree_repair.specs.Searching.{AreGoodFor, FailsToPutMissing, FailsToReplace, IsInTree, IsMissingPut, IsMissingRead, IsReached, PutsWhereBad, TellsMissing, missing_size};
+ghost use Rattle.tree_repair.specs.Searching.{AreGoodFor, FailsToPutMissing, FailsToReplace, HandsMissing, IsInTree, IsMissingPut, IsMissingRead, IsReached, PutsWhereBad, TellsMissing, missing_size};
+ghost use Rattle.tree_repair.specs.Sources.{due};
 ghost use Rattle.tree_repair.specs.Visits.{IsBlockKept};
 
 use crate::fault::RepairFault;
@@ -40,19 +43,20 @@ pub(crate) fn put_restored<D: BlockDev, H: BlockDev, C: BlockDev, W: Write>(
     kept: &mut bool,
 ) -> Result<bool, RepairFault>
     requires asked { IsTrue missing.now.repair.now.parity }
-    requires can { CanRun (job missing.now.repair.now) image.old }
+    requires can { CanRun (job missing.now.repair.now) image.old.world }
     requires place { IsInTree missing.now }
     requires way { IsReached missing.now }
     requires good { AreGoodFor missing.now bytes.now }
     requires bytes { length bytes.now ≡ missing_size missing.now }
     requires size { length block.old ≡ missing_size missing.now }
-    ensures run { Ran W.contents (job missing.now.repair.now) image.old image.new writer.old writer.new result }
+    ensures run { Ran W.contents (job missing.now.repair.now) image.old.world image.new.world writer.old writer.new result }
     ensures told { IfErr result (IsWriterCause writer.new) }
-    ensures placed { IfOk result (IsMissingRead missing.now bytes.now image.old image.new) }
+    ensures placed { IfOk result (IsMissingRead missing.now bytes.now image.old.world image.new.world) }
     ensures kept { IsTrue kept.new → IsTrue kept.old }
-    ensures there { IfOk result (λ back. IsTrue back → IsTrue kept.new → IsBlockKept (job missing.now.repair.now) missing.now.place.height missing.now.place.index image.old image.new) }
-    ensures within { IsAskedAlone (kept_bill (missing_size missing.now / 512)) image.old image.new }
-    ensures came { TellsMissing W.contents missing.now image.old image.new writer.old writer.new result }
+    ensures there { IfOk result (λ back. IsTrue back → IsTrue kept.new → IsBlockKept (job missing.now.repair.now) missing.now.place.height missing.now.place.index image.old.world image.new.world) }
+    ensures within { IsAskedAlone (kept_bill (missing_size missing.now / 512)) image.old.world image.new.world }
+    ensures came { TellsMissing W.contents missing.now image.old.world image.new.world writer.old writer.new result }
+    ensures handed { HandsMissing (DeviceDoes D.state D.does) (DeviceDoes H.state H.does) missing.now (wrote_all result) image.old image.new }
 {
     let back = put_block(missing, image, bytes, block)?;
     if !back {
@@ -77,15 +81,16 @@ fn put_block<D: BlockDev, H: BlockDev, C: BlockDev>(
     block: &mut [u8],
 ) -> Result<bool, DeviceFault>
     requires asked { IsTrue missing.now.repair.now.parity }
-    requires can { CanRun (job missing.now.repair.now) image.old }
+    requires can { CanRun (job missing.now.repair.now) image.old.world }
     requires place { IsInTree missing.now }
     requires way { IsReached missing.now }
     requires good { AreGoodFor missing.now bytes.now }
     requires bytes { length bytes.now ≡ missing_size missing.now }
     requires size { length block.old ≡ missing_size missing.now }
-    ensures ok { IfOk result (IsMissingPut missing.now bytes.now image.old image.new) }
-    ensures err { OnErr result (FailsToPutMissing missing.now bytes.now image.old image.new) }
-    ensures within { IsAskedAlone (put_bill (missing_size missing.now / 512)) image.old image.new }
+    ensures ok { IfOk result (IsMissingPut missing.now bytes.now image.old.world image.new.world) }
+    ensures err { OnErr result (FailsToPutMissing missing.now bytes.now image.old.world image.new.world) }
+    ensures within { IsAskedAlone (put_bill (missing_size missing.now / 512)) image.old.world image.new.world }
+    ensures handed { HandsMissing (DeviceDoes D.state D.does) (DeviceDoes H.state H.does) missing.now (is_ok result) image.old image.new }
 {
     let repair = missing.repair;
     let Place { height, index } = missing.place;
@@ -129,6 +134,7 @@ fn replace<B: BlockDev>(
     ensures ok { PutsWhereBad B.state device.old device.new first repair.now expected.now bytes.now result }
     ensures err { FailsToReplace B.state device.old device.new first repair.now expected.now bytes.now result }
     ensures within { IsReplacedOnce (length bytes.now / 512) (B.state device.old) (B.state device.new) }
+    ensures handed { MakesRepairCalls (DeviceDoes B.state B.does) (IsBlockWrite first (due repair.now.salt expected.now bytes.now)) (is_ok result) device.old device.new }
 {
     if is_there(device, first, &repair.salt, expected, block) {
         return Ok(false);

@@ -1,5 +1,6 @@
 //! Reconstructs hash blocks from the blocks below them.
-ghost use Rattle.std.specs.Prelude.{◌≡◌, ◌≤◌, ◌<◌, ◌+◌, ◌-◌, ◌*◌, ◌/◌, ◌++◌, ◌^◌, false, min, drop, take, IsTrue, length};
+ghost use Rattle.std.specs.Prelude.{◌≡◌, ◌≤◌, ◌<◌, ◌+◌, ◌-◌, ◌*◌, ◌/◌, ◌++◌, ◌^◌, false, true, min, drop, take, IsTrue, length};
+ghost use Rattle.block_device.specs.Call.{DeviceDoes};
 ghost use Rattle.block_device.specs.Device.{HasFailed};
 ghost use Rattle.tree_shape.specs.Digests.{digest};
 ghost use Rattle.tree_shape.specs.Shape.{IsShape, level_blocks, levels, per_block, position};
@@ -10,6 +11,7 @@ ghost use Rattle.tree_repair.specs.AccessBudgets.{LeavesBeneath, LeavesBlock, Le
 ghost use Rattle.tree_repair.specs.StoredTrees.{HasOneFailedIn, IsMadeIn, IsNowhereIn, IsOverIn, IsUnmadeIn, made_in, stands_in};
 ghost use Rattle.tree_path.specs.Unused.{digests_in};
 ghost use Rattle.tree_repair.specs.Remaking.{HaveBlocks, IsBlockOf, IsHashBlockOf};
+ghost use Rattle.tree_repair.specs.RepairCalls.{IsNoWrite, MakesRepairCalls, ReadsAt, ReadsBoth};
 ghost use Rattle.tree_repair.specs.Runs.{size_at};
 ghost use Rattle.tree_repair.specs.Worlds.{AreBothRead};
 
@@ -32,16 +34,17 @@ pub(crate) fn remake<D: BlockDev, H: BlockDev, C: BlockDev>(
     block: &mut [u8],
     memory: &mut [u8],
 ) -> bool
-    requires have { HaveBlocks sought.now.repair.now.shape image.old.data_dev image.old.hash_dev }
+    requires have { HaveBlocks sought.now.repair.now.shape image.old.world.data_dev image.old.world.hash_dev }
     requires inside { index < sought.now.repair.now.shape.blocks }
     requires level { level < levels sought.now.repair.now.shape }
     requires size { length block.old ≡ sought.now.repair.now.shape.hash_block }
     requires room { 4096 * (level + 1) ≤ length memory.old }
-    ensures read { AreBothRead image.old image.new }
+    ensures read { AreBothRead image.old.world image.new.world }
     ensures good { IsTrue result → digest sought.now.repair.now.salt block.new ≡ sought.now.digest }
-    ensures made { IsTrue result → IsMadeIn sought.now.repair.now image.old level index block.new }
-    ensures none { result ≡ false → IsNowhereIn sought.now.repair.now image.old image.new level index sought.now.digest }
-    ensures asked { LeavesBeneath sought.now.repair.now.shape level index image.old image.new }
+    ensures made { IsTrue result → IsMadeIn sought.now.repair.now image.old.world level index block.new }
+    ensures none { result ≡ false → IsNowhereIn sought.now.repair.now image.old.world image.new.world level index sought.now.digest }
+    ensures asked { LeavesBeneath sought.now.repair.now.shape level index image.old.world image.new.world }
+    ensures called { ReadsBoth (DeviceDoes D.state D.does) (DeviceDoes H.state H.does) image.old image.new }
 {
     let repair = sought.repair;
     let number = repair.shape.block_on_path(level, index);
@@ -78,16 +81,17 @@ fn is_made<D: BlockDev, H: BlockDev, C: BlockDev>(
     block: &mut [u8],
     memory: &mut [u8],
 ) -> bool
-    requires have { HaveBlocks repair.now.shape image.old.data_dev image.old.hash_dev }
+    requires have { HaveBlocks repair.now.shape image.old.world.data_dev image.old.world.hash_dev }
     requires high { making.from + making.steps ≤ levels repair.now.shape }
     requires inside { making.number < digests_in repair.now.shape (making.from + making.steps) }
     requires size { length block.old ≡ size_at repair.now.shape (making.from + making.steps) }
     requires room { 4096 * making.steps ≤ length memory.old }
-    ensures read { AreBothRead image.old image.new }
+    ensures read { AreBothRead image.old.world image.new.world }
     ensures good { IsTrue result → digest repair.now.salt block.new ≡ expected.now }
-    ensures stand { IsTrue result → IsOverIn image.old (made_in repair.now image.old making) block.new }
-    ensures none { result ≡ false → IsUnmadeIn repair.now image.old image.new expected.now (made_in repair.now image.old making) }
-    ensures asked { LeavesMade repair.now.shape making image.old image.new }
+    ensures stand { IsTrue result → IsOverIn image.old.world (made_in repair.now image.old.world making) block.new }
+    ensures none { result ≡ false → IsUnmadeIn repair.now image.old.world image.new.world expected.now (made_in repair.now image.old.world making) }
+    ensures asked { LeavesMade repair.now.shape making image.old.world image.new.world }
+    ensures called { ReadsBoth (DeviceDoes D.state D.does) (DeviceDoes H.state H.does) image.old image.new }
 {
     if !make(repair, making, image, block, memory) {
         return false;
@@ -103,15 +107,16 @@ fn make<D: BlockDev, H: BlockDev, C: BlockDev>(
     block: &mut [u8],
     memory: &mut [u8],
 ) -> bool
-    requires have { HaveBlocks repair.now.shape image.old.data_dev image.old.hash_dev }
+    requires have { HaveBlocks repair.now.shape image.old.world.data_dev image.old.world.hash_dev }
     requires high { making.from + making.steps ≤ levels repair.now.shape }
     requires inside { making.number < digests_in repair.now.shape (making.from + making.steps) }
     requires size { length block.old ≡ size_at repair.now.shape (making.from + making.steps) }
     requires room { 4096 * making.steps ≤ length memory.old }
-    ensures read { AreBothRead image.old image.new }
-    ensures made { IsTrue result → IsOverIn image.old (made_in repair.now image.old making) block.new }
-    ensures fails { result ≡ false → HasOneFailedIn image.old image.new }
-    ensures asked { LeavesMade repair.now.shape making image.old image.new }
+    ensures read { AreBothRead image.old.world image.new.world }
+    ensures made { IsTrue result → IsOverIn image.old.world (made_in repair.now image.old.world making) block.new }
+    ensures fails { result ≡ false → HasOneFailedIn image.old.world image.new.world }
+    ensures asked { LeavesMade repair.now.shape making image.old.world image.new.world }
+    ensures called { ReadsBoth (DeviceDoes D.state D.does) (DeviceDoes H.state H.does) image.old image.new }
 {
     let Making {
         from,
@@ -178,14 +183,15 @@ fn read_at<D: BlockDev, H: BlockDev, C: BlockDev>(
     image: &mut DamagedImage<D, H, C>,
     block: &mut [u8],
 ) -> bool
-    requires have { HaveBlocks shape.now image.old.data_dev image.old.hash_dev }
+    requires have { HaveBlocks shape.now image.old.world.data_dev image.old.world.hash_dev }
     requires high { height ≤ levels shape.now }
     requires inside { number < digests_in shape.now height }
     requires size { length block.old ≡ size_at shape.now height }
-    ensures read { AreBothRead image.old image.new }
-    ensures stands { IsTrue result → IsOverIn image.old (stands_in shape.now image.old height number) block.new }
-    ensures fails { result ≡ false → HasOneFailedIn image.old image.new }
-    ensures asked { LeavesBlock (made_over shape.now height) shape.now height number image.old image.new }
+    ensures read { AreBothRead image.old.world image.new.world }
+    ensures stands { IsTrue result → IsOverIn image.old.world (stands_in shape.now image.old.world height number) block.new }
+    ensures fails { result ≡ false → HasOneFailedIn image.old.world image.new.world }
+    ensures asked { LeavesBlock (made_over shape.now height) shape.now height number image.old.world image.new.world }
+    ensures called { ReadsAt (DeviceDoes D.state D.does) (DeviceDoes H.state H.does) height image.old image.new }
 {
     if height == 0 {
         return read_data(shape, number, &mut image.data, block);
@@ -204,6 +210,7 @@ fn read_data<D: BlockDev>(shape: &Shape, number: u64, data_dev: &mut D, block: &
     ensures fails { result ≡ false → HasFailed (D.state data_dev.old) (D.state data_dev.new) }
     ensures asked { HasReadAtMost (D.state data_dev.old) (shape.now.data_block / 512) (D.state data_dev.new) }
     ensures counted { (D.state data_dev.old).failures ≤ (D.state data_dev.new).failures }
+    ensures called { MakesRepairCalls (DeviceDoes D.state D.does) IsNoWrite true data_dev.old data_dev.new }
 {
     let size = block.len();
     let first = number * (size / 512) as u64;
@@ -228,6 +235,7 @@ fn read_hash<H: BlockDev>(
     ensures fails { result ≡ false → HasFailed (H.state hash_dev.old) (H.state hash_dev.new) }
     ensures asked { HasReadAtMost (H.state hash_dev.old) (shape.now.hash_block / 512) (H.state hash_dev.new) }
     ensures counted { (H.state hash_dev.old).failures ≤ (H.state hash_dev.new).failures }
+    ensures called { MakesRepairCalls (DeviceDoes H.state H.does) IsNoWrite true hash_dev.old hash_dev.new }
 {
     let size = block.len();
     let place = shape.position(level, number);

@@ -1,12 +1,15 @@
 //! Repairs an image from the root down.
-ghost use Rattle.std.specs.Prelude.{◌≡◌, ◌≤◌, ◌^◌, IfErr, IfOk, OnOk};
+ghost use Rattle.std.specs.Prelude.{◌≡◌, ◌≤◌, ◌^◌, IfErr, IfOk, OnOk, false};
+ghost use Rattle.block_device.specs.Call.{DeviceDoes};
 ghost use Rattle.tree_repair.specs.AccessBudgets.{LeavesWorld, nothing_due, pass_over};
 ghost use Rattle.tree_repair.specs.Bounds.{IsRepairWithin};
 ghost use Rattle.tree_repair.specs.Jobs.{job};
 ghost use Rattle.tree_repair.specs.ParityBounds.{LeavesNoted, image_blocks};
 ghost use Rattle.tree_repair.specs.Outcomes.{IsOutcomeOf, StandsFrom};
 ghost use Rattle.tree_repair.specs.Notes.{NotesAll};
+ghost use Rattle.tree_repair.specs.RepairCalls.{wrote_all};
 ghost use Rattle.tree_repair.specs.Repairs.{GoesPast, IsAllowed, IsGoneOver, IsRepair, IsUnrepaired, LiesOn, job_of};
+ghost use Rattle.tree_repair.specs.RunCalls.{MakesRepair};
 ghost use Rattle.tree_repair.specs.Runs.{CanRun, IsWriterCause};
 
 use crate::bad::BadBlocks;
@@ -52,13 +55,14 @@ pub fn repair_image<D: BlockDev, H: BlockDev, C: BlockDev, W: Write>(
     writer: &mut Counted<W>,
 ) -> Result<Outcome, RepairFault>
     requires first { plan.now.copy_first ≤ 2 ^ 55 }
-    requires allowed { IsAllowed plan.now.write image.old.data_dev image.old.hash_dev }
-    ensures ok { OnOk result (IsRepair W.contents plan.now image.old image.new writer.old writer.new) }
-    ensures err { IfErr result (IsUnrepaired W.contents plan.now image.old image.new writer.old writer.new) }
+    requires allowed { IsAllowed plan.now.write image.old.world.data_dev image.old.world.hash_dev }
+    ensures ok { OnOk result (IsRepair W.contents plan.now image.old.world image.new.world writer.old writer.new) }
+    ensures err { IfErr result (IsUnrepaired W.contents plan.now image.old.world image.new.world writer.old writer.new) }
     ensures told { IfErr result (IsWriterCause writer.new) }
-    ensures within { IsRepairWithin W.contents plan.now image.old image.new writer.old writer.new result }
-    ensures looked { OnOk result (IsGoneOver W.contents plan.now image.old image.new writer.old writer.new) }
-    ensures whole { IfOk result (IsOutcomeOf plan.now image.old image.new) }
+    ensures within { IsRepairWithin W.contents plan.now image.old.world image.new.world writer.old writer.new result }
+    ensures looked { OnOk result (IsGoneOver W.contents plan.now image.old.world image.new.world writer.old writer.new) }
+    ensures whole { IfOk result (IsOutcomeOf plan.now image.old.world image.new.world) }
+    ensures handed { MakesRepair (DeviceDoes D.state D.does) (DeviceDoes H.state H.does) (job_of plan.now false) (wrote_all result) image.old image.new }
 {
     let before = Failures::of(image);
     check_room(image, &plan.tree.shape)?;
@@ -91,8 +95,8 @@ pub(crate) fn check_room<D: BlockDev, H: BlockDev, C: BlockDev>(
     image: &DamagedImage<D, H, C>,
     shape: &Shape,
 ) -> Result<(), RepairFault>
-    ensures ok { OnOk result (LiesOn shape.now image.now) }
-    ensures err { IfErr result (GoesPast shape.now image.now image.now) }
+    ensures ok { OnOk result (LiesOn shape.now image.now.world) }
+    ensures err { IfErr result (GoesPast shape.now image.now.world image.now.world) }
 {
     let _blocks = shape.blocks();
     if image.data.sectors() < data_sectors(shape) {
@@ -111,12 +115,13 @@ pub(crate) fn repair_heights<D: BlockDev, H: BlockDev, C: BlockDev, W: Write>(
     bad: &mut BadBlocks,
     writer: &mut Counted<W>,
 ) -> Result<(), RepairFault>
-    requires { CanRun (job repair.now) image.old }
-    ensures notes { NotesAll W.contents repair.now image.old image.new bad.old bad.new writer.old writer.new result }
+    requires { CanRun (job repair.now) image.old.world }
+    ensures notes { NotesAll W.contents repair.now image.old.world image.new.world bad.old bad.new writer.old writer.new result }
     ensures told { IfErr result (IsWriterCause writer.new) }
-    ensures asked { LeavesWorld (pass_over repair.now.shape) nothing_due image.old image.new }
+    ensures asked { LeavesWorld (pass_over repair.now.shape) nothing_due image.old.world image.new.world }
     ensures few { OnOk result (LeavesNoted (image_blocks repair.now.shape) 0 bad.old bad.new) }
-    ensures whole { OnOk result (StandsFrom (job repair.now) 0 image.old image.new) }
+    ensures whole { OnOk result (StandsFrom (job repair.now) 0 image.old.world image.new.world) }
+    ensures handed { MakesRepair (DeviceDoes D.state D.does) (DeviceDoes H.state H.does) (job repair.now) (wrote_all result) image.old image.new }
 {
     let mut room = zeros(repair.alloc, ROOM)?;
     let memory = room.as_mut_slice();

@@ -1,9 +1,11 @@
 //! Finds the bytes of a block by their digest.
 ghost use Rattle.std.specs.Prelude.{◌≡◌, ◌≤◌, ◌/◌, ◌%◌, ◌+◌, ◌<◌, ◌^◌, false, IfNone, IfSome, IsTrue, length, map};
+ghost use Rattle.block_device.specs.Call.{DeviceDoes};
 ghost use Rattle.block_device.specs.Device.{IsInside};
 ghost use Rattle.verity_format.specs.Blocks.{IsOnlyRead};
 ghost use Rattle.tree_path.specs.Steps.{HasReadAtMost};
 ghost use Rattle.tree_repair.specs.Bounds.{AreReadAtMost};
+ghost use Rattle.tree_repair.specs.RepairCalls.{IsReadOnce};
 ghost use Rattle.tree_repair.specs.Sources.{AreEachRead, AreInNone, FindsBad, FindsNone, HasCopy, HasNoCopy, IsThere, due};
 
 use block_device::BlockDev;
@@ -24,6 +26,7 @@ pub(crate) fn is_there<B: BlockDev>(
     ensures bad { result ≡ false → FindsBad B.state device.old device.new first (due salt.now digest.now block.old) }
     ensures asked { HasReadAtMost (B.state device.old) (length block.old / 512) (B.state device.new) }
     ensures counted { (B.state device.old).failures ≤ (B.state device.new).failures }
+    ensures called { IsReadOnce (DeviceDoes B.state B.does) first block.new device.old device.new }
 {
     match device.read(first, block) {
         Ok(()) => is_same(&salt.digest(block), digest),

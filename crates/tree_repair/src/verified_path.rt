@@ -21,8 +21,9 @@ pub(crate) struct VerifiedPath {
 }
 
 impl VerifiedPath {
-    ghost use Rattle.std.specs.Prelude.{◌≡◌, ◌≤◌, IfOk, OnErr};
+    ghost use Rattle.std.specs.Prelude.{◌≡◌, ◌≤◌, IfOk, OnErr, true};
     ghost use Rattle.allocation.specs.Refusal.{IsOutOfMemory};
+    ghost use Rattle.block_device.specs.Call.{DeviceDoes};
     ghost use Rattle.tree_path.specs.Path.{largest_block};
     ghost use Rattle.tree_path.specs.Steps.{HasReadAtMost};
     ghost use Rattle.tree_shape.specs.Shape.{IsShape, levels};
@@ -32,6 +33,7 @@ impl VerifiedPath {
     ghost use Rattle.tree_repair.specs.Jobs.{job};
     ghost use Rattle.tree_repair.specs.Parity.{IsPlace};
     ghost use Rattle.tree_repair.specs.ParitySearches.{IsOfTree, IsWayOr, path_found};
+    ghost use Rattle.tree_repair.specs.RepairCalls.{HandsToHash, IsNoWrite, MakesRepairCalls};
     ghost use Rattle.tree_repair.specs.Worlds.{IsWorldRead};
 
     /// Returns a path of which nothing was read.
@@ -64,11 +66,12 @@ impl VerifiedPath {
     ) -> bool
         requires tree { IsOfTree (job repair.now).tree self.old.path }
         requires place { IsPlace repair.now.shape height index }
-        requires fits { tree_sectors repair.now.shape ≤ image.old.hash_dev.size }
+        requires fits { tree_sectors repair.now.shape ≤ image.old.world.hash_dev.size }
         ensures tree { IsOfTree (job repair.now).tree self.new.path }
-        ensures read { IsWorldRead image.old image.new }
-        ensures way { IsWayOr (job repair.now).tree index height image.old.hash_dev image.new.hash_dev (path_found result self.new.path) }
-        ensures asked { LeavesWorld (reading 0 (way_sectors repair.now.shape height)) nothing_due image.old image.new }
+        ensures read { IsWorldRead image.old.world image.new.world }
+        ensures way { IsWayOr (job repair.now).tree index height image.old.world.hash_dev image.new.world.hash_dev (path_found result self.new.path) }
+        ensures asked { LeavesWorld (reading 0 (way_sectors repair.now.shape height)) nothing_due image.old.world image.new.world }
+        ensures called { HandsToHash (DeviceDoes H.state H.does) IsNoWrite true image.old image.new }
     {
         self.reach_on(repair, &mut image.hash, index, height)
     }
@@ -89,6 +92,7 @@ impl VerifiedPath {
         ensures way { IsWayOr (job repair.now).tree index height (H.state device.old) (H.state device.new) (path_found result self.new.path) }
         ensures asked { HasReadAtMost (H.state device.old) (way_sectors repair.now.shape height) (H.state device.new) }
         ensures counted { (H.state device.old).failures ≤ (H.state device.new).failures }
+        ensures called { MakesRepairCalls (DeviceDoes H.state H.does) IsNoWrite true device.old device.new }
     {
         let from = self.shared_level(&repair.shape, index, height);
         match self.path.descend(device, index, from, height) {

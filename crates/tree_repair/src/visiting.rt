@@ -1,5 +1,6 @@
 //! Visits a block of an image: verifies it by the digest that its parent stores, and repairs it.
 ghost use Rattle.std.specs.Prelude.{◌≡◌, ◌≤◌, ◌<◌, ◌+◌, ◌*◌, ◌/◌, ◌^◌, IfOk, IsTrue, OnErr, is_ok, length};
+ghost use Rattle.block_device.specs.Call.{DeviceDoes};
 ghost use Rattle.block_device.specs.Device.{IsInside};
 ghost use Rattle.tree_shape.specs.Shape.{IsShape, levels};
 ghost use Rattle.verity_format.specs.Image.{tree_sectors};
@@ -8,8 +9,10 @@ ghost use Rattle.tree_survey.specs.Surveys.{IsWay};
 ghost use Rattle.tree_repair.specs.AccessBudgets.{AsksHashOnce, LeavesHashVisit, LeavesVisit};
 ghost use Rattle.tree_repair.specs.Jobs.{job};
 ghost use Rattle.tree_repair.specs.BlockChecks.{tree_look};
-ghost use Rattle.tree_repair.specs.Mending.{IsNotRemade, IsUnmended};
+ghost use Rattle.tree_repair.specs.Mending.{IsNotRemade, IsUnmended, put_calls};
+ghost use Rattle.tree_repair.specs.RepairCalls.{CallsHash, HandsToData, HandsToHash, IsBlockWrite, IsHashWrite, IsPlaceWrite, VisitCalls, VisitsHash};
 ghost use Rattle.tree_repair.specs.Runs.{CanRun, size_at};
+ghost use Rattle.tree_repair.specs.Sources.{due};
 ghost use Rattle.tree_repair.specs.Visits.{FailsToStoreBlock, IsHashLooked, IsHashUnmended, IsLooked, IsBlockMade, IsTreePut, KeepsData, hash_sector};
 
 use crate::image::DamagedImage;
@@ -31,13 +34,14 @@ pub(crate) fn visit<D: BlockDev, H: BlockDev, C: BlockDev>(
     image: &mut DamagedImage<D, H, C>,
     memory: &mut [u8],
 ) -> Result<Mended, DeviceFault>
-    requires can { CanRun (job repair.now) image.old }
+    requires can { CanRun (job repair.now) image.old.world }
     requires inside { place.index < repair.now.shape.blocks }
     requires way { IsWay (job repair.now).tree place.index place.height path.now }
     requires room { 65536 ≤ length memory.old }
-    ensures ok { IfOk result (IsBlockMade (job repair.now) place.height place.index image.old image.new) }
-    ensures err { OnErr result (FailsToStoreBlock (job repair.now) place.height place.index image.old image.new) }
-    ensures asked { LeavesVisit repair.now.shape place.height place.index image.old image.new }
+    ensures ok { IfOk result (IsBlockMade (job repair.now) place.height place.index image.old.world image.new.world) }
+    ensures err { OnErr result (FailsToStoreBlock (job repair.now) place.height place.index image.old.world image.new.world) }
+    ensures asked { LeavesVisit repair.now.shape place.height place.index image.old.world image.new.world }
+    ensures handed { VisitCalls (DeviceDoes D.state D.does) (DeviceDoes H.state H.does) (job repair.now) path.now place.height place.index (is_ok result) image.old image.new }
 {
     let Place { height, index } = place;
     let size = block_size(&repair.shape, height);
@@ -56,13 +60,14 @@ fn visit_data<D: BlockDev, H: BlockDev, C: BlockDev>(
     image: &mut DamagedImage<D, H, C>,
     block: &mut [u8],
 ) -> Result<Mended, DeviceFault>
-    requires can { CanRun (job repair.now) image.old }
+    requires can { CanRun (job repair.now) image.old.world }
     requires inside { index < repair.now.shape.blocks }
     requires way { IsWay (job repair.now).tree index 0 path.now }
     requires size { length block.old ≡ size_at repair.now.shape 0 }
-    ensures ok { IfOk result (IsBlockMade (job repair.now) 0 index image.old image.new) }
-    ensures err { OnErr result (FailsToStoreBlock (job repair.now) 0 index image.old image.new) }
-    ensures asked { LeavesVisit repair.now.shape 0 index image.old image.new }
+    ensures ok { IfOk result (IsBlockMade (job repair.now) 0 index image.old.world image.new.world) }
+    ensures err { OnErr result (FailsToStoreBlock (job repair.now) 0 index image.old.world image.new.world) }
+    ensures asked { LeavesVisit repair.now.shape 0 index image.old.world image.new.world }
+    ensures handed { HandsToData (DeviceDoes D.state D.does) (IsPlaceWrite (job repair.now) path.now 0 index) (is_ok result) image.old image.new }
 {
     let size = block.len();
     let first = index * (size / 512) as u64;
@@ -87,15 +92,16 @@ fn visit_hash<D: BlockDev, H: BlockDev, C: BlockDev>(
     block: &mut [u8],
     memory: &mut [u8],
 ) -> Result<Mended, DeviceFault>
-    requires can { CanRun (job repair.now) image.old }
+    requires can { CanRun (job repair.now) image.old.world }
     requires inside { index < repair.now.shape.blocks }
     requires level { level < levels repair.now.shape }
     requires way { IsWay (job repair.now).tree index (level + 1) path.now }
     requires size { length block.old ≡ repair.now.shape.hash_block }
     requires room { 4096 * (level + 1) ≤ length memory.old }
-    ensures ok { IfOk result (IsHashLooked (job repair.now) path.now level index image.old image.new) }
-    ensures err { OnErr result (IsHashUnmended (job repair.now) path.now level index image.old image.new) }
-    ensures asked { LeavesHashVisit repair.now.shape level index image.old image.new }
+    ensures ok { IfOk result (IsHashLooked (job repair.now) path.now level index image.old.world image.new.world) }
+    ensures err { OnErr result (IsHashUnmended (job repair.now) path.now level index image.old.world image.new.world) }
+    ensures asked { LeavesHashVisit repair.now.shape level index image.old.world image.new.world }
+    ensures handed { VisitsHash (DeviceDoes D.state D.does) (DeviceDoes H.state H.does) (IsHashWrite (job repair.now) path.now level index) (is_ok result) image.old image.new }
 {
     let size = block.len();
     let sought = hash_sought(path, repair, level, index, size);
@@ -121,14 +127,15 @@ fn mend_hash<D: BlockDev, H: BlockDev, C: BlockDev>(
     image: &mut DamagedImage<D, H, C>,
     block: &mut [u8],
 ) -> Result<Mended, DeviceFault>
-    requires inside { IsInside image.old.hash_dev sought.now.first (length block.old) }
+    requires inside { IsInside image.old.world.hash_dev sought.now.first (length block.old) }
     requires small { sought.now.copy_first + length block.old / 512 < 2 ^ 64 }
-    requires allowed { IsTrue sought.now.repair.now.write → IsTrue image.old.hash_dev.may_write }
-    ensures ok { IfOk result (IsLooked (tree_look sought.now block.old image.old image.new)) }
+    requires allowed { IsTrue sought.now.repair.now.write → IsTrue image.old.world.hash_dev.may_write }
+    ensures ok { IfOk result (IsLooked (tree_look sought.now block.old image.old.world image.new.world)) }
     ensures plain { IfOk result IsNotRemade }
-    ensures err { OnErr result (IsUnmended (tree_look sought.now block.old image.old image.new)) }
-    ensures kept { KeepsData image.old image.new }
-    ensures asked { AsksHashOnce block.old image.old image.new }
+    ensures err { OnErr result (IsUnmended (tree_look sought.now block.old image.old.world image.new.world)) }
+    ensures kept { KeepsData image.old.world image.new.world }
+    ensures asked { AsksHashOnce block.old image.old.world image.new.world }
+    ensures handed { HandsToHash (DeviceDoes H.state H.does) (IsBlockWrite sought.now.first (due sought.now.repair.now.salt sought.now.digest block.old)) (is_ok result) image.old image.new }
 {
     let copies = &mut image.hash_copies;
     mend(&mut image.hash, copies, sought, block)
@@ -141,9 +148,10 @@ fn put_hash<D: BlockDev, H: BlockDev, C: BlockDev>(
     image: &mut DamagedImage<D, H, C>,
     block: &[u8],
 ) -> Result<(), DeviceFault>
-    requires inside { IsInside image.old.hash_dev first (length block.now) }
-    requires allowed { IsTrue repair.now.write → IsTrue image.old.hash_dev.may_write }
-    ensures { IsTreePut repair.now.write first block.now (is_ok result) image.old image.new }
+    requires inside { IsInside image.old.world.hash_dev first (length block.now) }
+    requires allowed { IsTrue repair.now.write → IsTrue image.old.world.hash_dev.may_write }
+    ensures put { IsTreePut repair.now.write first block.now (is_ok result) image.old.world image.new.world }
+    ensures handed { CallsHash (DeviceDoes H.state H.does) (put_calls repair.now.write first block.now (is_ok result)) image.old image.new }
 {
     put(&mut image.hash, first, block, repair.write)
 }

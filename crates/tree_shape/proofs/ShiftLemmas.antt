@@ -18,7 +18,7 @@ module _ (s : ShapeRecord) (b : ℕ) (wide : 2 ^ b ≡ per_block s) where
   unfolding ancestor
   ancestor-shift steps i = ap (λ p. i / p ^ steps) (sym wide) ∙ ap (λ n. i / n) (powers b steps)
 
-  -- none is left of a number behind as many bits as it has
+  -- a number is 0 after a shift by as many bits as it has
   pub ancestor-top : (steps i n : ℕ) → i < 2 ^ n → n ≤ b * steps → ancestor s steps i ≡ 0
   ancestor-top steps i n small far =
       let wider : 2 ^ n ≤ 2 ^ (b * steps) = pow-le-pow_right (omega arith) far in

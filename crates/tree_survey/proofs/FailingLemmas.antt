@@ -43,7 +43,7 @@ over-unloaded w read un unsure = record { read = read; more = go un.fault.failed
     go (inl more) = omega (arith, more)
     go (inr most) = omega (arith, most, un.fault.counted)
 
--- a failure stays one behind other reads, and before them
+-- a failure stays one after other reads, and before them
 pub failed-more : (a : Device) {b c : Device} → HasFailedRead a b → IsReadOver b c → HasFailedRead a c
 failed-more a (inl more, unsure) q = (inl (omega (arith, more, q.more)), unsure)
 failed-more a (inr most, unsure) q = (inr most, unsure)

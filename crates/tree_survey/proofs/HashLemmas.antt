@@ -69,7 +69,7 @@ module _ (p q : PathRecord) (d d' : Device) (i l : ℕ) where
 pub above-none : (p : PathRecord) (d : Device) (l i : ℕ) → l + 1 ≡ levels p.shape → IsAbove p p d d l i true
 above-none p d l i top = record { same = path-none p; stored = λ read steady low. absurd (omega (arith, low, top)); failed = λ not. absurd (false≢true (sym not)) }
 
--- behind the one above it
+-- a hash block is compared after the one above it
 pub compared : (p q r : PathRecord) (d d' d'' : Device) (i l : ℕ) (stands zeros : Bool) → l < levels p.shape → IsReadOver d d' → IsAbove p q d d' l i true → IsStepLoaded (steps q r d' d'' i l) stands
     → zeros ≡ is_unused_zero r.shape l (ancestor r.shape (l + 1) i) (block_of r l) → IsCompared p r d d'' l i (stands && zeros)
 compared p q r d d' d'' i l stands zeros low over above loaded zeros_are =

@@ -75,7 +75,7 @@ module _ (s : ShapeRecord) (valid : IsShape s) (d d' : Device) (over : IsReadOve
 
 -- ---- what is said of a block of a piece
 
--- its content, where it could be read, else the read failed; over a steady device the block that stands there
+-- its content, if it could be read, else the read failed; over a steady device the block that is stored there
 pub record IsContent (salt : List ℕ) (d dk dk' : Device) (size i : ℕ) (found : Option (List ℕ)) : Type 0 where
   pub content : List ℕ
   pub told : IsDigestOr (HasFailedRead dk dk') salt content found

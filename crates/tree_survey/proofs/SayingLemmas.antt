@@ -1,4 +1,4 @@
--- Hash blocks that are gone over, while some are left.
+-- Hash blocks that are scanned, while some are left.
 use Rattle.std.proofs.Common.{◌≡◌, ◌≤◌, ◌<◌, ◌+◌, ◌-◌, ◌*◌, ◌/◌, ◌^◌, ℕ, suc, min, Bool, true, false, IsTrue, List, [], ◌∷◌, ◌++◌, Option, ◌⊎◌, refl, sym, ap, ◌∙◌, subst, arith, inl, inr}
 use Rattle.std.specs.Prelude.{◌&&◌}
 use Rattle.std.specs.Io.KnownBytes.{Appends}
@@ -19,7 +19,7 @@ use Rattle.tree_survey.specs.Surveys.{Tree}
 use Rattle.tree_survey.proofs.FailingLemmas.{failed-later, failed-more, over-none, over-then}
 use Rattle.tree_survey.proofs.HashLemmas.{path-none, path-then}
 
--- the hash blocks of the levels from that one up were gone over
+-- the hash blocks of the levels from that one up were scanned
 pub record IsSayingTree (p q : PathRecord) (d d' : Device) (level : ℕ) (old new : Option (List ℕ)) (whole : Bool) : Type 0 where
   pub high : level ≤ levels p.shape
   pub same : IsPathOf p.shape p.salt p.root q
@@ -89,7 +89,7 @@ whole-append : (xs ys : List HashBlock) → is_whole (xs ++ ys) ≡ (is_whole xs
 whole-append [] ys = refl
 whole-append (x ∷ xs) ys = refl
 
--- what was said of a level stands under the path and the device before
+-- what was printed of a level holds under the path and the device before
 pub tree-same : (p q : PathRecord) → IsPathOf p.shape p.salt p.root q → tree_of_path q ≡ tree_of_path p
 tree-same p q is =
     let f : ShapeRecord → List ℕ → List ℕ → Tree = λ s x r. record { shape = s; salt = x; root = r } in

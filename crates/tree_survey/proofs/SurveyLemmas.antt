@@ -1,4 +1,4 @@
--- What was found of data blocks stands once hash blocks were read too.
+-- What was found of data blocks still holds once hash blocks were read too.
 use Rattle.std.proofs.Common.{◌≡◌, ◌⊎◌, ℕ, Bool, List, Option, Some, None, get_or, length, ap, arith, ◌∙◌, subst}
 use Rattle.block_device.specs.Device.{Device}
 use Rattle.tree_shape.specs.Shape.{ShapeRecord, levels}
@@ -55,7 +55,7 @@ module _ (t u : Tree) (d h d' h' last : Device) (same : u ≡ t) (later : IsRead
         data_read = s.data_read;
       }
 
--- hash blocks that were found behind reads of the device
+-- hash blocks that were found after reads of the device
 pub hashes-were : (t u : Tree) (h h' last : Device) → u ≡ t → IsReadOver h h' → IsReadOver h' last → (f : HashesFound u h' last) → AreBad (λ image. bad_of_levels t image (levels t.shape)) h last f.bad
 hashes-were t u h h' last same read behind f =
     let bads : AreBad (λ image. bad_of_levels t image (levels t.shape)) h' last f.bad = subst (λ (x : Tree). AreBad (λ image. bad_of_levels x image (levels x.shape)) h' last f.bad) same f.are in

@@ -1,4 +1,4 @@
--- Data blocks that are gone over, while some are left.
+-- Data blocks that are scanned, while some are left.
 use Rattle.std.proofs.Common.{◌≡◌, ◌≤◌, ◌<◌, ◌+◌, ◌-◌, ◌*◌, ◌/◌, ◌^◌, ◌⊎◌, ℕ, Bool, true, false, IsTrue, List, [], ◌∷◌, ◌++◌, length, get_or, Contains, Option, Some, None, refl, sym, ap, ◌∙◌, subst, arith, inl, inr}
 use Rattle.std.specs.Io.KnownBytes.{Appends}
 use Rattle.std.proofs.lemmas.Bool.{cases_lt, false≢true}
@@ -33,7 +33,7 @@ use Rattle.tree_survey.proofs.LostLemmas.{AreHashesLost, hashes-kept, hashes-nex
 use Rattle.tree_survey.proofs.StateLemmas.{count-few, get_or-last, good-few, length-last, listed-next, totals-next}
 use Rattle.tree_survey.proofs.CheckedPathLemmas.{IsDigestOr, on-was, ready-next, ready-none, ready-read, same-above, seen-at, stored-at}
 
--- the data blocks before that one were gone over
+-- the data blocks before that one were scanned
 pub record IsUnderway (t : Tree) (data_dev hash_dev data_dev' hash_dev' : Device) (old now : Option (List ℕ)) (w : CheckedPath) (g : Counts) (at : ℕ) : Type 0 where
   pub is_of : IsPathOf t.shape t.salt t.root w.path
   pub shape : w.shape ≡ w.path.shape
@@ -86,7 +86,7 @@ underway-none w salt data_dev hash_dev old g can is = record {
   totals = ap (λ (x : Counts). x.totals) is;
 }
 
--- ---- reads behind
+-- ---- later reads
 
 unread-more : (t : Tree) (above data_failed hash_failed data_failed' hash_failed' : Type 0) (state : State) → (data_failed → data_failed') → (hash_failed → hash_failed') → IsUnreadAs t above data_failed hash_failed state
     → IsUnreadAs t above data_failed' hash_failed' state

@@ -26,7 +26,7 @@ module _ (p q : PathRecord) (d d' : Device) (i good level : ℕ) (between : leve
   pub stored-on : IsTrue d.steady → (l : ℕ) → good ≤ l → l < levels p.shape → block_of q l ≡ stored_block p.shape d.image l i
   stored-on steady l high under = down.stored steady l (omega (arith, between, high)) under
 
-  -- the digest that was read is the one that stands there
+  -- the digest that was read is the stored one
   pub digest-above : IsTrue d.steady → (l : ℕ) → level ≤ l → l < levels p.shape → digest_on q i (l + 1) ≡ stored_digest p.shape p.root d.image i (l + 1)
   digest-above steady l high under =
       digest_on-stored q d.image i (l + 1) (omega (arith, under, ap levels down.same.shape_is))
@@ -38,7 +38,7 @@ module _ (p q : PathRecord) (d d' : Device) (i good level : ℕ) (between : leve
   digest-here : IsTrue d.steady → (l : ℕ) → level ≤ l → l < levels p.shape → digest q.salt (block_of q l) ≡ digest p.salt (stored_block p.shape d.image l i)
   digest-here steady l high under = ap (λ (x : List ℕ). digest x (block_of q l)) down.same.salt_is ∙ ap (digest p.salt) (down.stored steady l high under)
 
-  -- a block whose digest stands there was read so
+  -- a block whose digest is stored above it was read so
   pub was-above : IsTrue d.steady → (l : ℕ) → level ≤ l → l < levels p.shape → HasDigestAbove (tree_of_path p) d.image l i → digest q.salt (block_of q l) ≡ digest_on q i (l + 1)
   was-above steady l high under above = digest-here steady l high under ∙ above ∙ sym (digest-above steady l high under)
 
@@ -71,14 +71,14 @@ read-cut p q d d' i level c = record {
 -- ---- what is found
 
 module _ (t : Tree) (d d' : Device) (good : ℕ) (q : PathRecord) (r : IsReadDown t d d' (last_data t) good q) where
-  -- the unused part of a block that was read is that of the one that stands there
+  -- the unused part of a block that was read is that of the stored block
   unused-stored : IsTrue d.steady → (l : ℕ) → good ≤ l → l < levels t.shape
       → is_unused_zero q.shape l (ancestor q.shape (l + 1) (last_data t)) (block_of q l) ≡ is_zero_after_used t.shape d.image l (last_data t)
   unused-stored steady l high under =
       ap (λ (s : ShapeRecord). is_unused_zero s l (ancestor s (l + 1) (last_data t)) (block_of q l)) r.way.is.shape_is
       ∙ ap (is_unused_zero t.shape l (ancestor t.shape (l + 1) (last_data t))) (r.stored steady l high under)
 
-  -- a good block that was read stands beneath its digest
+  -- a good block that was read is beneath its digest
   stands-above : IsTrue d.steady → (m : ℕ) → good ≤ m → m < levels t.shape → HasDigestAbove t d.image m (last_data t)
   stands-above steady m high under =
       let i = last_data t in

@@ -5,8 +5,6 @@ use Rattle.std.specs.Io.KnownBytes.{Appends}
 use Rattle.block_device.specs.Device.{Device}
 use Rattle.tree_shape.specs.Shape.{IsShape, levels}
 use Rattle.verity_format.specs.declared.tree.VerityTree.{VerityTree}
-use Rattle.verity_format.specs.Superblock.{SuperRecord}
-use Rattle.verity_format.specs.Trees.{superblock_tree}
 use Rattle.verity_format.specs.Blocks.{blocks_at}
 use Rattle.verity_format.specs.Image.{data_sectors, tree_sectors}
 use Rattle.tree_path.specs.Path.{IsPathOf}
@@ -92,10 +90,6 @@ pub record Surveys (t : Tree) (w : Pass) (totals : Totals) : Type 0 where
 -- a tree under a root hash
 abbrev pub tree_under : VerityTree → List ℕ → Tree
 tree_under tree root = record { shape = tree.shape; salt = tree.salt; root = root }
-
--- the tree of a superblock under a root hash
-abbrev pub super_tree : SuperRecord → List ℕ → Tree
-super_tree s root = tree_under (superblock_tree s) root
 
 -- All data blocks and all hash blocks were read. The lines of hash blocks follow the lines of data blocks.
 pub record IsSurvey (tree : VerityTree) (w : Pass) (root : List ℕ) (found : Survey) : Type 0 where

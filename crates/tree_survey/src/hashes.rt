@@ -2,12 +2,11 @@
 ghost use Rattle.std.specs.Prelude.{◌≡◌, ◌&&◌, ◌<◌, ◌≤◌, true, IfErr, IfOk, OnErr};
 ghost use Rattle.tree_shape.specs.Shape.{levels};
 ghost use Rattle.verity_format.specs.Image.{tree_sectors};
-ghost use Rattle.verity_format.specs.Superblock.{shape_of};
 ghost use Rattle.runs.specs.Listings.{Tells};
 ghost use Rattle.tree_survey.specs.Causes.{EndsHashes};
 ghost use Rattle.tree_survey.specs.Failing.{IsReadOver};
 ghost use Rattle.tree_survey.specs.Hashes.{CanCompareHashes, IsAbove, IsCompared, TellsBad, TellsTree, hash_line_at, tree_of_path};
-ghost use Rattle.tree_survey.specs.Passes.{super_tree};
+ghost use Rattle.tree_survey.specs.Passes.{tree_under};
 
 use crate::fault::SurveyFault;
 use crate::path::load;
@@ -17,7 +16,7 @@ use runs::{Line, Listing};
 use std::alloc::Global;
 use tree_path::{TreePath, span};
 use tree_shape::{Digest, Shape};
-use verity_format::Superblock;
+use verity_format::VerityTree;
 
 /// Checks each hash block of a tree, and returns whether all are valid. It reports a line `hash LEVEL INDEX` for each block
 /// that is invalid or can't be checked, the top level first.
@@ -32,18 +31,18 @@ use verity_format::Superblock;
 pub fn survey_hashes<H: BlockDev, L: Listing>(
     alloc: Global,
     device: &mut H,
-    superblock: &Superblock,
+    tree: &VerityTree,
     root: &Digest,
     listing: &mut L,
 ) -> Result<bool, SurveyFault>
-    requires { tree_sectors (shape_of superblock.now) ≤ (H.state device.old).size }
+    requires { tree_sectors tree.now.shape ≤ (H.state device.old).size }
     ensures over { IsReadOver (H.state device.old) (H.state device.new) }
-    ensures ok { IfOk result (TellsTree H.state L.told (super_tree superblock.now root.now) device.old device.new listing.old listing.new) }
+    ensures ok { IfOk result (TellsTree H.state L.told (tree_under tree.now root.now) device.old device.new listing.old listing.new) }
     ensures err { IfErr result (EndsHashes H.state device.old device.new (L.failed listing.new)) }
 {
-    let shape = superblock.shape();
-    let mut path = TreePath::new(alloc, shape, superblock.salt(), *root)?;
-    let whole = say_hashes(&mut path, &shape, device, listing)?;
+    let _blocks = tree.shape.blocks();
+    let mut path = TreePath::new(alloc, tree.shape, tree.salt, *root)?;
+    let whole = say_hashes(&mut path, &tree.shape, device, listing)?;
     Ok(whole)
 }
 

@@ -3,12 +3,11 @@ ghost use Rattle.std.specs.Prelude.{◌≡◌, ◌*◌, ◌/◌, ◌<◌, ◌≤
 ghost use Rattle.allocation.specs.Refusal.{IsOutOfMemory};
 ghost use Rattle.tree_shape.specs.Shape.{levels};
 ghost use Rattle.verity_format.specs.Image.{tree_sectors};
-ghost use Rattle.verity_format.specs.Superblock.{shape_of};
 ghost use Rattle.tree_path.specs.Path.{largest_block};
 ghost use Rattle.tree_path.specs.Steps.{HasReadAtMost};
 ghost use Rattle.tree_survey.specs.Failing.{IsReadOver};
 ghost use Rattle.tree_survey.specs.Hashes.{tree_of_path};
-ghost use Rattle.tree_survey.specs.Passes.{super_tree};
+ghost use Rattle.tree_survey.specs.Passes.{tree_under};
 ghost use Rattle.tree_survey.specs.Unused.{AreZeroFrom, IsReadDown, IsUnusedReadBy, found_from};
 
 use crate::path::{Descent, descend};
@@ -17,7 +16,7 @@ use block_device::BlockDev;
 use std::alloc::Global;
 use tree_path::TreePath;
 use tree_shape::Digest;
-use verity_format::Superblock;
+use verity_format::VerityTree;
 
 /// What the last hash blocks of the levels hold after their last used entries. These are the hash blocks on the path to the
 /// last data block.
@@ -34,7 +33,7 @@ pub enum Unused {
 /// Reads the hash blocks on the path to the last data block, from the top down as long as they verify under the root. Returns
 /// what they hold after their last used entries.
 ///
-/// In a tree that was formatted with this superblock they hold zeros there. A block that doesn't verify says nothing about the
+/// In a tree that was formatted with this shape they hold zeros there. A block that doesn't verify says nothing about the
 /// image that was formatted, nor do the blocks below it.
 ///
 /// # Errors
@@ -43,17 +42,16 @@ pub enum Unused {
 pub fn read_unused<H: BlockDev>(
     alloc: Global,
     hash_dev: &mut H,
-    superblock: &Superblock,
+    tree: &VerityTree,
     root: &Digest,
 ) -> Result<Unused, OutOfMemory>
-    requires { tree_sectors (shape_of superblock.now) ≤ (H.state hash_dev.old).size }
-    ensures ok { IfOk result (IsUnusedReadBy H.state (super_tree superblock.now root.now) hash_dev.old hash_dev.new) }
+    requires { tree_sectors tree.now.shape ≤ (H.state hash_dev.old).size }
+    ensures ok { IfOk result (IsUnusedReadBy H.state (tree_under tree.now root.now) hash_dev.old hash_dev.new) }
     ensures err { OnErr result (H.state hash_dev.new ≡ H.state hash_dev.old) }
     ensures memory { OnErr result (IsOutOfMemory largest_block) }
 {
-    let shape = superblock.shape();
-    let mut path = TreePath::new(alloc, shape, superblock.salt(), *root)?;
-    let last = shape.blocks() - 1;
+    let mut path = TreePath::new(alloc, tree.shape, tree.salt, *root)?;
+    let last = tree.shape.blocks() - 1;
     let good = read_down(&mut path, hash_dev, last);
     let zeros = are_zero_from(&path, last, good);
     Ok(found_from(zeros, good))

@@ -70,7 +70,7 @@ removed key (s ∷ ss) d =
       | false ↦ λ e. rw e (ap (λ l. slot_block s ∷ l) (removed key ss d.1))
     ]) refl
 
--- a key that is promoted stands first
+-- a key that is promoted is first
 pub map-promoted : (key : Key) (slots : Slots) (held : DigestedBlock) → AreDistinct (map slot_block slots) → lookup (same_key key) slots ≡ Some held
     → map slot_block (promoted (same_key key) slots) ≡ blocks_with (slot_block (key, held)) (map slot_block slots)
 map-promoted key slots held d h = rw (found key slots held d h).entry (ap (λ l. slot_block (key, held) ∷ l) (removed key slots d))

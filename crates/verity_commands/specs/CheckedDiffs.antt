@@ -20,7 +20,7 @@ use Rattle.tree_survey.specs.declared.fault.SurveyFault.TheVariants as survey_fa
 use Rattle.tree_survey.specs.Causes.{IsPathRefused}
 use Rattle.tree_survey.specs.Failing.{IsReadOver}
 use Rattle.tree_survey.specs.Hashes.{TellsHashes}
-use Rattle.tree_survey.specs.Passes.{super_tree}
+use Rattle.tree_survey.specs.Passes.{tree_under}
 use Rattle.tree_survey.specs.Surveys.{Tree}
 use Rattle.verity_commands.specs.declared.checked_diff.CheckedTotals.{CheckedTotals}
 use Rattle.verity_commands.specs.declared.diff.DiffForm.{DiffForm}
@@ -41,7 +41,7 @@ pub record ChecksTree (tree : Tree) (device device' : Device) (printed printed' 
 pub record IsCheckedDifference (w : DifferenceWorld) (pair : TreePair) (most : Option ℕ) (found : CheckedTotals) : Type 0 where
   pub middle : Device
   pub between : Option (List ℕ)
-  pub checks : ChecksTree (super_tree pair.second pair.roots.second) w.second middle w.printed between found.whole_tree
+  pub checks : ChecksTree (tree_under pair.second pair.roots.second) w.second middle w.printed between found.whole_tree
   pub difference : IsDifference (record w { second = middle; printed = between }) pair most found.totals
 
 -- room for the hash blocks on a path was refused, or a line can't be written
@@ -55,7 +55,7 @@ pub record EndsComparison (w : DifferenceWorld) (pair : TreePair) (most : Option
   pub whole : Bool
   pub middle : Device
   pub between : Option (List ℕ)
-  pub checks : ChecksTree (super_tree pair.second pair.roots.second) w.second middle w.printed between whole
+  pub checks : ChecksTree (tree_under pair.second pair.roots.second) w.second middle w.printed between whole
   pub cause : IsDifferenceCause (record w { second = middle; printed = between }) pair failed fault
   pub before : IsReported (trees_of pair) (record w { second = middle; printed = between }) most fault
 

@@ -1,4 +1,4 @@
--- `format --grow`: HASH is made where there is none, and has the sectors that are needed where it had fewer.
+-- `format --grow`: HASH is created if there is none, and made as long as needed if it had fewer sectors.
 use Rattle.std.specs.Prelude.{◌≡◌, ◌⊎◌, ℕ, List, Ok, Err}
 use Rattle.image_commands.specs.declared.fault.ImageFault.{ImageFault}
 use Rattle.image_commands.specs.declared.fault.ImageFault.TheVariants.{Open}
@@ -17,7 +17,7 @@ abbrev pub IsUngrown : {S D : Type 0} → Calls S D → List ℕ → ℕ → Ima
 IsUngrown w path sectors (Open file) = (file.path.now ≡ path) × w.relations.grows w.old path sectors (Err file.fault) w.new
 IsUngrown w path sectors fault = ⊥
 
--- HASH was made where there was none, and had enough sectors
+-- HASH was created if there was none, and had enough sectors
 pub record FormatsAtOnce {S D T G : Type 0} (w : Calls S D) (d : Drawing T G) (hash_path : List ℕ) (Formats : Calls S D → Drawing T G → Type 0) : Type 0 where
   pub between : S
   pub made : GrowsFile (record w { new = between }) hash_path 0

@@ -13,9 +13,9 @@ use Rattle.image_commands.specs.declared.tree_source.SoughtTree.{SoughtTree}
 use Rattle.image_commands.specs.Places.{TwoPlaces}
 use Rattle.image_commands.specs.TreeSources.{stored_source}
 use Rattle.image_files.specs.Opener.{Calls, Opener, calls}
-use Rattle.tree_difference.specs.declared.trees.TrustedTrees.{TrustedTrees}
 use Rattle.verity_commands.specs.declared.diff.DiffForm.{DiffForm}
 use Rattle.verity_commands.specs.declared.tree_fault.TreeFault.{TreeFault}
+use Rattle.verity_commands.specs.declared.tree_pair.SoughtTrees.{SoughtTrees}
 use Rattle.verity_commands.specs.DiffImages.{DiffsPlaces, IsPlacesEnd}
 use Rattle.verity_commands.specs.Openings.{BothPlaces}
 use Rattle.verity_commands.specs.Surveys.{IsSurveyFilesEnd, PrintsGood}
@@ -31,11 +31,11 @@ diff_places d = record {
 abbrev pub diff_form : DiffRecord → DiffForm
 diff_form d = record { most = d.runs; json = d.json; all = d.all }
 
-abbrev pub DiffsTrees : {S D : Type 0} → Calls S D → DiffRecord → TrustedTrees → Option (List ℕ) → Option (List ℕ) → Type 0
-DiffsTrees w d trusted old new = DiffsPlaces w (diff_places d) trusted (diff_form d) old new
+abbrev pub DiffsTrees : {S D : Type 0} → Calls S D → DiffRecord → SoughtTrees → Option (List ℕ) → Option (List ℕ) → Type 0
+DiffsTrees w d sought old new = DiffsPlaces w (diff_places d) sought (diff_form d) old new
 
-abbrev pub IsDiffWordsEnd : {S D : Type 0} → Calls S D → DiffRecord → TrustedTrees → Option (List ℕ) → Option (List ℕ) → Bool → TreeFault → Type 0
-IsDiffWordsEnd w d trusted old new failed fault = IsPlacesEnd w (diff_places d) trusted (diff_form d) old new failed fault
+abbrev pub IsDiffWordsEnd : {S D : Type 0} → Calls S D → DiffRecord → SoughtTrees → Option (List ℕ) → Option (List ℕ) → Bool → TreeFault → Type 0
+IsDiffWordsEnd w d sought old new failed fault = IsPlacesEnd w (diff_places d) sought (diff_form d) old new failed fault
 
 -- ---- `verify --all`
 
@@ -60,11 +60,11 @@ IsTreeSurveyEnd w v sought old new failed fault = IsSurveyFilesEnd v.form w (tre
 
 -- ---- as a call sees them, by the program's own words
 
-abbrev pub DiffsByWords : {S D W : Type 0} → Opener S D → (D → Device) → S → S → (W → Option (List ℕ)) → CountedRecord W → CountedRecord W → DiffWords → TrustedTrees → Type 0
-DiffsByWords relations state images images' contents writer writer' words trusted = DiffsTrees (calls relations state images images') (diff_record words) trusted (contents writer.inner) (contents writer'.inner)
+abbrev pub DiffsByWords : {S D W : Type 0} → Opener S D → (D → Device) → S → S → (W → Option (List ℕ)) → CountedRecord W → CountedRecord W → DiffWords → SoughtTrees → Type 0
+DiffsByWords relations state images images' contents writer writer' words sought = DiffsTrees (calls relations state images images') (diff_record words) sought (contents writer.inner) (contents writer'.inner)
 
-abbrev pub FailsDiffByWords : {S D W : Type 0} → Opener S D → (D → Device) → S → S → (W → Option (List ℕ)) → CountedRecord W → CountedRecord W → DiffWords → TrustedTrees → TreeFault → Type 0
-FailsDiffByWords relations state images images' contents writer writer' words trusted = IsDiffWordsEnd (calls relations state images images') (diff_record words) trusted (contents writer.inner) (contents writer'.inner) writer'.failed
+abbrev pub FailsDiffByWords : {S D W : Type 0} → Opener S D → (D → Device) → S → S → (W → Option (List ℕ)) → CountedRecord W → CountedRecord W → DiffWords → SoughtTrees → TreeFault → Type 0
+FailsDiffByWords relations state images images' contents writer writer' words sought = IsDiffWordsEnd (calls relations state images images') (diff_record words) sought (contents writer.inner) (contents writer'.inner) writer'.failed
 
 abbrev pub SurveysByWords : {S D W : Type 0} → Opener S D → (D → Device) → S → S → (W → Option (List ℕ)) → CountedRecord W → CountedRecord W → VerifyWords → TrustedRoot → Type 0
 SurveysByWords relations state images images' contents writer writer' words trusted = SurveysAt (calls relations state images images') (verify_record words) trusted (contents writer.inner) (contents writer'.inner)

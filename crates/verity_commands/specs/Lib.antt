@@ -5,7 +5,8 @@ pub mod Pinned
 pub mod Places
 pub mod Texts
 pub mod Trees
-pub mod TrustedTrees
+pub mod SoughtTrees
+pub mod TreePairs
 pub mod Openings
 pub mod OpenTrees
 pub mod Objects

@@ -1,5 +1,4 @@
--- The trees of two hash images: the files are opened, the superblocks read and compared before a hash block is read, and the files
--- closed.
+-- The trees of two hash images: the files are opened, the trees found before a hash block is read, and the files closed.
 use Rattle.std.specs.Prelude.{◌≡◌, ◌⊎◌}
 use Rattle.block_device.specs.Device.{Device}
 use Rattle.device_adapters.specs.declared.part.Part.{Part}
@@ -7,34 +6,32 @@ use Rattle.device_adapters.specs.Windows.{windowed}
 use Rattle.image_files.specs.Opener.{Calls}
 use Rattle.image_commands.specs.Places.{behind}
 use Rattle.tree_difference.specs.declared.trees.TreePair.{TreePair}
-use Rattle.tree_difference.specs.declared.trees.TreeStarts.{TreeStarts}
-use Rattle.tree_difference.specs.declared.trees.TrustedTrees.{TrustedTrees}
 use Rattle.tree_difference.specs.Comparisons.{DifferenceWorld}
-use Rattle.tree_difference.specs.Superblocks.{AreTreesRead, AreTreesUnread}
 use Rattle.verity_commands.specs.declared.paths.TwoHashes.{TwoHashes}
 use Rattle.verity_commands.specs.declared.tree_fault.TreeFault.{TreeFault}
-use Rattle.verity_commands.specs.declared.tree_fault.TreeFault.TheVariants.{Open, Trees}
+use Rattle.verity_commands.specs.declared.tree_fault.TreeFault.TheVariants.{Open}
+use Rattle.verity_commands.specs.declared.tree_pair.SoughtTrees.{SoughtTrees}
+use Rattle.verity_commands.specs.declared.tree_pair.TreeStarts.{TreeStarts}
 use Rattle.verity_commands.specs.Openings.{BothPaths, BothPlaces, ClosesBoth, FailsToOpenBoth, OpensBoth}
+use Rattle.verity_commands.specs.TreePairs.{AreTreesFound, AreTreesMissing}
 
 -- ---- of two devices
 
--- the superblocks were read, each once, and have the values of their pins, if there are any; then this holds of the trees, and of the
--- devices from there on
-pub record OfTrees (i : DifferenceWorld) (starts : TreeStarts) (trusted : TrustedTrees) (P : TreePair → DifferenceWorld → Type 0) : Type 0 where
+-- both trees were found, a superblock by one read; then this holds of the trees, and of the devices from there on
+pub record OfTrees (i : DifferenceWorld) (starts : TreeStarts) (sought : SoughtTrees) (P : TreePair → DifferenceWorld → Type 0) : Type 0 where
   pub pair : TreePair
   pub first_read : Device
   pub second_read : Device
-  pub read : AreTreesRead i.first i.second first_read second_read starts trusted pair
+  pub found : AreTreesFound i.first i.second first_read second_read starts sought pair
   pub holds : P pair (record i { first = first_read; second = second_read })
 
--- one has no usable superblock, or the trees can't be compared, and nothing is printed
-abbrev pub AreNoTrees : DifferenceWorld → TreeStarts → TrustedTrees → TreeFault → Type 0
-AreNoTrees i starts trusted (Trees fault) = AreTreesUnread i.first i.second i.first' i.second' starts trusted fault × (i.printed' ≡ i.printed)
-AreNoTrees i starts trusted fault = ⊥
+-- one image has no tree of its source, or the trees can't be compared, and nothing is printed
+abbrev pub AreNoTrees : DifferenceWorld → TreeStarts → SoughtTrees → TreeFault → Type 0
+AreNoTrees i starts sought fault = AreTreesMissing i.first i.second i.first' i.second' starts sought fault × (i.printed' ≡ i.printed)
 
 -- that, or the trees were found, and it ends so
-abbrev pub IsTreesEnd : DifferenceWorld → TreeStarts → TrustedTrees → (TreePair → DifferenceWorld → TreeFault → Type 0) → TreeFault → Type 0
-IsTreesEnd i starts trusted Ends fault = AreNoTrees i starts trusted fault ⊎ OfTrees i starts trusted (λ pair j. Ends pair j fault)
+abbrev pub IsTreesEnd : DifferenceWorld → TreeStarts → SoughtTrees → (TreePair → DifferenceWorld → TreeFault → Type 0) → TreeFault → Type 0
+IsTreesEnd i starts sought Ends fault = AreNoTrees i starts sought fault ⊎ OfTrees i starts sought (λ pair j. Ends pair j fault)
 
 -- ---- of the hash images that begin at sectors of two devices
 

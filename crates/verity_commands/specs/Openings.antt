@@ -5,7 +5,7 @@ use Rattle.image_files.specs.declared.images.OpenImage.{OpenImage}
 use Rattle.image_files.specs.declared.opening.UnopenedFile.{UnopenedFile}
 use Rattle.image_files.specs.Opened.{Refuses}
 use Rattle.image_files.specs.Opener.{Calls, Opener, calls}
-use Rattle.tree_difference.specs.declared.trees.TreeStarts.{TreeStarts}
+use Rattle.verity_commands.specs.declared.tree_pair.TreeStarts.{TreeStarts}
 use Rattle.verity_commands.specs.declared.paths.HashPlaces.{HashPlaces}
 use Rattle.verity_commands.specs.declared.paths.TwoHashes.{TwoHashes}
 

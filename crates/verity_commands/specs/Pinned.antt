@@ -56,7 +56,7 @@ pub record EndsUnpinned {S D T G : Type 0} (w : Calls S D) (d : Drawing T G) (op
   pub makes : MakesApart (record w { new = between }) d options f image
   pub unwritten : IsPinUnwritten (record w { old = between }) f.format.data_path f.format.hash_path f.file (pin_of_image options image) fault
 
--- FILE is one of the two images or can't be written, and nothing was drawn or made; one of these; or the text of what was made can't be written
+-- FILE is one of the images or can't be written, and nothing was made; one of these; or the text of what was made can't be written
 abbrev pub IsPinFormatCause : {S D T G : Type 0} → Calls S D → Drawing T G → ImageOptions → PinFormatRecord → Bool → ImageFault → Type 0
 IsPinFormatCause w d options f failed fault =
     (IsNoPinPath w f.format.data_path f.format.hash_path f.file.path fault × (d.new ≡ d.old))

@@ -1,4 +1,4 @@
--- The devices of an image that is gone over.
+-- The devices of an image that is scanned.
 use Rattle.block_device.specs.Device.{Device}
 use Rattle.image_commands.specs.declared.comparing.ImagePair.{ImagePair}
 

@@ -51,7 +51,7 @@ charted_survey tree lines totals = lines_text lines ++ (chart_text (damage_mark 
 abbrev pub is_all_good : Found → Bool
 is_all_good found = (found.totals.changed == 0) && ((found.totals.unknown == 0) && found.whole_tree)
 
--- the image was gone over, its lines and totals printed, and this says whether all of it is good
+-- the image was scanned, its lines and totals were printed, and the flag says whether all of it is good
 pub record SaysSurvey (tree : VerityTree) (w : Pass) (root : List ℕ) (good : Bool) : Type 0 where
   pub found : Found
   pub between : Option (List ℕ)
@@ -86,7 +86,7 @@ abbrev pub unkept_survey : SurveyFault → SurveyFault
 unkept_survey survey_fault.Write = Image verify.NoMemory
 unkept_survey (Image fault) = Image fault
 
--- why an image isn't gone over, where lines are kept in memory
+-- why an image isn't scanned, if lines are kept in memory
 abbrev pub IsKeptCause : ShapeRecord → Device → Device → Device → Device → SurveyFault → Type 0
 IsKeptCause shape data_dev hash_dev data_dev' hash_dev' (Image verify.NoMemory) = Unit {0}
 IsKeptCause shape data_dev hash_dev data_dev' hash_dev' fault = IsSurveyCause shape data_dev hash_dev data_dev' hash_dev' false fault
@@ -97,7 +97,7 @@ IsUnseen Object shape w failed fault = IsKeptCause shape w.data_dev w.hash_dev w
 IsUnseen Chart shape w failed fault = IsKeptCause shape w.data_dev w.hash_dev w.data_dev' w.hash_dev' fault × (w.printed' ≡ w.printed)
 IsUnseen Lines shape w failed fault = IsSurveyCause shape w.data_dev w.hash_dev w.data_dev' w.hash_dev' failed fault
 
--- a part of it isn't good, or why the image isn't gone over, or a line can't be written
+-- a part of the image isn't good, or why the image isn't scanned, or a line can't be written
 abbrev pub IsSurveyEnd : ReportForm → VerityTree → Pass → List ℕ → Bool → TreeFault → Type 0
 IsSurveyEnd form tree w root failed Damaged = SaysFound form tree w root false
 IsSurveyEnd form tree w root failed (Survey fault) = IsUnseen form tree.shape w failed fault
@@ -200,7 +200,7 @@ FindsGood form tree image image' contents writer writer' root = SaysFound form t
 abbrev pub FailsSurvey : {W : Type 0} → ReportForm → VerityTree → SurveyedDevices → SurveyedDevices → (W → Option (List ℕ)) → CountedRecord W → CountedRecord W → List ℕ → TreeFault → Type 0
 FailsSurvey form tree image image' contents writer writer' root = IsSurveyEnd form tree (gone_over image image' (contents writer.inner) (contents writer'.inner)) root writer'.failed
 
--- what lies before the data's end, and what lies behind a sector
+-- the survey of the data before their end and of the hash image that begins at a sector
 abbrev pub SurveysBehind : {D H W : Type 0} → (D → Device) → (H → Device) → D × H → (W → Option (List ℕ)) → CountedRecord W → CountedRecord W → Bounds → SoughtTree → ReportForm → Type 0
 SurveysBehind data_state hash_state devices contents writer writer' bounds sought form =
     SurveysPlaced form (IsPartState data_state) (IsPartState hash_state) (data_state devices.0) (hash_state devices.1) bounds.end bounds.first sought (contents writer.inner) (contents writer'.inner)

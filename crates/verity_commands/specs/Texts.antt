@@ -56,7 +56,7 @@ unwritten_pin_text replace.Write = refused_text 43 (codes "PinWrite")
 unwritten_pin_text replace.Sync = refused_text 44 (codes "PinSync")
 unwritten_pin_text replace.Rename = refused_text 45 (codes "PinRename")
 
--- a command on images that ends early; where a line can't be written, none is
+-- a command on images that ends early; if a line can't be written, none is
 abbrev pub image_text : ImageFault → List ℕ
 image_text image.NoMemory = no_memory
 image_text (image.Open file) = open_text file

@@ -42,7 +42,7 @@ unlike_text unlike.DataBlockSize = codes "refused 20 OtherDataBlockSize\n"
 unlike_text unlike.HashBlockSize = codes "refused 21 OtherHashBlockSize\n"
 unlike_text unlike.Salt = codes "refused 22 OtherSalt\n"
 
--- a hash block that isn't the one whose digest stands above it: of which tree, its level and its number there
+-- a hash block that isn't the one whose digest is stored above it: of which tree, its level and its number there
 abbrev pub hash_fault_text : Which → ℕ → ℕ → List ℕ
 hash_fault_text of level index = codes "fault hash " ++ (which_name of ++ (codes " " ++ (decimal level ++ (codes " " ++ (decimal index ++ codes "\n")))))
 
@@ -55,7 +55,7 @@ difference_text (difference.Hash of level index) = hash_fault_text of level inde
 difference_text difference.NoMemory = no_memory
 difference_text difference.Write = []
 
--- ---- an image that isn't gone over
+-- ---- an image that wasn't scanned
 
 -- no superblock, or too small, or a device failed
 abbrev pub image_fault_text : VerifyFault → List ℕ
@@ -80,7 +80,7 @@ tree_fault_text trees.UnusedEntries = codes "refused 60 UnusedEntries\n"
 tree_fault_text trees.Damaged = []
 tree_fault_text trees.Write = []
 
--- 3 where they differ, or a block isn't the one that was formatted
+-- 3 if they differ, or a block isn't the one that was formatted
 abbrev pub tree_status : TreeFault → ℕ
 tree_status trees.Differs = 3
 tree_status trees.Damaged = 3

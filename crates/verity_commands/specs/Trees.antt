@@ -1,4 +1,4 @@
--- What the commands on trees without a superblock print where they succeed, and how they end early.
+-- What the commands on trees without a superblock print if they succeed, and how they end early.
 use Rattle.std.specs.Borrow.{Bor}
 use Rattle.std.specs.Prelude.{◌≡◌, ◌⊎◌, ℕ, ◌/◌, Bool, true, false, List, Option, Some}
 use Rattle.block_device.specs.Device.{Device}
@@ -8,8 +8,9 @@ use Rattle.command_line.specs.declared.option_words.OptionWords.{OptionWords}
 use Rattle.command_line.specs.declared.words.tree_format.TreeFormatWords.{TreeFormatWords}
 use Rattle.command_line.specs.declared.words.tree_table.TreeTableWords.{TreeTableWords}
 use Rattle.command_line.specs.declared.words.tree_verify.TreeVerifyWords.{TreeVerifyWords}
+use Rattle.command_line.specs.declared.values.RootOrPin.{RootOrPin}
 use Rattle.command_line.specs.declared.values.RootWord.{RootWord}
-use Rattle.command_line.specs.Values.{RootRecord, root_record}
+use Rattle.command_line.specs.Values.{RootOrPinRecord, RootRecord, pin_file, root_or_pin_record, root_record, root_word}
 use Rattle.command_line.specs.FormatOptions.{AreSaid, OptionTexts, option_texts, text_of}
 use Rattle.command_line.specs.words.TreeFormat.{TreeFormatRecord, tree_format_record}
 use Rattle.command_line.specs.words.TreeTable.{TreeTableRecord, tree_table_record}
@@ -26,12 +27,15 @@ use Rattle.image_commands.specs.TreeImages.{IsTreeLineEnd, IsTreeMatchesEnd, Pri
 use Rattle.image_commands.specs.Places.{TwoPlaces, two_places}
 use Rattle.image_commands.specs.Preparing.{IsPreparingEnd}
 use Rattle.image_commands.specs.TreePlaces.{given_options, unnamed}
+use Rattle.image_commands.specs.TreeSources.{stored_source}
 use Rattle.image_files.specs.Opener.{Calls, Opener, calls}
+use Rattle.image_pin.specs.declared.trusted.TrustedRoot.{TrustedRoot}
 use Rattle.verity_format.specs.declared.formatting.FormatOptions.{FormatOptions}
 use Rattle.verity_commands.specs.declared.verity_fault.VerityFault.{VerityFault}
+use Rattle.verity_commands.specs.declared.verity_fault.VerityFault.TheVariants.{Usage}
 use Rattle.verity_commands.specs.Endings.{IsImageEnd, IsTreeUnsaid, IsUnsaid, IsVerityQuiet}
 use Rattle.verity_commands.specs.Growing.{FormatsGrowing, IsGrowingEnd, PreparesFirst}
-use Rattle.verity_commands.specs.Places.{IsRootEnd, TellsRoot, image_places}
+use Rattle.verity_commands.specs.Places.{IsRootEnd, IsTrustedEnd, TellsRoot, TellsTrusted, image_places}
 use Rattle.verity_format.specs.declared.formatting.FormatFault.TheVariants.{HashTooSmall}
 
 -- the values of the options, whose salt is given
@@ -101,6 +105,28 @@ pub record TellsTree {S D : Type 0} (texts : OptionTexts) (w : Calls S D) (root 
 abbrev pub IsTreeUntold : {S D : Type 0} → OptionTexts → Calls S D → RootRecord → VerityFault → Type 0
 IsTreeUntold texts w root fault = (IsTreeUnsaid texts fault × (w.new ≡ w.old)) ⊎ IsImageEnd (IsRootEnd w root) fault
 
+-- the superblock's tree was told, with the values of the pin, if there is one, and its root
+pub record TellsStored {S D : Type 0} (w : Calls S D) (root : RootOrPinRecord) (sought : SoughtTree) : Type 0 where
+  pub trusted : TrustedRoot
+  pub told : TellsTrusted w root trusted
+  pub is : sought ≡ stored_source trusted
+
+-- the options' tree, which has no pin
+abbrev pub TellsStated : {S D : Type 0} → OptionTexts → Calls S D → RootOrPinRecord → SoughtTree → Type 0
+TellsStated texts w (root_word word) sought = TellsTree texts w word sought
+TellsStated texts w (pin_file path) sought = ⊥
+
+abbrev pub IsStatedUntold : {S D : Type 0} → OptionTexts → Calls S D → RootOrPinRecord → VerityFault → Type 0
+IsStatedUntold texts w (root_word word) fault = IsTreeUntold texts w word fault
+IsStatedUntold texts w (pin_file path) fault = (fault ≡ Usage) × (w.new ≡ w.old)
+
+-- with a superblock or without one
+abbrev pub TellsEither : {S D : Type 0} → OptionTexts → Calls S D → Bool → RootOrPinRecord → SoughtTree → Type 0
+TellsEither texts w bare root sought = ((bare ≡ true) × TellsStated texts w root sought) ⊎ ((bare ≡ false) × TellsStored w root sought)
+
+abbrev pub IsEitherUntold : {S D : Type 0} → OptionTexts → Calls S D → Bool → RootOrPinRecord → VerityFault → Type 0
+IsEitherUntold texts w bare root fault = ((bare ≡ true) × IsStatedUntold texts w root fault) ⊎ ((bare ≡ false) × IsImageEnd (IsTrustedEnd w root) fault)
+
 -- `table`: the root was told, and then the line printed that the words give
 pub record PrintsTreeEntry {S D : Type 0} (texts : OptionTexts) (w : Calls S D) (t : TreeTableRecord) (old new : Option (List ℕ)) : Type 0 where
   pub given : FormatOptions
@@ -154,6 +180,24 @@ SeeksTree relations state images images' options root = TellsTree (option_texts 
 
 abbrev pub FailsToSeek : {S D : Type 0} → Opener S D → (D → Device) → S → S → OptionWords → RootWord → VerityFault → Type 0
 FailsToSeek relations state images images' options root = IsTreeUntold (option_texts options) (calls relations state images images') (root_record root)
+
+abbrev pub SeeksStored : {S D : Type 0} → Opener S D → (D → Device) → S → S → RootOrPin → SoughtTree → Type 0
+SeeksStored relations state images images' root = TellsStored (calls relations state images images') (root_or_pin_record root)
+
+abbrev pub FailsToSeekStored : {S D : Type 0} → Opener S D → (D → Device) → S → S → RootOrPin → VerityFault → Type 0
+FailsToSeekStored relations state images images' root = IsImageEnd (IsTrustedEnd (calls relations state images images') (root_or_pin_record root))
+
+abbrev pub SeeksStated : {S D : Type 0} → Opener S D → (D → Device) → S → S → OptionWords → RootOrPin → SoughtTree → Type 0
+SeeksStated relations state images images' options root = TellsStated (option_texts options) (calls relations state images images') (root_or_pin_record root)
+
+abbrev pub FailsToSeekStated : {S D : Type 0} → Opener S D → (D → Device) → S → S → OptionWords → RootOrPin → VerityFault → Type 0
+FailsToSeekStated relations state images images' options root = IsStatedUntold (option_texts options) (calls relations state images images') (root_or_pin_record root)
+
+abbrev pub SeeksEither : {S D : Type 0} → Opener S D → (D → Device) → S → S → OptionWords → Bool → RootOrPin → SoughtTree → Type 0
+SeeksEither relations state images images' options bare root = TellsEither (option_texts options) (calls relations state images images') bare (root_or_pin_record root)
+
+abbrev pub FailsToSeekEither : {S D : Type 0} → Opener S D → (D → Device) → S → S → OptionWords → Bool → RootOrPin → VerityFault → Type 0
+FailsToSeekEither relations state images images' options bare root = IsEitherUntold (option_texts options) (calls relations state images images') bare (root_or_pin_record root)
 
 abbrev pub PrintsTreeByWords : {S D W : Type 0} → Opener S D → (D → Device) → S → S → (W → Option (List ℕ)) → CountedRecord W → CountedRecord W → OptionWords → TreeTableWords → Type 0
 PrintsTreeByWords relations state images images' contents writer writer' options words =

@@ -1,11 +1,10 @@
 //! Which hash blocks of the second image are invalid, and which data blocks of two images differ: `diff --all`.
 ghost use Rattle.std.specs.Prelude.{◌≡◌, ◌≤◌, false, OnOk, IfErr, IfOk};
 ghost use Rattle.verity_format.specs.Image.{tree_sectors};
-ghost use Rattle.verity_format.specs.Superblock.{shape_of};
 ghost use Rattle.tree_difference.specs.Differences.{CanCompareTrees, seen_world};
 ghost use Rattle.tree_survey.specs.Failing.{IsReadOver};
 ghost use Rattle.tree_survey.specs.Hashes.{TellsTree};
-ghost use Rattle.tree_survey.specs.Passes.{super_tree};
+ghost use Rattle.tree_survey.specs.Passes.{tree_under};
 ghost use Rattle.verity_commands.specs.CheckedDiffs.{FailsCheck, FailsToCheckDevice, FailsToSay, FindsWhole, IsCheckedCause, IsCheckedDifference, IsFoundEnd, IsWholeAndSame, SaysFound, check_fault, second_fault};
 ghost use Rattle.verity_commands.specs.Diffs.{CanCompareTwo};
 
@@ -21,7 +20,7 @@ use std::io::Write;
 use tree_difference::{DifferenceFault, Totals, TreePair, Which, compare_trees};
 use tree_shape::Digest;
 use tree_survey::{SurveyFault, survey_hashes};
-use verity_format::{Superblock, VerifyFault};
+use verity_format::{VerifyFault, VerityTree};
 
 /// How many data blocks differ, and whether each hash block of the second tree is valid.
 #[derive(Clone, Copy, Debug, PartialEq, Eq)]
@@ -110,16 +109,16 @@ pub(crate) fn compare_checked<D: BlockDev, E: BlockDev, L: Listing>(
 fn check_second<H: BlockDev, L: Listing>(
     alloc: Global,
     device: &mut H,
-    superblock: &Superblock,
+    tree: &VerityTree,
     root: &Digest,
     listing: &mut L,
 ) -> Result<bool, DifferenceFault>
-    requires { tree_sectors (shape_of superblock.now) ≤ (H.state device.old).size }
+    requires { tree_sectors tree.now.shape ≤ (H.state device.old).size }
     ensures over { IsReadOver (H.state device.old) (H.state device.new) }
-    ensures ok { IfOk result (TellsTree H.state L.told (super_tree superblock.now root.now) device.old device.new listing.old listing.new) }
+    ensures ok { IfOk result (TellsTree H.state L.told (tree_under tree.now root.now) device.old device.new listing.old listing.new) }
     ensures err { IfErr result (FailsToCheckDevice H.state device.old device.new (L.failed listing.new)) }
 {
-    match survey_hashes(alloc, device, superblock, root, listing) {
+    match survey_hashes(alloc, device, tree, root, listing) {
         Ok(whole) => Ok(whole),
         Err(fault) => Err(check_fault(fault)),
     }

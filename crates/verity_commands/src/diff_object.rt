@@ -40,7 +40,7 @@ pub(crate) fn diff_object<'a, D: BlockDev, W: Write>(
     Ok(())
 }
 
-// Where a line isn't kept, memory ran out.
+// If a line isn't kept, memory ran out.
 #[tactic(auto, using(crate::proofs::KeptLemmas::trees_cause))]
 fn keep_difference<D: BlockDev>(
     alloc: Global,

@@ -1,4 +1,4 @@
-//! `format --grow`: makes HASH, or makes it longer, where it has too few sectors.
+//! `format --grow`: creates HASH, or makes it longer if it has too few sectors.
 ghost use Rattle.std.specs.Prelude.{◌≡◌, true, Err, IfErr, IfOk, IfSome, OnOk};
 ghost use Rattle.image_commands.specs.declared.fault.ImageFault.TheVariants as image_fault;
 ghost use Rattle.image_commands.specs.Drawing.{drawing};
@@ -19,7 +19,7 @@ use std::alloc::Global;
 use std::io::Write;
 use verity_format::FormatFault;
 
-// The file under a path has at least so many sectors from then on.
+// Makes the file under a path at least so many sectors long.
 fn make_room<'a, I: Images>(
     images: &mut I,
     path: &'a str,
@@ -34,7 +34,7 @@ fn make_room<'a, I: Images>(
     }
 }
 
-// How many sectors the file has to have, if a formatting ended since it has fewer.
+// Returns how many sectors the file has to have, if the format was refused since the file has fewer.
 fn needed_by<T>(tried: &Result<T, ImageFault<'_>>) -> Option<u64>
     ensures { IfSome result (λ needed. tried.now ≡ Err (image_fault.Format (format_fault.HashTooSmall needed))) }
 {
@@ -44,7 +44,11 @@ fn needed_by<T>(tried: &Result<T, ImageFault<'_>>) -> Option<u64>
     }
 }
 
-/// Makes the hash image once its file has the sectors that are needed.
+/// Makes the hash image as `make_placed` does, after its file was created or made as long as the image needs.
+///
+/// # Errors
+///
+/// Those of `make_placed`; `Open` also if the file can't be made longer.
 pub fn make_growing<'a, I: Images, G: Generators + Watchers>(
     alloc: Global,
     images: &mut I,
@@ -65,7 +69,11 @@ pub fn make_growing<'a, I: Images, G: Generators + Watchers>(
     make_placed(alloc, images, generators, *options, *watched)
 }
 
-/// Makes the tree without a superblock once its file has the sectors that are needed.
+/// Makes the tree without a superblock as `format_tree` does, after its file was created or made as long as the tree needs.
+///
+/// # Errors
+///
+/// Those of `format_tree`; `Open` also if the file can't be made longer.
 pub fn format_tree_growing<'a, I: Images, G: Generators + Watchers, W: Write>(
     alloc: Global,
     images: &mut I,

@@ -7,6 +7,7 @@ use crate::paths::HashPlaces;
 use crate::placed_diff::diff_images;
 use crate::survey::{SurveyOrder, survey_images};
 use crate::tree_fault::TreeFault;
+use crate::tree_pair::SoughtTrees;
 use command_line::{DiffWords, VerifyWords};
 use device_adapters::Watchers;
 use image_commands::{HashPlace, SoughtTree, TreeSource};
@@ -15,11 +16,14 @@ use image_pin::TrustedRoot;
 use program_io::Counted;
 use std::alloc::Global;
 use std::io::Write;
-use tree_difference::TrustedTrees;
 
 const SECTOR: u64 = 512;
 
-/// `verify --all [--json] [--progress] [--hash-offset BYTES] DATA HASH ROOT`, with the root that the words name, or the pin.
+/// `verify --all [--json | --chart] [--progress] [--hash-offset BYTES] DATA HASH ROOT`, with the root hash or pin that is trusted.
+///
+/// # Errors
+///
+/// Those of `survey_images`.
 pub fn invoke_survey<'a, I: Images, S: Watchers, W: Write>(
     alloc: Global,
     images: &mut I,
@@ -45,17 +49,21 @@ pub fn invoke_survey<'a, I: Images, S: Watchers, W: Write>(
     survey_images(alloc, images, watchers, order, &sought, writer)
 }
 
-/// `diff [--all] [--runs N] [--json] [--old-hash-offset BYTES] [--hash-offset BYTES] HASH1 HASH2`, with the root hashes or the pins
-/// that are trusted.
+/// `diff [--all] [--runs N] [--json] [--old-hash-offset BYTES] [--hash-offset BYTES] HASH1 HASH2`, also with `--no-superblock`, with the
+/// trees that are sought.
+///
+/// # Errors
+///
+/// Those of `diff_images`.
 pub fn invoke_diff<'a, I: Images, W: Write>(
     alloc: Global,
     images: &mut I,
     words: &DiffWords<'a>,
-    trusted: &TrustedTrees,
+    sought: &SoughtTrees,
     writer: &mut Counted<W>,
 ) -> Result<(), TreeFault<'a>>
-    ensures ok { OnOk result (DiffsByWords I.relations I.Dev.state images.old images.new W.contents writer.old writer.new words.now trusted.now) }
-    ensures err { IfErr result (FailsDiffByWords I.relations I.Dev.state images.old images.new W.contents writer.old writer.new words.now trusted.now) }
+    ensures ok { OnOk result (DiffsByWords I.relations I.Dev.state images.old images.new W.contents writer.old writer.new words.now sought.now) }
+    ensures err { IfErr result (FailsDiffByWords I.relations I.Dev.state images.old images.new W.contents writer.old writer.new words.now sought.now) }
 {
     let places = HashPlaces {
         first: HashPlace {
@@ -72,5 +80,5 @@ pub fn invoke_diff<'a, I: Images, W: Write>(
         json: words.json,
         all: words.all,
     };
-    diff_images(alloc, images, &places, trusted, form, writer)
+    diff_images(alloc, images, &places, sought, form, writer)
 }

@@ -12,6 +12,7 @@ mod pinned;
 mod placed;
 mod placed_diff;
 mod places;
+mod sought_trees;
 mod status;
 mod survey;
 mod survey_chart;
@@ -19,8 +20,8 @@ mod survey_object;
 mod texts;
 mod tree_fault;
 mod tree_fault_text;
+mod tree_pair;
 mod trees;
-mod trusted_trees;
 mod verity_fault;
 
 pub use checked_diff::CheckedTotals;
@@ -31,13 +32,15 @@ pub use pinned::invoke_format_pinned;
 pub use placed::{invoke_dump, invoke_format, invoke_table, invoke_verify};
 pub use placed_diff::diff_images;
 pub use places::{sector_at, trusted_in};
+pub use sought_trees::both_sought_in;
 pub use status::verity_status;
 pub use survey::{SurveyOrder, is_all_good, say_totals, survey_images};
 pub use texts::{say_image_fault, say_verity_fault};
 pub use tree_fault::TreeFault;
 pub use tree_fault_text::{say_tree_fault, tree_status};
+pub use tree_pair::{SoughtTrees, TreeStarts};
 pub use trees::{
     invoke_format_tree, invoke_table_tree, invoke_tree_survey, invoke_verify_tree, sought_in,
+    sought_tree_in,
 };
-pub use trusted_trees::both_trusted_in;
 pub use verity_fault::VerityFault;

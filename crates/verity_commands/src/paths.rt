@@ -3,12 +3,12 @@ ghost use Rattle.std.specs.Prelude.{◌≡◌, IfOk, IfErr};
 ghost use Rattle.image_commands.specs.Places.{behind};
 ghost use Rattle.verity_commands.specs.Openings.{ClosesHashes, FailsToOpenHashes, OpensHashes};
 
+use crate::tree_pair::TreeStarts;
 use block_device::BlockDev;
 use device_adapters::Window;
 use image_commands::HashPlace;
 use image_files::{Images, OpenImage, UnopenedFile, open_image};
 use std::marker::Brand;
-use tree_difference::TreeStarts;
 
 /// The paths of two hash images' files, and the sectors of 512 bytes where the hash images begin.
 #[derive(Clone, Copy, Debug, PartialEq, Eq)]

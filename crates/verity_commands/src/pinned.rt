@@ -13,8 +13,15 @@ use program_io::Counted;
 use std::alloc::Global;
 use std::io::Write;
 
-/// `format --pin FILE [--grow] [--progress] [--hash-offset BYTES] [OPTION..] DATA HASH`, or with `--root-hash-file FILE`: whether
-/// FILE can be written is found out before anything is made. It is written once the image is synced, and before the root is printed.
+/// `format --pin FILE [--grow] [--progress] [--hash-offset BYTES] [OPTION..] DATA HASH`, or with `--root-hash-file FILE`: checks
+/// that FILE can be written before anything is made, and writes it after the image was synced and before the root hash is printed.
+///
+/// # Errors
+///
+/// - `Usage` if an option has no valid value.
+/// - `Image` with a fault of `check_pin_path`, `make_placed` or `write_pin`, with `--grow` also of `prepare_image` or
+///   `make_growing`.
+/// - `Image` with `NoMemory` if memory for the salt was refused, or with `Write` if a line can't be written.
 pub fn invoke_format_pinned<'a, I: Images, G: Generators + Watchers, W: Write>(
     alloc: Global,
     images: &mut I,

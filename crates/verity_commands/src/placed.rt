@@ -20,7 +20,13 @@ use program_io::Counted;
 use std::alloc::Global;
 use std::io::Write;
 
-/// `format [--grow] [--progress] [--hash-offset BYTES] [OPTION..] DATA HASH`
+/// `format [--grow] [--progress] [--hash-offset BYTES] [OPTION..] DATA HASH`: makes the image, and prints what was made.
+///
+/// # Errors
+///
+/// - `Usage` if an option has no valid value.
+/// - `Image` with a fault of `make_placed`, with `--grow` also of `prepare_image` or `make_growing`.
+/// - `Image` with `NoMemory` if memory for the salt was refused, or with `Write` if a line can't be written.
 pub fn invoke_format<'a, I: Images, G: Generators + Watchers, W: Write>(
     alloc: Global,
     images: &mut I,
@@ -85,6 +91,11 @@ pub(crate) fn make_image<'a, I: Images, G: Generators + Watchers>(
 }
 
 /// `verify [--progress] [--hash-offset BYTES] [--root-hash-file FILE | --pin FILE] DATA HASH [ROOT]`
+///
+/// # Errors
+///
+/// - `Usage` with `--all`, which `invoke_survey` serves.
+/// - `Image` with a fault of `trusted_in` or `verify_placed`.
 pub fn invoke_verify<'a, I: Images, S: Watchers, W: Write>(
     alloc: Global,
     images: &mut I,
@@ -111,6 +122,10 @@ pub fn invoke_verify<'a, I: Images, S: Watchers, W: Write>(
 }
 
 /// `dump [--hash-offset BYTES] [--json] [--pin ROOT] HASH`
+///
+/// # Errors
+///
+/// `Image` with a fault of `dump_placed`.
 pub fn invoke_dump<'a, I: Images, W: Write>(
     alloc: Global,
     images: &mut I,
@@ -128,6 +143,10 @@ pub fn invoke_dump<'a, I: Images, W: Write>(
 }
 
 /// `table [--hash-offset BYTES] [--name NAME] [--root-hash-file FILE | --pin FILE] HASH [ROOT] DATANAME HASHNAME`
+///
+/// # Errors
+///
+/// `Image` with a fault of `trusted_in` or `table_placed`.
 pub fn invoke_table<'a, I: Images, W: Write>(
     alloc: Global,
     images: &mut I,

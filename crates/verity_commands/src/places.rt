@@ -1,4 +1,4 @@
-//! The commands on verity images whose superblock and tree stand at a place of their file.
+//! The sector of a hash image in its file, and the root hash that is trusted.
 ghost use Rattle.std.specs.Prelude.{◌≡◌, ◌/◌, IfErr, IfOk};
 ghost use Rattle.verity_commands.specs.Places.{FindsNoRoot, FindsNoTrusted, FindsRoot, FindsTrusted};
 
@@ -10,7 +10,7 @@ use tree_shape::Digest;
 
 const SECTOR: u64 = 512;
 
-/// The sector at which the bytes from an offset on begin.
+/// Returns the sector of 512 bytes in which the byte at an offset lies.
 pub fn sector_at(offset: u64) -> u64
     ensures { result ≡ offset / 512 }
 {
@@ -31,7 +31,11 @@ pub(crate) fn root_in<'a, I: Images>(
     }
 }
 
-/// The root that is trusted: the root digest that words give, or the pin of a file and its root.
+/// Returns the root that is trusted: the root hash of an argument or a file, or a file's pin with its root hash.
+///
+/// # Errors
+///
+/// Those of `read_root` or `read_pin`, if a file is named.
 pub fn trusted_in<'a, I: Images>(
     images: &mut I,
     word: &RootOrPin<'a>,

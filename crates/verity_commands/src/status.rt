@@ -11,7 +11,7 @@ const USAGE: u8 = 2;
 
 const FAULT: u8 = 3;
 
-/// 2 for words that are no command, 3 for images that differ, else 1.
+/// Returns the exit status: 2 for arguments that are no command, 3 for images that differ, else 1.
 pub fn verity_status(fault: VerityFault<'_>) -> u8
     ensures { result ≡ verity_status fault.entry }
 {

@@ -23,7 +23,7 @@ use tree_shape::Digest;
 use tree_survey::{Survey, Totals, survey_image};
 use verity_format::VerityTree;
 
-/// What is gone over: the paths of a data image and of its hash image, and the sector of 512 bytes of the hash image's
+/// What is scanned: the paths of a data image and of its hash image, and the sector of 512 bytes of the hash image's
 /// file where the hash image begins. What was found is reported in that form, and it may be shown how much of the data
 /// was read.
 #[derive(Clone, Copy, Debug, PartialEq, Eq)]
@@ -35,16 +35,17 @@ pub struct SurveyOrder<'a> {
     pub progress: bool,
 }
 
-/// `verify --all [--json | --chart] [--progress] [--hash-offset BYTES] DATA HASH ROOT`, also with `--no-superblock`: a line for each longest run of data
-/// blocks that aren't good, one for each hash block that isn't, and the totals; all of them at the end, with a map of the
-/// data blocks before the totals; or one JSON object of all of them. If both are one file, the data are what lies before the
-/// hash image.
+/// `verify --all [--json | --chart] [--progress] [--hash-offset BYTES] DATA HASH ROOT`, also with `--no-superblock`: prints a line
+/// for each longest run of data blocks that aren't good, one for each hash block that isn't, and the totals; with `--chart` a map
+/// of the data blocks before the totals, and all of it at the end; with `--json` one JSON object of all of them. If both are one
+/// file, the data are what lies before the hash image.
 ///
 /// # Errors
 ///
 /// - `Open` if a file isn't opened.
 /// - `Unaligned`, `NoShape`, `Unpinned` or `Survey` if there is no tree of that source, or the scan ends early.
 /// - `Damaged` if a block isn't good.
+/// - `Write` if a line after the scan can't be written.
 pub fn survey_images<'a, I: Images, S: Watchers, W: Write>(
     alloc: Global,
     images: &mut I,
@@ -74,7 +75,7 @@ pub fn survey_images<'a, I: Images, S: Watchers, W: Write>(
     survey_behind(alloc, devices, bounds, sought, form, writer)
 }
 
-// What lies before the data's end, and what lies behind that sector.
+// Scans the data before their end, and the hash image that begins at a sector of the hash device.
 fn survey_behind<'a, D: BlockDev + Drop, H: BlockDev + Drop, W: Write>(
     alloc: Global,
     devices: (D, H),
@@ -93,7 +94,7 @@ fn survey_behind<'a, D: BlockDev + Drop, H: BlockDev + Drop, W: Write>(
     say_survey(alloc, &mut two, &tree, &sought.root, form, writer)
 }
 
-// Goes over the two devices, and prints what was found.
+// Scans the two devices, and prints what was found.
 fn say_survey<'a, D: BlockDev, H: BlockDev, W: Write>(
     alloc: Global,
     image: &mut ImagePair<D, H>,
@@ -131,7 +132,7 @@ fn survey_lines<'a, D: BlockDev, H: BlockDev, W: Write>(
     Ok(())
 }
 
-/// Whether all data blocks and all hash blocks are good.
+/// Returns whether all data blocks and all hash blocks are good.
 pub fn is_all_good(found: Survey) -> bool
     ensures { result ≡ is_all_good found }
 {
@@ -139,6 +140,10 @@ pub fn is_all_good(found: Survey) -> bool
 }
 
 /// Prints how many data blocks are good and how many aren't: `good N changed N unknown N`.
+///
+/// # Errors
+///
+/// `WriteFault` if the writer failed.
 #[tactic(auto, unfolding(crate::specs::Surveys::survey_totals))]
 pub fn say_totals<W: Write>(writer: &mut Counted<W>, totals: Totals) -> Result<(), WriteFault>
     ensures { Writes W.contents writer.old writer.new (survey_totals totals) result }

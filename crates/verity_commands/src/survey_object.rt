@@ -24,7 +24,7 @@ use tree_shape::Digest;
 use tree_survey::{Survey, SurveyFault, Totals, survey_image};
 use verity_format::{VerifyFault, VerityTree};
 
-/// Goes over the two devices, and prints an object at the end.
+/// Scans the two devices, and prints an object at the end.
 pub(crate) fn survey_object<'a, D: BlockDev, H: BlockDev, W: Write>(
     alloc: Global,
     image: &mut ImagePair<D, H>,
@@ -45,7 +45,7 @@ pub(crate) fn survey_object<'a, D: BlockDev, H: BlockDev, W: Write>(
     Ok(())
 }
 
-// Where a line isn't kept, memory ran out.
+// If a line isn't kept, memory ran out.
 #[tactic(auto, using(crate::proofs::KeptLemmas::kept_cause))]
 pub(crate) fn keep_survey<D: BlockDev, H: BlockDev>(
     alloc: Global,

@@ -12,7 +12,11 @@ use program_io::{Counted, WriteFault};
 use std::io::Write;
 use verity_format::{FormatFault, Verdict, VerifyFault};
 
-/// One line, or none where a line can't be written.
+/// Prints the line of a fault; prints nothing if a line couldn't be written.
+///
+/// # Errors
+///
+/// `WriteFault` if the writer failed.
 pub fn say_verity_fault<W: Write>(
     writer: &mut Counted<W>,
     fault: VerityFault<'_>,
@@ -25,7 +29,11 @@ pub fn say_verity_fault<W: Write>(
     }
 }
 
-/// One line, or none where that can't be written.
+/// Prints the line of a fault; prints nothing if a line couldn't be written.
+///
+/// # Errors
+///
+/// `WriteFault` if the writer failed.
 pub fn say_image_fault<W: Write>(
     writer: &mut Counted<W>,
     fault: ImageFault<'_>,

@@ -18,9 +18,9 @@ pub enum TreeFault<'a> {
     Open(UnopenedFile<'a>),
     /// The trees aren't compared.
     Trees(DifferenceFault),
-    /// They were compared and differ.
+    /// The trees were compared and differ.
     Differs,
-    /// The image isn't gone over to its end.
+    /// The image wasn't scanned to its end.
     Survey(SurveyFault),
     /// No hash block begins at the place of the superblock.
     Unaligned,
@@ -31,7 +31,7 @@ pub enum TreeFault<'a> {
     /// A hash block isn't zero after its last used entry: the image that was formatted has more data blocks than the
     /// superblock says.
     UnusedEntries,
-    /// It was gone over, and not all of it is good.
+    /// The image was scanned, and not all of it is good.
     Damaged,
     /// A line can't be written.
     Write,

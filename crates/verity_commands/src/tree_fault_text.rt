@@ -17,7 +17,11 @@ const REFUSED: u8 = 1;
 
 const FAULT: u8 = 3;
 
-/// One line; none where the trees were compared and differ, the image isn't all good, or a line can't be written.
+/// Prints the line of a fault; prints nothing if the trees differ, the image isn't all good, or a line couldn't be written.
+///
+/// # Errors
+///
+/// `WriteFault` if the writer failed.
 pub fn say_tree_fault<W: Write>(
     writer: &mut Counted<W>,
     fault: TreeFault<'_>,
@@ -38,7 +42,7 @@ pub fn say_tree_fault<W: Write>(
     }
 }
 
-/// The status of a command that ends so.
+/// Returns the exit status: 3 for trees that differ or blocks that aren't good, else 1.
 pub fn tree_status(fault: TreeFault<'_>) -> u8
     ensures { result ≡ tree_status fault.entry }
 {

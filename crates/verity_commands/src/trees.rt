@@ -4,15 +4,15 @@ ghost use Rattle.command_line.specs.FormatOptions.{option_texts};
 ghost use Rattle.image_commands.specs.Drawing.{drawing};
 ghost use Rattle.verity_commands.specs.Endings.{IsTreeUnsaid};
 ghost use Rattle.verity_commands.specs.Invocations.{FailsTreeSurvey, SurveysTreeByWords};
-ghost use Rattle.verity_commands.specs.Trees.{FailsToFormatTree, FailsToPrintTree, FailsToVerifySaidTree, FailsToSeek, FormatsTreeByWords, PrintsTreeByWords, SaysTree, SeeksTree, VerifiesTreeByWords};
+ghost use Rattle.verity_commands.specs.Trees.{FailsToFormatTree, FailsToPrintTree, FailsToVerifySaidTree, FailsToSeek, FailsToSeekEither, FailsToSeekStated, FailsToSeekStored, FormatsTreeByWords, PrintsTreeByWords, SaysTree, SeeksEither, SeeksStated, SeeksStored, SeeksTree, VerifiesTreeByWords};
 
 use crate::growing::format_tree_growing;
-use crate::places::{root_in, sector_at};
+use crate::places::{root_in, sector_at, trusted_in};
 use crate::survey::{SurveyOrder, survey_images};
 use crate::tree_fault::TreeFault;
 use crate::verity_fault::VerityFault;
 use command_line::{
-    OptionWords, RootWord, TreeFormatWords, TreeTableWords, TreeVerifyWords, options_of,
+    OptionWords, RootOrPin, RootWord, TreeFormatWords, TreeTableWords, TreeVerifyWords, options_of,
 };
 use device_adapters::Watchers;
 use image_commands::{
@@ -29,6 +29,12 @@ use verity_format::FormatOptions;
 const SECTOR: u64 = 512;
 
 /// `format --no-superblock [--grow] [--progress] [OPTION..] DATA HASH`
+///
+/// # Errors
+///
+/// - `Usage` if an option has no valid value.
+/// - `Image` with a fault of `format_tree`, with `--grow` also of `prepare_image` or `format_tree_growing`.
+/// - `Image` with `NoMemory` if memory for the salt was refused.
 pub fn invoke_format_tree<'a, I: Images, G: Generators + Watchers, W: Write>(
     alloc: Global,
     images: &mut I,
@@ -57,6 +63,12 @@ pub fn invoke_format_tree<'a, I: Images, G: Generators + Watchers, W: Write>(
 }
 
 /// `verify --no-superblock [--progress] [OPTION..] DATA HASH [ROOT]`
+///
+/// # Errors
+///
+/// - `Usage` if an option has no valid value, or no salt is given.
+/// - `Image` with a fault of `read_root` or `verify_tree`.
+/// - `Image` with `NoMemory` if memory for the salt was refused.
 pub fn invoke_verify_tree<'a, I: Images, S: Watchers, W: Write>(
     alloc: Global,
     images: &mut I,
@@ -83,6 +95,10 @@ pub fn invoke_verify_tree<'a, I: Images, S: Watchers, W: Write>(
 }
 
 /// `verify --no-superblock --all [--json | --chart] [--progress] [--hash-offset BYTES] DATA HASH ROOT`, of the tree that is sought.
+///
+/// # Errors
+///
+/// Those of `survey_images`.
 pub fn invoke_tree_survey<'a, I: Images, S: Watchers, W: Write>(
     alloc: Global,
     images: &mut I,
@@ -105,6 +121,12 @@ pub fn invoke_tree_survey<'a, I: Images, S: Watchers, W: Write>(
 }
 
 /// `table --no-superblock [OPTION..] HASH [ROOT] DATANAME HASHNAME`
+///
+/// # Errors
+///
+/// - `Usage` if an option has no valid value, or no salt is given.
+/// - `Image` with a fault of `read_root` or `print_tree_line`.
+/// - `Image` with `NoMemory` if memory for the salt was refused.
 pub fn invoke_table_tree<'a, I: Images, W: Write>(
     alloc: Global,
     images: &mut I,
@@ -127,11 +149,12 @@ pub fn invoke_table_tree<'a, I: Images, W: Write>(
     Ok(print_tree_line(alloc, first, words.name, line, given, writer)?)
 }
 
-/// The tree that options state, and the root hash that an argument or a file has.
+/// Returns the tree that options state, and the root hash of an argument or a file.
 ///
 /// # Errors
 ///
-/// `Usage` if an option states no value, or no salt is given; `Image` if the file has no root hash, or memory ran out.
+/// - `Usage` if an option has no valid value, or no salt is given.
+/// - `Image` with a fault of `read_root`, or with `NoMemory` if memory for the salt was refused.
 pub fn sought_in<'a, I: Images>(
     alloc: Global,
     images: &mut I,
@@ -147,7 +170,62 @@ pub fn sought_in<'a, I: Images>(
     Ok(SoughtTree { source, root })
 }
 
-// What the options say of a tree, whose salt has to be given.
+/// The tree that the superblock holds or, if there is none, options state, and the root hash that an argument, a file or a pin has.
+///
+/// # Errors
+///
+/// `Image` if the file has no root hash or is no pin; without a superblock those of `sought_in`, or `Usage` for a pin.
+pub fn sought_tree_in<'a, I: Images>(
+    alloc: Global,
+    images: &mut I,
+    no_superblock: bool,
+    root: &RootOrPin<'a>,
+    options: &OptionWords<'_>,
+) -> Result<SoughtTree, VerityFault<'a>>
+    ensures ok { IfOk result (SeeksEither I.relations I.Dev.state images.old images.new options.now no_superblock root.now) }
+    ensures err { IfErr result (FailsToSeekEither I.relations I.Dev.state images.old images.new options.now no_superblock root.now) }
+{
+    if no_superblock {
+        stated_in(alloc, images, root, options)
+    } else {
+        stored_in(images, root)
+    }
+}
+
+// The tree that options state, which has no pin.
+fn stated_in<'a, I: Images>(
+    alloc: Global,
+    images: &mut I,
+    root: &RootOrPin<'a>,
+    options: &OptionWords<'_>,
+) -> Result<SoughtTree, VerityFault<'a>>
+    ensures ok { IfOk result (SeeksStated I.relations I.Dev.state images.old images.new options.now root.now) }
+    ensures err { IfErr result (FailsToSeekStated I.relations I.Dev.state images.old images.new options.now root.now) }
+{
+    match root {
+        RootOrPin::Root(word) => sought_in(alloc, images, word, options),
+        RootOrPin::Pin(_) => Err(VerityFault::Usage),
+    }
+}
+
+// The tree that the superblock holds, with the values of the pin, if there is one.
+fn stored_in<'a, I: Images>(
+    images: &mut I,
+    root: &RootOrPin<'a>,
+) -> Result<SoughtTree, VerityFault<'a>>
+    ensures ok { IfOk result (SeeksStored I.relations I.Dev.state images.old images.new root.now) }
+    ensures err { IfErr result (FailsToSeekStored I.relations I.Dev.state images.old images.new root.now) }
+{
+    match trusted_in(images, root) {
+        Ok(trusted) => Ok(SoughtTree {
+            source: TreeSource::Superblock(trusted.pin),
+            root: trusted.root,
+        }),
+        Err(fault) => Err(VerityFault::Image(fault)),
+    }
+}
+
+// Returns the options of a tree, whose salt has to be given.
 fn tree_options<'a>(
     alloc: Global,
     options: &OptionWords<'_>,

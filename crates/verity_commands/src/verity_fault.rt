@@ -1,4 +1,4 @@
-//! Why a command on verity images ends early, be it for its words.
+//! Why a command on verity images ends early, also for its arguments.
 ghost use Rattle.std.specs.Prelude.{◌≡◌};
 ghost use Rattle.verity_commands.specs.declared.verity_fault.VerityFault.TheVariants as verity_fault;
 ghost use Rattle.verity_commands.specs.Endings.{words_ending};
@@ -9,9 +9,9 @@ use image_commands::ImageFault;
 /// Why a command on verity images ends early.
 #[derive(Clone, Copy, Debug, PartialEq, Eq)]
 pub enum VerityFault<'a> {
-    /// The words are no command.
+    /// The arguments are no command.
     Usage,
-    /// The images aren't served so.
+    /// The command on the images ended early.
     Image(ImageFault<'a>),
 }
 

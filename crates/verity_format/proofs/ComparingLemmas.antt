@@ -118,7 +118,7 @@ module _ (s : ShapeRecord) (salt : List ℕ) where
               subst (λ ds. IsLeastDiffering device (numbered s.start (area s.hash_block salt ds)) next) (over-all s salt data_dev data' x t valid none data_steady) least;
         }
 
--- what the least differing number says of the blocks as they stand
+-- what the least differing number says of the blocks as they are stored
 module _ (image : List (List ℕ)) (size first n : ℕ) (blocks : List (List ℕ)) (count : length blocks ≡ n) where
   long : length (blocks_at image size first n) ≡ n
   long = length-map-range_with_len (block_at image size) first n

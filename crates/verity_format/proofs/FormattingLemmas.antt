@@ -70,7 +70,7 @@ formatted-is s data_image old new first valid fits is long tree =
     ∙ ap (λ f. cut_into n (f ++ area) ++ rest) is
     ∙ ap (λ i. cut_into n (first_block s ++ area) ++ drop i old) end
 
--- the write of hash block 0 failed behind the whole tree
+-- the write of hash block 0 failed after the whole tree was written
 pub fails-at_first : (s : SuperRecord) (data_dev a b c : Device) (first : List ℕ) → HasFailed b c → b.failures ≡ a.failures → HasFailed a c → length first ≡ s.hash_block
     → IsPartOfTree (shape_of s) a b → capped b.writes ≡ capped (a.writes + blocks_sectors (area_blocks (shape_of s)) s.hash_block) → IsWritten b 0 (length first / 512) false c
     → (IsTrue data_dev.steady → IsTrue a.steady → spliced b.image 0 (cut_into (length first / 512) first) ≡ formatted s data_dev.image a.image)

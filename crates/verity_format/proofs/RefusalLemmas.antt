@@ -56,7 +56,7 @@ pub past-refused : (data_dev hash_dev : Device) (sector : List ℕ) (small : Boo
 unfolding verify_refusal
 past-refused data_dev hash_dev sector small some none is = rw (some_sector hash_dev.size some, none, is) refl
 
--- a device's failure and want of memory are no refusals
+-- a device's failure and a failed allocation are no refusals
 no_failure : (o a b w : Bool) (n : ℕ)
     → cond o (Some format.Shape) (cond a (Some format.DataTooSmall) (cond b (Some (format.HashTooSmall n)) (cond (not w) (Some format.HashReadOnly) None))) ≡ Some format.Device → ⊥
 no_failure true a b w n h = cc
@@ -94,7 +94,7 @@ build-refused s data_dev hash_dev format.HashReadOnly h = (h, refl, refl)
 build-refused s data_dev hash_dev format.Device h = absurd (no_failure false (nat_lt data_dev.size (data_sectors s)) (nat_lt hash_dev.size (tree_sectors s)) hash_dev.may_write (tree_sectors s) h)
 build-refused s data_dev hash_dev format.NoMemory h = absurd (no_memory false (nat_lt data_dev.size (data_sectors s)) (nat_lt hash_dev.size (tree_sectors s)) hash_dev.may_write (tree_sectors s) h)
 
--- what stands for the fault of a tree that wasn't written
+-- the fault that the fault of an unwritten tree becomes
 pub build-cause : (s : ShapeRecord) (data_dev hash_dev data_dev' hash_dev' : Device) (f : TreeFault) → IsWriteCause data_dev hash_dev data_dev' hash_dev' f → IsBuildCause s data_dev hash_dev data_dev' hash_dev' (format_fault_of f)
 build-cause s data_dev hash_dev data_dev' hash_dev' tree.Device (inl h) = inl h.0
 build-cause s data_dev hash_dev data_dev' hash_dev' tree.Device (inr h) = inr h

@@ -38,7 +38,7 @@ module _ (s : ShapeRecord) (salt : List ℕ) (data_dev hash_dev data_dev' hash_d
   verdict-area block root compared data_steady hash_steady =
       differs-least hash_dev.image s.hash_block s.start (area_blocks s) (area_over s salt data_dev.image) (area-stands s compared.valid salt data_dev.image).total block (compared.found data_steady hash_steady)
 
--- what stands for the fault of a comparison
+-- the fault that a comparison's fault becomes
 pub pair-cause : (s : ShapeRecord) (data_dev hash_dev data_dev' hash_dev' : Device) (f : TreeFault) → IsPairCause data_dev hash_dev data_dev' hash_dev' f
     → IsTreeVerifyCause s data_dev hash_dev data_dev' hash_dev' (verify_fault_of f)
 pair-cause s data_dev hash_dev data_dev' hash_dev' tree.Device h = h

@@ -7,7 +7,7 @@ use Rattle.verity_format.specs.declared.access.TreeFault.{TreeFault}
 use Rattle.verity_format.specs.declared.access.TreeFault.TheVariants.{Device as DeviceFailed, NoMemory}
 use Rattle.verity_format.specs.Blocks.{IsFullRead, blocks_at}
 
--- the most elements that one allocation asks for: the bytes of the data that one call reads
+-- the most elements of one allocation: the bytes of the data that one call reads
 abbrev pub largest_allocation : ℕ
 largest_allocation = 65536
 

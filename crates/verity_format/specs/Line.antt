@@ -35,7 +35,7 @@ verity_line s data_name hash_name root start = record {
 abbrev pub verity_text : SuperRecord → List ℕ → List ℕ → List ℕ → ℕ → List ℕ
 verity_text s data_name hash_name root start = line_text true (verity_line s data_name hash_name root start)
 
--- the largest size that an allocation for the line asks for: the length of the names and the text
+-- the largest size of an allocation for the line: the length of the names and the text
 abbrev pub line_room : SuperRecord → List ℕ → List ℕ → List ℕ → ℕ → ℕ
 line_room s data_name hash_name root start = length data_name + length hash_name + length (verity_text s data_name hash_name root start)
 

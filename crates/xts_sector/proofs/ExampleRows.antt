@@ -25,7 +25,7 @@ pub encrypted_example : encrypted (replicate 32 0) 0 (replicate 32 0) ≡ 145 �
 unfolding product product_low state_of inverse affine sub_byte sub_bytes shift_rows mix_columns add_round_key key_term with_word key_schedule cipher_with cipher unit_number times_alpha joined add_blocks tweak encrypted_block encrypted_blocks encrypted
 encrypted_example = refl
 
--- the same, decrypted
+-- annex B, vector 1, decrypted
 pub decrypted_example : decrypted (replicate 32 0) 0 (145 ∷ 124 ∷ 246 ∷ 158 ∷ 189 ∷ 104 ∷ 178 ∷ 236 ∷ 155 ∷ 159 ∷ 233 ∷ 163 ∷ 234 ∷ 221 ∷ 166 ∷ 146 ∷ 205 ∷ 67 ∷ 210 ∷ 245 ∷ 149 ∷ 152 ∷ 237 ∷ 133 ∷ 140 ∷ 2 ∷ 194 ∷ 101 ∷ 47 ∷ 191 ∷ 146 ∷ 46 ∷ []) ≡ replicate 32 0
 unfolding product product_low state_of inverse affine inv_affine sub_byte inv_sub_byte inv_sub_bytes inv_shift_rows inv_mix_columns sub_bytes shift_rows mix_columns add_round_key key_term with_word key_schedule cipher_with cipher inverse_cipher_with inverse_cipher unit_number times_alpha joined add_blocks tweak decrypted_block decrypted_blocks decrypted
 decrypted_example = refl
@@ -35,7 +35,7 @@ pub encrypted_example_number : encrypted (replicate 16 0x11 ++ replicate 16 0x22
 unfolding product product_low state_of inverse affine sub_byte sub_bytes shift_rows mix_columns add_round_key key_term with_word key_schedule cipher_with cipher unit_number times_alpha joined add_blocks tweak encrypted_block encrypted_blocks encrypted
 encrypted_example_number = refl
 
--- the same, decrypted
+-- annex B, vector 2, decrypted
 pub decrypted_example_number : decrypted (replicate 16 0x11 ++ replicate 16 0x22) 0x3333333333 (196 ∷ 84 ∷ 24 ∷ 94 ∷ 106 ∷ 22 ∷ 147 ∷ 110 ∷ 57 ∷ 51 ∷ 64 ∷ 56 ∷ 172 ∷ 239 ∷ 131 ∷ 139 ∷ 251 ∷ 24 ∷ 111 ∷ 255 ∷ 116 ∷ 128 ∷ 173 ∷ 196 ∷ 40 ∷ 147 ∷ 130 ∷ 236 ∷ 214 ∷ 211 ∷ 148 ∷ 240 ∷ []) ≡ replicate 32 0x44
 unfolding product product_low state_of inverse affine inv_affine sub_byte inv_sub_byte inv_sub_bytes inv_shift_rows inv_mix_columns sub_bytes shift_rows mix_columns add_round_key key_term with_word key_schedule cipher_with cipher inverse_cipher_with inverse_cipher unit_number times_alpha joined add_blocks tweak decrypted_block decrypted_blocks decrypted
 decrypted_example_number = refl

@@ -114,7 +114,7 @@ served-ends c d s source loaded r =
 
 -- ---- data blocks
 
--- the data of a verity line stand less deep, and its sectors lie there
+-- the data of a verity line are less deep, and its sectors lie there
 pub record IsDataBelow (c : Configuration) (x : VerityPart) : Type 0 where
   pub shallower : depth c x.data < depth c (mapped x.device.0)
   pub inside : line_data_sectors x.verity.now ≤ size c x.data

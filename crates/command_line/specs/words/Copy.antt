@@ -1,11 +1,11 @@
--- What `copy [--cache N] [--differing] [--map FILE] [--progress] STACK NAME OUT BINDING...` says.
+-- What `copy [--cache N] [--differing] [--map FILE] [--retries N] [--progress] STACK NAME OUT BINDING...` says.
 use Rattle.std.specs.Prelude.{codes, Bool, List, Option, Ok, map, ℕ}
 use Rattle.command_line.specs.Bindings.{BindingRecord, binding_record}
 use Rattle.command_line.specs.BindingWords.{bindings_of}
 use Rattle.command_line.specs.FormatOptions.{OptionTexts, text_of}
 use Rattle.command_line.specs.Misuses.{Reading, when}
 use Rattle.command_line.specs.Positional.{positional}
-use Rattle.command_line.specs.Values.{cache_said, map_said}
+use Rattle.command_line.specs.Values.{cache_said, map_said, retries_said}
 use Rattle.command_line.specs.declared.words.copy.CopyWords.{CopyWords}
 
 pub record CopyRecord : Type 0 where
@@ -16,6 +16,7 @@ pub record CopyRecord : Type 0 where
   pub out : List ℕ
   pub bindings : List BindingRecord
   pub map : Option (List ℕ)
+  pub retries : ℕ
   pub progress : Bool
 
 unfoldable pub copy_said : OptionTexts → List (List ℕ) → Reading CopyRecord
@@ -25,6 +26,7 @@ copy_said texts words =
     when (positional (codes "OUT") name.1) (λ out.
     when (cache_said texts.cache) (λ cache.
     when (map_said texts.map) (λ path.
+    when (retries_said texts.retries) (λ retries.
     when (bindings_of out.1) (λ bindings. Ok (record {
       cache = cache;
       differing = texts.differing;
@@ -33,8 +35,9 @@ copy_said texts words =
       out = out.0;
       bindings = bindings;
       map = path;
+      retries = retries;
       progress = texts.progress;
-    })))))))
+    }))))))))
 
 -- what the program's own value says
 abbrev pub copy_record : CopyWords → CopyRecord
@@ -46,5 +49,6 @@ copy_record w = record {
   out = w.out.now;
   bindings = map binding_record w.bindings.items;
   map = text_of w.map;
+  retries = w.retries;
   progress = w.progress;
 }

@@ -1,10 +1,11 @@
 -- What `diff [OPTIONS] HASH1 [ROOT1] HASH2 [ROOT2]` says.
-use Rattle.std.specs.Prelude.{◌&&◌, codes, is_some, Bool, List, Option, Ok, ℕ}
+use Rattle.std.specs.Prelude.{◌&&◌, not, codes, is_some, Bool, List, Option, Ok, ℕ}
 use Rattle.command_line.specs.FormatOptions.{OptionTexts}
 use Rattle.command_line.specs.Misuses.{Reading, refuse_if, when}
+use Rattle.command_line.specs.OptionGroups.{tree_stated}
 use Rattle.command_line.specs.Positional.{no_more, positional, word_or_file}
 use Rattle.command_line.specs.Values.{RootOrPinRecord, offset_of, root_or_pin_record, root_or_pin_said, runs_said}
-use Rattle.command_line.specs.declared.misuse.Cause.TheVariants.{WithOldPin, WithPin}
+use Rattle.command_line.specs.declared.misuse.Cause.TheVariants.{Missing, WithOldPin, WithPin}
 use Rattle.command_line.specs.declared.words.diff.DiffWords.{DiffWords}
 
 pub record DiffRecord : Type 0 where
@@ -14,6 +15,7 @@ pub record DiffRecord : Type 0 where
   pub new_path : List ℕ
   pub new_offset : ℕ
   pub new_root : RootOrPinRecord
+  pub no_superblock : Bool
   pub runs : Option ℕ
   pub all : Bool
   pub json : Bool
@@ -30,6 +32,13 @@ new_root_said texts word =
     when (refuse_if (is_some texts.pin && is_some texts.root_hash_file) (codes "--root-hash-file") WithPin) (λ a.
     root_or_pin_said (codes "--pin") texts.pin texts.root_hash_file (codes "ROOT2") word)
 
+-- of trees without superblocks the salt and the number of data blocks are given, and no pin is
+unfoldable pub both_stated : OptionTexts → Reading (Unit {0})
+both_stated texts =
+    when (tree_stated texts) (λ a.
+    when (refuse_if (texts.no_superblock && not (is_some texts.blocks)) (codes "--blocks") Missing) (λ b.
+    refuse_if (texts.no_superblock && is_some texts.old_pin) (codes "--no-superblock") WithOldPin))
+
 unfoldable pub diff_said : OptionTexts → List (List ℕ) → Reading DiffRecord
 diff_said texts words =
     when (positional (codes "HASH1") words) (λ old_path.
@@ -37,6 +46,7 @@ diff_said texts words =
     when (positional (codes "HASH2") old_word.1) (λ new_path.
     when (word_or_file texts.pin texts.root_hash_file (codes "ROOT2") new_path.1) (λ new_word.
     when (no_more new_word.1) (λ none.
+    when (both_stated texts) (λ stated.
     when (offset_of (codes "--old-hash-offset") texts.old_hash_offset) (λ old_offset.
     when (offset_of (codes "--hash-offset") texts.hash_offset) (λ new_offset.
     when (old_root_said texts old_word.0) (λ old_root.
@@ -49,10 +59,11 @@ diff_said texts words =
       new_path = new_path.0;
       new_offset = new_offset;
       new_root = new_root;
+      no_superblock = texts.no_superblock;
       runs = runs;
       all = texts.all;
       json = texts.json;
-    })))))))))))
+    }))))))))))))
 
 -- what the program's own value says
 abbrev pub diff_record : DiffWords → DiffRecord
@@ -63,6 +74,7 @@ diff_record w = record {
   new_path = w.new_path.now;
   new_offset = w.new_offset;
   new_root = root_or_pin_record w.new_root;
+  no_superblock = w.no_superblock;
   runs = w.runs;
   all = w.all;
   json = w.json;

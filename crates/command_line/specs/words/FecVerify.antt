@@ -1,5 +1,5 @@
--- What `verify --fec FILE [--fec-roots N] [--hash-offset BYTES] [--root-hash-file FILE | --pin FILE] [--progress] DATA HASH [ROOT]` says.
-use Rattle.std.specs.Prelude.{codes, List, Ok, ℕ}
+-- What `verify --fec FILE [--fec-roots N] [--no-superblock --salt HEX] [--hash-offset BYTES] [--root-hash-file FILE | --pin FILE] [--progress] DATA HASH [ROOT]` says.
+use Rattle.std.specs.Prelude.{codes, Bool, List, Ok, ℕ}
 use Rattle.command_line.specs.FecFiles.{FecRecord, fec_file_of, fec_record}
 use Rattle.command_line.specs.FormatOptions.{OptionTexts}
 use Rattle.command_line.specs.words.Verify.{VerifyRecord, verify_record, verify_said}
@@ -9,6 +9,7 @@ use Rattle.command_line.specs.declared.words.fec_verify.FecVerifyWords.{FecVerif
 
 pub record FecVerifyRecord : Type 0 where
   pub verify : VerifyRecord
+  pub no_superblock : Bool
   pub fec : FecRecord
 
 -- what `verify` says without parity and without `--all`, and the parity
@@ -16,8 +17,8 @@ unfoldable pub fec_verify_said : OptionTexts → List (List ℕ) → Reading Fec
 fec_verify_said texts words =
     when (refuse_if texts.all (codes "--all") WithFec) (λ a.
     when (fec_file_of texts.fec texts.fec_roots) (λ fec.
-    when (verify_said texts words) (λ verify. Ok (record { verify = verify; fec = fec }))))
+    when (verify_said texts words) (λ verify. Ok (record { verify = verify; no_superblock = texts.no_superblock; fec = fec }))))
 
 -- what the program's own value says
 abbrev pub fec_verify_record : FecVerifyWords → FecVerifyRecord
-fec_verify_record w = record { verify = verify_record w.verify; fec = fec_record w.fec }
+fec_verify_record w = record { verify = verify_record w.verify; no_superblock = w.no_superblock; fec = fec_record w.fec }

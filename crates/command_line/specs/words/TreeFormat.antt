@@ -14,7 +14,7 @@ pub record TreeFormatRecord : Type 0 where
   pub grow : Bool
   pub progress : Bool
 
--- without an identifier, which stands in a superblock alone
+-- without an identifier, which only a superblock has
 unfoldable pub tree_format_said : OptionTexts → List (List ℕ) → Reading TreeFormatRecord
 tree_format_said texts words =
     when (positional (codes "DATA") words) (λ data_path.

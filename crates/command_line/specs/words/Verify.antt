@@ -5,7 +5,7 @@ use Rattle.command_line.specs.FormatOptions.{OptionTexts}
 use Rattle.command_line.specs.Misuses.{Reading, refuse_if, when}
 use Rattle.command_line.specs.Positional.{positional, root_or_pin_alone}
 use Rattle.command_line.specs.Values.{RootOrPinRecord, offset_of, report_form, root_or_pin_record}
-use Rattle.command_line.specs.OptionGroups.{in_superblock}
+use Rattle.command_line.specs.OptionGroups.{tree_stated}
 use Rattle.command_line.specs.declared.misuse.Cause.TheVariants.{WithoutAll}
 use Rattle.command_line.specs.declared.words.verify.VerifyWords.{VerifyWords}
 
@@ -22,7 +22,7 @@ unfoldable pub verify_said : OptionTexts → List (List ℕ) → Reading VerifyR
 verify_said texts words =
     when (positional (codes "DATA") words) (λ data_path.
     when (positional (codes "HASH") data_path.1) (λ hash_path.
-    when (in_superblock texts) (λ a.
+    when (tree_stated texts) (λ a.
     when (refuse_if (texts.json && not texts.all) (codes "--json") WithoutAll) (λ b.
     when (refuse_if (texts.chart && not texts.all) (codes "--chart") WithoutAll) (λ c.
     when (report_form texts.json texts.chart) (λ form.

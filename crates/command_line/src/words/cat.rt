@@ -25,7 +25,13 @@ pub struct CatWords<'a> {
     pub progress: bool,
 }
 
-/// `[--cache N] [--progress] [--first N] [--count N] STACK NAME BINDING...`
+/// Returns `cat` with its arguments, `[--cache N] [--progress] [--first N] [--count N] STACK NAME BINDING...`. `--first` and
+/// `--count` are in sectors.
+///
+/// # Errors
+///
+/// - `Usage` if STACK or NAME is missing, the value of an option is invalid, or a further argument is no binding.
+/// - `NoMemory` if an allocation was refused.
 #[tactic(auto, unfolding(crate::specs::words::Cat::cat_said))]
 pub fn cat_of<'a>(
     alloc: Global,

@@ -1,4 +1,4 @@
-//! `copy [--cache N] [--differing] [--map FILE] [--progress] STACK NAME OUT BINDING...`
+//! `copy [--cache N] [--differing] [--map FILE] [--retries N] [--progress] STACK NAME OUT BINDING...`
 ghost use Rattle.command_line.specs.Invocations.{copy};
 ghost use Rattle.command_line.specs.Reading.{ReadsAs};
 ghost use Rattle.command_line.specs.FormatOptions.{option_texts, texts_of};
@@ -10,11 +10,12 @@ use crate::fault::WordsFault;
 use crate::invocation::Invocation;
 use crate::option_words::OptionWords;
 use crate::positional::positional;
+use crate::retries::retries_of;
 use crate::values::{cache_of, map_of};
 use std::alloc::Global;
 
-/// What can be had of a device is copied: with `differing` only what isn't there yet, where a map is kept but for what
-/// that says was had.
+/// The arguments of `copy`, which copies the readable sectors of a device: with `differing` only those that differ from the
+/// image's, with a map file only those that the map doesn't mark as read. Lost sectors are read again as many times as the retries.
 #[derive(Drop)]
 pub struct CopyWords<'a> {
     pub cache: u32,
@@ -24,10 +25,16 @@ pub struct CopyWords<'a> {
     pub out: &'a str,
     pub bindings: Vec<Binding<'a>>,
     pub map: Option<&'a str>,
+    pub retries: u64,
     pub progress: bool,
 }
 
-/// `[--cache N] [--differing] [--map FILE] [--progress] STACK NAME OUT BINDING...`
+/// Returns `copy` with its arguments, `[--cache N] [--differing] [--map FILE] [--retries N] [--progress] STACK NAME OUT BINDING...`.
+///
+/// # Errors
+///
+/// - `Usage` if STACK, NAME or OUT is missing, the value of an option is invalid, or a further argument is no binding.
+/// - `NoMemory` if an allocation was refused.
 #[tactic(auto, unfolding(crate::specs::words::Copy::copy_said))]
 pub fn copy_of<'a>(
     alloc: Global,
@@ -41,6 +48,7 @@ pub fn copy_of<'a>(
     let (out, words) = positional("OUT", words)?;
     let cache = cache_of(options.cache)?;
     let map = map_of(options.map)?;
+    let retries = retries_of(options.retries)?;
     let bindings = bindings_of(alloc, words)?;
     Ok(Invocation::Copy(CopyWords {
         cache,
@@ -50,6 +58,7 @@ pub fn copy_of<'a>(
         out,
         bindings,
         map,
+        retries,
         progress: options.progress,
     }))
 }

@@ -4,16 +4,16 @@ ghost use Rattle.command_line.specs.Reading.{ReadsAs};
 ghost use Rattle.command_line.specs.FormatOptions.{option_texts, texts_of};
 ghost use Rattle.command_line.specs.Misuses.{ReadsValue};
 ghost use Rattle.command_line.specs.Values.{root_or_pin_record};
-ghost use Rattle.command_line.specs.words.Diff.{diff_record, diff_said, new_root_said, old_root_said};
+ghost use Rattle.command_line.specs.words.Diff.{both_stated, diff_record, diff_said, new_root_said, old_root_said};
 
 use crate::fault::WordsFault;
 use crate::invocation::Invocation;
 use crate::misuse::{Cause, Misuse, refuse_if};
-use crate::option_words::OptionWords;
+use crate::option_words::{OptionWords, tree_stated};
 use crate::positional::{no_more, positional, word_or_file};
 use crate::values::{RootOrPin, offset_of, root_or_pin_said, runs_of};
 
-/// Two hash trees are compared.
+/// Two hash trees are compared. Each is that of its superblock or, without superblocks, both are those which `options_of` reads.
 #[derive(Drop)]
 pub struct DiffWords<'a> {
     pub old_path: &'a str,
@@ -22,13 +22,20 @@ pub struct DiffWords<'a> {
     pub new_path: &'a str,
     pub new_offset: u64,
     pub new_root: RootOrPin<'a>,
+    pub no_superblock: bool,
     pub runs: Option<u64>,
     pub all: bool,
     pub json: bool,
 }
 
-/// `[--all] [--runs N] [--json] [--old-hash-offset BYTES] [--hash-offset BYTES] [--old-root-hash-file FILE | --old-pin FILE]
-/// [--root-hash-file FILE | --pin FILE] HASH1 [ROOT1] HASH2 [ROOT2]`: a file replaces its image's root hash.
+/// Returns `diff` with its arguments, `[--no-superblock --blocks N --salt HEX] [--all] [--runs N] [--json] [--old-hash-offset
+/// BYTES] [--hash-offset BYTES] [--old-root-hash-file FILE | --old-pin FILE] [--root-hash-file FILE | --pin FILE] HASH1 [ROOT1]
+/// HASH2 [ROOT2]`. A file replaces its image's root hash.
+///
+/// # Errors
+///
+/// `Usage` if a positional argument is missing or surplus, the value of an option is invalid, a root hash is invalid, or an
+/// image has both a root hash file and a pin.
 pub fn diff_of<'a>(
     options: &OptionWords<'a>,
     words: &[&'a str],
@@ -41,7 +48,7 @@ pub fn diff_of<'a>(
     }
 }
 
-// The same, as words alone.
+// Reads the arguments of `diff`, and returns its record instead of an invocation.
 #[tactic(auto, unfolding(crate::specs::words::Diff::diff_said))]
 fn diff_words<'a>(options: &OptionWords<'a>, words: &[&'a str]) -> Result<DiffWords<'a>, Misuse<'a>>
     ensures { ReadsValue diff_record (diff_said (option_texts options.now) (texts_of words.now)) result }
@@ -56,6 +63,7 @@ fn diff_words<'a>(options: &OptionWords<'a>, words: &[&'a str]) -> Result<DiffWo
     let (new_path, words) = positional("HASH2", words)?;
     let (new_word, words) = word_or_file(options.pin, options.root_hash_file, "ROOT2", words)?;
     no_more(words)?;
+    both_stated(options)?;
     let old_offset = offset_of("--old-hash-offset", options.old_hash_offset)?;
     let new_offset = offset_of("--hash-offset", options.hash_offset)?;
     match old_root_of(options, old_word) {
@@ -69,6 +77,7 @@ fn diff_words<'a>(options: &OptionWords<'a>, words: &[&'a str]) -> Result<DiffWo
                     new_path,
                     new_offset,
                     new_root,
+                    no_superblock: options.no_superblock,
                     runs,
                     all: options.all,
                     json: options.json,
@@ -78,6 +87,22 @@ fn diff_words<'a>(options: &OptionWords<'a>, words: &[&'a str]) -> Result<DiffWo
         },
         Err(misuse) => Err(misuse),
     }
+}
+
+// Refuses the options of the trees whose values the superblocks hold. Without superblocks the salt and the number of data blocks
+// are needed, and there is no pin.
+#[tactic(auto, unfolding(crate::specs::words::Diff::both_stated))]
+fn both_stated<'a>(options: &OptionWords<'a>) -> Result<(), Misuse<'a>>
+    ensures { ReadsValue (λ none. none) (both_stated (option_texts options.now)) result }
+{
+    tree_stated(options)?;
+    let bare = options.no_superblock;
+    refuse_if(bare && options.blocks.is_none(), "--blocks", Cause::Missing)?;
+    refuse_if(
+        bare && options.old_pin.is_some(),
+        "--no-superblock",
+        Cause::WithOldPin,
+    )
 }
 
 // The root of the first tree.

@@ -29,7 +29,11 @@ pub struct DumpWords<'a> {
     pub form: DumpForm,
 }
 
-/// `[--hash-offset BYTES] [--json] [--pin ROOT] HASH`
+/// Returns `dump` with its arguments, `[--hash-offset BYTES] [--json] [--pin ROOT] HASH`.
+///
+/// # Errors
+///
+/// `Usage` if HASH is missing, an argument is surplus, the value of an option is invalid, or `--json` and `--pin` are given.
 #[tactic(auto, unfolding(crate::specs::words::Dump::dump_said))]
 pub fn dump_of<'a>(
     options: &OptionWords<'a>,

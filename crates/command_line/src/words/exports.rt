@@ -42,7 +42,13 @@ fn has_equals(word: &[u8]) -> bool
     word.iter().any(|b| *b == b'=')
 }
 
-/// `--all [--cache N] STACK BINDING...`, where STACK isn't the standard input, which is the client's
+/// Returns `nbd` with its arguments, `--all [--cache N] STACK BINDING...`.
+///
+/// # Errors
+///
+/// - `Usage` if STACK is missing or the standard input, which is the client's, a device's name is given, the value of an option
+///   is invalid, or a further argument is no binding.
+/// - `NoMemory` if an allocation was refused.
 #[tactic(auto, unfolding(crate::specs::words::Exports::exports_said))]
 pub fn exports_of<'a>(
     alloc: Global,

@@ -7,17 +7,22 @@ ghost use Rattle.command_line.specs.words.FecFormat.{fec_format_said};
 use crate::fault::WordsFault;
 use crate::fec_file::{FecFile, fec_file_of};
 use crate::invocation::Invocation;
+use crate::misuse::{Cause, refuse_if};
 use crate::option_words::OptionWords;
 use crate::words::format::{FormatWords, format_words};
 
-/// A verity image is made, and the parity over it.
+/// A verity image with a superblock is made, and the parity over it.
 #[derive(Drop)]
 pub struct FecFormatWords<'a> {
     pub format: FormatWords<'a>,
     pub fec: FecFile<'a>,
 }
 
-/// `--fec FILE [--fec-roots N] [OPTIONS] DATA HASH`
+/// Returns `format` with its arguments, `--fec FILE [--fec-roots N] [OPTIONS] DATA HASH`.
+///
+/// # Errors
+///
+/// `Usage` if `--fec`, DATA or HASH is missing, an argument is surplus, or `--fec-roots` or `--hash-offset` is invalid.
 #[tactic(auto, unfolding(crate::specs::words::FecFormat::fec_format_said))]
 pub fn fec_format_of<'a>(
     options: &OptionWords<'a>,
@@ -25,6 +30,7 @@ pub fn fec_format_of<'a>(
 ) -> Result<Invocation<'a>, WordsFault<'a>>
     ensures { ReadsAs format_fec (fec_format_said (option_texts options.now) (texts_of words.now)) result }
 {
+    refuse_if(options.no_superblock, "--no-superblock", Cause::WithFec)?;
     let fec = fec_file_of(options.fec, options.fec_roots)?;
     let format = format_words(options, words)?;
     Ok(Invocation::FormatFec(FecFormatWords { format, fec }))

@@ -1,4 +1,4 @@
-//! `verify --fec FILE [--fec-roots N] [--hash-offset BYTES] [--root-hash-file FILE | --pin FILE] [--progress] DATA HASH [ROOT]`
+//! `verify --fec FILE [--fec-roots N] [--no-superblock --salt HEX] [OPTIONS] DATA HASH [ROOT]`
 ghost use Rattle.command_line.specs.Invocations.{verify_fec};
 ghost use Rattle.command_line.specs.Reading.{ReadsAs};
 ghost use Rattle.command_line.specs.FormatOptions.{option_texts, texts_of};
@@ -11,14 +11,21 @@ use crate::misuse::{Cause, refuse_if};
 use crate::option_words::OptionWords;
 use crate::words::verify::{VerifyWords, verify_words};
 
-/// A verity image is checked, and the parity over it. `verify.all` is false and `verify.form` is `Lines`.
+/// A verity image is checked, and the parity over it. `verify.all` is false and `verify.form` is `Lines`. Its tree is that of the
+/// superblock or, without one, that which `options_of` reads.
 #[derive(Drop)]
 pub struct FecVerifyWords<'a> {
     pub verify: VerifyWords<'a>,
+    pub no_superblock: bool,
     pub fec: FecFile<'a>,
 }
 
-/// `--fec FILE [--fec-roots N] [--hash-offset BYTES] [--root-hash-file FILE | --pin FILE] [--progress] DATA HASH [ROOT]`
+/// Returns `verify` with its arguments, `--fec FILE [--fec-roots N] [--no-superblock --salt HEX] [--hash-offset BYTES]
+/// [--root-hash-file FILE | --pin FILE] [--progress] DATA HASH [ROOT]`.
+///
+/// # Errors
+///
+/// `Usage` if `--all` is given, `--fec` is missing, `--fec-roots` is invalid, or `verify_words` refuses the arguments.
 #[tactic(auto, unfolding(crate::specs::words::FecVerify::fec_verify_said))]
 pub fn fec_verify_of<'a>(
     options: &OptionWords<'a>,
@@ -29,7 +36,11 @@ pub fn fec_verify_of<'a>(
     refuse_if(options.all, "--all", Cause::WithFec)?;
     let fec = fec_file_of(options.fec, options.fec_roots)?;
     match verify_words(options, words) {
-        Ok(verify) => Ok(Invocation::VerifyFec(FecVerifyWords { verify, fec })),
+        Ok(verify) => Ok(Invocation::VerifyFec(FecVerifyWords {
+            verify,
+            no_superblock: options.no_superblock,
+            fec,
+        })),
         Err(misuse) => Err(WordsFault::Usage(misuse)),
     }
 }

@@ -22,7 +22,11 @@ pub struct FormatWords<'a> {
     pub progress: bool,
 }
 
-/// `[OPTIONS] DATA HASH`
+/// Returns `format` with its arguments, `[OPTIONS] DATA HASH`.
+///
+/// # Errors
+///
+/// `Usage` if DATA or HASH is missing, an argument is surplus, or `--hash-offset` is invalid.
 pub fn format_of<'a>(
     options: &OptionWords<'a>,
     words: &[&'a str],
@@ -33,7 +37,11 @@ pub fn format_of<'a>(
     Ok(Invocation::Format(format))
 }
 
-/// The same, as words alone.
+/// Returns the arguments of `format` as its record, instead of an invocation.
+///
+/// # Errors
+///
+/// `Missing` of `DATA` or `HASH`, `Surplus` of a further argument, or `Offset` of `--hash-offset`.
 #[tactic(auto, unfolding(crate::specs::words::Format::format_said))]
 pub fn format_words<'a>(
     options: &OptionWords<'a>,

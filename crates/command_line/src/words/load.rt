@@ -23,7 +23,12 @@ pub struct LoadWords<'a> {
     pub linux: bool,
 }
 
-/// `[--json | --tree] [--linux] STACK BINDING...`
+/// Returns `load` with its arguments, `[--json | --tree] [--linux] STACK BINDING...`.
+///
+/// # Errors
+///
+/// - `Usage` if STACK is missing, `--json` and `--tree` are given, or a further argument is no binding.
+/// - `NoMemory` if an allocation was refused.
 #[tactic(auto, unfolding(crate::specs::words::Load::load_said))]
 pub fn load_of<'a>(
     alloc: Global,

@@ -8,7 +8,11 @@ use crate::fault::WordsFault;
 use crate::invocation::Invocation;
 use crate::positional::no_more;
 
-/// The page of the program, or of one of its commands.
+/// Returns `manual`: the page of the program, or of one of its commands.
+///
+/// # Errors
+///
+/// `Usage` if more than one argument is given.
 #[tactic(auto, unfolding(crate::specs::words::Manual::manual_said))]
 pub fn manual_of<'a>(words: &[&'a str]) -> Result<Invocation<'a>, WordsFault<'a>>
     ensures { ReadsAs manual (manual_said (texts_of words.now)) result }
@@ -20,7 +24,11 @@ pub fn manual_of<'a>(words: &[&'a str]) -> Result<Invocation<'a>, WordsFault<'a>
     Ok(Invocation::Manual(Some(command)))
 }
 
-/// No argument is after `version`.
+/// Returns `version`.
+///
+/// # Errors
+///
+/// `Usage` if an argument is given.
 pub fn version_of<'a>(words: &[&'a str]) -> Result<Invocation<'a>, WordsFault<'a>>
     ensures { ReadsCommand (version_said (texts_of words.now)) result }
 {

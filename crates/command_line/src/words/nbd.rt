@@ -22,7 +22,13 @@ pub struct NbdWords<'a> {
     pub bindings: Vec<Binding<'a>>,
 }
 
-/// `[--cache N] STACK NAME BINDING...`, where STACK isn't the standard input, which is the client's
+/// Returns `nbd` with its arguments, `[--cache N] STACK NAME BINDING...`.
+///
+/// # Errors
+///
+/// - `Usage` if STACK or NAME is missing, STACK is the standard input, which is the client's, the value of an option is
+///   invalid, or a further argument is no binding.
+/// - `NoMemory` if an allocation was refused.
 #[tactic(auto, unfolding(crate::specs::words::Nbd::nbd_said))]
 pub fn nbd_of<'a>(
     alloc: Global,

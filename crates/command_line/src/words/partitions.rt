@@ -18,7 +18,12 @@ pub struct PartitionsWords<'a> {
     pub form: PartitionForm<'a>,
 }
 
-/// `[--sector-size 512|4096] [--json | --stack | --root ROOT | --pin FILE] IMAGE`
+/// Returns `partitions` with its arguments, `[--sector-size 512|4096] [--json | --stack | --root ROOT | --pin FILE] IMAGE`. The
+/// sector size is in bytes.
+///
+/// # Errors
+///
+/// `Usage` if IMAGE is missing, an argument is surplus, the value of an option is invalid, or two forms are given.
 #[tactic(auto, unfolding(crate::specs::words::Partitions::partitions_said))]
 pub fn partitions_of<'a>(
     options: &OptionWords<'a>,

@@ -12,7 +12,7 @@ use crate::option_words::OptionWords;
 use crate::values::{path_of, pin_of};
 use crate::words::format::{FormatWords, format_words};
 
-/// What is written of a root hash: its digits alone, or its pin.
+/// How a root hash is written: its digits alone, or its pin.
 #[derive(Clone, Copy)]
 pub enum RootForm {
     Digits,
@@ -33,7 +33,12 @@ pub struct PinFormatWords<'a> {
     pub file: RootFile<'a>,
 }
 
-/// `--pin FILE | --root-hash-file FILE [OPTIONS] DATA HASH`
+/// Returns `format` with its arguments, `--pin FILE | --root-hash-file FILE [OPTIONS] DATA HASH`.
+///
+/// # Errors
+///
+/// `Usage` if both files or none are given, the path of the file is empty or `-`, DATA or HASH is missing, an argument is
+/// surplus, or `--hash-offset` is invalid.
 #[tactic(auto, unfolding(crate::specs::words::PinFormat::pin_format_said))]
 pub fn pin_format_of<'a>(
     options: &OptionWords<'a>,

@@ -22,7 +22,13 @@ pub struct ReadWords<'a> {
     pub bindings: Vec<Binding<'a>>,
 }
 
-/// `[--cache N] STACK NAME FIRST COUNT BINDING...`
+/// Returns `read` with its arguments, `[--cache N] STACK NAME FIRST COUNT BINDING...`. FIRST and COUNT are in sectors.
+///
+/// # Errors
+///
+/// - `Usage` if a positional argument before the bindings is missing, FIRST or COUNT isn't a decimal number, the value of an
+///   option is invalid, or a further argument is no binding.
+/// - `NoMemory` if an allocation was refused.
 #[tactic(auto, unfolding(crate::specs::words::Read::read_said))]
 pub fn read_of<'a>(
     alloc: Global,

@@ -1,4 +1,4 @@
-//! `scan [--cache N] [--map FILE] [--progress] [--json | --chart] STACK NAME BINDING...`
+//! `scan [--cache N] [--map FILE] [--retries N] [--progress] [--json | --chart] STACK NAME BINDING...`
 ghost use Rattle.command_line.specs.Invocations.{scan};
 ghost use Rattle.command_line.specs.Reading.{ReadsAs};
 ghost use Rattle.command_line.specs.FormatOptions.{option_texts, texts_of};
@@ -10,11 +10,13 @@ use crate::fault::WordsFault;
 use crate::invocation::Invocation;
 use crate::option_words::OptionWords;
 use crate::positional::positional;
+use crate::retries::retries_of;
 use crate::values::{cache_of, map_of, report_form};
 use charts::ReportForm;
 use std::alloc::Global;
 
-/// A device is gone over, where a map is kept but for what that says was had.
+/// The arguments of `scan`. With a map file, only sectors that the map doesn't mark as read are scanned. Lost sectors are read again as
+/// many times as the retries.
 #[derive(Drop)]
 pub struct ScanWords<'a> {
     pub cache: u32,
@@ -22,11 +24,18 @@ pub struct ScanWords<'a> {
     pub name: &'a str,
     pub bindings: Vec<Binding<'a>>,
     pub map: Option<&'a str>,
+    pub retries: u64,
     pub progress: bool,
     pub form: ReportForm,
 }
 
-/// `[--cache N] [--map FILE] [--progress] [--json | --chart] STACK NAME BINDING...`
+/// Returns `scan` with its arguments, `[--cache N] [--map FILE] [--retries N] [--progress] [--json | --chart] STACK NAME BINDING...`.
+///
+/// # Errors
+///
+/// - `Usage` if STACK or NAME is missing, the value of an option is invalid, `--json` and `--chart` are given, or a further
+///   argument is no binding.
+/// - `NoMemory` if an allocation was refused.
 #[tactic(auto, unfolding(crate::specs::words::Scan::scan_said))]
 pub fn scan_of<'a>(
     alloc: Global,
@@ -39,6 +48,7 @@ pub fn scan_of<'a>(
     let (name, words) = positional("NAME", words)?;
     let cache = cache_of(options.cache)?;
     let map = map_of(options.map)?;
+    let retries = retries_of(options.retries)?;
     let form = report_form(options.json, options.chart)?;
     let bindings = bindings_of(alloc, words)?;
     Ok(Invocation::Scan(ScanWords {
@@ -47,6 +57,7 @@ pub fn scan_of<'a>(
         name,
         bindings,
         map,
+        retries,
         progress: options.progress,
         form,
     }))

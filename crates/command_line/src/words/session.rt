@@ -19,7 +19,12 @@ pub struct SessionWords<'a> {
     pub bindings: Vec<Binding<'a>>,
 }
 
-/// `[--cache N] BINDING...`
+/// Returns `session` with its arguments, `[--cache N] BINDING...`.
+///
+/// # Errors
+///
+/// - `Usage` if `--cache` is invalid or an argument is no binding.
+/// - `NoMemory` if an allocation was refused.
 #[tactic(auto, unfolding(crate::specs::words::Session::session_said))]
 pub fn session_of<'a>(
     alloc: Global,

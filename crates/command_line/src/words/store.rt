@@ -35,7 +35,14 @@ pub(crate) fn is_input(word: &str) -> bool
     word.as_bytes() == b"-".as_slice()
 }
 
-/// `[--cache N] [--progress] [--first N] STACK NAME SOURCE BINDING...`
+/// Returns `store` with its arguments, `[--cache N] [--progress] [--first N] STACK NAME SOURCE BINDING...`. `--first` is in
+/// sectors.
+///
+/// # Errors
+///
+/// - `Usage` if STACK, NAME or SOURCE is missing, STACK and SOURCE are both the standard input, the value of an option is
+///   invalid, or a further argument is no binding.
+/// - `NoMemory` if an allocation was refused.
 #[tactic(auto, unfolding(crate::specs::words::Store::store_said))]
 pub fn store_of<'a>(
     alloc: Global,

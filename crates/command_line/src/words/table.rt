@@ -21,7 +21,13 @@ pub struct TableWords<'a> {
     pub name: Option<&'a str>,
 }
 
-/// `[--hash-offset BYTES] [--name NAME] [--root-hash-file FILE | --pin FILE] HASH [ROOT] DATANAME HASHNAME`
+/// Returns `table` with its arguments, `[--hash-offset BYTES] [--name NAME] [--root-hash-file FILE | --pin FILE] HASH [ROOT]
+/// DATANAME HASHNAME`.
+///
+/// # Errors
+///
+/// `Usage` if a positional argument is missing, surplus or invalid, the value of an option is invalid, a value of the
+/// superblock is given, or a root hash file and a pin are.
 #[tactic(auto, unfolding(crate::specs::words::Table::table_said))]
 pub fn table_of<'a>(
     options: &OptionWords<'a>,

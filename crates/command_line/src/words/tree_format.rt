@@ -21,7 +21,12 @@ pub struct TreeFormatWords<'a> {
     pub progress: bool,
 }
 
-/// `[OPTIONS] DATA HASH`; an identifier stands in a superblock alone.
+/// Returns `format --no-superblock` with its arguments, `[OPTIONS] DATA HASH`.
+///
+/// # Errors
+///
+/// `Usage` if DATA or HASH is missing, an argument is surplus, `--uuid` is given, which only a superblock holds, or
+/// `--hash-offset` is invalid.
 #[tactic(auto, unfolding(crate::specs::words::TreeFormat::tree_format_said))]
 pub fn tree_format_of<'a>(
     options: &OptionWords<'a>,

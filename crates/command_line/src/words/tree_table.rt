@@ -22,7 +22,12 @@ pub struct TreeTableWords<'a> {
     pub name: Option<&'a str>,
 }
 
-/// `--blocks N --salt HEX [OPTIONS] HASH [ROOT] DATANAME HASHNAME`
+/// Returns `table --no-superblock` with its arguments, `--blocks N --salt HEX [OPTIONS] HASH [ROOT] DATANAME HASHNAME`.
+///
+/// # Errors
+///
+/// `Usage` if a positional argument is missing, surplus or invalid, `--blocks` or `--salt` is missing, or `--hash-offset` or
+/// `--name` is invalid.
 #[tactic(auto, unfolding(crate::specs::words::TreeTable::tree_table_said))]
 pub fn tree_table_of<'a>(
     options: &OptionWords<'a>,

@@ -24,7 +24,12 @@ pub struct TreeVerifyWords<'a> {
     pub progress: bool,
 }
 
-/// `--salt HEX [--all [--json | --chart]] [OPTIONS] DATA HASH [ROOT]`
+/// Returns `verify --no-superblock` with its arguments, `--salt HEX [--all [--json | --chart]] [OPTIONS] DATA HASH [ROOT]`.
+///
+/// # Errors
+///
+/// `Usage` if a positional argument is missing, surplus or invalid, `--salt` is missing, `--hash-offset` is invalid, or
+/// `--json` or `--chart` is given without `--all` or beside the other.
 #[tactic(auto, unfolding(crate::specs::words::TreeVerify::tree_verify_said))]
 pub fn tree_verify_of<'a>(
     options: &OptionWords<'a>,

@@ -8,7 +8,7 @@ ghost use Rattle.command_line.specs.words.Verify.{verify_record, verify_said};
 use crate::fault::WordsFault;
 use crate::invocation::Invocation;
 use crate::misuse::{Cause, Misuse, refuse_if};
-use crate::option_words::{OptionWords, in_superblock};
+use crate::option_words::{OptionWords, tree_stated};
 use crate::positional::{positional, root_or_pin_alone};
 use crate::values::{RootOrPin, offset_of, report_form};
 use charts::ReportForm;
@@ -25,7 +25,12 @@ pub struct VerifyWords<'a> {
     pub progress: bool,
 }
 
-/// `[--all [--json | --chart]] [--hash-offset BYTES] [--root-hash-file FILE | --pin FILE] [--progress] DATA HASH [ROOT]`
+/// Returns `verify` with its arguments, `[--all [--json | --chart]] [--hash-offset BYTES] [--root-hash-file FILE | --pin FILE]
+/// [--progress] DATA HASH [ROOT]`.
+///
+/// # Errors
+///
+/// `Usage` with the misuse of `verify_words`.
 pub fn verify_of<'a>(
     options: &OptionWords<'a>,
     words: &[&'a str],
@@ -38,7 +43,15 @@ pub fn verify_of<'a>(
     }
 }
 
-/// The same, as words alone.
+/// Returns the arguments of `verify` as its record, instead of an invocation.
+///
+/// # Errors
+///
+/// - `Missing` of `DATA` or `HASH`.
+/// - `InSuperblock` of an option whose value the superblock holds.
+/// - `WithoutAll` of `--json` or `--chart` if `--all` is missing; `WithChart` of `--json` if both are given.
+/// - `Offset` of `--hash-offset` if its value is invalid.
+/// - The misuse of `root_or_pin_alone`.
 #[tactic(auto, unfolding(crate::specs::words::Verify::verify_said))]
 pub fn verify_words<'a>(
     options: &OptionWords<'a>,
@@ -48,7 +61,7 @@ pub fn verify_words<'a>(
 {
     let (data_path, words) = positional("DATA", words)?;
     let (hash_path, words) = positional("HASH", words)?;
-    in_superblock(options)?;
+    tree_stated(options)?;
     refuse_if(options.json && !options.all, "--json", Cause::WithoutAll)?;
     refuse_if(options.chart && !options.all, "--chart", Cause::WithoutAll)?;
     let form = report_form(options.json, options.chart)?;

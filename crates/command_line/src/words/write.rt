@@ -22,7 +22,13 @@ pub struct WriteWords<'a> {
     pub bindings: Vec<Binding<'a>>,
 }
 
-/// `[--cache N] STACK NAME FIRST SOURCE BINDING...`
+/// Returns `write` with its arguments, `[--cache N] STACK NAME FIRST SOURCE BINDING...`. FIRST is in sectors.
+///
+/// # Errors
+///
+/// - `Usage` if a positional argument before the bindings is missing, FIRST isn't a decimal number, the value of an option is
+///   invalid, or a further argument is no binding.
+/// - `NoMemory` if an allocation was refused.
 #[tactic(auto, unfolding(crate::specs::words::Write::write_said))]
 pub fn write_of<'a>(
     alloc: Global,

@@ -225,7 +225,7 @@ numbered-append n (x ∷ xs) ys =
     let more : n + 1 + length xs ≡ n + suc (length xs) = omega arith in
     ap (λ ps. record { block = n; bytes = x } ∷ ps) (numbered-append (n + 1) xs ys ∙ ap (λ k. numbered (n + 1) xs ++ numbered k ys) more)
 
--- all that comes out over these digests stands in the area from there on, and the root is theirs
+-- all that comes out over these digests is in the area from there on, and the root is theirs
 pub record TreeOut (size start : ℕ) (salt : List ℕ) (ds : List (List ℕ)) (out : Closed) : Type 0 where
   pub root : out.root ≡ root size salt ds
   pub placed : IsPermutation out.placed (numbered start (area size salt ds))

@@ -29,7 +29,7 @@ module _ (size : ℕ) (salt : List ℕ) where
   close-none [] root coming none = refl
   close-none (l ∷ above) root coming none = absurd (omega (arith, none))
 
-  -- a level in which nothing stands
+  -- a level that is empty
   pub close-empty : (l : LevelRecord) (above : List LevelRecord) (root bytes : List ℕ) (coming : Option (List ℕ)) → bytes ≡ l.bytes ++ unwrap_or coming [] → length bytes ≡ 0
       → close size salt (l ∷ above) root coming ≡ close size salt above root None
   unfolding close
@@ -64,7 +64,7 @@ cons-same a b ls ks first rest = ap (λ x. x ∷ ls) first ∙ ap (λ xs. b ∷ 
 pub HasSome-all : (before more after : List PlacedRecord) → after ≡ before ++ more → HasSome before more after
 HasSome-all before more after is = record { count = length more; is = is ∙ ap (λ m. before ++ m) (sym (take-length more)) }
 
--- some of the next blocks, behind those that are there already
+-- some of the next blocks, after those that are there already
 pub HasSome-later : (before middle after past next rest : List PlacedRecord) → middle ≡ before ++ past → HasSome middle next after → HasSome before (past ++ (next ++ rest)) after
 HasSome-later before middle after past next rest there some =
     let part : List PlacedRecord = take some.count next in

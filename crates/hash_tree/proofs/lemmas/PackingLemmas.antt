@@ -83,7 +83,7 @@ pub length-cut : (size : ℕ) (bytes : List ℕ) → length (cut size bytes) ≡
 unfolding cut
 length-cut size bytes = length-map-range_with_len (λ i. filled size (take size (drop (size * i) bytes))) 0 (div_ceil (length bytes) size)
 
--- block i of the bytes with zeros behind them
+-- block i of the bytes with zeros after them
 pub get_or-cut : (size i : ℕ) (bytes : List ℕ) → 0 < size → i < div_ceil (length bytes) size
     → get_or (cut size bytes) i [] ≡ take size (drop (size * i) (padded size (div_ceil (length bytes) size) bytes))
 unfolding cut
@@ -114,7 +114,7 @@ pieces-concat size f z (suc n) a each =
     let apart : drop (size * (a + 1)) z ≡ drop size (drop (size * a) z) = ap (λ k. drop k z) more ∙ sym (drop-drop size (size * a) z) in
     rw (first, rest, apart, sum) (sym (take-add size (size * n) (drop (size * a) z)))
 
--- the blocks joined are the bytes with zeros behind them
+-- the blocks joined are the bytes with zeros after them
 pub concat-cut : (size : ℕ) (bytes : List ℕ) → 0 < size → concat (cut size bytes) ≡ padded size (div_ceil (length bytes) size) bytes
 unfolding cut
 concat-cut size bytes some =
@@ -165,7 +165,7 @@ get_or-cut_whole size i bytes some none inside =
     ∙ ap (λ k. take size (drop (size * i) (bytes ++ replicate k 0))) no_rest
     ∙ ap (λ z. take size (drop (size * i) z)) (append-nil bytes)
 
--- what is written into a list's middle ends what stands in front of it
+-- what is written into a list's middle ends what precedes it
 pub take-put_mid : {X : Type 0} (a n : ℕ) (xs ys : List X) → a ≤ length xs → length ys ≡ n → take (a + n) (put_mid a n xs ys) ≡ take a xs ++ ys
 take-put_mid a n xs ys inside long =
     let front : length (take a xs ++ ys) ≡ a + n = length-append (take a xs) ys ∙ omega (arith, length-take-le a xs inside, long) in

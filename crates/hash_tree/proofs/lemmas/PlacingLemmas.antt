@@ -1,4 +1,4 @@
--- What stands on a device after all blocks of a list were written in any order, and the least block that differs.
+-- What a device holds after all blocks of a list were written in any order, and the least block that differs.
 use Rattle.std.specs.Prelude.{◌≡◌, ◌≢◌, ◌≤◌, ◌<◌, ◌+◌, ℕ, zero, suc, List, [], ◌∷◌, ◌++◌, length, get_or, min, Option, None, Some, ◌⊎◌, ◌==◌}
 use Rattle.std.proofs.Common.{refl, sym, ap, ◌∙◌, arith, inl, inr, eqb-true, subst}
 use Rattle.std.proofs.lemmas.Bool.{eqb-false, cases_Bool, cases_lt}
@@ -78,19 +78,19 @@ module _ (n : ℕ) (bs : List (List ℕ)) (ps : List PlacedRecord) (all : IsPerm
   back : IsPermutation (numbered n bs) ps
   back = IsPermutation-sym ps (numbered n bs) all
 
-  -- once they are written they stand there
+  -- once they are written they are stored there
   pub written-inside : (k : ℕ) → k < length bs → written device ps (n + k) ≡ get_or bs k []
   written-inside k inside =
       written-is ps device (n + k) (get_or bs k [])
       (All-permutation (λ p. p.block ≡ n + k → p.bytes ≡ get_or bs k []) (numbered n bs) ps back (numbered-is n bs k))
       (inl (Contains-permutation (numbered n bs) ps (record { block = n + k; bytes = get_or bs k [] }) back (numbered-has n bs k inside)))
 
-  -- where none differs, they stand there
+  -- if none differs, they are stored there
   pub same-inside : IsLeastDiffering device ps None → (k : ℕ) → k < length bs → device (n + k) ≡ get_or bs k []
   same-inside none k inside =
       has-All (λ p. device p.block ≡ p.bytes) (numbered n bs) _ (All-permutation (λ p. device p.block ≡ p.bytes) ps (numbered n bs) all none) (numbered-has n bs k inside)
 
-  -- where block n + k is the least that differs, it does, and those before it stand there
+  -- if block n + k is the least that differs, it does, and those before it are stored there
   pub least-inside : (k : ℕ) → IsLeastDiffering device ps (Some (n + k)) → k < length bs → (device (n + k) ≢ get_or bs k []) × ((j : ℕ) → j < k → device (n + j) ≡ get_or bs j [])
   least-inside k first inside =
       let is : first.bytes ≡ get_or bs k [] =

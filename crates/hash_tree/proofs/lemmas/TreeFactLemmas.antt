@@ -1,4 +1,4 @@
--- The tree that a shape describes: its levels, where their blocks stand, and what stands in their slots.
+-- The tree that a shape describes: its levels, where their blocks are stored, and what their slots hold.
 use Rattle.std.proofs.Common.{◌≡◌, ◌≤◌, ◌<◌, ◌/◌, ◌*◌, ◌+◌, ◌-◌, ◌^◌, ℕ, zero, suc, refl, sym, ap, ◌∙◌, arith, List, [], ◌++◌, length, get_or, map, add-one}
 use Rattle.std.proofs.Math.Nat.{div-div-eq-div-mul, pow-zero, div-one, zero-div, pow-succ'}
 use Rattle.std.proofs.lemmas.List.{length-map, get_or_append_left, get_or-append-add}
@@ -26,7 +26,7 @@ module _ (s : ShapeRecord) (two : 2 ≤ per_block s) (whole : s.hash_block ≡ 3
   level-sized zero ds = pack-sized s two whole salt ds
   level-sized (suc l) ds = level-sized l (digests_above s.hash_block salt ds)
 
-  -- block i of level l stands in the area behind the levels above it
+  -- block i of level l is stored in the area after the levels above it
   pub area-place : (l m i : ℕ) (ds : List (List ℕ)) → AllOf 32 ds → length ds ≡ suc m
       → l < levels (over s (suc m)) → i < level_blocks (over s (suc m)) l
       → get_or (area s.hash_block salt ds) (blocks_above (over s (suc m)) l + i) [] ≡ get_or (level s.hash_block salt ds l) i []

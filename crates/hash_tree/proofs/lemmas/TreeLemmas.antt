@@ -120,7 +120,7 @@ module _ (s : ShapeRecord) (two : 2 ≤ per_block s) (whole : s.hash_block ≡ 3
   root-up m (one ∷ two' ∷ more) all count =
       root-steps (suc (length more)) _ (digests_above s.hash_block salt (one ∷ two' ∷ more)) (above-sized (one ∷ two' ∷ more)) (fewer (suc (length more)) one two' more all (omega arith)) (omega arith)
 
-  -- level 0 stands behind the tree over it
+  -- level 0 is stored after the tree over it
   pub area-up : (m : ℕ) (ds : List (List ℕ)) → AllOf 32 ds → length ds ≡ suc (suc m)
       → area s.hash_block salt ds ≡ area s.hash_block salt (digests_above s.hash_block salt ds) ++ pack s.hash_block ds
   unfolding area

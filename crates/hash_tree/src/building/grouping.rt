@@ -13,7 +13,7 @@ use tree_shape::{Digest, Salt};
 
 impl LevelBuilder {
     /// The first of these digests, and how many those are: those of eight whole blocks of the lowest level, which are
-    /// digested side by side, where there are as many and none is begun; else one.
+    /// digested side by side, if there are as many and none is begun; else one.
     pub(super) fn push_next(
         &mut self,
         digests: &[Digest],
@@ -36,7 +36,7 @@ impl LevelBuilder {
         Ok(1)
     }
 
-    /// The digests of eight whole blocks of the lowest level, where none is begun.
+    /// The digests of eight whole blocks of the lowest level, if none is begun.
     fn push_group(&mut self, digests: &[Digest], out: &mut Vec<Placed>) -> Result<(), OutOfMemory>
         requires working { self.old.failed ≡ false }
         requires size { IsTrue (are_whole_blocks self.old.hash_block) }
@@ -64,7 +64,7 @@ impl LevelBuilder {
         Ok(())
     }
 
-    /// A whole block of the lowest level, with its digest, where none is begun.
+    /// A whole block of the lowest level, with its digest, if none is begun.
     fn push_block(
         &mut self,
         block: &[u8],
@@ -99,7 +99,7 @@ impl LevelBuilder {
     }
 }
 
-/// A whole block comes to the lowest of these levels, where none is begun, with its digest, which comes to the next level.
+/// A whole block comes to the lowest of these levels, if none is begun, with its digest, which comes to the next level.
 fn rise_block(
     hash_block: usize,
     salt: &Salt,

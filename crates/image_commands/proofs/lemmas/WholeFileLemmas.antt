@@ -1,4 +1,4 @@
--- A hash image that begins at the first sector of its file is the file, and so are data that end behind their file.
+-- A hash image that begins at the first sector of its file is the file, and so are data that end after their file.
 use Rattle.std.proofs.Common.{◌≡◌, ◌≤◌, ℕ, List, ap, arith}
 use Rattle.std.specs.Prelude.{◌-◌, min}
 use Rattle.std.proofs.Math.Nat.{min-eq_right, zero-min}

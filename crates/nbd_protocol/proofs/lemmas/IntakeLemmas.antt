@@ -72,7 +72,7 @@ filled-short n a xs old new x c room few stops some =
     let size : length (take a xs) ≡ a = length-take-le a xs room in
     (record { part = take a xs; few = omega (arith, size, few); consumed = c; cause = stops }, λ is. omega (arith, size, some is))
 
--- the input ended behind it
+-- the input ended after the bytes that were taken
 pub filled-lost : (n a : ℕ) (xs ys : List ℕ) (old mid new : Option (List ℕ)) → Consumes old mid (take a xs) → Consumes mid new (take 0 ys) → IsAtEnd new → a < length xs → length xs ≡ n → 0 < a
     → (short : IsShort n old new fault.Lost) × (fault.Lost ≡ fault.Lost → 0 < length short.part)
 filled-lost n a xs ys old mid new c d end left size some =

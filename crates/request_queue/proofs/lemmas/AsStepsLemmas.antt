@@ -14,7 +14,7 @@ use Rattle.request_queue.proofs.lemmas.ServedLemmas.{steps-alone}
 abbrev IsNoRun : Turn → Type 0
 IsNoRun x = is_run x.event ≡ false
 
--- the same calls as steps, among which none is run
+-- steps that do what these calls do, among which none is a run
 pub record Unrolled (w : World) (turns : List Turn) : Type 0 where
   pub steps : List Turn
   pub same : AreAsSteps w turns steps

@@ -1,4 +1,4 @@
--- What reads leave of the kept hash blocks, one after another, and what holds of those that are kept behind any calls.
+-- What reads leave of the kept hash blocks, one after another, and what holds of those that are kept after any calls.
 use Rattle.std.proofs.Common.{◌≡◌, ◌≤◌, ℕ, ◌+◌, ◌/◌, List, [], ◌∷◌, All, map, get_or, refl, sym, ap, ◌∙◌, subst, arith, Result, Ok, Err}
 use Rattle.std.specs.List.{IsDistinct}
 use Rattle.std.proofs.lemmas.List.Elements.{All-nil}
@@ -49,7 +49,7 @@ meets-first c d first a n within meets = (meets.0, omega (arith, within, meets.1
 pub keeps-none : (w : StackRecord) (d first : ℕ) → AreChecked w → ReadKeeps w d first 0 w
 keeps-none w d first checked = record { same = λ none. refl; checked = checked }
 
--- the next m sectors behind the first a, of n in all
+-- the next m sectors after the first a, of n in all
 pub keeps-then : (w v w' : StackRecord) (d first a m n : ℕ) → v.config ≡ w.config → a + m ≤ n → KeepsSame w d first a v → ReadKeeps v d (first + a) m w' → ReadKeeps w d first n w'
 keeps-then w v w' d first a m n config within p q = record {
   same = λ none.
@@ -157,7 +157,7 @@ event-keeps w (remove_device name reply) w' checked s = removes-keep w name repl
 event-keeps w (run r reply) w' checked s = runs-keep w r reply w' checked s
 event-keeps w (sync reply) w' checked s = syncs-keep w reply w' checked s
 
--- behind any list of calls the kept blocks are checked
+-- after any list of calls the kept blocks are checked
 pub run-keeps : (w : World) (turns : List Turn) → AreChecked w.stack → AreTurns EachPart w turns → KeepsChecked w.stack (last w turns).stack
 run-keeps w [] checked r = record { capacity = refl; checked = checked }
 run-keeps w (x ∷ more) checked r = let one = event-keeps w x.event x.after checked r.0 in checked-then one (run-keeps x.after more one.checked r.1)

@@ -74,7 +74,7 @@ find-changed low high t (suc i) (g ∷ fs) f f' r at e e' =
     let more = find-changed g.ticket high t i fs f f' r.1 at e e' in
     (omega (arith, more.0, r.0), find-skip t g (set fs i f') (λ same. omega (arith, same, more.0)) ∙ more.1)
 
--- one that was put behind them is found
+-- a request that was appended is found by its ticket
 pub found-pushed : (low high t : ℕ) (fs : List FlightRecord) (f : FlightRecord) → Rise low fs high → high < t → f.ticket ≡ t → find (has_ticket t) (fs ++ f ∷ []) ≡ Some f
 found-pushed low high t [] f r h e = find-here t f [] e
 found-pushed low high t (g ∷ fs) f r h e = let more = rise-most g.ticket high fs r.1 in find-skip t g (fs ++ f ∷ []) (λ same. omega (arith, same, more, h)) ∙ found-pushed g.ticket high t fs f r.1 h e

@@ -55,7 +55,7 @@ pub record ReadSoFar (base : StackRecord) (range : SectorRange) (t : ℕ) (w : W
 abbrev IsPiece : Configuration → ℕ → ℕ → ℕ → List Device → List Device → Result AnswerRecord IoFault → Type 0
 IsPiece c d first n old new answer = Gets (piece_expected c (mapped d) first n) old new answer × TouchesOnly (leaves_of c (mapped d)) old new answer
 
--- the piece that a step of it reads, behind the sectors that are read
+-- the piece that a step of it reads, after the sectors that are read
 read-part : (base : StackRecord) (range : SectorRange) (t : ℕ) (w w' : World) (u : ReadSoFar base range t w) (f : FlightRecord) (answer : Result AnswerRecord IoFault) (stack : StackRecord) → f ≡ u.f → stack ≡ w'.stack
     → AsksPiece EachPart w.stack f answer stack → EachPart w.stack range.device.0 (range.first + u.done) (read_part (next_count w f)) answer w'.stack
 read-part base range t w w' u f answer stack same now p =
@@ -218,7 +218,7 @@ module _ (base : StackRecord) (loaded : IsLoaded base.config) (range : SectorRan
   front-length : (a : ℕ) → a ≤ range.count → length (take (512 * a) bytes) ≡ 512 * a
   front-length a h = length-take-le (512 * a) bytes (omega (arith, len, h))
 
-  -- the next part, behind those before it
+  -- the next part, after those before it
   module _ (w w' : World) (u : WriteSoFar base range bytes t w) (n : ℕ) (inside : u.done + n ≤ range.count) where
     front-whole : length (take (512 * u.done) bytes) % 512 ≡ 0
     front-whole = omega (arith, front-length u.done (omega (arith, inside)))

@@ -1,4 +1,4 @@
--- Runs that are printed while blocks are gone over.
+-- Runs that are printed while blocks are scanned.
 use Rattle.std.proofs.Common.{◌≡◌, ℕ, zero, suc, ◌+◌, ◌≤◌, Bool, true, false, List, [], ◌∷◌, ◌++◌, length, replicate, take, Option, Some, None, refl, sym, ap, ◌∙◌, subst, arith, ltb, cond, inl, inr}
 use Rattle.std.specs.Io.KnownBytes.{Appends}
 use Rattle.std.proofs.lemmas.Bool.{cases_lt, le-ltb, lt-ltb}
@@ -70,7 +70,7 @@ printed_more : (most : Option ℕ) (tally : Tally) (closed next : List (Run Kind
 printed_more most tally closed next old now new was printed told =
     rw (lines_of-append (begun most) closed next) (writes-then old now new (limited_lines (begun most) closed) (limited_lines (limit_after (begun most) closed) next) printed (subst (λ (l : Limit). Appends now new (limited_lines l next)) was told))
 
--- blocks of which nothing is said, behind which the last run doesn't grow
+-- blocks of which nothing is reported, after which the last run doesn't grow
 pub listed-had : (most : Option ℕ) (states : List State) (tally tally' : Tally) (old now new : Option (List ℕ)) (n : ℕ) → 1 ≤ n → IsListed most states tally old now
     → Appends now new (limited_lines tally.limit (listed tally.last)) → tally'.last ≡ None → tally'.limit ≡ limit_after tally.limit (listed tally.last)
     → IsListed most (states ++ replicate n None) tally' old new
@@ -102,7 +102,7 @@ pub listed-all : (most : Option ℕ) (states : List State) (tally : Tally) (old 
 listed-all most states tally old now new t told =
     rw (← lines-listing most (runs_of is_same 0 states), tallied-all is_same is_same-equality states t.closed tally.last t.tallied) (printed_more most tally t.closed (listed tally.last) old now new t.limit t.printed told)
 
--- runs that are printed behind others
+-- runs that are printed after others
 pub lines-then : (limit : Limit) (xs ys : List (Run Kind)) (a b c : Option (List ℕ)) → Appends a b (limited_lines limit xs) → Appends b c (limited_lines (limit_after limit xs) ys) → Appends a c (limited_lines limit (xs ++ ys))
 lines-then limit xs ys a b c p q = rw (lines_of-append limit xs ys) (writes-then a b c (limited_lines limit xs) (limited_lines (limit_after limit xs) ys) p q)
 

@@ -35,7 +35,7 @@ module _ {K : Type 0} (same : K → K → Bool) (is : IsEquality same) where
   follows-next : (s k m : ℕ) (f : K) → follows same (run s k f) (run (s + k) m f) ≡ true
   follows-next s k m f = and_from ((s + k) == (s + k)) (same f f) (eq-eqb (s + k) (s + k) refl) (is.to_itself f)
 
-  -- two runs of one fault, one behind the other
+  -- two runs of one fault, one after the other
   run_before-next : (s k n : ℕ) (f : K) (rs : List (Run K)) → run_before same (run s k f) (run_before same (run (s + k) n f) rs) ≡ run_before same (run s (k + n) f) rs
   run_before-next s k n f [] = ap (λ (b : Bool). cond b (run s (k + n) f ∷ []) (run s k f ∷ run (s + k) n f ∷ [])) (follows-next s k n f)
   run_before-next s k n f (x ∷ more) = go (follows same (run (s + k) n f) x) refl

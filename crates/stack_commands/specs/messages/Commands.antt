@@ -13,7 +13,7 @@ use Rattle.stack_commands.specs.messages.Trees.{tree_message}
 
 -- a command that ends early, if there is one
 unfoldable pub ending_message : CommandFault → Option (List ℕ)
-ending_message command.Usage = None
+ending_message (command.Usage misuse) = None
 ending_message command.NoMemory = None
 ending_message (command.Stack fault) = stack_message fault
 ending_message (command.Linux refusal) = Some (linux_message refusal.kind)

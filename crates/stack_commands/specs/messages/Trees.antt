@@ -48,6 +48,6 @@ tree_message (trees.Survey fault) = survey_message fault
 tree_message trees.Unaligned = image_message image.Unaligned
 tree_message trees.NoShape = image_message (image.Format format.Shape)
 tree_message (trees.Unpinned mismatch) = Some (mismatch_message mismatch)
-tree_message trees.UnusedEntries = Some (codes "the superblock states fewer data blocks than were formatted; nothing was written")
+tree_message trees.UnusedEntries = Some (codes "the superblock or --blocks states fewer data blocks than were formatted; nothing was written")
 tree_message trees.Damaged = None
 tree_message trees.Write = None

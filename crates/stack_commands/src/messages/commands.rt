@@ -18,7 +18,7 @@ pub fn ending_message(fault: CommandFault<'_>) -> Option<&'static str>
     ensures { text_of result ≡ ending_message fault.entry }
 {
     match fault {
-        CommandFault::Usage => None,
+        CommandFault::Usage(_) => None,
         CommandFault::NoMemory => None,
         CommandFault::Stack(fault) => stack_message(fault),
         CommandFault::Linux(refusal) => Some(linux_message(refusal.kind)),

@@ -50,7 +50,7 @@ pub fn verity_message(fault: VerityFault<'_>) -> Option<&'static str>
     }
 }
 
-/// Returns the sentence on a command on an image with parity that ends early, if there is one: there is none on parity that differs.
+/// Returns the sentence on a command on an image with parity that ends early, if there is one. There is none if parity differs.
 #[tactic(auto, unfolding(crate::specs::messages::Images::fec_message))]
 pub fn fec_message(fault: FecFault<'_>) -> Option<&'static str>
     ensures { text_of result ≡ fec_message fault.entry }

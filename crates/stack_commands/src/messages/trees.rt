@@ -70,7 +70,7 @@ pub fn tree_message(fault: TreeFault<'_>) -> Option<&'static str>
         TreeFault::NoShape => image_message(ImageFault::Format(FormatFault::Shape)),
         TreeFault::Unpinned(mismatch) => Some(mismatch_message(mismatch)),
         TreeFault::UnusedEntries => Some(
-            "the superblock states fewer data blocks than were formatted; nothing was written",
+            "the superblock or --blocks states fewer data blocks than were formatted; nothing was written",
         ),
         TreeFault::Damaged => None,
         TreeFault::Write => None,

@@ -1,4 +1,4 @@
--- What a loaded configuration gives of each line: what it names, how deep that stands and what it costs.
+-- What a loaded configuration gives of each line: what it names, how deep that is and what it costs.
 use Rattle.std.proofs.Common.{subst, ◌≡◌, ◌+◌, ◌≤◌, ◌<◌, ℕ, zero, suc, List, [], ◌∷◌, ◌++◌, refl, sym, ap, ◌∙◌, Bool, true, false, not, ◌&&◌, Option, Some, None, map, take, arith, nat_lt}
 use Rattle.std.specs.Prelude.{flat_map, filter_map, is_none, slice_get}
 use Rattle.std.specs.List.{AllByRecursion, cons_option, list_any}
@@ -127,7 +127,7 @@ of-lines c P (x ∷ xs) zero line all there =
     subst (λ (line : Line). AllByRecursion (λ name. (y : Lower) → named c name ≡ Some y → P y) (names line.target)) same (of-names c P (names x.target) (flat_map (λ (line : Line). names line.target) xs) all).0
 of-lines c P (x ∷ xs) (suc l) line all there = of-lines c P xs l line (of-names c P (names x.target) (flat_map (λ (line : Line). names line.target) xs) all).1 there
 
--- what a line names stands lower than its device
+-- what a line names is less deep than its device
 pub names-shallower : (c : Configuration) (d l : ℕ) (line : Line) → IsValid c → IsLine c d l line → AllByRecursion (λ name. (y : Lower) → named c name ≡ Some y → depth c y < depth c (mapped d)) (names line.target)
 names-shallower c d l line valid is =
     of-lines c (λ y. depth c y < depth c (mapped d)) (lines_of c d) l line (falls-at c (λ x. let low = depth-low c valid x in omega (arith, low)) (mapped d)) is

@@ -37,7 +37,7 @@ use Rattle.stack_meaning.proofs.lemmas.MeaningLaws.{MeantLaws, Shows}
 use Rattle.stack_meaning.proofs.lemmas.MeaningLawsOf.{meaning-laws}
 use Rattle.stack_engine.proofs.lemmas.WalkLemmas.{ignored-digest}
 
--- ---- what stands for an entry on a sector's way
+-- ---- what is answered for an entry on a sector's way
 
 -- a good chain of that entry's line
 abbrev IsShownIn : Configuration → List FoundRecord → Entry → Type 0

@@ -38,7 +38,7 @@ use Rattle.stack_engine.proofs.lemmas.WalkLemmas.{checked-same}
 
 -- ---- joined blocks
 
--- what stands from block i on
+-- what is from block i on
 pub drop-concat : (size : ℕ) (blocks : List (List ℕ)) (i : ℕ) → All (λ b. length b ≡ size) blocks → i < length blocks → drop (size * i) (concat blocks) ≡ get_or blocks i [] ++ concat (drop (suc i) blocks)
 drop-concat size [] i sized low = absurd (omega (arith, low))
 drop-concat size (b ∷ blocks) zero sized low = let none : size * 0 ≡ 0 = omega arith in ap (λ (k : ℕ). drop k (b ++ concat blocks)) none
@@ -54,7 +54,7 @@ block-concat size blocks i sized low =
     let len : length (get_or blocks i []) ≡ size = All-get_or (λ b. length b ≡ size) blocks i [] low sized in
     ap (take size) (drop-concat size blocks i sized low) ∙ take-append-le size (get_or blocks i []) (concat (drop (suc i) blocks)) (omega (arith, len)) ∙ take_all size (get_or blocks i []) (omega (arith, len))
 
--- sector w, which stands in block w / n
+-- sector w, which is in block w / n
 pub part-concat : (n : ℕ) (blocks : List (List ℕ)) (w : ℕ) → All (λ b. length b ≡ 512 * n) blocks → 0 < n → w / n < length blocks → part (get_or blocks (w / n) []) (w % n) ≡ part (concat blocks) w
 part-concat n blocks w sized some low =
     let block : List ℕ = get_or blocks (w / n) [] in
@@ -111,7 +111,7 @@ length-path_to : (s : ShapeRecord) (salt : List ℕ) (ds : List (List ℕ)) (n i
 length-path_to s salt ds zero i = refl
 length-path_to s salt ds (suc l) i = ap suc (length-path_to s salt ds l i)
 
--- A place reads block k of some that stand from its block start on, where a block has n sectors.
+-- A place reads block k of some that are stored from its block start on, if a block has n sectors.
 span-block : (at : ℕ → Outcome) → AreSized at → (n size start count : ℕ) (blocks : List (List ℕ)) → 512 * n ≡ size → All (λ b. length b ≡ size) blocks → length blocks ≡ count
     → span at (n * start) (n * count) ≡ Ok (concat blocks) → (k : ℕ) → k < count → span at (n * (start + k)) n ≡ Ok (get_or blocks k [])
 span-block at sized n size start count blocks whole even number read k low =

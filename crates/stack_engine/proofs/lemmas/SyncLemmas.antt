@@ -14,7 +14,7 @@ use Rattle.stack_meaning.proofs.lemmas.LeafListLemmas.{AreSteady-kept, AllSteady
 
 -- ---- leaves that are synced
 
--- a device of which all is on its medium is as after a sync
+-- a device that isn't dirty is as after a sync
 pub synced-clean : (d : Device) → d.dirty ≡ false → d ≡ synced d
 synced-clean d clean = ap (λ (b : Bool). record d { dirty = b }) clean
 
@@ -126,7 +126,7 @@ module _ (i : ℕ) (old new : List Device) (u : IsAlone i old new) where
         | inr full ↦ let count = ap (λ (l : Device). l.failures) one.moved in omega (arith, full, count)
       ]
 
--- a leaf that isn't synced is alone behind those that are
+-- a leaf that isn't synced is alone after those that are
 alone : (i : ℕ) (old new : List Device) → LeafUnsynced i old new → IsAlone i (synced_first i old) new
 alone i old new u =
     let at : (d : Device) → get_or old i d ≡ get_or (synced_first i old) i d = λ d. sym (synced-at old i d) in
@@ -178,7 +178,7 @@ pub sync-sure : (old new : List Device) (result : Result Unit IoFault) → IfErr
 sync-sure old new (Ok done) fails never = refl
 sync-sure old new (Err fault) fails never = absurd (never-unsynced old new fault fails never)
 
--- the leaf that failed, of devices that are seen by f, behind those that are synced
+-- the leaf that failed, of devices that are seen by f, after those that are synced
 pub fails-at : {X : Type 0} (f : X → Device) (old : List Device) (xs : List X) (i : ℕ) (d v : X) → i < length xs → map f xs ≡ synced_first i old
     → (IsTrue (f (get_or xs i d)).never_fails → false ≡ true) → IsTrue (f (get_or xs i d)).dirty → IsUnsynced (f (get_or xs i d)) (f v) → FailsToSync old (map f (set xs i v)) (io.Device (i + 1))
 fails-at f old xs i d v there same unsure dirty unsynced =

@@ -60,7 +60,7 @@ each-write {w = w} {w' = w'} d first bytes result piece config capacity whole fo
 none-forgotten : (w : StackRecord) (d : ℕ) → Forgets w.config (leaves_of w.config (mapped d)) w.leaves w.leaves w.kept w.kept
 none-forgotten w d = forgets-none w.kept (AreRead-none 0 w.leaves)
 
--- want of memory, before anything was written
+-- out of memory, before anything was written
 abbrev none-stop : (w : StackRecord) (d first n : ℕ) → IsOutOfMemory largest_allocation → 0 < n → StopsAt (said_at w.config (mapped d)) first n io.NoMemory w.leaves w.leaves
 none-stop w d first n refused some = record { before = 0; failed = n; some = some; inside = omega arith; by = refused; others = KeepsOthers-none _ w.leaves }
 

@@ -81,7 +81,7 @@ module _ (c : Configuration) (i : ℕ) where
 
 -- ---- writes to a leaf
 
--- what a device that doesn't stand on a leaf means, where that leaf's image alone is another one
+-- what a device that isn't stacked on a leaf means, if that leaf's image alone is another one
 module _ (c : Configuration) (i : ℕ) (images other : Images) (alike : (j : ℕ) → j ≢ i → get_or images j [] ≡ get_or other j []) where
   apart : (js : List ℕ) → list_any (λ j. i == j) js ≡ false → AllByRecursion (λ j. get_or images j [] ≡ get_or other j []) js
   apart [] none = tt

@@ -122,7 +122,7 @@ module _ {c : Configuration} where
     kept = p.kept;
   }
 
--- ---- what is left behind a write
+-- ---- what is left after a write
 
 same-of : (e d : ℕ) → (e == d) ≡ true → e ≡ d
 same-of e d h = grind (arith, nat_tests)
@@ -164,7 +164,7 @@ module _ {c : Configuration} {these : ℕ → Bool} {old new : List Device} {bef
           (filter-passes (λ b. not (list_any (λ j. key_stands_on c j b.key) p.written)) (λ b. key_stands_on c i b.key ≡ false)
           (λ b passes. none-at (λ j. key_stands_on c j b.key) i p.written e (not-true (list_any (λ j. key_stands_on c j b.key) p.written) passes)) before)
 
--- a write to a leaf, before which the lines whose hash device stands on it lost their blocks
+-- a write to a leaf, before which the lines whose hash device is on it lost their blocks
 pub forgets-leaf : (c : Configuration) (i first n : ℕ) (old new : List Device) (before after : List CachedBlock) → KeepsOthers (reached (λ s. (said_at c (leaf i) s).reaches) first n) old new
     → after ≡ blocks_without (key_stands_on c i) before → Forgets c (leaves_of c (leaf i)) old new before after
 forgets-leaf c i first n old new before after others is = record {

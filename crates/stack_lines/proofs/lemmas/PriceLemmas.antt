@@ -43,7 +43,7 @@ cond-alike true false x y x' y' e p q = cc
 cond-alike false true x y x' y' e p q = cc
 cond-alike false false x y x' y' e p q = q
 
--- a cut behind a sectors more than the run has so far
+-- a split after a sectors more than the run has so far
 behind-cut : (tog : ℕ → Bool) (price : Pricing) (s k a b : ℕ) → tog (s + k + a) ≡ false
     → run_and_behind tog price s k (suc (a + b)) ≡ run_and_behind tog price s k a + run_and_behind tog price (s + k + a + 1) 0 b
 behind-cut tog price s k zero b cut =
@@ -154,7 +154,7 @@ module _ (u : ℕ) (price : Pricing) (several : 0 < u) where
       let at : (w + j) % u ≡ w % u + j = within-step u w j (omega (arith, h, fits)) in
       lt-ltb ((w + j) % u + 1) u (omega (arith, at, h, fits)))
 
-  -- one of them, and what is behind it
+  -- one of them, and what is after it
   pub step-next : (w : ℕ) → w % u ≡ 0 → (w + u) % u ≡ 0
   step-next w begins =
       let at : w + u ≡ (w / u + 1) * u + 0 = omega (arith, div-add-mod' w u, begins, add-mul (w / u) 1 u) in

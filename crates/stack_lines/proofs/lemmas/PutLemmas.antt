@@ -82,7 +82,7 @@ one_run : (s : ℕ) (bytes : List ℕ) (b : Bool) → sector_before s bytes b []
 one_run s bytes true = refl
 one_run s bytes false = refl
 
--- a sector before some runs, and others behind these
+-- a sector before some runs, and others after these
 before-append : (s : ℕ) (bytes : List ℕ) (b : Bool) (run : Run) (runs more : List Run) → sector_before s bytes b (run ∷ (runs ++ more)) ≡ sector_before s bytes b (run ∷ runs) ++ more
 before-append s bytes true run runs more = refl
 before-append s bytes false run runs more = refl
@@ -151,7 +151,7 @@ pub put-together : (at : ℕ → Putting) (tog : ℕ → Bool) (s : ℕ) (sector
 put-together at tog s [] images some all = absurd (omega (arith, some))
 put-together at tog s (x ∷ xs) images some all = ap (λ (runs : List Run). put_runs at runs images) (runs-one tog s x xs all) ∙ then_done (at s (x ∷ xs) images)
 
--- the same runs, of sectors from s on and of sectors from t on
+-- runs of sectors from t on are those of sectors from s on, sector for sector
 abbrev AreShifted : ℕ → ℕ → ℕ → List Run → List Run → Type 0
 AreShifted s t n [] [] = Unit {0}
 AreShifted s t n [] (r ∷ more) = ⊥

@@ -90,7 +90,7 @@ served-cost c d s n Fails loaded some r = omega arith
 served-cost c d s n (Block x) loaded some r = let same : read_cost c (mapped x.device.0) ≡ read_cost c (mapped d) = ap (λ (k : ℕ). read_cost c (mapped k)) r.come.1.0 in omega (arith, same)
 served-cost c d s n (Blocks x) loaded some r = let same : read_cost c (mapped x.device.0) ≡ read_cost c (mapped d) = ap (λ (k : ℕ). read_cost c (mapped k)) r.come.1.0 in omega (arith, same)
 
--- the lower device stands less deep
+-- the lower device is less deep
 pub served-depth : (c : Configuration) (d s n : ℕ) (source : Source) → IsLoaded c → 0 < n → IsServed c d s n source → source_depth c source ≤ depth c (mapped d)
 served-depth c d s n (Below lower first) loaded some r =
     let on = r.come.1 in
@@ -157,7 +157,7 @@ fails_of c n leaves found kept some = record {
   kept = kept;
 }
 
--- the reads of some sectors of a device, and of the run behind them
+-- the reads of some sectors of a device, and of the run after them
 pub device_plain : (c : Configuration) (d first a m n : ℕ) (source : Source) {old mid new : List Device} {result : Result Unit IoFault} → IsLoaded c → a + m ≤ n → IsServed c d (first + a) m source
     → IsPlain (said_at c (mapped d)) first a old mid (Ok tt) → IsPlain (source_said c source) 0 m mid new result → IsPlain (said_at c (mapped d)) first n old new result
 device_plain c d first a m n source loaded h r p q =

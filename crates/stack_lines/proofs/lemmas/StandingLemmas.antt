@@ -1,4 +1,4 @@
--- The leaves on which the devices of a loaded configuration stand.
+-- The leaves beneath the devices of a loaded configuration.
 use Rattle.std.proofs.Common.{IsTrue, ◌≡◌, ◌≢◌, ℕ, ◌+◌, ◌*◌, ◌%◌, ◌^◌, ◌<◌, ◌≤◌, Bool, true, false, not, ◌&&◌, ◌||◌, ◌==◌, ◌⊎◌, List, [], ◌∷◌, ◌++◌, length, get_or, set, take, Option, Some, None, refl, sym, ap, ◌∙◌, subst, arith, max, inl, inr}
 use Rattle.std.specs.Prelude.{filter_map, flat_map, slice_get, is_some, option_map, option_and_then, position}
 use Rattle.std.specs.Int.{bit_at, bit_not, w64}
@@ -102,12 +102,12 @@ module _ (c : Configuration) where
   leaves_rule-local f g (leaf i) all = refl
   leaves_rule-local f g (device d) all = flat_same f g (lowers c d.0) all
 
-  -- a leaf stands on itself alone
+  -- only the leaf itself is beneath a leaf
   pub stands-leaf : (i j : ℕ) → stands_on c i (leaf j) ≡ (i == j)
   unfolding descend
   stands-leaf i j = or-false (i == j)
 
-  -- a leaf stands on itself
+  -- a leaf is beneath itself
   pub leaf-stands : (i : ℕ) → IsTrue (stands_on c i (leaf i))
   leaf-stands i = let same : (i == i) ≡ true = grind (arith, nat_tests) in stands-leaf i i ∙ same
 
@@ -118,7 +118,7 @@ module _ (c : Configuration) where
     leaves_beneath-rule : (x : Lower) → leaves_beneath c x ≡ leaves_rule c (leaves_beneath c) x
     leaves_beneath-rule x = descend-rule c [] (leaves_rule c) leaves_rule-local (depth c) (falls-at c low) x (omega (arith, low x))
 
-    -- a device stands on what its lines stand on
+    -- what is beneath a device's lines is beneath the device
     pub stands-device : (i d : ℕ) → stands_on c i (mapped d) ≡ list_any (λ line. list_any (name_stands_on c i) (names line.target)) (lines_of c d)
     stands-device i d =
         ap (list_any (λ j. i == j)) (leaves_beneath-rule (mapped d))
@@ -135,7 +135,7 @@ module _ (c : Configuration) where
 
 -- ---- what a line names
 
--- what stands on a leaf by its name stands on it by what the name means
+-- what is on a leaf by its name is on it by what the name means
 pub name-stands : (c : Configuration) (i : ℕ) (name : List ℕ) (y : Lower) → named c name ≡ Some y → name_stands_on c i name ≡ stands_on c i y
 name-stands c i name y is = ap (λ (o : Option Lower). known false (stands_on c i) o) is
 

@@ -34,7 +34,7 @@ module _ (said said' : ℕ → Said) (first first' n : ℕ) (up : (j : ℕ) → 
 differ-more : {these more : LeafSectors} {old new : Images} → Among these more → DifferWithin these old new → DifferWithin more old new
 differ-more among d = record { leaves = d.leaves; sizes = d.sizes; sector = λ i t out. d.sector i t (λ x. out (among (i, t) x)) }
 
--- the same sectors, counted otherwise
+-- sectors reached from s on are among those reached from an equal s' on, if these are no fewer
 reached-as : (reaches : ℕ → List LeafSector) (s s' n n' : ℕ) → s ≡ s' → n ≤ n' → Among (reached reaches s n) (reached reaches s' n')
 reached-as reaches s s' n n' e h p some = (some.0, omega (arith, some.1, h), subst (λ (k : ℕ). Contains (reaches (k + some.0)) p) e some.2)
 
@@ -203,7 +203,7 @@ failed-reached reaches first n i {old = old} {new = new} failed counted same = e
       absurd (elim (failed.failed d) [ inl grew ↦ omega (arith, grew, e) | inr full ↦ omega (arith, full, e, counted d) ])
 ]
 
--- Where a leaf failed, another one that the last sector alone reaches wasn't asked, so nothing went on behind the fault.
+-- If a leaf failed, another one that the last sector alone reaches wasn't accessed, so nothing went on after the fault.
 pub last-unasked : (said : ℕ → Said) (first a i k : ℕ) {old new : List Device} (d : Device) → StopsAt said first (a + 1) (io.Device i) old new → ((t : ℕ) → Contains (said (first + a)).reaches (i - 1, t) → ⊥)
     → ((t : ℕ) → reached (λ s. (said s).reaches) first a (k, t) → ⊥) → get_or new k d ≡ get_or old k d
 last-unasked said first a i k d q last front = elim (cases_lt (q.before + q.failed) (a + 1)) [

@@ -89,7 +89,7 @@ leaf-touched state devices i c new result fault = record {
   fault = fault;
 }
 
--- the leaf of that number stands on itself
+-- the leaf of that number is beneath itself
 pub leaf-named : (c : Configuration) (i : ℕ) → NamesOneOf (leaves_of c (Leaf i)) (io.Device (i + 1))
 leaf-named c i =
     let number : i ≡ i + 1 - 1 = omega arith in
@@ -113,7 +113,7 @@ module _ (c : Configuration) (loaded : IsLoaded c) (d l : ℕ) (line : Line) (at
       none-of (name_stands_on c i) (names line.target)
       (at_place (λ (x : Line). any (names x.target) ≡ false) (lines_of c d) l line (none-of (λ (x : Line). any (names x.target)) (lines_of c d) (sym (stands-device c loaded i d) ∙ out)) at)
 
-  -- nor does what its names mean stand there
+  -- nor is what the line's names mean stacked on leaf i
   name-out : (k : ℕ) (name : List ℕ) (lower : Lower) → slice_get (names line.target) k ≡ Some name → named c name ≡ Some lower → stands_on c i lower ≡ false
   name-out k name lower there is = sym (name-stands c i name lower is) ∙ at_place (λ (n : List ℕ). name_stands_on c i n ≡ false) (names line.target) k name names-out there
 

@@ -132,7 +132,7 @@ module _ (c : Configuration) (lower : Lower) (units : CryptUnits) (key : List �
     front-count : (i : ℕ) → i * per_unit units ≤ n → length (sectors_in (take (512 * (i * per_unit units)) bytes)) ≡ i * per_unit units
     front-count i fits = omega (arith, length-sectors_in (take (512 * (i * per_unit units)) bytes), front-length i fits)
 
-    -- they are cut behind unit i
+    -- they are split after unit i
     apart : (i : ℕ) (ys : List (List ℕ)) → i * per_unit units ≤ n → Apart (in_unit units) w (sectors_in (take (512 * (i * per_unit units)) bytes)) ys
     apart zero ys fits =
         let u : ℕ = per_unit units in
@@ -169,7 +169,7 @@ module _ (c : Configuration) (lower : Lower) (units : CryptUnits) (key : List �
         let cut : tog (s + length xs - 1) ≡ false = ap (λ (e : ℕ). tog (e - 1)) end ∙ part-ends u (w + suc i * u) some-unit (omega (arith, add-mul 1 i u, some-unit)) (at-unit (suc i)).1 in
         put-apart g tog s xs ys images (inr (inr cut))
 
--- ---- units of which a put may be cut behind each one
+-- ---- units of which a put may be split after each one
 
 module _ (c : Configuration) (lower : Lower) (units : CryptUnits) (key : List ℕ) (w : ℕ) (bytes : List ℕ) (n : ℕ) (aligned : w % per_unit units ≡ 0) (len : length bytes ≡ 512 * n)
     (whole : n % per_unit units ≡ 0) (cut : PutsInSteps (put_on c lower) (unit_first units w) n (record { size = per_unit units; skip = 0 })) where

@@ -110,7 +110,7 @@ module _ (images : Images) (lower : ℕ → Said) (sized : AreSized (λ t. (lowe
       let long : length (decrypted_unit units key k bytes) ≡ 512 * u = xts.length-decrypted key (crypt_unit_number units k) bytes (omega (arith, len)) ∙ len in
       span-parts (λ s. (crypt_said lower units key s).means images) (k * u) u (decrypted_unit units key k bytes) long (λ j h. unit-means k j (Ok bytes) is h)
 
-  -- the fault of a whole unit stands beneath
+  -- the fault of a whole unit is the fault of its sectors in the device beneath
   pub unit-fails : (k : ℕ) (x : Fault) → span (λ s. (crypt_said lower units key s).means images) (k * per_unit units) (per_unit units) ≡ Err x
       → span (λ t. (lower t).means images) (units.offset + k * per_unit units) (per_unit units) ≡ Err x
   unit-fails k x is = go (span (λ t. (lower t).means images) (units.offset + k * per_unit units) (per_unit units)) refl

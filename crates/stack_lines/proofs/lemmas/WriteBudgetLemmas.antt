@@ -180,7 +180,7 @@ module _ (c : Configuration) (k : Counter) (x : CryptPart) where
     pub whole-written : crypt_write_budget c k x (per_unit units) ≡ write_budget c k lower (unit_first units x.first) (per_unit units)
     whole-written = let u : ℕ = per_unit units in omega (arith, has-written u, step-once u unit_price some-unit x.first u some-unit (omega (arith, aligned)), whole-is x.first)
 
-    -- behind a sectors, which are whole units
+    -- after a sectors, which are whole units
     unit-cut : (a n : ℕ) → a % per_unit units ≡ 0 → CutAt (in_step (per_unit units)) x.first a n
     unit-cut zero n even = inl refl
     unit-cut (suc a) n even =

@@ -75,7 +75,7 @@ module _ (leaves : List Device) (i first n : ℕ) (old new : Device) (h : i < le
     others = others-set ok was is r;
   }
 
--- the same of the devices that have these states
+-- a write to one of some devices, whose states are the leaves
 module _ {X : Type 0} (state : X → Device) (devices : List X) (i : ℕ) (x : X) (there : i < length devices) where
   pub AreWritten-device : (first n : ℕ) (these : LeafSectors) (ok : Bool) (new : X) → 0 < n → ((j : ℕ) → j < n → these (i, first + j)) → ((y : X) → IsWhole (state y))
       → (state (get_or devices i x)).failures ≤ (state new).failures → IsWritten (state (get_or devices i x)) first n ok (state new)

@@ -53,7 +53,7 @@ put-ends p next images (io.Stack fault) h = ap (λ (q : Put). then_put q next) h
 put-ends p next images (io.Device i) h = tt
 put-ends p next images io.NoMemory h = tt
 
--- the same write by other faults that may come
+-- a write that may end by some faults may end by more
 pub MayEnd-as : (May More : Fault → Type 0) (old new : List Device) (result : Result Unit IoFault) → ((x : Fault) → May x → More x) → MayEnd May old new result → MayEnd More old new result
 MayEnd-as May More old new (Ok x) more h = tt
 MayEnd-as May More old new (Err (io.Stack why.ErrorTarget)) more h = more error_target h
@@ -136,7 +136,7 @@ module _ (to : Destination) (first : ℕ) (xs ys : List (List ℕ)) {old mid new
 
 -- ---- sectors written to one place are written to another
 
--- the same is said of them, their put is the same, they cost no less, and stand on no fewer leaves
+-- two destinations have the same meaning and the same put; the second costs no less, and is on all leaves of the first
 pub record PutsAlike (to to' : Destination) (first first' : ℕ) (sectors : List (List ℕ)) : Type 1 where
   pub said : (j : ℕ) → j < length sectors → to.said (first + j) ≡ to'.said (first' + j)
   pub puts : (images : Images) → to.puts first sectors images ≡ to'.puts first' sectors images

@@ -13,7 +13,7 @@ use Rattle.stack_loader.proofs.RemovalFactLemmas.{unused-of, fault-none, fault-s
 use Rattle.stack_loader.proofs.RemoveLemmas.{slice_get-remove, position-remove}
 use Rattle.stack_loader.proofs.lemmas.RemovalLemmas.{without, IsUnused}
 
--- device d has the name, no line names it, and what stands after its removal is all but it
+-- device d has the name, no line names it, and the configuration after its removal is all but it
 pub record IsRemoval (c : Configuration) (name : List ℕ) (d : ℕ) : Type 0 where
   pub found : device_named c name ≡ Some d
   pub unused : IsUnused c d

@@ -7,7 +7,7 @@ use Rattle.stack_rules.specs.Names.{lowers_of}
 use Rattle.stack_rules.specs.Descend.{descend, after_steps, most_devices}
 use Rattle.stack_rules.proofs.lemmas.UnrollLemmas.{AllOf, turn}
 
--- what two rules give is related, where it is for what stands directly beneath
+-- what two rules give is related, if it is for what is directly beneath
 abbrev pub AreRelated {ℓ} : {A B : Type ℓ} → (A → B → Type ℓ) → Configuration → (Lower → Type 0) → (Lower → Lower) → ((Lower → A) → Lower → A) → ((Lower → B) → Lower → B) → Type ℓ
 AreRelated {A = A} {B = B} Same c P number rule other =
     (f : Lower → A) (g : Lower → B) (x : Lower) → P x → AllOf (λ y. Same (f y) (g (number y))) (lowers_of c x) → Same (rule f x) (other g (number x))

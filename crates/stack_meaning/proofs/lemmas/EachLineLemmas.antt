@@ -15,7 +15,7 @@ use Rattle.stack_meaning.proofs.lemmas.LineLemmas.{end_of, found_from, here, lat
 
 -- ---- the line that was found
 
--- it stands at its number, and ends behind the sector
+-- the line is at its number, and ends after the sector
 pub found-at : (k : ℕ) (lines : List Line) (s : ℕ) (p : ℕ × Line) → found_from k lines s ≡ Some p → (k ≤ p.0) × (slice_get lines (p.0 - k) ≡ Some p.1) × (s < end_of p.1)
 found-at k [] s p e = let clash : None ≡ Some p = e in cc
 found-at k (x ∷ lines) s p e = elim (cases_lt s (end_of x)) [

@@ -44,7 +44,7 @@ Grown-then {entries = entries} {first = first} {a = a} {m = m} {n = n} {u = u} h
 pub grown-keeps : {entries : ℕ → List Entry} {first n : ℕ} {u v : List FoundRecord} → HasGrown entries first n u v → (x : FoundRecord) → Contains u x → Contains v x
 grown-keeps {u = u} p x h = subst (λ (l : List FoundRecord). Contains l x) (sym p.is) (Contains-append_left u p.added x h)
 
--- ---- what a line gave stands while the leaves are read
+-- ---- what a line gave still holds after the leaves are read
 
 LineKeeps-later : (c : Configuration) {old new : List Device} {n : ℕ} (target : Target) (x : FoundRecord) → AreRead old n new → LineKeeps c old target x.chain → LineKeeps c new target x.chain
 LineKeeps-later c {old = old} {new = new} {n = n} target x a h = go (meaning_of target).meant (meaning-laws target) h

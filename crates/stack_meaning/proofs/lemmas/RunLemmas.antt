@@ -83,7 +83,7 @@ run-append P first a m x y p q = record {
   ];
 }
 
--- the same sectors, where more may be
+-- a run by one relation is a run by each weaker one
 pub run-may : (P P' : ℕ → List ℕ → Type 0) (first n : ℕ) (bytes : List ℕ) → ((s : ℕ) (b : List ℕ) → P s b → P' s b) → IsRun P first n bytes → IsRun P' first n bytes
 run-may P P' first n bytes more run = record { len = run.len; sectors = λ j h. more (first + j) (part bytes j) (run.sectors j h) }
 
@@ -157,7 +157,7 @@ module _ (place : Place) (c : Configuration) (mono : AllMono place) (first a m :
 
 -- ---- n sectors of a place that are n of another
 
--- the same is said of them, they cost no less, and stand on no fewer leaves
+-- n sectors of a place and of another have the same meaning; the second costs no less, and is on all leaves of the first
 pub record Passes (place place' : Place) (first first' n : ℕ) : Type 1 where
   pub said : (j : ℕ) → j < n → place.said (first + j) ≡ place'.said (first' + j)
   pub cost : place.cost ≤ place'.cost

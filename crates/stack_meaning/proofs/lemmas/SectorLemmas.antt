@@ -38,7 +38,7 @@ module _ {ℓ} {X : Type ℓ} (c : Configuration) (none : X) (f g : Lower → X)
   last-part None rest all = all
   last-part (Some y) rest (all_and same more) = more
 
-  -- the names of one line, which stand first among all
+  -- the names of one line, which are first among all
   pub front : (xs ys : List (List ℕ)) → AllOf (λ y. f y ≡ g y) (filter_map (named c) (xs ++ ys)) → AllOf (λ name. by_name c none f name ≡ by_name c none g name) xs
   front [] ys all = all_none
   front (x ∷ xs) ys all = all_and (first-part (named c x) (filter_map (named c) (xs ++ ys)) all) (front xs ys (last-part (named c x) (filter_map (named c) (xs ++ ys)) all))

@@ -68,7 +68,7 @@ lines-same c line_cost local f g (x ∷ xs) all =
     let here = local (by_name c 0 f) (by_name c 0 g) x.target (names-same c f g (names x.target) both.0) in
     rw (here, lines-same c line_cost local f g xs both.1) refl
 
--- so a device's cost depends on what stands directly beneath alone
+-- a device's cost depends on what is directly beneath alone
 pub cost_rule-local : (c : Configuration) (line_cost : (List ℕ → ℕ) → Target → ℕ) → IsLineLocal line_cost → IsLocal c (cost_rule c line_cost)
 cost_rule-local c line_cost local f g (leaf i) all = refl
 cost_rule-local c line_cost local f g (device d) all = lines-same c line_cost local f g (lines_of c d.0) (recursion-of (lowers_of c (device d)) all)

@@ -1,4 +1,4 @@
--- A rule that asks only what stands directly beneath gives one answer, however many steps it goes
+-- A rule that depends only on what is directly beneath gives one answer, however many steps it goes
 -- down, once they are more than the height.
 use Rattle.std.proofs.Common.{◌≡◌, ℕ, zero, suc, ◌+◌, ◌<◌, ◌≤◌, List, [], ◌∷◌, refl, ap, arith, map}
 use Rattle.std.specs.List.{AllByRecursion}
@@ -23,7 +23,7 @@ pub turn {ℓ} : {X : Type 0} {P : X → Type 0} {Q : X → Type ℓ} → ((x : 
 turn f [] all = all_none
 turn f (x ∷ xs) all = all_and (f x all.0) (turn f xs all.1)
 
--- ---- a rule that asks only what stands directly beneath
+-- ---- a rule that depends only on what is directly beneath
 
 abbrev pub IsLocal {ℓ} : {A : Type ℓ} → Configuration → ((Lower → A) → Lower → A) → Type ℓ
 IsLocal {A = A} c rule = (f g : Lower → A) (x : Lower) → AllOf (λ y. f y ≡ g y) (lowers_of c x) → rule f x ≡ rule g x

@@ -4,6 +4,12 @@ use Rattle.std.proofs.Math.Nat.{mul-le-mul_right}
 use Rattle.block_device.specs.Device.{Device}
 use Rattle.tree_path.specs.Steps.{HasReadAtMost}
 
+pub at_most-none : (a : Device) (n from : ℕ) → HasReadAtMost a ((from - from) * n) a
+at_most-none a n from =
+    let none : from - from ≡ 0 = omega arith in
+    let zero_sectors : (from - from) * n ≡ 0 = grind arith in
+    omega (arith, zero_sectors)
+
 pub at_most-more : (a b c : Device) (n from l : ℕ) → l < from → HasReadAtMost a ((from - suc l) * n) b → HasReadAtMost b n c → HasReadAtMost a ((from - l) * n) c
 at_most-more a b c n from l low p q =
     let less : from - l ≡ suc (from - suc l) = omega (arith, low) in

@@ -24,7 +24,7 @@ blocks-one salt a b same = elim (same-or a b) [
   | inr ne ↦ inr (a, (b, record { differ = ne; same = same }))
 ]
 
--- the last k hash blocks of a chain, which hang with its content from the digest that stands k levels above its data block
+-- the last k hash blocks of a chain, which hang with its content from the digest that is k levels above its data block
 abbrev pub Ends : PathRecord → ℕ → ℕ → List ℕ → Type 0
 Ends p i k content = (rest : List (List ℕ)) × ((length rest ≡ k) × HangsFrom p.shape p.salt i (digest_on p i k) rest content)
 

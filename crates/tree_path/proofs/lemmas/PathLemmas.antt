@@ -20,19 +20,19 @@ module _ (p : PathRecord) (i m : ℕ) where
   unfolding digest_on
   digest_on-below low = ap (λ (b : Bool). cond b p.root (digest_in (block_of p m) (slot p.shape (ancestor p.shape m i)))) (ne_eqb m (levels p.shape) (λ e. omega (arith, e, low)))
 
--- the same digest stands where the block is the same
+-- two paths of one shape and root that have the same block at a level have the same digest there
 pub digest_on-same : (p q : PathRecord) (i m : ℕ) → p.shape ≡ q.shape → p.root ≡ q.root → block_of p m ≡ block_of q m → digest_on p i m ≡ digest_on q i m
 unfolding digest_on
 digest_on-same p q i m shape root block =
     let f : ShapeRecord → List ℕ → List ℕ → List ℕ = λ s r b. cond (m == levels s) r (digest_in b (slot s (ancestor s m i))) in
     ap (λ (s : ShapeRecord). f s p.root (block_of p m)) shape ∙ ap (λ (r : List ℕ). f q.shape r (block_of p m)) root ∙ ap (f q.shape q.root) block
 
--- it stands for another data block that has the same one above it
+-- two data blocks that have the same hash block above them have the same digest there
 pub digest_on-along : (p : PathRecord) (i j m : ℕ) → ancestor p.shape m i ≡ ancestor p.shape m j → digest_on p i m ≡ digest_on p j m
 unfolding digest_on
 digest_on-along p i j m same = ap (λ (k : ℕ). cond (m == levels p.shape) p.root (digest_in (block_of p m) (slot p.shape k))) same
 
--- blocks that stand on a device have the digests that stand there
+-- blocks that are stored on a device have the digests that are stored there
 pub digest_on-stored : (p : PathRecord) (image : List (List ℕ)) (i m : ℕ) → m ≤ levels p.shape → (m < levels p.shape → block_of p m ≡ stored_block p.shape image m i) → digest_on p i m ≡ stored_digest p.shape p.root image i m
 unfolding stored_digest
 digest_on-stored p image i m few stored =

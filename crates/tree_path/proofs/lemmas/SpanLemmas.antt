@@ -71,7 +71,7 @@ module _ (p : ℕ) (some : 0 < p) where
       product-le : (c d e : ℕ) → c ≤ d → c * e ≤ d * e
       product-le c d e le = mul-le-mul_right e le
 
-  -- the block behind a subtree that begins at block a has the same blocks above it, but where it begins one of theirs
+  -- the block after a subtree that begins at block a has the same blocks above it, unless it begins one of theirs
   pub behind : (a k m : ℕ) → k ≤ m → a % p ^ k ≡ 0 → (a + p ^ k) % p ^ m ≢ 0 → (a + p ^ k) / p ^ m ≡ a / p ^ m
   behind a k m le begins apart =
       let b : ℕ = p ^ k in

@@ -75,7 +75,7 @@ module _ (s : ShapeRecord) (valid : IsShape s) where
   unfolding slot
   slot-inside i = omega (arith, mod_below i (per_block s) (omega (arith, two)), (per_block-wide s valid).1)
 
-  -- the tree's place is told by how many blocks stand above the level
+  -- the offset of a level follows from how many blocks are above it
   pub position-is : (l i : ℕ) → position s l i ≡ s.start + area_blocks (over s (level_blocks s l)) + i
   unfolding position
   position-is l i = ap (λ n. s.start + n + i) (blocks_above-area l)

@@ -64,7 +64,7 @@ module _ (s : ShapeRecord) (two : 2 ≤ per_block s) where
   unfolding levels
   levels-one = refl
 
-  -- each further level stands over the blocks of the one below it
+  -- each further level is over the blocks of the one below it
   pub levels-up : (m : ℕ) → levels (over s (suc (suc m))) ≡ suc (levels (over s (suc (suc m / per_block s))))
   levels-up m =
       levels-suc (suc m)
@@ -188,7 +188,7 @@ area_blocks-step s (suc (suc m)) two more =
     let before : suc (suc m) - 1 ≡ suc m = omega arith in
     rw (before, add-one) (area_blocks-up s two m)
 
--- no hash block stands over one block
+-- no hash block is over one block
 pub area_blocks-end : (s : ShapeRecord) (n : ℕ) → 2 ≤ per_block s → n ≡ 1 → area_blocks (over s n) ≡ 0
 area_blocks-end s n two one = ap (λ n. area_blocks (over s n)) one ∙ area_blocks-one s two
 

@@ -43,7 +43,7 @@ full_read-then {a = a} {b = b} {c = c} n m k p q sum = record {
   failures = q.failures ∙ p.failures;
 }
 
--- a failure behind calls that did not fail
+-- a failure after calls that did not fail
 pub failed-then : (a b c : Device) → b.failures ≡ a.failures → HasFailed b c → HasFailed a c
 failed-then a b c same (inl more) = inl (omega arith)
 failed-then a b c same (inr most) = inr (omega arith)

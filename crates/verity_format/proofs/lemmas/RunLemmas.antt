@@ -17,7 +17,7 @@ use Rattle.verity_format.specs.Blocks.{block_at, blocks_at}
 use Rattle.verity_format.proofs.lemmas.SizeLemmas.{block-size, block-inside}
 
 module _ (image : List (List ℕ)) (size : ℕ) where
-  -- a run of sectors is the blocks that stand there
+  -- a run of sectors is the blocks that are stored there
   pub run-blocks : (first n : ℕ) → concat (run_of image (first * (size / 512)) (n * (size / 512))) ≡ concat (blocks_at image size first n)
   unfolding block_at
   run-blocks first zero = ap (λ k. concat (take k (drop (first * (size / 512)) image))) (zero-mul (size / 512))

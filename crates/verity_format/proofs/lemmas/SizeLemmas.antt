@@ -48,14 +48,14 @@ end-most : (start n : ℕ) → end_of start n ≤ start + n
 end-most start zero = omega arith
 end-most start (suc n) = omega arith
 
--- the tree behind hash block 0 lies within the image
+-- the tree after hash block 0 lies within the image
 pub tree-within : (s : ShapeRecord) → s.start ≡ 1 → tree_sectors s ≤ image_sectors s
 unfolding area_end
 tree-within s start =
     let most : area_end s ≤ 1 + area_blocks s = subst (λ (n : ℕ). area_end s ≤ n + area_blocks s) start (end-most s.start (area_blocks s)) in
     mul-le-mul_right (s.hash_block / 512) most
 
--- a tree ends behind its blocks, or has none
+-- a tree ends after its blocks, or has none
 pub tree-end : (s : ShapeRecord) → (tree_sectors s ≡ blocks_sectors s.start s.hash_block + area_sectors s) ⊎ ((tree_sectors s ≡ 0) × (area_blocks s ≡ 0))
 unfolding area_end
 tree-end s = end-cases s.start (area_blocks s) (s.hash_block / 512)

@@ -10,7 +10,7 @@ use Rattle.tree_shape.specs.Shape.{is_block_size}
 use Rattle.tree_shape.proofs.lemmas.ShapeFaultLemmas.{is_block_size-cases, blocks-le}
 use Rattle.verity_format.specs.Superblock.{SuperRecord, shape_of, IsSuperblock, Carries, signature, spelling}
 
--- 512 bytes that begin so, with zeros behind
+-- 512 bytes that begin with these bytes, followed by zeros
 abbrev pub Begins : List ℕ → List ℕ → Type 0
 Begins bytes front = bytes ≡ front ++ replicate (512 - length front) 0
 
@@ -18,7 +18,7 @@ Begins bytes front = bytes ≡ front ++ replicate (512 - length front) 0
 abbrev pub put_at : List ℕ → ℕ → List ℕ → List ℕ
 put_at old at x = take at old ++ x ++ drop (at + length x) old
 
--- a part is written right behind the front
+-- a part is written right after the front
 pub begins-put : (old new front x : List ℕ) (at : ℕ) → Begins old front → length front ≡ at → at + length x ≤ 512
     → new ≡ put_at old at x → Begins new (front ++ x)
 begins-put old new front x at begins here fits is =
@@ -31,7 +31,7 @@ begins-put old new front x at begins here fits is =
     ∙ ap (λ n. front ++ x ++ drop (n + length x) (front ++ rest)) (sym here)
     ∙ ap (λ xs. front ++ x ++ xs) (drop-append-add front rest (length x) ∙ drop-replicate (length x) (512 - length front) 0 ∙ ap (λ n. replicate n 0) count)
 
--- zeros behind the front belong to it
+-- zeros after the front belong to it
 pub begins-gap : (bytes front : List ℕ) (n : ℕ) → Begins bytes front → length front + n ≤ 512 → Begins bytes (front ++ replicate n 0)
 begins-gap bytes front n begins fits =
     let long : length (front ++ replicate n 0) ≡ length front + n = length-append front (replicate n 0) ∙ ap (λ k. length front + k) (length-replicate {A = ℕ} n 0) in
@@ -41,7 +41,7 @@ begins-gap bytes front n begins fits =
     ∙ ap (λ xs. front ++ xs) (sym (replicate-append-replicate n (512 - length (front ++ replicate n 0)) 0))
     ∙ sym (append_assoc front (replicate n 0) (replicate (512 - length (front ++ replicate n 0)) 0))
 
--- the part of a list that stands between two others
+-- the part of a list that is between two others
 pub part : (front x rest : List ℕ) (a b : ℕ) → length front ≡ a → a + length x ≡ b → slice_range (front ++ x ++ rest) a b ≡ x
 part front x rest a b here end =
     let shift : length front + 0 ≡ a = omega arith in

@@ -4,7 +4,7 @@ use Rattle.command_line.specs.ImageCopies.{copies_in_pairs}
 use Rattle.command_line.proofs.ImageCopyLemmas.{behind}
 use Rattle.command_line.proofs.image_copies.copies_in_pairs.Given as goal
 
--- what the words say is the copies so far, and what the words behind them say
+-- what the words say is the copies so far, and what the words after them say
 abbrev pub invariant-pairs : goal.invariant-pairs
 invariant-pairs l = record { said : copies_in_pairs (texts_of l.words) ≡ behind l.copies.items (copies_in_pairs (texts_of l.rest)) }
 

@@ -9,6 +9,7 @@ returns-in_err-write_parity-clause-err g c =
     (inl (record {
       data_dev' = g.D.BlockDev.state c.write_parity.new.data_dev;
       hash_dev' = g.H.BlockDev.state c.write_parity.new.hash_dev;
+      left = ((c.write_parity.new.data_dev, refl), (c.write_parity.new.hash_dev, refl));
       cause = c.in_err-write_parity.ensures.err;
       only = c.in_err-write_parity.ensures.written;
     }))
@@ -19,6 +20,7 @@ returns-in_err-sync-clause-err g c =
     (inr (record {
       data_dev' = g.D.BlockDev.state c.write_parity.new.data_dev;
       hash_dev' = g.H.BlockDev.state c.write_parity.new.hash_dev;
+      left = ((c.write_parity.new.data_dev, refl), (c.write_parity.new.hash_dev, refl));
       written_dev = g.P.BlockDev.state c.write_parity.new.parity_dev;
       written = c.in_ok-write_parity.ensures.ok;
       only = c.in_ok-write_parity.ensures.written;
@@ -30,6 +32,7 @@ pub returns-clause-ok : goal.returns-clause-ok
 returns-clause-ok g c = record {
   data_dev' = g.D.BlockDev.state c.write_parity.new.data_dev;
   hash_dev' = g.H.BlockDev.state c.write_parity.new.hash_dev;
+  left = ((c.write_parity.new.data_dev, refl), (c.write_parity.new.hash_dev, refl));
   written_dev = g.P.BlockDev.state c.write_parity.new.parity_dev;
   written = c.in_ok-write_parity.ensures.ok;
   only = c.in_ok-write_parity.ensures.written;

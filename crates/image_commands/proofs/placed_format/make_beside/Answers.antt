@@ -1,4 +1,4 @@
-use Rattle.std.proofs.Common.{ap, subst, sym}
+use Rattle.std.proofs.Common.{ap, refl, subst, sym}
 use Rattle.std.proofs.lemmas.Result.{IfErr-weaker, IfOk-weaker}
 use Rattle.device_adapters.specs.declared.part.Part.{Part}
 use Rattle.device_adapters.specs.Parts.{StandOutside, outside_of, part_before, part_behind}
@@ -21,6 +21,7 @@ returns-clause-ok g c =
     IfOk-weaker c.make-made.result _ _
     (λ image made. record {
       data_dev' = windowed (g.D.BlockDev.state made_data.inner) made_data.part;
+      left = (made_data.inner, (made_data.part, refl));
       made = made-as c.args.options _ _ _ _ _ _ _ image a b e made;
       kept = subst (λ (p : Part). StandOutside after p (outside_of hash_dev.image part)) kept.place kept;
     })
@@ -41,6 +42,7 @@ returns-clause-err g c =
     IfErr-weaker c.make-made.result _ _
     (λ fault ends. record {
       data_dev' = windowed (g.D.BlockDev.state made_data.inner) made_data.part;
+      left = (made_data.inner, (made_data.part, refl));
       ends = end-as c.args.options _ _ _ _ _ _ _ fault a b e ends;
       kept = subst (λ (p : Part). StandOutside after p (outside_of hash_dev.image part)) kept.place kept;
     })

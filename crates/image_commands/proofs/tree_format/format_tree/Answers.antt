@@ -1,14 +1,16 @@
 use Rattle.std.proofs.Common.{ℕ, Result, ap, inl, inr, refl, subst, sym, ◌∙◌}
 use Rattle.std.proofs.Math.Path.{subst₃}
+use Rattle.std.proofs.lemmas.Result.{IfErr-weaker, IfOk-weaker}
 use Rattle.std.specs.Prelude.{IfErr, IfOk}
 use Rattle.block_device.specs.Device.{Device}
 use Rattle.verity_format.specs.declared.formatting.FormatFault.{FormatFault}
 use Rattle.image_commands.specs.declared.format.MadeImage.{MadeImage}
 use Rattle.image_commands.specs.declared.fault.ImageFault.TheVariants.{Format, Write}
-use Rattle.image_commands.specs.Places.{before}
+use Rattle.image_commands.specs.Places.{IsPartState, before}
 use Rattle.image_commands.specs.TreeFormats.{IsTreeEnd, IsTreeMade, tree_with}
 use Rattle.image_commands.proofs.GivenLemmas.{given-as, undrawn-as}
 use Rattle.image_commands.proofs.OpeningLemmas.{err-from}
+use Rattle.image_commands.proofs.TreeLemmas.{made-left, tree_end-inner}
 use Rattle.image_commands.proofs.tree_format.format_tree.Goals as goal
 
 pub returns-in_err-options-clause-err : goal.returns-in_err-options-clause-err
@@ -23,9 +25,11 @@ returns-in-Err-clause-err g c =
     let watched = c.watch-data_dev in
     let state = g.I.Dev.BlockDev.state in
     let hash_dev' : Device = state c.make_at-hash_dev.result.0 in
-    let Ends : Device → Device → ℕ → FormatFault → Type 0 = λ whole hash_dev end. IsTreeEnd (tree_with given (before whole end)) (before whole end) hash_dev c.args.watched.places.hash_first hash_dev' in
+    let Ends : Device → Device → ℕ → FormatFault → Type 0 = λ whole hash_dev end. IsTreeEnd (IsPartState state) (tree_with given (before whole end)) (before whole end) hash_dev c.args.watched.places.hash_first hash_dev' in
     let Was : FormatFault → Type 0 = Ends (state watched.result.0.inner) (state watched.result.1) c.data_end-end.result in
-    let ends : Was cause = subst (λ (r : Result MadeImage FormatFault). IfErr r Was) c.in-Err.is c.make_at-hash_dev.ensures.err in
+    let whole : Device = before (state watched.result.0.inner) c.data_end-end.result in
+    let ends : Was cause = subst (λ (r : Result MadeImage FormatFault). IfErr r Was) c.in-Err.is
+    (IfErr-weaker c.make_at-hash_dev.result.1 _ Was (tree_end-inner watched.result.0 (λ w. w.inner) state (tree_with given whole) whole (state watched.result.1) c.args.watched.places.hash_first hash_dev') c.make_at-hash_dev.ensures.err) in
     inr (inr (inr (inl (record {
       given = given;
       two = c.in_ok-two.two;
@@ -44,9 +48,10 @@ returns-in_err-say_tree-in-Ok-clause-err g c =
     let watched = c.watch-data_dev in
     let state = g.I.Dev.BlockDev.state in
     let hash_dev' : Device = state c.make_at-hash_dev.result.0 in
-    let Made : Device → Device → ℕ → MadeImage → Type 0 = λ whole hash_dev end. IsTreeMade (tree_with given (before whole end)) (before whole end) hash_dev c.args.watched.places.hash_first hash_dev' in
+    let Made : Device → Device → ℕ → MadeImage → Type 0 = λ whole hash_dev end. IsTreeMade (IsPartState state) (tree_with given (before whole end)) (before whole end) hash_dev c.args.watched.places.hash_first hash_dev' in
     let Was : MadeImage → Type 0 = Made (state watched.result.0.inner) (state watched.result.1) c.data_end-end.result in
-    let tree : Was made = subst (λ (r : Result MadeImage FormatFault). IfOk r Was) c.in-Ok.is c.make_at-hash_dev.ensures.ok in
+    let tree : Was made = subst (λ (r : Result MadeImage FormatFault). IfOk r Was) c.in-Ok.is
+    (IfOk-weaker c.make_at-hash_dev.result.1 _ Was (λ image m. made-left m (λ device left. (left.0.inner, left.1))) c.make_at-hash_dev.ensures.ok) in
     err-from c.from_residual-in_err-say_tree-in-Ok.result _ Write c.from_residual-in_err-say_tree-in-Ok.ensures.1
     (inr (inr (inr (inr (inl (
       made,
@@ -72,9 +77,10 @@ returns-in_ok-say_tree-in-Ok-clause-ok g c =
     let watched = c.watch-data_dev in
     let state = g.I.Dev.BlockDev.state in
     let hash_dev' : Device = state c.make_at-hash_dev.result.0 in
-    let Made : Device → Device → ℕ → MadeImage → Type 0 = λ whole hash_dev end. IsTreeMade (tree_with given (before whole end)) (before whole end) hash_dev c.args.watched.places.hash_first hash_dev' in
+    let Made : Device → Device → ℕ → MadeImage → Type 0 = λ whole hash_dev end. IsTreeMade (IsPartState state) (tree_with given (before whole end)) (before whole end) hash_dev c.args.watched.places.hash_first hash_dev' in
     let Was : MadeImage → Type 0 = Made (state watched.result.0.inner) (state watched.result.1) c.data_end-end.result in
-    let tree : Was made = subst (λ (r : Result MadeImage FormatFault). IfOk r Was) c.in-Ok.is c.make_at-hash_dev.ensures.ok in (
+    let tree : Was made = subst (λ (r : Result MadeImage FormatFault). IfOk r Was) c.in-Ok.is
+    (IfOk-weaker c.make_at-hash_dev.result.1 _ Was (λ image m. made-left m (λ device left. (left.0.inner, left.1))) c.make_at-hash_dev.ensures.ok) in (
       made,
       record {
         given = given;

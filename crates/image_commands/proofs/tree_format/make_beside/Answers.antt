@@ -1,4 +1,4 @@
-use Rattle.std.proofs.Common.{◌≡◌, List, ℕ, Result, ap, subst, sym}
+use Rattle.std.proofs.Common.{◌≡◌, List, ℕ, Result, ap, refl, subst, sym}
 use Rattle.std.specs.Prelude.{IfErr, IfOk}
 use Rattle.std.proofs.lemmas.Result.{IfErr-weaker, IfOk-weaker}
 use Rattle.block_device.specs.Device.{Device}
@@ -7,6 +7,7 @@ use Rattle.device_adapters.specs.Parts.{StandOutside, outside_of, part_behind}
 use Rattle.device_adapters.specs.Windows.{windowed}
 use Rattle.verity_format.specs.declared.formatting.FormatFault.{FormatFault}
 use Rattle.image_commands.specs.ClearedTrees.{IsClearedEnd, IsKeptBehind, IsMadeCleared}
+use Rattle.image_commands.specs.Places.{IsStateOf}
 use Rattle.image_commands.proofs.PlacedLemmas.{windowed-same}
 use Rattle.image_commands.proofs.TreeLemmas.{end-placed, made-placed}
 use Rattle.image_commands.proofs.tree_format.make_beside.Goals as goal
@@ -29,7 +30,7 @@ returns-clause-ok g c =
     subst (λ (p : Part). IfOk c.make_cleared-root.result (IsMadeCleared s data_dev (windowed hash_dev p) data_dev' image)) c.behind-part.ensures.value
     c.make_cleared-root.ensures.ok in
     IfOk-weaker c.finish-made.result _ _
-    (λ made done. made-placed s data_dev data_dev' hash_dev hash_dev' c.args.first (g.met.H.BlockDev.whole c.args.hash_dev) image image' c.make_cleared-root.result written back outside made
+    (λ made done. made-placed (IsStateOf g.D.BlockDev.state) s data_dev data_dev' hash_dev hash_dev' c.args.first (c.make_cleared-root.new.data_dev, refl) (g.met.H.BlockDev.whole c.args.hash_dev) image image' c.make_cleared-root.result written back outside made
     (subst (λ (r : Result (List ℕ) FormatFault). IfOk r (IsMadeCleared s data_dev (windowed hash_dev part) data_dev' image)) done.root_is ok) done)
     c.finish-made.ensures.ok
 
@@ -54,5 +55,5 @@ returns-clause-err g c =
     subst (λ (p : Part). IfErr c.make_cleared-root.result (IsClearedEnd s data_dev (windowed hash_dev p) data_dev' image)) c.behind-part.ensures.value
     c.make_cleared-root.ensures.err in
     IfErr-weaker c.finish-made.result _ _
-    (λ fault ends. end-placed s data_dev data_dev' hash_dev hash_dev' c.args.first (g.met.H.BlockDev.whole c.args.hash_dev) image image' c.make_cleared-root.result written back outside fault ok err ends)
+    (λ fault ends. end-placed (IsStateOf g.D.BlockDev.state) s data_dev data_dev' hash_dev hash_dev' c.args.first (c.make_cleared-root.new.data_dev, refl) (g.met.H.BlockDev.whole c.args.hash_dev) image image' c.make_cleared-root.result written back outside fault ok err ends)
     c.finish-made.ensures.err

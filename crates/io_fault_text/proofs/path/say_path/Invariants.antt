@@ -3,7 +3,7 @@ use Rattle.std.specs.Io.KnownBytes.{Appends}
 use Rattle.io_fault_text.specs.Paths.{shown_path}
 use Rattle.io_fault_text.proofs.path.say_path.Given as goal
 
--- what stands before `from` was written, and what follows it up to here has no control character
+-- what is before `from` was written, and what follows it up to here has no control character
 abbrev pub invariant-loop-at : goal.invariant-loop-at
 invariant-loop-at g l = record {
   from : l.from ≤ l.at;

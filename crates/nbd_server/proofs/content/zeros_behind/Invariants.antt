@@ -2,7 +2,7 @@ use Rattle.std.proofs.Common.{◌≡◌, ◌≤◌, ◌-◌, ◌%◌, drop, leng
 use Rattle.nbd_server.specs.Content.{zero_block}
 use Rattle.nbd_server.proofs.content.zeros_behind.Given as goal
 
--- the bytes behind the rest are whole blocks of zeros
+-- the bytes after the rest are whole blocks of zeros
 abbrev pub invariant-zeros : goal.invariant-zeros
 invariant-zeros l = record {
   zeros : drop l.rest l.bytes ≡ replicate (length l.bytes - l.rest) 0;

@@ -1,4 +1,4 @@
-use Rattle.std.proofs.Common.{subst, true}
+use Rattle.std.proofs.Common.{Some, subst}
 use Rattle.std.specs.Prelude.{IfErr, OnOk}
 use Rattle.std.proofs.Math.Path.{subst₂}
 use Rattle.std.proofs.lemmas.Result.{IfErr-weaker, IfOk-weaker, on_ok_weaker}
@@ -16,7 +16,7 @@ pub returns-clause-ok : goal.returns-clause-ok
 returns-clause-ok g c =
     let state = g.I.Dev.BlockDev.state in
     let plan = c.plan_at-plan.result in
-    let w = c.damaged-image.result in
+    let w = c.damaged-image.result.world in
     let whole = c.args.found.now.whole in
     let layout = c.args.laid.layout in
     let p = state c.args.laid.device in
@@ -26,7 +26,7 @@ returns-clause-ok g c =
     let after = states_of state state c.tell-data.result.0 c.tell-data.result.1 in
     let same = two-same _ _ _ _ c.devices_of-devices.ensures.data c.devices_of-devices.ensures.hash in
     let tells = subst (λ (t : SurveyedDevices). OnOk c.tell-data.result.2 (Tells c.mend-ended.result whole plan t after between new)) same c.tell-data.ensures.ok in
-    let mends = IfOk-weaker c.mend-ended.result _ (MendsByParity plan layout p w old c.mend-ended.new.image between) (λ outcome passes. (state c.mend-ended.new.parity_dev, passes)) c.mend-ended.ensures.ok in
+    let mends = IfOk-weaker c.mend-ended.result _ (MendsByParity plan layout p w old c.mend-ended.new.image.world between) (λ outcome passes. (state c.mend-ended.new.parity_dev, passes)) c.mend-ended.ensures.ok in
     on_ok_weaker c.tell-data.result.2
     (λ does. record {
       data_dev = c.tell-data.result.0;
@@ -34,13 +34,13 @@ returns-clause-ok g c =
       holds = subst₂ (λ (q : Plan) (v : RepairWorld). MendsAndTells (MendsByParity q layout p v old) whole q new after) c.plan_at-plan.ensures c.damaged-image.ensures does;
       back = c.give_back.ensures;
     })
-    (told-ok (MendsByParity plan layout p w old) (MendsHalf plan true w old) whole plan c.mend-ended.new.image between new after (λ found mends. mends.1.mends.on_medium) c.mend-ended.result c.tell-data.result.2 mends tells)
+    (told-ok (MendsByParity plan layout p w old) (MendsHalf plan (Some layout) w old) whole plan c.mend-ended.new.image.world between new after (λ found mends. mends.1.mends.on_medium) c.mend-ended.result c.tell-data.result.2 mends tells)
 
 pub returns-clause-err : goal.returns-clause-err
 returns-clause-err g c =
     let state = g.I.Dev.BlockDev.state in
     let plan = c.plan_at-plan.result in
-    let w = c.damaged-image.result in
+    let w = c.damaged-image.result.world in
     let whole = c.args.found.now.whole in
     let layout = c.args.laid.layout in
     let p = state c.args.laid.device in
@@ -51,12 +51,12 @@ returns-clause-err g c =
     let after = states_of state state c.tell-data.result.0 c.tell-data.result.1 in
     let same = two-same _ _ _ _ c.devices_of-devices.ensures.data c.devices_of-devices.ensures.hash in
     let untold = subst (λ (t : SurveyedDevices). IfErr c.tell-data.result.2 (IsUntold c.mend-ended.result whole plan t after between new failed)) same c.tell-data.ensures.err in
-    let mends = IfOk-weaker c.mend-ended.result _ (MendsByParity plan layout p w old c.mend-ended.new.image between) (λ outcome passes. (state c.mend-ended.new.parity_dev, passes)) c.mend-ended.ensures.ok in
+    let mends = IfOk-weaker c.mend-ended.result _ (MendsByParity plan layout p w old c.mend-ended.new.image.world between) (λ outcome passes. (state c.mend-ended.new.parity_dev, passes)) c.mend-ended.ensures.ok in
     IfErr-weaker c.tell-data.result.2 _ _
     (λ fault ends. record {
       data_dev = c.tell-data.result.0;
       hash_dev = c.tell-data.result.1;
-      holds = subst₂ (λ (q : Plan) (v : RepairWorld). EndsEarly (MendsByParity q layout p v old) (MendsHalf q true v old failed) whole q new failed fault after) c.plan_at-plan.ensures c.damaged-image.ensures ends;
+      holds = subst₂ (λ (q : Plan) (v : RepairWorld). EndsEarly (MendsByParity q layout p v old) (MendsHalf q (Some layout) v old failed) whole q new failed fault after) c.plan_at-plan.ensures c.damaged-image.ensures ends;
       back = c.give_back.ensures;
     })
-    (told-err (MendsByParity plan layout p w old) (MendsHalf plan true w old) whole plan c.mend-ended.new.image between new after (λ found mends. mends.1.mends.on_medium) c.mend-ended.new.writer.failed failed c.mend-ended.result c.tell-data.result.2 mends c.mend-ended.ensures.err c.tell-data.ensures.same untold)
+    (told-err (MendsByParity plan layout p w old) (MendsHalf plan (Some layout) w old) whole plan c.mend-ended.new.image.world between new after (λ found mends. mends.1.mends.on_medium) c.mend-ended.new.writer.failed failed c.mend-ended.result c.tell-data.result.2 mends c.mend-ended.ensures.err c.tell-data.ensures.same untold)

@@ -1,4 +1,4 @@
-use Rattle.std.proofs.Common.{false, subst}
+use Rattle.std.proofs.Common.{None, subst}
 use Rattle.std.specs.Prelude.{IfErr, OnOk}
 use Rattle.std.proofs.Math.Path.{subst₂}
 use Rattle.std.proofs.lemmas.Result.{IfErr-weaker, on_ok_weaker}
@@ -15,7 +15,7 @@ pub returns-clause-ok : goal.returns-clause-ok
 returns-clause-ok g c =
     let state = g.I.Dev.BlockDev.state in
     let plan = c.plan_at-plan.result in
-    let w = c.damaged-image.result in
+    let w = c.damaged-image.result.world in
     let whole = c.args.found.now.whole in
     let old = g.W.Write.contents c.args.writer.now.inner in
     let between = g.W.Write.contents c.mend-ended.new.writer.inner in
@@ -30,13 +30,13 @@ returns-clause-ok g c =
       holds = subst₂ (λ (q : Plan) (v : RepairWorld). MendsAndTells (MendsOnce q v old) whole q new after) c.plan_at-plan.ensures c.damaged-image.ensures does;
       back = c.give_back.ensures;
     })
-    (told-ok (MendsOnce plan w old) (MendsHalf plan false w old) whole plan c.mend-ended.new.image between new after (λ found mends. mends.mends.on_medium) c.mend-ended.result c.tell-data.result.2 c.mend-ended.ensures.ok tells)
+    (told-ok (MendsOnce plan w old) (MendsHalf plan None w old) whole plan c.mend-ended.new.image.world between new after (λ found mends. mends.mends.on_medium) c.mend-ended.result c.tell-data.result.2 c.mend-ended.ensures.ok tells)
 
 pub returns-clause-err : goal.returns-clause-err
 returns-clause-err g c =
     let state = g.I.Dev.BlockDev.state in
     let plan = c.plan_at-plan.result in
-    let w = c.damaged-image.result in
+    let w = c.damaged-image.result.world in
     let whole = c.args.found.now.whole in
     let old = g.W.Write.contents c.args.writer.now.inner in
     let between = g.W.Write.contents c.mend-ended.new.writer.inner in
@@ -49,7 +49,7 @@ returns-clause-err g c =
     (λ fault ends. record {
       data_dev = c.tell-data.result.0;
       hash_dev = c.tell-data.result.1;
-      holds = subst₂ (λ (q : Plan) (v : RepairWorld). EndsEarly (MendsOnce q v old) (MendsHalf q false v old failed) whole q new failed fault after) c.plan_at-plan.ensures c.damaged-image.ensures ends;
+      holds = subst₂ (λ (q : Plan) (v : RepairWorld). EndsEarly (MendsOnce q v old) (MendsHalf q None v old failed) whole q new failed fault after) c.plan_at-plan.ensures c.damaged-image.ensures ends;
       back = c.give_back.ensures;
     })
-    (told-err (MendsOnce plan w old) (MendsHalf plan false w old) whole plan c.mend-ended.new.image between new after (λ found mends. mends.mends.on_medium) c.mend-ended.new.writer.failed failed c.mend-ended.result c.tell-data.result.2 c.mend-ended.ensures.ok c.mend-ended.ensures.err c.tell-data.ensures.same untold)
+    (told-err (MendsOnce plan w old) (MendsHalf plan None w old) whole plan c.mend-ended.new.image.world between new after (λ found mends. mends.mends.on_medium) c.mend-ended.new.writer.failed failed c.mend-ended.result c.tell-data.result.2 c.mend-ended.ensures.ok c.mend-ended.ensures.err c.tell-data.ensures.same untold)

@@ -14,4 +14,4 @@ pub returns-clause-ok : goal.returns-clause-ok
 returns-clause-ok g c = on_ok_weaker c.sync.result (λ done write. ap (λ (d : Device). d.dirty) done) c.sync.ensures.ok
 
 pub returns-clause-err : goal.returns-clause-err
-returns-clause-err g c = on_err-weaker c.sync.result (λ fails. (c.if-not-write.false, fails.failed)) c.sync.ensures.err
+returns-clause-err g c = on_err-weaker c.sync.result (λ fails. (c.if-not-write.false, fails)) c.sync.ensures.err

@@ -3,7 +3,7 @@ use Rattle.rescue_map.specs.Aheads.{marks_ahead}
 use Rattle.rescue_map.specs.Maps.{marks}
 use Rattle.rescue_map.proofs.splicing.move_marks.Given as goal
 
--- what is left of the sectors comes behind those that were moved
+-- what is left of the sectors comes after those that were moved
 abbrev pub invariant-runs : goal.invariant-runs
 invariant-runs l = record {
   moved : marks l.map ++ take l.left (marks_ahead l.ahead) ≡ marks l.fn.map ++ take l.fn.count (marks_ahead l.fn.ahead);

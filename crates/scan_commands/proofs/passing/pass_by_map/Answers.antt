@@ -3,9 +3,10 @@ use Rattle.image_files.specs.Opener.{calls}
 use Rattle.stack_rules.specs.Names.{mapped, size}
 use Rattle.stack_rules.specs.Records.{Configuration}
 use Rattle.stack_recovery.specs.Recoveries.{sides}
-use Rattle.scan_commands.specs.declared.phase.Phase.TheVariants.{Rescue}
 use Rattle.scan_commands.specs.MapFiles.{IsMapRead, IsMapUnread, map_path_of}
-use Rattle.scan_commands.specs.Turns.{IsPassTurnsEnd, ReadsInTurns, kept, progressed}
+use Rattle.scan_commands.specs.PassesInTurns.{EndsRetries, RetriesInTurns, after_turns, phase_after}
+use Rattle.scan_commands.specs.Turns.{kept, progressed}
+use Rattle.scan_commands.proofs.RetryTurnLemmas.{ended-turns, whole-turns}
 use Rattle.scan_commands.proofs.TurnLemmas.{err-from}
 use Rattle.scan_commands.proofs.passing.pass_by_map.Goals as goal
 
@@ -15,22 +16,39 @@ returns-in_err-map-clause-err g c =
     err-from c.from_residual.result _ c.in_err-map.field-0.0 c.from_residual.ensures.1
     (inl (refl, subst (λ (n : ℕ). IsMapUnread (calls g.I.Images.relations g.I.Dev.BlockDev.state c.args.images.now c.read_map.new.images) c.args.file.path.now n c.in_err-map.field-0.0) all c.in_err-map.ensures.err))
 
+pub retry_in_turns-requires-clause-can : goal.retry_in_turns-requires-clause-can
+retry_in_turns-requires-clause-can g c =
+    let left = c.in_ok-skimmed.ensures.goes_on in
+    record {
+      device = subst (λ (x : Configuration). c.args.passing.now.device.0 < length x.devices) (sym left.config) c.requires.device;
+      room = subst (λ (x : Configuration). size x (mapped c.args.passing.now.device.0) ≤ (g.O.BlockDev.state c.read_in_turns.new.out).size) (sym left.config)
+          (subst (λ (m : ℕ). size c.args.passing.now.stack.config (mapped c.args.passing.now.device.0) ≤ m) (sym left.same_size) c.requires.room);
+      allowed = left.allowed;
+    }
+
+pub retry_in_turns-requires-clause-fits : goal.retry_in_turns-requires-clause-fits
+retry_in_turns-requires-clause-fits g c =
+    c.in_ok-skimmed.ensures.goes_on.map ∙ ap (λ (x : Configuration). size x (mapped c.args.passing.now.device.0)) (sym c.in_ok-skimmed.ensures.goes_on.config)
+
 pub read_in_turns-requires-2-clause-device : goal.read_in_turns-requires-2-clause-device
 read_in_turns-requires-2-clause-device g c =
-    subst (λ (x : Configuration). c.args.passing.now.device.0 < length x.devices) (sym c.in_ok-skimmed.ensures.goes_on.config) c.requires.device
+    let left = c.in_ok-tried.ensures.left in
+    subst (λ (x : Configuration). c.args.passing.now.device.0 < length x.devices) (sym (left.config ∙ c.in_ok-skimmed.ensures.goes_on.config)) c.requires.device
 
 pub read_in_turns-requires-2-clause-fits : goal.read_in_turns-requires-2-clause-fits
 read_in_turns-requires-2-clause-fits g c =
-    c.in_ok-skimmed.ensures.goes_on.map ∙ ap (λ (x : Configuration). size x (mapped c.args.passing.now.device.0)) (sym c.in_ok-skimmed.ensures.goes_on.config)
+    let left = c.in_ok-tried.ensures.left in
+    left.map ∙ ap (λ (x : Configuration). size x (mapped c.args.passing.now.device.0)) (sym left.config)
 
 pub read_in_turns-requires-2-clause-room : goal.read_in_turns-requires-2-clause-room
 read_in_turns-requires-2-clause-room g c =
-    let left = c.in_ok-skimmed.ensures.goes_on in
-    subst (λ (x : Configuration). size x (mapped c.args.passing.now.device.0) ≤ (g.O.BlockDev.state c.read_in_turns.new.out).size) (sym left.config)
-    (subst (λ (m : ℕ). size c.args.passing.now.stack.config (mapped c.args.passing.now.device.0) ≤ m) (sym left.same_size) c.requires.room)
+    let left = c.in_ok-tried.ensures.left in
+    let skimmed = c.in_ok-skimmed.ensures.goes_on in
+    subst (λ (x : Configuration). size x (mapped c.args.passing.now.device.0) ≤ (g.O.BlockDev.state c.retry_in_turns.new.passing.out).size) (sym (left.config ∙ skimmed.config))
+    (subst (λ (m : ℕ). size c.args.passing.now.stack.config (mapped c.args.passing.now.device.0) ≤ m) (sym (left.same_size ∙ skimmed.same_size)) c.requires.room)
 
 pub read_in_turns-requires-2-clause-allowed : goal.read_in_turns-requires-2-clause-allowed
-read_in_turns-requires-2-clause-allowed g c = c.in_ok-skimmed.ensures.goes_on.allowed
+read_in_turns-requires-2-clause-allowed g c = c.in_ok-tried.ensures.left.allowed
 
 pub returns-in_err-skimmed-clause-err : goal.returns-in_err-skimmed-clause-err
 returns-in_err-skimmed-clause-err g c =
@@ -43,22 +61,57 @@ returns-in_err-skimmed-clause-err g c =
       ends = inl c.in_err-skimmed.ensures.err;
     }))
 
+pub returns-in_err-tried-clause-err : goal.returns-in_err-tried-clause-err
+returns-in_err-tried-clause-err g c =
+    let all = c.sectors-sectors.ensures ∙ ap (λ (x : Configuration). size x (mapped c.args.passing.now.device.0)) c.config.ensures.value in
+    let d : ℕ = c.args.passing.now.device.0 in
+    let replaces = g.I.Images.relations.replaces in
+    let file = map_path_of c.args.file in
+    let skimmed = c.in_ok-skimmed.ensures.goes_on in
+    let between = progressed c.read_in_turns.new.images (sides c.read_in_turns.new.stack (g.O.BlockDev.state c.read_in_turns.new.out) (g.L.Listing.told c.read_in_turns.new.listing)) c.in_ok-skimmed.skimmed (size c.args.passing.now.stack.config (mapped d)) in
+    err-from c.from_residual-in_err-tried.result _ c.in_err-tried.field-0.0 c.from_residual-in_err-tried.ensures.1
+    (inr (record {
+      runs = c.in_ok-map.map;
+      between = c.read_map.new.images;
+      read = subst (λ (n : ℕ). IsMapRead (calls g.I.Images.relations g.I.Dev.BlockDev.state c.args.images.now c.read_map.new.images) file n c.in_ok-map.map) all c.in_ok-map.ensures.ok;
+      ends = inr (record {
+        between = between;
+        skims = c.in_ok-skimmed.ensures.ok;
+        later = inl (
+          subst (λ (x : Configuration). EndsRetries (kept replaces file d (size x (mapped d))) c.args.passing.now.retries
+              (after_turns c.read_in_turns.new.images c.read_in_turns.new.stack (g.O.BlockDev.state c.read_in_turns.new.out) c.in_ok-skimmed.skimmed)
+              c.retry_in_turns.new.images c.retry_in_turns.new.passing.stack (g.O.BlockDev.state c.retry_in_turns.new.passing.out) c.in_err-tried.field-0.0) skimmed.config c.in_err-tried.ensures.err,
+          refl,
+        );
+      });
+    }))
+
 pub returns-in_err-rescued-clause-err : goal.returns-in_err-rescued-clause-err
 returns-in_err-rescued-clause-err g c =
     let all = c.sectors-sectors.ensures ∙ ap (λ (x : Configuration). size x (mapped c.args.passing.now.device.0)) c.config.ensures.value in
     let d : ℕ = c.args.passing.now.device.0 in
     let replaces = g.I.Images.relations.replaces in
+    let file = map_path_of c.args.file in
+    let skimmed = c.in_ok-skimmed.ensures.goes_on in
     let between = progressed c.read_in_turns.new.images (sides c.read_in_turns.new.stack (g.O.BlockDev.state c.read_in_turns.new.out) (g.L.Listing.told c.read_in_turns.new.listing)) c.in_ok-skimmed.skimmed (size c.args.passing.now.stack.config (mapped d)) in
+    let left = c.in_ok-tried.ensures.left in
+    let after = after_turns c.retry_in_turns.new.images c.retry_in_turns.new.passing.stack (g.O.BlockDev.state c.retry_in_turns.new.passing.out) c.in_ok-tried.tried.map in
+    let again = subst (λ (x : Configuration). RetriesInTurns (kept replaces file d (size x (mapped d))) c.args.passing.now.retries (after_turns c.read_in_turns.new.images c.read_in_turns.new.stack (g.O.BlockDev.state c.read_in_turns.new.out) c.in_ok-skimmed.skimmed)
+    c.in_ok-tried.tried.passes after) skimmed.config c.in_ok-tried.ensures.ok in
     err-from c.from_residual-in_err-rescued.result _ c.in_err-rescued.field-0.0 c.from_residual-in_err-rescued.ensures.1
     (inr (record {
       runs = c.in_ok-map.map;
       between = c.read_map.new.images;
-      read = subst (λ (n : ℕ). IsMapRead (calls g.I.Images.relations g.I.Dev.BlockDev.state c.args.images.now c.read_map.new.images) (map_path_of c.args.file) n c.in_ok-map.map) all c.in_ok-map.ensures.ok;
+      read = subst (λ (n : ℕ). IsMapRead (calls g.I.Images.relations g.I.Dev.BlockDev.state c.args.images.now c.read_map.new.images) file n c.in_ok-map.map) all c.in_ok-map.ensures.ok;
       ends = inr (record {
         between = between;
         skims = c.in_ok-skimmed.ensures.ok;
-        ends = subst (λ (x : Configuration). IsPassTurnsEnd (kept replaces (map_path_of c.args.file) d (size x (mapped d))) Rescue (record between { at = 0 }) c.read_in_turns-2.new.images
-            (sides c.read_in_turns-2.new.stack (g.O.BlockDev.state c.read_in_turns-2.new.out) (g.L.Listing.told c.read_in_turns-2.new.listing)) c.in_err-rescued.field-0.0) c.in_ok-skimmed.ensures.goes_on.config c.in_err-rescued.ensures.err;
+        later = inr (record {
+          left = after;
+          passes = c.in_ok-tried.tried.passes;
+          again = again;
+          ends = ended-turns replaces file d _ _ (phase_after c.in_ok-tried.tried.passes) _ _ _ _ _ (left.config ∙ skimmed.config) c.phase_after.ensures c.in_err-rescued.ensures.err;
+        });
       });
     }))
 
@@ -67,18 +120,26 @@ returns-clause-ok g c =
     let all = c.sectors-sectors.ensures ∙ ap (λ (x : Configuration). size x (mapped c.args.passing.now.device.0)) c.config.ensures.value in
     let d : ℕ = c.args.passing.now.device.0 in
     let replaces = g.I.Images.relations.replaces in
+    let file = map_path_of c.args.file in
+    let skimmed = c.in_ok-skimmed.ensures.goes_on in
     let between = progressed c.read_in_turns.new.images (sides c.read_in_turns.new.stack (g.O.BlockDev.state c.read_in_turns.new.out) (g.L.Listing.told c.read_in_turns.new.listing)) c.in_ok-skimmed.skimmed (size c.args.passing.now.stack.config (mapped d)) in
+    let left = c.in_ok-tried.ensures.left in
+    let after = after_turns c.retry_in_turns.new.images c.retry_in_turns.new.passing.stack (g.O.BlockDev.state c.retry_in_turns.new.passing.out) c.in_ok-tried.tried.map in
+    let again = subst (λ (x : Configuration). RetriesInTurns (kept replaces file d (size x (mapped d))) c.args.passing.now.retries (after_turns c.read_in_turns.new.images c.read_in_turns.new.stack (g.O.BlockDev.state c.read_in_turns.new.out) c.in_ok-skimmed.skimmed)
+    c.in_ok-tried.tried.passes after) skimmed.config c.in_ok-tried.ensures.ok in
     record {
       totals = c.totals_of.result;
       runs = c.in_ok-map.map;
       between = c.read_map.new.images;
-      read = subst (λ (n : ℕ). IsMapRead (calls g.I.Images.relations g.I.Dev.BlockDev.state c.args.images.now c.read_map.new.images) (map_path_of c.args.file) n c.in_ok-map.map) all c.in_ok-map.ensures.ok;
+      read = subst (λ (n : ℕ). IsMapRead (calls g.I.Images.relations g.I.Dev.BlockDev.state c.args.images.now c.read_map.new.images) file n c.in_ok-map.map) all c.in_ok-map.ensures.ok;
       rescued = record {
         between = between;
+        passes = c.in_ok-tried.tried.passes;
+        left = after;
         runs = c.in_ok-rescued.rescued;
         skims = c.in_ok-skimmed.ensures.ok;
-        rescues = subst (λ (x : Configuration). ReadsInTurns (kept replaces (map_path_of c.args.file) d (size x (mapped d))) Rescue (record between { at = 0 }) c.read_in_turns-2.new.images
-            (sides c.read_in_turns-2.new.stack (g.O.BlockDev.state c.read_in_turns-2.new.out) (g.L.Listing.told c.read_in_turns-2.new.listing)) c.in_ok-rescued.rescued) c.in_ok-skimmed.ensures.goes_on.config c.in_ok-rescued.ensures.ok;
+        again = again;
+        rescues = whole-turns replaces file d _ _ (phase_after c.in_ok-tried.tried.passes) _ _ _ _ _ (left.config ∙ skimmed.config) c.phase_after.ensures c.in_ok-rescued.ensures.ok;
         counted = c.totals_of.ensures;
       };
       counted = c.counts_of.ensures;

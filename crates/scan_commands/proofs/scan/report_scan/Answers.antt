@@ -5,6 +5,7 @@ use Rattle.image_files.specs.Opener.{calls}
 use Rattle.scan_commands.specs.MapFiles.{map_path_of}
 use Rattle.scan_commands.specs.declared.recovering_fault.RecoveringFault.TheVariants.{Pass}
 use Rattle.scan_commands.specs.Counting.{listed_by}
+use Rattle.scan_commands.specs.Passes.{retried_of}
 use Rattle.scan_commands.specs.Reports.{kept_text}
 use Rattle.scan_commands.proofs.OpeningLemmas.{err-from}
 use Rattle.scan_commands.proofs.PassLemmas.{passes-by, stops-by}
@@ -18,7 +19,7 @@ returns-in_err-counts-in-Lines-clause-err g c = rw c.in-Lines.is (
       before = listed_by g.W.Write.contents c.args.writer.now;
       told = listed_by g.W.Write.contents c.run_pass.new.listing;
       begun = refl;
-      stopped = stops-by (calls g.I.Images.relations g.I.Dev.BlockDev.state c.args.images.now c.run_pass.new.images) (option_map map_path_of c.map_at-map.result) _ c.args.passing.now.device.0 _ c.in_err-counts-in-Lines.field-0.0 c.map_at-map.ensures c.in_err-counts-in-Lines.ensures.err;
+      stopped = stops-by (calls g.I.Images.relations g.I.Dev.BlockDev.state c.args.images.now c.run_pass.new.images) (option_map map_path_of c.map_at-map.result) _ (retried_of c.args.passing.now) _ c.in_err-counts-in-Lines.field-0.0 c.map_at-map.ensures c.in_err-counts-in-Lines.ensures.err;
       kept = refl;
     })))
 
@@ -49,7 +50,7 @@ returns-in_err-charted-in-Chart-clause-err g c = rw c.in-Chart.is (
       before = kept_text c.new-runs.result;
       told = kept_text c.run_pass-in-Chart.new.listing;
       begun = none-kept _ _ c.new-runs.ensures.runs c.new-runs.ensures.refused;
-      stopped = stops-by (calls g.I.Images.relations g.I.Dev.BlockDev.state c.args.images.now c.run_pass-in-Chart.new.images) (option_map map_path_of c.map_at-map.result) _ c.args.passing.now.device.0 _ c.in_err-charted-in-Chart.field-0.0 c.map_at-map.ensures c.in_err-charted-in-Chart.ensures.err;
+      stopped = stops-by (calls g.I.Images.relations g.I.Dev.BlockDev.state c.args.images.now c.run_pass-in-Chart.new.images) (option_map map_path_of c.map_at-map.result) _ (retried_of c.args.passing.now) _ c.in_err-charted-in-Chart.field-0.0 c.map_at-map.ensures c.in_err-charted-in-Chart.ensures.err;
       kept = refl;
     })))
 
@@ -80,7 +81,7 @@ returns-in_err-found-in-Object-clause-err g c = rw c.in-Object.is (
       before = kept_text c.new-kept.result;
       told = kept_text c.run_pass-in-Object.new.listing;
       begun = none-kept _ _ c.new-kept.ensures.runs c.new-kept.ensures.refused;
-      stopped = stops-by (calls g.I.Images.relations g.I.Dev.BlockDev.state c.args.images.now c.run_pass-in-Object.new.images) (option_map map_path_of c.map_at-map.result) _ c.args.passing.now.device.0 _ c.in_err-found-in-Object.field-0.0 c.map_at-map.ensures c.in_err-found-in-Object.ensures.err;
+      stopped = stops-by (calls g.I.Images.relations g.I.Dev.BlockDev.state c.args.images.now c.run_pass-in-Object.new.images) (option_map map_path_of c.map_at-map.result) _ (retried_of c.args.passing.now) _ c.in_err-found-in-Object.field-0.0 c.map_at-map.ensures c.in_err-found-in-Object.ensures.err;
       kept = refl;
     })))
 

@@ -1,4 +1,4 @@
-use Rattle.std.proofs.Common.{◌≡◌, ◌+◌, ◌≤◌, refl, sym, ap, ◌∙◌, arith}
+use Rattle.std.proofs.Common.{◌≡◌, ◌+◌, ◌≤◌, inl, refl, sym, ap, ◌∙◌, arith}
 use Rattle.stack_rules.specs.Names.{mapped, size}
 use Rattle.stack_rules.specs.Records.{Configuration}
 use Rattle.stack_rules.proofs.lemmas.PassingLemmas.{out_of_memory-more}
@@ -29,7 +29,7 @@ returns-in_err-wanted-clause-err g c =
     let u = c.turns.invariant in
     err-from c.from_residual.result _ NoMemory c.from_residual.ensures.1
     (ends-as g.I.Images.relations.replaces (map_path_of c.args.kept.file) c.args.kept.phase c.args.d.0 c.sectors-sectors.result _ _ _ c.turns.images
-    (sides c.turns.stack (g.O.BlockDev.state c.turns.out) (g.L.Listing.told c.turns.listing)) NoMemory u.all u.turns (refl, refl, out_of_memory-more 1 largest_allocation (omega arith) c.in_err-wanted.ensures.err))
+    (sides c.turns.stack (g.O.BlockDev.state c.turns.out) (g.L.Listing.told c.turns.listing)) NoMemory u.all u.turns (refl, refl, out_of_memory-more 1 largest_allocation (omega arith) c.in_err-wanted.ensures.err, inl refl))
 
 pub returns-in_err-map-clause-err : goal.returns-in_err-map-clause-err
 returns-in_err-map-clause-err g c =

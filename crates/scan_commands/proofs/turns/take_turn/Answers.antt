@@ -36,6 +36,7 @@ returns-in_err-sync-clause-err g c =
           reads = subst (λ (l : List Bool). ReadsSectors c.args.turn.phase l c.args.d.0 old c.in_ok-read.read left) c.requires.wanted r;
           unsynced = c.in_err-sync.ensures.err;
           stack = refl;
+          printed = refl;
         });
       },
     )
@@ -44,8 +45,20 @@ pub returns-in_err-map-clause-err : goal.returns-in_err-map-clause-err
 returns-in_err-map-clause-err g c =
     let old : Sides = sides c.args.stack.now (g.O.BlockDev.state c.args.out.now) (g.L.Listing.told c.args.listing.now) in
     let left : Sides = sides c.read_turn.new.stack (g.O.BlockDev.state c.read_turn.new.out) (g.L.Listing.told c.read_turn.new.listing) in
-    err-from c.from_residual-in_err-map.result _ NoMemory c.from_residual-in_err-map.ensures.1
-    (refl, ap (λ (o : Device). o.failures) c.in_ok-sync.ensures.ok ∙ reads-unfailed c.args.turn.phase _ c.args.d.0 old _ left c.in_ok-read.ensures.ok, out_of_memory-more 1 largest_allocation (omega arith) c.in_err-map.ensures.err)
+    err-from c.from_residual-in_err-map.result _ NoMemory c.from_residual-in_err-map.ensures.1 (
+      refl,
+      ap (λ (o : Device). o.failures) c.in_ok-sync.ensures.ok ∙ reads-unfailed c.args.turn.phase _ c.args.d.0 old _ left c.in_ok-read.ensures.ok,
+      out_of_memory-more 1 largest_allocation (omega arith) c.in_err-map.ensures.err,
+      inr (inr (record {
+        span = c.args.turn.span;
+        end = c.args.turn.span.first + c.args.turn.span.count;
+        next = c.requires.next;
+        left = left;
+        made = c.in_ok-read.read;
+        reads = subst (λ (l : List Bool). ReadsSectors c.args.turn.phase l c.args.d.0 old c.in_ok-read.read left) c.requires.wanted c.in_ok-read.ensures.ok;
+        on_medium = ap (λ (o : Device). sides c.read_turn.new.stack o (g.L.Listing.told c.read_turn.new.listing)) c.in_ok-sync.ensures.ok;
+      })),
+    )
 
 pub returns-in_err-write_map-clause-err : goal.returns-in_err-write_map-clause-err
 returns-in_err-write_map-clause-err g c =
@@ -55,7 +68,17 @@ returns-in_err-write_map-clause-err g c =
     let now = progressed c.args.images.now old c.args.turn.map.now c.args.turn.span.first in
     err-from c.from_residual-in_err-write_map.result _ c.in_err-write_map.field-0.0 c.from_residual-in_err-write_map.ensures.1
     (stops-unwritten k c.args.turn.phase now (map_text c.args.turn.file.kind c.tried_before-tried.result c.in_ok-map.map) c.write_map.new.images (sides c.read_turn.new.stack (g.O.BlockDev.state c.sync.new.self) (g.L.Listing.told c.read_turn.new.listing)) c.in_err-write_map.field-0.0
-    (ap (λ (o : Device). o.failures) c.in_ok-sync.ensures.ok ∙ reads-unfailed c.args.turn.phase _ c.args.d.0 old _ left c.in_ok-read.ensures.ok) c.in_err-write_map.ensures.err)
+    (ap (λ (o : Device). o.failures) c.in_ok-sync.ensures.ok ∙ reads-unfailed c.args.turn.phase _ c.args.d.0 old _ left c.in_ok-read.ensures.ok)
+    (record {
+      span = c.args.turn.span;
+      end = c.args.turn.span.first + c.args.turn.span.count;
+      next = c.requires.next;
+      left = left;
+      made = c.in_ok-read.read;
+      reads = subst (λ (l : List Bool). ReadsSectors c.args.turn.phase l c.args.d.0 old c.in_ok-read.read left) c.requires.wanted c.in_ok-read.ensures.ok;
+      on_medium = ap (λ (o : Device). sides c.read_turn.new.stack o (g.L.Listing.told c.read_turn.new.listing)) c.in_ok-sync.ensures.ok;
+    })
+    c.in_err-write_map.ensures.err)
 
 pub returns-clause-ok : goal.returns-clause-ok
 returns-clause-ok g c =

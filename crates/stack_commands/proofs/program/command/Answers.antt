@@ -1,5 +1,5 @@
 use Rattle.std.proofs.Common.{inl, inr, refl, sym, ◌∙◌}
-use Rattle.stack_commands.proofs.EndingLemmas.{explained-failed, explained-kept, told-elsewhere, told-here}
+use Rattle.stack_commands.proofs.EndingLemmas.{explained-failed, told-elsewhere, told-here}
 use Rattle.stack_commands.proofs.program.command.Goals as goal
 
 pub returns-in-Ok : goal.returns-in-Ok
@@ -16,7 +16,7 @@ returns-then-output_is_data g c = inr (record {
   kept = λ is. is;
   noted = λ failed. c.end.ensures.failed (c.explain.ensures.failed failed);
   told_so = told-elsewhere _ c.in-Err.ended _ _ _ _ (sym c.output_is_data.ensures ∙ c.if-output_is_data.true)
-      (λ usage. explained-kept _ _ _ _ _ c.end.ensures.failed (c.explain.ensures.usage usage))
+      (λ usage. explained-failed _ _ _ c.end.ensures.failed (c.explain.ensures.usage usage))
       (λ other. explained-failed _ _ _ c.end.ensures.failed (c.explain.ensures.end other)) c.end.ensures.told;
 })
 
@@ -32,7 +32,7 @@ returns-else-output_is_data g c = inr (record {
   noted = λ failed. c.report_end.ensures.errors_failed (c.explain.ensures.failed failed);
   told_so = told-here _ c.in-Err.ended _ _ _ _ (sym c.output_is_data.ensures ∙ c.if-output_is_data.false) c.report_end.ensures.told (record {
     before = _;
-    explained = λ usage. explained-kept _ _ _ _ _ c.report_end.ensures.errors_failed (c.explain.ensures.usage usage);
+    explained = λ usage. explained-failed _ _ _ c.report_end.ensures.errors_failed (c.explain.ensures.usage usage);
     reason = λ other. explained-failed _ _ _ c.report_end.ensures.errors_failed (c.explain.ensures.end other);
     repeated = c.report_end.ensures.errors;
   });

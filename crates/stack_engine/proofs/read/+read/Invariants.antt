@@ -107,7 +107,7 @@ decreases-walk_path-loop-left g l = l.left
 abbrev pub decreases-read_beneath : goal.decreases-read_beneath
 decreases-read_beneath g l = 8 * depth l.config.now l.lower + 8
 
--- the blocks so far were had, and those behind them stand as they were read last
+-- the blocks so far were read, and those after them are as they were read last
 abbrev pub invariant-read_blocks-checks : goal.invariant-read_blocks-checks
 invariant-read_blocks-checks g l = record {
   checked : AreChecked l.config l.fn.part l.fn.chains l.fn.out l.read l.at l.out l.made l.path.items

@@ -5,7 +5,7 @@ use Rattle.stack_files.specs.Bindings.{backings_of}
 use Rattle.stack_files.proofs.LeafClosingLemmas.{AreClosed}
 use Rattle.stack_files.proofs.leaf_closing.close_each.Given as goal
 
--- those behind are given back
+-- the later devices are closed
 abbrev pub invariant-devices : goal.invariant-devices
 invariant-devices g l =
     AreClosed (calls g.I.Images.relations g.I.Dev.BlockDev.state l.fn.images l.images) (backings_of (map binding_record l.fn.bindings)) l.fn.devices.items l.devices.items

@@ -17,7 +17,7 @@ decreases-device_cuts l = 8 * depth l.config.now (mapped l.d.0) + 6
 abbrev pub decreases-run_cuts : goal.decreases-run_cuts
 decreases-run_cuts l = 8 * source_depth l.config.now l.source + 5
 
--- the sectors so far are cut behind each step, and a run begins behind them
+-- the sectors so far are split after each step, and a run begins after them
 abbrev pub invariant-device_cuts-loop-at : goal.invariant-device_cuts-loop-at
 invariant-device_cuts-loop-at l = record {
   within : l.at ≤ l.count;

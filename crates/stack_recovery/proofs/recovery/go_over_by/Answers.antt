@@ -20,7 +20,7 @@ use Rattle.stack_recovery.specs.declared.tally.Tally.{Tally}
 use Rattle.stack_recovery.specs.Alike.{AreAlike}
 use Rattle.stack_recovery.specs.Losses.{ListsLost, NotesLost, TalliesLost}
 use Rattle.stack_recovery.specs.PassPieces.{IsNextPiece, pass_over}
-use Rattle.stack_recovery.specs.PieceLimits.{limit_after_bytes, limit_after_failure}
+use Rattle.stack_recovery.specs.PieceLimits.{limit_after_bytes, limit_up_to}
 use Rattle.stack_recovery.specs.Pieces.{EndsAligned}
 use Rattle.stack_recovery.specs.Recoveries.{EndsEarly, Sides, sides}
 use Rattle.stack_recovery.specs.Surveys.{AreMarked}
@@ -39,8 +39,8 @@ pieces-init g c =
     record {
       so_far = record {
         calls = [];
-        under = subst (λ (t : Tally). IsUnderway (is_some c.args.noted.now) before c.args.d.0 old old 0 t c.args.noted.now c.new-piece_limit.result []) (sym c.new-tally.ensures)
-            (underway-none (is_some c.args.noted.now) before c.args.d.0 old c.args.noted.now c.new-piece_limit.result c.requires.begun c.new-piece_limit.ensures.value);
+        under = subst (λ (t : Tally). IsUnderway (is_some c.args.noted.now) before c.args.d.0 old old 0 t c.args.noted.now c.of_run-piece_limit.result []) (sym c.new-tally.ensures)
+            (underway-none (is_some c.args.noted.now) before c.args.d.0 old c.args.noted.now c.of_run-piece_limit.result c.requires.begun c.of_run-piece_limit.ensures.value);
         did = refl;
       };
       ahead = refl;
@@ -48,7 +48,7 @@ pieces-init g c =
       within = omega arith;
       all = all;
       few = omega (arith, all, c.requires.few);
-      piece_limit = c.new-piece_limit.ensures.piece_limit;
+      piece_limit = c.of_run-piece_limit.ensures.piece_limit;
       unfailed = refl;
       noted = refl;
       single = c.requires.single;
@@ -78,6 +78,13 @@ overflow_add-at g c =
     let inside = ahead-inside (marks_ahead c.args.ahead) c.pieces.at c.sectors-sectors.result c.next_run-run.result.count c.next_run-run.result.had _ _ (c.requires.fits ∙ sym u.all) u.ahead first u.within in
     omega (arith, inside, u.few)
 
+pub of_run-piece_limit-requires-then-run : goal.of_run-piece_limit-requires-then-run
+of_run-piece_limit-requires-then-run g c =
+    let u = c.pieces.invariant in
+    let first = first-run c.pieces.ahead c.next_run-run.new.self c.next_run-run.result c.next_run-run.ensures.same c.next_run-run.ensures.first in
+    let inside = ahead-inside (marks_ahead c.args.ahead) c.pieces.at c.sectors-sectors.result c.next_run-run.result.count c.next_run-run.result.had _ _ (c.requires.fits ∙ sym u.all) u.ahead first u.within in
+    omega (arith, inside, u.few)
+
 pub pieces-preserved-then-run : goal.pieces-preserved-then-run
 pieces-preserved-then-run g c =
     let u = c.pieces.invariant in
@@ -90,7 +97,7 @@ pieces-preserved-then-run g c =
     record {
       so_far = record {
         calls = u.so_far.calls;
-        under = underway-kept _ _ _ _ _ _ _ _ _ _ u.so_far.under here.count (g.L.Listing.told c.close.new.listing) c.close.new.self c.note.new.noted c.next_run-run.ensures.some marked c.in_ok-note.ensures.ok c.close.ensures.text tally;
+        under = underway-kept _ _ _ _ _ _ _ _ _ _ u.so_far.under here.count (g.L.Listing.told c.close.new.listing) c.close.new.self c.note.new.noted c.of_run-piece_limit-then-run.result c.of_run-piece_limit-then-run.ensures.value c.next_run-run.ensures.some marked c.in_ok-note.ensures.ok c.close.ensures.text tally;
         did = u.so_far.did;
       };
       ahead = ahead-next before c.pieces.at here.count _ _ _ (u.ahead ∙ sym c.next_run-run.ensures.same) c.pass.ensures.marks;
@@ -98,7 +105,7 @@ pieces-preserved-then-run g c =
       within = inside;
       all = u.all;
       few = u.few;
-      piece_limit = u.piece_limit;
+      piece_limit = c.of_run-piece_limit-then-run.ensures.piece_limit;
       unfailed = u.unfailed;
       noted = notes-some c.pieces.noted c.note.new.noted _ c.in_ok-note.ensures.ok ∙ u.noted;
       single = λ none. c.pass.ensures.rest ∙ c.next_run-run.ensures.single (u.single none);
@@ -325,8 +332,8 @@ pieces-preserved g c =
     record {
       so_far = record {
         calls = u.so_far.calls;
-        under = rw (noted, tally, told) (underway-again _ _ _ _ _ _ _ _ _ _ u.so_far.under n c.in-Err.fault c.read_bytes.new.self c.after_failure-piece_limit.result next
-            (c.after_failure-piece_limit.ensures.value ∙ ap (λ (m : ℕ). limit_after_failure n (c.pieces.at + m)) c.from-count.ensures) piece marked);
+        under = rw (noted, tally, told) (underway-again _ _ _ _ _ _ _ _ _ _ u.so_far.under n c.in-Err.fault c.read_bytes.new.self c.up_to-piece_limit.result next (c.piece_at-piece.ensures.apart (sym call.ensures.alike ∙ isnt))
+            (c.up_to-piece_limit.ensures.value ∙ ap (λ (m : ℕ). limit_up_to (c.pieces.at + m)) c.from-count.ensures) piece marked);
         did = u.so_far.did;
       };
       ahead = u.ahead ∙ sym c.next_run-run.ensures.same;
@@ -334,7 +341,7 @@ pieces-preserved g c =
       within = u.within;
       all = u.all;
       few = u.few;
-      piece_limit = c.after_failure-piece_limit.ensures.piece_limit;
+      piece_limit = c.up_to-piece_limit.ensures.piece_limit;
       unfailed = u.unfailed;
       noted = ap (λ (m : Option (List Run)). is_some m) noted ∙ u.noted;
       single = λ none. c.next_run-run.ensures.single (u.single none);

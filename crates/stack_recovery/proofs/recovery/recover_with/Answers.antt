@@ -7,84 +7,142 @@ use Rattle.rescue_map.specs.Maps.{marks}
 use Rattle.stack_rules.specs.Names.{mapped, size}
 use Rattle.stack_rules.specs.Records.{Configuration}
 use Rattle.stack_recovery.specs.FirstPasses.{Transfer, transfer}
+use Rattle.stack_recovery.specs.Retries.{after_pass, retried_by}
+use Rattle.stack_recovery.proofs.RetryLemmas.{again-kept}
 use Rattle.stack_recovery.proofs.SkimEndLemmas.{ends-unread, hands-unread, part-unread, skims-config, skims-sectors, skims-unread}
 use Rattle.stack_recovery.proofs.WritingLemmas.{err-from}
 use Rattle.stack_recovery.proofs.recovery.recover_with.Goals as goal
 
 pub skim_ahead-requires-clause-fits : goal.skim_ahead-requires-clause-fits
 skim_ahead-requires-clause-fits g c =
-    ap length c.unread-ahead.ensures.marks ∙ length-replicate {A = Bool} c.sectors.result false ∙ c.sectors.ensures ∙ ap (λ (x : Configuration). size x (mapped c.args.d.0)) c.config.ensures.value
+    ap length c.unread-ahead.ensures.marks ∙ length-replicate {A = Bool} c.sectors.result false ∙ c.sectors.ensures ∙ ap (λ (x : Configuration). size x (mapped c.args.plan.device.0)) c.config.ensures.value
+
+pub read_again-requires-clause-device : goal.read_again-requires-clause-device
+read_again-requires-clause-device g c =
+    let p = c.in_ok-map.ensures.ok in
+    subst (λ (x : Configuration). c.args.plan.device.0 < length x.devices) (sym (skims-config _ _ _ _ _ _ p)) c.requires.device
+
+pub read_again-requires-clause-fits : goal.read_again-requires-clause-fits
+read_again-requires-clause-fits g c =
+    let p = c.in_ok-map.ensures.ok in
+    skims-sectors _ _ _ _ _ _ p ∙ ap (λ (x : Configuration). size x (mapped c.args.plan.device.0)) (sym (skims-config _ _ _ _ _ _ p))
+
+pub read_again-requires-clause-room : goal.read_again-requires-clause-room
+read_again-requires-clause-room g c =
+    let p = c.in_ok-map.ensures.ok in
+    subst (λ (x : Configuration). size x (mapped c.args.plan.device.0) ≤ (g.O.BlockDev.state c.skim_ahead.new.out).size) (sym (skims-config _ _ _ _ _ _ p))
+    (subst (λ (m : ℕ). size c.args.stack.now.config (mapped c.args.plan.device.0) ≤ m) (sym p.copied.same.size) c.requires.room)
+
+pub read_again-requires-clause-allowed : goal.read_again-requires-clause-allowed
+read_again-requires-clause-allowed g c = subst IsTrue (sym c.in_ok-map.ensures.ok.copied.same.may_write) c.requires.allowed
 
 pub rescue-requires-clause-device : goal.rescue-requires-clause-device
 rescue-requires-clause-device g c =
     let p = c.in_ok-map.ensures.ok in
-    subst (λ (x : Configuration). c.args.d.0 < length x.devices) (sym (skims-config _ _ _ _ _ _ p)) c.requires.device
+    let kept = again-kept (retried_by c.args.plan) (after_pass c.skim_ahead.new.stack (g.O.BlockDev.state c.skim_ahead.new.out) c.in_ok-map.map) _
+    (skims-sectors _ _ _ _ _ _ p ∙ ap (λ (x : Configuration). size x (mapped c.args.plan.device.0)) (sym (skims-config _ _ _ _ _ _ p))) c.in_ok-left.ensures.ok in
+    subst (λ (x : Configuration). c.args.plan.device.0 < length x.devices) (sym (kept.config ∙ skims-config _ _ _ _ _ _ p)) c.requires.device
 
 pub rescue-requires-clause-fits : goal.rescue-requires-clause-fits
 rescue-requires-clause-fits g c =
     let p = c.in_ok-map.ensures.ok in
-    skims-sectors _ _ _ _ _ _ p ∙ ap (λ (x : Configuration). size x (mapped c.args.d.0)) (sym (skims-config _ _ _ _ _ _ p))
+    (again-kept (retried_by c.args.plan) (after_pass c.skim_ahead.new.stack (g.O.BlockDev.state c.skim_ahead.new.out) c.in_ok-map.map) _
+    (skims-sectors _ _ _ _ _ _ p ∙ ap (λ (x : Configuration). size x (mapped c.args.plan.device.0)) (sym (skims-config _ _ _ _ _ _ p))) c.in_ok-left.ensures.ok).sectors
 
 pub rescue-requires-clause-room : goal.rescue-requires-clause-room
 rescue-requires-clause-room g c =
     let p = c.in_ok-map.ensures.ok in
-    subst (λ (x : Configuration). size x (mapped c.args.d.0) ≤ (g.O.BlockDev.state c.skim_ahead.new.out).size) (sym (skims-config _ _ _ _ _ _ p))
-    (subst (λ (m : ℕ). size c.args.stack.now.config (mapped c.args.d.0) ≤ m) (sym p.copied.same.size) c.requires.room)
+    let kept = again-kept (retried_by c.args.plan) (after_pass c.skim_ahead.new.stack (g.O.BlockDev.state c.skim_ahead.new.out) c.in_ok-map.map) _
+    (skims-sectors _ _ _ _ _ _ p ∙ ap (λ (x : Configuration). size x (mapped c.args.plan.device.0)) (sym (skims-config _ _ _ _ _ _ p))) c.in_ok-left.ensures.ok in
+    subst (λ (x : Configuration). size x (mapped c.args.plan.device.0) ≤ (g.O.BlockDev.state c.read_again.new.out).size) (sym (kept.config ∙ skims-config _ _ _ _ _ _ p))
+    (subst (λ (m : ℕ). size c.args.stack.now.config (mapped c.args.plan.device.0) ≤ m) (sym (kept.same.size ∙ p.copied.same.size)) c.requires.room)
 
 pub rescue-requires-clause-allowed : goal.rescue-requires-clause-allowed
-rescue-requires-clause-allowed g c = subst IsTrue (sym c.in_ok-map.ensures.ok.copied.same.may_write) c.requires.allowed
+rescue-requires-clause-allowed g c =
+    let p = c.in_ok-map.ensures.ok in
+    let kept = again-kept (retried_by c.args.plan) (after_pass c.skim_ahead.new.stack (g.O.BlockDev.state c.skim_ahead.new.out) c.in_ok-map.map) _
+    (skims-sectors _ _ _ _ _ _ p ∙ ap (λ (x : Configuration). size x (mapped c.args.plan.device.0)) (sym (skims-config _ _ _ _ _ _ p))) c.in_ok-left.ensures.ok in
+    subst IsTrue (sym (kept.same.may_write ∙ p.copied.same.may_write)) c.requires.allowed
 
 pub returns-in_err-map-clause-err : goal.returns-in_err-map-clause-err
 returns-in_err-map-clause-err g c =
     let old : Transfer Device = transfer c.args.stack.now (g.O.BlockDev.state c.args.out.now) in
     let new : Transfer Device = transfer c.skim_ahead.new.stack (g.O.BlockDev.state c.skim_ahead.new.out) in
-    let all = c.sectors.ensures ∙ ap (λ (x : Configuration). size x (mapped c.args.d.0)) c.config.ensures.value in
+    let all = c.sectors.ensures ∙ ap (λ (x : Configuration). size x (mapped c.args.plan.device.0)) c.config.ensures.value in
     err-from c.from_residual.result _ c.in_err-map.field-0.0 c.from_residual.ensures.1
-    (inl (ends-unread c.unread-ahead.result c.sectors.result c.args.d.0 old new c.in_err-map.field-0.0 c.unread-ahead.ensures.marks c.unread-ahead.ensures.single all c.in_err-map.ensures.err, refl))
+    (inl (ends-unread c.unread-ahead.result c.sectors.result c.args.plan.device.0 old new c.in_err-map.field-0.0 c.unread-ahead.ensures.marks c.unread-ahead.ensures.single all c.in_err-map.ensures.err, refl))
 
 pub returns-in_err-map-clause-stopped : goal.returns-in_err-map-clause-stopped
 returns-in_err-map-clause-stopped g c =
     let Did = DeviceDoes g.O.BlockDev.state g.O.BlockDev.does in
-    let all = c.sectors.ensures ∙ ap (λ (x : Configuration). size x (mapped c.args.d.0)) c.config.ensures.value in
+    let all = c.sectors.ensures ∙ ap (λ (x : Configuration). size x (mapped c.args.plan.device.0)) c.config.ensures.value in
     err-from c.from_residual.result _ c.in_err-map.field-0.0 c.from_residual.ensures.1
-    (inl (part-unread Did (marks_ahead c.unread-ahead.result) c.sectors.result c.args.d.0 (transfer c.args.stack.now c.args.out.now) (transfer c.skim_ahead.new.stack c.skim_ahead.new.out) c.in_err-map.field-0.0 c.unread-ahead.ensures.marks all c.in_err-map.ensures.stopped))
+    (inl (part-unread Did (marks_ahead c.unread-ahead.result) c.sectors.result c.args.plan.device.0 (transfer c.args.stack.now c.args.out.now) (transfer c.skim_ahead.new.stack c.skim_ahead.new.out) c.in_err-map.field-0.0 c.unread-ahead.ensures.marks all c.in_err-map.ensures.stopped))
+
+pub returns-in_err-left-clause-err : goal.returns-in_err-left-clause-err
+returns-in_err-left-clause-err g c =
+    let old : Transfer Device = transfer c.args.stack.now (g.O.BlockDev.state c.args.out.now) in
+    let between : Transfer Device = transfer c.skim_ahead.new.stack (g.O.BlockDev.state c.skim_ahead.new.out) in
+    let all = c.sectors.ensures ∙ ap (λ (x : Configuration). size x (mapped c.args.plan.device.0)) c.config.ensures.value in
+    err-from c.from_residual-in_err-left.result _ c.in_err-left.field-0.0 c.from_residual-in_err-left.ensures.1
+    (inr (record {
+      between = between;
+      map = c.in_ok-map.map;
+      skims = skims-unread c.unread-ahead.result c.sectors.result c.args.plan.device.0 old c.in_ok-map.map between c.unread-ahead.ensures.marks c.unread-ahead.ensures.single all c.in_ok-map.ensures.ok;
+      ends = inl (c.in_err-left.ensures.err, refl);
+    }))
+
+pub returns-in_err-left-clause-stopped : goal.returns-in_err-left-clause-stopped
+returns-in_err-left-clause-stopped g c =
+    let Did = DeviceDoes g.O.BlockDev.state g.O.BlockDev.does in
+    let between = transfer c.skim_ahead.new.stack c.skim_ahead.new.out in
+    let all = c.sectors.ensures ∙ ap (λ (x : Configuration). size x (mapped c.args.plan.device.0)) c.config.ensures.value in
+    err-from c.from_residual-in_err-left.result _ c.in_err-left.field-0.0 c.from_residual-in_err-left.ensures.1
+    (inr (record {
+      between = between;
+      map = c.in_ok-map.map;
+      first = hands-unread Did (marks_ahead c.unread-ahead.result) c.sectors.result c.args.plan.device.0 (transfer c.args.stack.now c.args.out.now) (marks c.in_ok-map.map) between c.unread-ahead.ensures.marks all c.in_ok-map.ensures.handed;
+      later = inl c.in_err-left.ensures.stopped;
+    }))
 
 pub returns-in_err-rescued-clause-err : goal.returns-in_err-rescued-clause-err
 returns-in_err-rescued-clause-err g c =
     let old : Transfer Device = transfer c.args.stack.now (g.O.BlockDev.state c.args.out.now) in
     let between : Transfer Device = transfer c.skim_ahead.new.stack (g.O.BlockDev.state c.skim_ahead.new.out) in
-    let all = c.sectors.ensures ∙ ap (λ (x : Configuration). size x (mapped c.args.d.0)) c.config.ensures.value in
+    let all = c.sectors.ensures ∙ ap (λ (x : Configuration). size x (mapped c.args.plan.device.0)) c.config.ensures.value in
     err-from c.from_residual-in_err-rescued.result _ c.in_err-rescued.field-0.0 c.from_residual-in_err-rescued.ensures.1
     (inr (record {
       between = between;
       map = c.in_ok-map.map;
-      skims = skims-unread c.unread-ahead.result c.sectors.result c.args.d.0 old c.in_ok-map.map between c.unread-ahead.ensures.marks c.unread-ahead.ensures.single all c.in_ok-map.ensures.ok;
-      ends = c.in_err-rescued.ensures.err;
+      skims = skims-unread c.unread-ahead.result c.sectors.result c.args.plan.device.0 old c.in_ok-map.map between c.unread-ahead.ensures.marks c.unread-ahead.ensures.single all c.in_ok-map.ensures.ok;
+      ends = inr (after_pass c.read_again.new.stack (g.O.BlockDev.state c.read_again.new.out) c.in_ok-left.left, c.in_ok-left.ensures.ok, c.in_err-rescued.ensures.err);
     }))
 
 pub returns-in_err-rescued-clause-stopped : goal.returns-in_err-rescued-clause-stopped
 returns-in_err-rescued-clause-stopped g c =
     let Did = DeviceDoes g.O.BlockDev.state g.O.BlockDev.does in
     let between = transfer c.skim_ahead.new.stack c.skim_ahead.new.out in
-    let all = c.sectors.ensures ∙ ap (λ (x : Configuration). size x (mapped c.args.d.0)) c.config.ensures.value in
+    let all = c.sectors.ensures ∙ ap (λ (x : Configuration). size x (mapped c.args.plan.device.0)) c.config.ensures.value in
     err-from c.from_residual-in_err-rescued.result _ c.in_err-rescued.field-0.0 c.from_residual-in_err-rescued.ensures.1
     (inr (record {
       between = between;
-      after = marks c.in_ok-map.map;
-      first = hands-unread Did (marks_ahead c.unread-ahead.result) c.sectors.result c.args.d.0 (transfer c.args.stack.now c.args.out.now) (marks c.in_ok-map.map) between c.unread-ahead.ensures.marks all c.in_ok-map.ensures.handed;
-      second = c.in_err-rescued.ensures.stopped;
+      map = c.in_ok-map.map;
+      first = hands-unread Did (marks_ahead c.unread-ahead.result) c.sectors.result c.args.plan.device.0 (transfer c.args.stack.now c.args.out.now) (marks c.in_ok-map.map) between c.unread-ahead.ensures.marks all c.in_ok-map.ensures.handed;
+      later = inr (after_pass c.read_again.new.stack c.read_again.new.out c.in_ok-left.left, c.in_ok-left.ensures.handed, c.in_err-rescued.ensures.stopped);
     }))
 
 pub returns-clause-ok : goal.returns-clause-ok
 returns-clause-ok g c =
     let old : Transfer Device = transfer c.args.stack.now (g.O.BlockDev.state c.args.out.now) in
     let between : Transfer Device = transfer c.skim_ahead.new.stack (g.O.BlockDev.state c.skim_ahead.new.out) in
-    let all = c.sectors.ensures ∙ ap (λ (x : Configuration). size x (mapped c.args.d.0)) c.config.ensures.value in
+    let all = c.sectors.ensures ∙ ap (λ (x : Configuration). size x (mapped c.args.plan.device.0)) c.config.ensures.value in
     record {
       between = between;
       map = c.in_ok-map.map;
+      left = after_pass c.read_again.new.stack (g.O.BlockDev.state c.read_again.new.out) c.in_ok-left.left;
       rescued = c.in_ok-rescued.rescued;
-      skims = skims-unread c.unread-ahead.result c.sectors.result c.args.d.0 old c.in_ok-map.map between c.unread-ahead.ensures.marks c.unread-ahead.ensures.single all c.in_ok-map.ensures.ok;
+      skims = skims-unread c.unread-ahead.result c.sectors.result c.args.plan.device.0 old c.in_ok-map.map between c.unread-ahead.ensures.marks c.unread-ahead.ensures.single all c.in_ok-map.ensures.ok;
+      retries = c.in_ok-left.ensures.ok;
       rescues = c.in_ok-rescued.ensures.ok;
       counted = refl;
     }
@@ -93,10 +151,13 @@ pub returns-clause-handed : goal.returns-clause-handed
 returns-clause-handed g c =
     let Did = DeviceDoes g.O.BlockDev.state g.O.BlockDev.does in
     let between = transfer c.skim_ahead.new.stack c.skim_ahead.new.out in
-    let all = c.sectors.ensures ∙ ap (λ (x : Configuration). size x (mapped c.args.d.0)) c.config.ensures.value in
+    let all = c.sectors.ensures ∙ ap (λ (x : Configuration). size x (mapped c.args.plan.device.0)) c.config.ensures.value in
     record {
       between = between;
-      after = marks c.in_ok-map.map;
-      first = hands-unread Did (marks_ahead c.unread-ahead.result) c.sectors.result c.args.d.0 (transfer c.args.stack.now c.args.out.now) (marks c.in_ok-map.map) between c.unread-ahead.ensures.marks all c.in_ok-map.ensures.handed;
-      second = c.in_ok-rescued.ensures.handed;
+      map = c.in_ok-map.map;
+      left = after_pass c.read_again.new.stack c.read_again.new.out c.in_ok-left.left;
+      made = c.in_ok-rescued.rescued.map;
+      first = hands-unread Did (marks_ahead c.unread-ahead.result) c.sectors.result c.args.plan.device.0 (transfer c.args.stack.now c.args.out.now) (marks c.in_ok-map.map) between c.unread-ahead.ensures.marks all c.in_ok-map.ensures.handed;
+      again = c.in_ok-left.ensures.handed;
+      last = c.in_ok-rescued.ensures.handed;
     }

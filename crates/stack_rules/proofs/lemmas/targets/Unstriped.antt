@@ -13,7 +13,7 @@ use Rattle.stack_rules.proofs.lemmas.TargetLaws.{TargetLaws}
 pub unstriped-laws : (line : Unstriped) → TargetLaws (unstriped line)
 unstriped-laws line = record { ranges = λ P len all. (all.0, tt); tree = λ P all. tt; asked = λ len. ((refl, refl), tt); costs = dearest-laws (unstriped line).lies }
 
--- what stands before the last chunk of a line, and each sector in its chunk
+-- what is before the last chunk of a line, and each sector in its chunk
 pub unstriped-room : (line : Unstriped) (len s : ℕ) → 1 ≤ line.chunk → len % line.chunk ≡ 0 → s < len → (s / line.chunk * line.stripes + line.stripe) * line.chunk + line.chunk ≤ striped_span line len
 unstriped-room line len s some whole inside =
     let c : ℕ = line.chunk in

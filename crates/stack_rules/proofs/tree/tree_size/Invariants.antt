@@ -4,7 +4,7 @@ use Rattle.tree_shape.proofs.lemmas.ShapeLemmas.{over}
 use Rattle.stack_rules.specs.Trees.{tree_of}
 use Rattle.stack_rules.proofs.tree.tree_size.Given as goal
 
--- what was counted, and what stands over the level that was counted last
+-- what was counted, and what is over the level that was counted last
 abbrev pub invariant-loop-count : goal.invariant-loop-count
 invariant-loop-count l = record {
   digests : l.per_block ≡ l.fn.verity.hash_block / 32;

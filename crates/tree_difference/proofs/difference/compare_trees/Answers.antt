@@ -1,7 +1,6 @@
 use Rattle.std.proofs.Common.{◌≡◌, List, ℕ, Option, ap, ◌∙◌, subst}
 use Rattle.std.proofs.lemmas.Result.{IfErr-weaker}
 use Rattle.block_device.specs.Device.{Device}
-use Rattle.verity_format.specs.Superblock.{shape_of}
 use Rattle.verity_format.proofs.lemmas.DeviceLemmas.{only_read-then}
 use Rattle.tree_difference.specs.declared.trees.TreePair.{TreePair}
 use Rattle.tree_difference.specs.declared.walk.Walk.{Walk}
@@ -78,8 +77,8 @@ returns-clause-ok g c =
       compares = compares-was t d0 e0 d2 e2 d3 e3 old new c.args.most totals (only_read-then c.check_root_block.ensures.read aligned.first.full.read) (only_read-then c.check_root_block-2.ensures.read aligned.second.full.read)
           (subst (λ (x : Trees). Compares x (difference_world d2 e2 d3 e3 old new) c.args.most totals) is found);
       reads = reads-was t d0 e0 d2 e2 d3 e3 old new _ _
-          (aligned-read w w' d0 d1 d2 e1 e2 (shape_of pair.first) t c.in_ok-check_root_block.ensures.ok.1 (ap (λ (x : Trees). x.first) c.in_ok-walk.ensures.ok.trees) c.in_ok-walk.ensures.ok.levels aligned)
-          (aligned-read-second w w' e0 d1 d2 e1 e2 (shape_of pair.second) t c.in_ok-check_root_block-2.ensures.ok.1 (ap (λ (x : Trees). x.second) c.in_ok-walk.ensures.ok.trees) c.in_ok-walk.ensures.ok.levels aligned)
+          (aligned-read w w' d0 d1 d2 e1 e2 pair.first.shape t c.in_ok-check_root_block.ensures.ok.1 (ap (λ (x : Trees). x.first) c.in_ok-walk.ensures.ok.trees) c.in_ok-walk.ensures.ok.levels aligned)
+          (aligned-read-second w w' e0 d1 d2 e1 e2 pair.second.shape t c.in_ok-check_root_block-2.ensures.ok.1 (ap (λ (x : Trees). x.second) c.in_ok-walk.ensures.ok.trees) c.in_ok-walk.ensures.ok.levels aligned)
           (subst (λ (x : Trees). ReadsDiffering x (difference_world d2 e2 d3 e3 old new) 0 0) is reads);
     })
 

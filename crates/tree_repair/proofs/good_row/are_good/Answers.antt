@@ -1,4 +1,5 @@
-use Rattle.std.proofs.Common.{◌≡◌, ◌+◌, ◌-◌, ◌/◌, ℕ, arith, subst}
+use Rattle.std.proofs.Common.{◌≡◌, ◌+◌, ◌-◌, ◌/◌, ℕ, true, arith, subst}
+use Rattle.block_device.specs.Call.{DeviceDoes}
 use Rattle.verity_format.proofs.lemmas.DeviceLemmas.{only_read-none, only_read-then}
 use Rattle.tree_path.proofs.lemmas.AtMostLemmas.{at_most-fewer}
 use Rattle.tree_repair.specs.Coverage.{AreGoodFrom}
@@ -6,6 +7,8 @@ use Rattle.tree_repair.specs.Jobs.{job}
 use Rattle.tree_repair.proofs.BillLemmas.{at_most-then, piece-few}
 use Rattle.tree_repair.specs.AccessBudgets.{piece_of}
 use Rattle.tree_repair.proofs.GoodLemmas.{good-more, good-none}
+use Rattle.tree_repair.specs.RepairCalls.{IsNoWrite}
+use Rattle.tree_repair.proofs.RepairCallLemmas.{calls-more, calls-nothing}
 use Rattle.tree_repair.proofs.good_row.are_good.Goals as goal
 
 pub pieces-init : goal.pieces-init
@@ -16,6 +19,7 @@ pieces-init g c = record {
   most = omega arith;
   asked = omega arith;
   good = good-none (job c.args.repair.now) c.args.path.now (g.D.BlockDev.state c.args.data_dev.now) c.args.row.first _ (omega arith);
+  called = calls-nothing (DeviceDoes g.D.BlockDev.state g.D.BlockDev.does) IsNoWrite c.args.data_dev.now;
 }
 
 pub good_piece-requires-clause-fits : goal.good_piece-requires-clause-fits
@@ -39,6 +43,7 @@ pieces-preserved g c =
           c.pieces.invariant.read c.pieces.invariant.good
           (subst (λ (n : ℕ). AreGoodFrom (job c.args.repair.now) c.args.path.now (g.D.BlockDev.state c.pieces.data_dev) n count) here c.in-Some.ensures.good)
           (omega (arith, c.pieces.invariant.low));
+      called = calls-more (DeviceDoes g.D.BlockDev.state g.D.BlockDev.does) IsNoWrite true c.args.data_dev.now c.pieces.data_dev c.good_piece.new.data_dev c.pieces.invariant.called c.good_piece.ensures.called;
     }
 
 pub returns-clause-read : goal.returns-clause-read
@@ -65,3 +70,9 @@ pub returns-clause-asked : goal.returns-clause-asked
 returns-clause-asked g c =
     at_most-fewer (g.D.BlockDev.state c.args.data_dev.now) (g.D.BlockDev.state c.pieces.data_dev) (c.args.repair.now.shape.data_block / 512) (c.pieces.index - c.args.row.first) (c.args.row.end - c.args.row.first)
     c.pieces.invariant.most c.pieces.invariant.asked
+
+pub returns-in_default-clause-called : goal.returns-in_default-clause-called
+returns-in_default-clause-called g c = calls-more (DeviceDoes g.D.BlockDev.state g.D.BlockDev.does) IsNoWrite true c.args.data_dev.now c.pieces.data_dev c.good_piece.new.data_dev c.pieces.invariant.called c.good_piece.ensures.called
+
+pub returns-clause-called : goal.returns-clause-called
+returns-clause-called g c = c.pieces.invariant.called

@@ -1,7 +1,10 @@
-use Rattle.std.proofs.Common.{◌≡◌, ◌*◌, ◌/◌, ◌∙◌, ap, sym, arith, refl, length, rules}
+use Rattle.std.proofs.Common.{◌≡◌, ◌*◌, ◌/◌, ◌∙◌, ap, sym, arith, refl, length, rules, true, false}
+use Rattle.block_device.specs.Call.{DeviceDoes}
 use Rattle.hash_tree.specs.Tree.{cut}
 use Rattle.verity_format.specs.Blocks.{blocks_at}
 use Rattle.tree_repair.proofs.PieceLemmas.{run-cut, run-sectors}
+use Rattle.tree_repair.specs.RepairCalls.{IsNoWrite}
+use Rattle.tree_repair.proofs.RepairCallLemmas.{calls-read}
 use Rattle.tree_repair.proofs.good_row.read_run.Goals as goal
 
 pub returns-in-Ok-clause-good : goal.returns-in-Ok-clause-good
@@ -34,3 +37,11 @@ returns-in-Err-clause-asked g c =
     let n = length c.args.digests.now in
     let sectors : length c.args.run.now / 512 ≡ n * (c.args.size / 512) = ap (λ k. k / 512) c.requires.run ∙ run-sectors c.args.size n c.requires.size in
     omega (arith, sectors, c.read.ensures.moved.reads)
+
+pub returns-in-Ok-clause-called : goal.returns-in-Ok-clause-called
+returns-in-Ok-clause-called g c =
+    calls-read (DeviceDoes g.D.BlockDev.state g.D.BlockDev.does) IsNoWrite _ c.read.new.out c.args.device.now c.read.new.self (true, (c.read.new.self, c.in-Ok.ensures.call, refl))
+
+pub returns-in-Err-clause-called : goal.returns-in-Err-clause-called
+returns-in-Err-clause-called g c =
+    calls-read (DeviceDoes g.D.BlockDev.state g.D.BlockDev.does) IsNoWrite _ c.read.new.out c.args.device.now c.read.new.self (false, (c.read.new.self, c.in-Err.ensures.call, refl))

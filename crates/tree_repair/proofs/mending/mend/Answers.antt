@@ -1,8 +1,11 @@
-use Rattle.std.proofs.Common.{◌≡◌, ◌/◌, ℕ, [], true, false, length, map, arith, ap, ◌∙◌, subst}
+use Rattle.std.proofs.Common.{◌≡◌, ◌/◌, ℕ, [], true, false, length, map, arith, ap, ◌∙◌, subst, Bool}
+use Rattle.block_device.specs.Call.{DeviceDoes}
 use Rattle.verity_format.proofs.lemmas.DeviceLemmas.{only_read-none}
 use Rattle.tree_repair.specs.Mending.{IsAllowedPut}
-use Rattle.tree_repair.specs.Sources.{AreIn, AreInNone, wanted}
+use Rattle.tree_repair.specs.RepairCalls.{IsBlockWrite, MakesRepairCalls}
+use Rattle.tree_repair.specs.Sources.{AreIn, AreInNone, due, wanted}
 use Rattle.tree_repair.proofs.BillLemmas.{at_most-none, put-once}
+use Rattle.tree_repair.proofs.RepairCallLemmas.{calls-put, calls-read, unfinished}
 use Rattle.tree_repair.proofs.SourceLemmas.{each-none, on_err-from}
 use Rattle.tree_repair.proofs.mending.mend.Goals as goal
 
@@ -122,3 +125,36 @@ returns-in_err-put-in-Some-clause-asked g c =
       writes = omega (arith, c.is_there.ensures.read.writes, once.writes, same);
       copies_read = rw long at c.seek.ensures.asked;
     }
+
+pub returns-then-is_there-clause-handed : goal.returns-then-is_there-clause-handed
+returns-then-is_there-clause-handed g c =
+    let s = c.args.sought.now in
+    let w = due s.repair.now.salt s.digest c.args.block.now in
+    calls-read (DeviceDoes g.B.BlockDev.state g.B.BlockDev.does) (IsBlockWrite s.first w) s.first c.is_there.new.block c.args.device.now c.is_there.new.device c.is_there.ensures.called
+
+pub returns-in-None-clause-handed : goal.returns-in-None-clause-handed
+returns-in-None-clause-handed g c =
+    let s = c.args.sought.now in
+    let w = due s.repair.now.salt s.digest c.args.block.now in
+    calls-read (DeviceDoes g.B.BlockDev.state g.B.BlockDev.does) (IsBlockWrite s.first w) s.first c.is_there.new.block c.args.device.now c.is_there.new.device c.is_there.ensures.called
+
+pub returns-in_ok-put-in-Some-clause-handed : goal.returns-in_ok-put-in-Some-clause-handed
+returns-in_ok-put-in-Some-clause-handed g c =
+    let state = g.B.BlockDev.state in
+    let does = DeviceDoes state g.B.BlockDev.does in
+    let between = state c.is_there.new.device in
+    let s = c.args.sought.now in
+    let w = due s.repair.now.salt s.digest c.args.block.now in
+    calls-put does s.first w c.is_there.new.block c.seek.new.block s.repair.now.write true c.args.device.now c.is_there.new.device c.put.new.device c.is_there.ensures.called
+    between (length c.seek.new.block / 512) (state c.put.new.device) c.in_ok-put-in-Some.ensures.put (omega (arith, c.seek.auto.block, c.is_there.auto.block, c.requires.inside.whole)) (c.in-Some.ensures.found.there between).good c.in_ok-put-in-Some.ensures.handed
+
+pub returns-in_err-put-in-Some-clause-handed : goal.returns-in_err-put-in-Some-clause-handed
+returns-in_err-put-in-Some-clause-handed g c =
+    let state = g.B.BlockDev.state in
+    let does = DeviceDoes state g.B.BlockDev.does in
+    let between = state c.is_there.new.device in
+    let s = c.args.sought.now in
+    let w = due s.repair.now.salt s.digest c.args.block.now in
+    subst (λ (done : Bool). MakesRepairCalls does (IsBlockWrite s.first w) done c.args.device.now c.put.new.device) (unfinished c.from_residual.result _ c.from_residual.ensures.1)
+    (calls-put does s.first w c.is_there.new.block c.seek.new.block s.repair.now.write false c.args.device.now c.is_there.new.device c.put.new.device c.is_there.ensures.called
+    between (length c.seek.new.block / 512) (state c.put.new.device) c.in_err-put-in-Some.ensures.put (omega (arith, c.seek.auto.block, c.is_there.auto.block, c.requires.inside.whole)) (c.in-Some.ensures.found.there between).good c.in_err-put-in-Some.ensures.handed)

@@ -6,6 +6,9 @@ use Rattle.tree_repair.proofs.RunLemmas.{can-read, has-behind, has-none, has-rea
 use Rattle.tree_repair.specs.ParityBounds.{IsAskedWithin, parity_bill, tries_of}
 use Rattle.tree_repair.proofs.ParityBillLemmas.{asked-none, work-along, work-way}
 use Rattle.tree_repair.proofs.ParityPassLemmas.{tells-behind, tells-none}
+use Rattle.block_device.specs.Call.{DeviceDoes}
+use Rattle.tree_repair.proofs.RepairCallLemmas.{hash-both}
+use Rattle.tree_repair.proofs.RunCallLemmas.{hands-behind, hands-none, hands-read}
 use Rattle.tree_repair.proofs.parity.restore_block_at.Goals as goal
 
 pub returns-then-bad-clause-parity : goal.returns-then-bad-clause-parity
@@ -50,41 +53,41 @@ returns-clause-run g c = has-behind c.reach.ensures.read c.restore_missing.ensur
 pub returns-then-bad-clause-sought : goal.returns-then-bad-clause-sought
 returns-then-bad-clause-sought g c =
     subst (λ (found : Bool). IsSoughtAt (job c.args.repair.now) c.args.bad.now.place.height c.args.bad.now.place.index
-    (trial c.args.losses.now.layout c.args.losses.now.lost.items c.args.image.now c.args.image.now (g.P.BlockDev.state c.args.parity.now) (g.P.BlockDev.state c.args.parity.now)) found false) (sym c.if-bad.true)
-    (refl, record { image = world-none c.args.image.now; parity = parity-none (g.P.BlockDev.state c.args.parity.now) })
+    (trial c.args.losses.now.layout c.args.losses.now.lost.items c.args.image.now.world c.args.image.now.world (g.P.BlockDev.state c.args.parity.now) (g.P.BlockDev.state c.args.parity.now)) found false) (sym c.if-bad.true)
+    (refl, record { image = world-none c.args.image.now.world; parity = parity-none (g.P.BlockDev.state c.args.parity.now) })
 
 pub returns-then-not-is_place-clause-sought : goal.returns-then-not-is_place-clause-sought
 returns-then-not-is_place-clause-sought g c =
     subst (λ (found : Bool). IsSoughtAt (job c.args.repair.now) c.args.bad.now.place.height c.args.bad.now.place.index
-    (trial c.args.losses.now.layout c.args.losses.now.lost.items c.args.image.now c.args.image.now (g.P.BlockDev.state c.args.parity.now) (g.P.BlockDev.state c.args.parity.now)) found false) (sym c.if-bad.false)
-    (inl (refl, (record { image = world-none c.args.image.now; parity = parity-none (g.P.BlockDev.state c.args.parity.now) }, inl (c.is_place.ensures.none c.if-not-is_place.true))))
+    (trial c.args.losses.now.layout c.args.losses.now.lost.items c.args.image.now.world c.args.image.now.world (g.P.BlockDev.state c.args.parity.now) (g.P.BlockDev.state c.args.parity.now)) found false) (sym c.if-bad.false)
+    (inl (refl, (record { image = world-none c.args.image.now.world; parity = parity-none (g.P.BlockDev.state c.args.parity.now) }, inl (c.is_place.ensures.none c.if-not-is_place.true))))
 
 pub returns-then-not-reach-clause-sought : goal.returns-then-not-reach-clause-sought
 returns-then-not-reach-clause-sought g c =
     subst (λ (found : Bool). IsSoughtAt (job c.args.repair.now) c.args.bad.now.place.height c.args.bad.now.place.index
-    (trial c.args.losses.now.layout c.args.losses.now.lost.items c.args.image.now c.reach.new.image (g.P.BlockDev.state c.args.parity.now) (g.P.BlockDev.state c.args.parity.now)) found false) (sym c.if-bad.false)
+    (trial c.args.losses.now.layout c.args.losses.now.lost.items c.args.image.now.world c.reach.new.image.world (g.P.BlockDev.state c.args.parity.now) (g.P.BlockDev.state c.args.parity.now)) found false) (sym c.if-bad.false)
     (inl (refl, (record { image = c.reach.ensures.read; parity = parity-none (g.P.BlockDev.state c.args.parity.now) }, inr (rw c.if-not-reach.true at c.reach.ensures.way))))
 
 pub returns-clause-sought : goal.returns-clause-sought
 returns-clause-sought g c =
-    sought-behind (job c.args.repair.now) c.args.bad.now.place.height c.args.bad.now.place.index c.args.bad.now.found c.args.losses.now.layout c.args.losses.now.lost.items c.args.image.now c.reach.new.image c.restore_missing.new.image
+    sought-behind (job c.args.repair.now) c.args.bad.now.place.height c.args.bad.now.place.index c.args.bad.now.found c.args.losses.now.layout c.args.losses.now.lost.items c.args.image.now.world c.reach.new.image.world c.restore_missing.new.image.world
     (g.P.BlockDev.state c.args.parity.now) (g.P.BlockDev.state c.restore_missing.new.parity) c.restore_missing.result c.reach.ensures.read c.if-bad.false c.restore_missing.ensures.tried
 
 pub returns-then-bad-clause-within : goal.returns-then-bad-clause-within
-returns-then-bad-clause-within g c = asked-none (parity_bill c.args.repair.now.shape c.args.losses.now.layout 0 0 (tries_of c.args.bad.now.found)) c.args.image.now (g.P.BlockDev.state c.args.parity.now)
+returns-then-bad-clause-within g c = asked-none (parity_bill c.args.repair.now.shape c.args.losses.now.layout 0 0 (tries_of c.args.bad.now.found)) c.args.image.now.world (g.P.BlockDev.state c.args.parity.now)
 
 pub returns-then-not-is_place-clause-within : goal.returns-then-not-is_place-clause-within
-returns-then-not-is_place-clause-within g c = asked-none (parity_bill c.args.repair.now.shape c.args.losses.now.layout 0 0 (tries_of c.args.bad.now.found)) c.args.image.now (g.P.BlockDev.state c.args.parity.now)
+returns-then-not-is_place-clause-within g c = asked-none (parity_bill c.args.repair.now.shape c.args.losses.now.layout 0 0 (tries_of c.args.bad.now.found)) c.args.image.now.world (g.P.BlockDev.state c.args.parity.now)
 
 pub returns-then-not-reach-clause-within : goal.returns-then-not-reach-clause-within
 returns-then-not-reach-clause-within g c =
     let p = g.P.BlockDev.state c.args.parity.now in
-    subst (λ (found : Bool). IsAskedWithin (parity_bill c.args.repair.now.shape c.args.losses.now.layout 0 0 (tries_of found)) c.args.image.now c.reach.new.image p p) (sym c.if-bad.false)
+    subst (λ (found : Bool). IsAskedWithin (parity_bill c.args.repair.now.shape c.args.losses.now.layout 0 0 (tries_of found)) c.args.image.now.world c.reach.new.image.world p p) (sym c.if-bad.false)
     (work-way c.args.repair.now.shape c.args.losses.now.layout c.args.bad.now.place.height c.reach.ensures.asked p)
 
 pub returns-clause-within : goal.returns-clause-within
 returns-clause-within g c =
-    subst (λ (found : Bool). IsAskedWithin (parity_bill c.args.repair.now.shape c.args.losses.now.layout 0 0 (tries_of found)) c.args.image.now c.restore_missing.new.image (g.P.BlockDev.state c.args.parity.now) (g.P.BlockDev.state c.restore_missing.new.parity)) (sym c.if-bad.false)
+    subst (λ (found : Bool). IsAskedWithin (parity_bill c.args.repair.now.shape c.args.losses.now.layout 0 0 (tries_of found)) c.args.image.now.world c.restore_missing.new.image.world (g.P.BlockDev.state c.args.parity.now) (g.P.BlockDev.state c.restore_missing.new.parity)) (sym c.if-bad.false)
     (work-along c.args.repair.now.shape c.args.losses.now.layout c.args.bad.now.place.height c.reach.ensures.asked c.restore_missing.ensures.within)
 
 pub returns-then-bad-clause-came : goal.returns-then-bad-clause-came
@@ -98,3 +101,27 @@ returns-then-not-reach-clause-came g c = tells-none c.args.bad.now.place.height 
 
 pub returns-clause-came : goal.returns-clause-came
 returns-clause-came g c = tells-behind c.reach.ensures.read c.restore_missing.ensures.came
+
+pub returns-then-bad-clause-handed : goal.returns-then-bad-clause-handed
+returns-then-bad-clause-handed g c =
+    let asks = DeviceDoes g.D.BlockDev.state g.D.BlockDev.does in
+    let does = DeviceDoes g.H.BlockDev.state g.H.BlockDev.does in
+    hands-none asks does (job c.args.repair.now) c.args.image.now
+
+pub returns-then-not-is_place-clause-handed : goal.returns-then-not-is_place-clause-handed
+returns-then-not-is_place-clause-handed g c =
+    let asks = DeviceDoes g.D.BlockDev.state g.D.BlockDev.does in
+    let does = DeviceDoes g.H.BlockDev.state g.H.BlockDev.does in
+    hands-none asks does (job c.args.repair.now) c.args.image.now
+
+pub returns-then-not-reach-clause-handed : goal.returns-then-not-reach-clause-handed
+returns-then-not-reach-clause-handed g c =
+    let asks = DeviceDoes g.D.BlockDev.state g.D.BlockDev.does in
+    let does = DeviceDoes g.H.BlockDev.state g.H.BlockDev.does in
+    hands-read asks does (job c.args.repair.now) c.args.image.now c.reach.new.image (hash-both asks does c.args.image.now c.reach.new.image c.reach.ensures.called)
+
+pub returns-clause-handed : goal.returns-clause-handed
+returns-clause-handed g c =
+    let asks = DeviceDoes g.D.BlockDev.state g.D.BlockDev.does in
+    let does = DeviceDoes g.H.BlockDev.state g.H.BlockDev.does in
+    hands-behind asks does (job c.args.repair.now) _ c.args.image.now c.reach.new.image c.restore_missing.new.image (hash-both asks does c.args.image.now c.reach.new.image c.reach.ensures.called) c.restore_missing.ensures.handed

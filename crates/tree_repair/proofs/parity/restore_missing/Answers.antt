@@ -8,19 +8,24 @@ use Rattle.tree_repair.specs.ParityBounds.{along_bill}
 use Rattle.tree_repair.specs.Runs.{size_at}
 use Rattle.tree_repair.proofs.ParityBillLemmas.{asked-along, asked-none, asked-round_alone}
 use Rattle.tree_repair.proofs.ParityPassLemmas.{tells-behind, tells-from, tells-none}
+use Rattle.block_device.specs.Call.{DeviceDoes}
+use Rattle.verity_format.specs.declared.verifying.VerifyFault.TheVariants.{NoMemory}
+use Rattle.tree_repair.specs.declared.fault.RepairFault.TheVariants.{Image}
+use Rattle.tree_repair.specs.RepairCalls.{wrote_all}
+use Rattle.tree_repair.proofs.RunCallLemmas.{hands-behind, hands-ended, hands-fault, hands-none, hands-read, hands-visit, visit-restored}
 use Rattle.tree_repair.proofs.parity.restore_missing.Goals as goal
 
 pub returns-in_err-made-clause-parity : goal.returns-in_err-made-clause-parity
 returns-in_err-made-clause-parity g c = parity-none (g.P.BlockDev.state c.args.parity.now)
 
 pub returns-in_err-made-clause-run : goal.returns-in_err-made-clause-run
-returns-in_err-made-clause-run g c = ended-from c.from_residual.result c.from_residual.ensures.1 (ends-read (world-none c.args.image.now) (refused-within c.block_size-size.result (omega (arith, c.block_size-size.ensures, (size-block c.args.missing.now.repair.now.shape c.args.missing.now.place.height c.requires.can.valid).most)) c.in_err-made.ensures.err.1))
+returns-in_err-made-clause-run g c = ended-from c.from_residual.result c.from_residual.ensures.1 (ends-read (world-none c.args.image.now.world) (refused-within c.block_size-size.result (omega (arith, c.block_size-size.ensures, (size-block c.args.missing.now.repair.now.shape c.args.missing.now.place.height c.requires.can.valid).most)) c.in_err-made.ensures.err.1))
 
 pub returns-in_err-read-clause-parity : goal.returns-in_err-read-clause-parity
 returns-in_err-read-clause-parity g c = parity-none (g.P.BlockDev.state c.args.parity.now)
 
 pub returns-in_err-read-clause-run : goal.returns-in_err-read-clause-run
-returns-in_err-read-clause-run g c = ended-from c.from_residual-in_err-read.result c.from_residual-in_err-read.ensures.1 (ends-read (world-none c.args.image.now) (refused-within c.block_size-size.result (omega (arith, c.block_size-size.ensures, (size-block c.args.missing.now.repair.now.shape c.args.missing.now.place.height c.requires.can.valid).most)) c.in_err-read.ensures.err.1))
+returns-in_err-read-clause-run g c = ended-from c.from_residual-in_err-read.result c.from_residual-in_err-read.ensures.1 (ends-read (world-none c.args.image.now.world) (refused-within c.block_size-size.result (omega (arith, c.block_size-size.ensures, (size-block c.args.missing.now.repair.now.shape c.args.missing.now.place.height c.requires.can.valid).most)) c.in_err-read.ensures.err.1))
 
 pub make_again-requires-clause-size : goal.make_again-requires-clause-size
 make_again-requires-clause-size g c =
@@ -63,14 +68,14 @@ returns-then-not-back-clause-tried g c = (record { image = c.make_again.ensures.
 
 pub returns-clause-tried : goal.returns-clause-tried
 returns-clause-tried g c =
-    tried-placed (job c.args.missing.now.repair.now) c.args.missing.now.place.height c.args.missing.now.place.index c.args.losses.now.layout c.args.losses.now.lost.items c.args.image.now c.make_again.new.image c.put_restored.new.image
+    tried-placed (job c.args.missing.now.repair.now) c.args.missing.now.place.height c.args.missing.now.place.index c.args.losses.now.layout c.args.losses.now.lost.items c.args.image.now.world c.make_again.new.image.world c.put_restored.new.image.world
     (g.P.BlockDev.state c.args.parity.now) (g.P.BlockDev.state c.make_again.new.parity) c.make_again.new.bytes c.put_restored.result c.make_again.ensures.read c.make_again.ensures.parity c.put_restored.ensures.placed
 
 pub returns-in_err-made-clause-within : goal.returns-in_err-made-clause-within
-returns-in_err-made-clause-within g c = asked-none (along_bill c.args.losses.now.layout) c.args.image.now (g.P.BlockDev.state c.args.parity.now)
+returns-in_err-made-clause-within g c = asked-none (along_bill c.args.losses.now.layout) c.args.image.now.world (g.P.BlockDev.state c.args.parity.now)
 
 pub returns-in_err-read-clause-within : goal.returns-in_err-read-clause-within
-returns-in_err-read-clause-within g c = asked-none (along_bill c.args.losses.now.layout) c.args.image.now (g.P.BlockDev.state c.args.parity.now)
+returns-in_err-read-clause-within g c = asked-none (along_bill c.args.losses.now.layout) c.args.image.now.world (g.P.BlockDev.state c.args.parity.now)
 
 pub returns-in_err-back-clause-within : goal.returns-in_err-back-clause-within
 returns-in_err-back-clause-within g c = asked-round_alone c.args.losses.now.layout c.requires.laid.layout c.make_again.ensures.within.0
@@ -84,10 +89,10 @@ returns-clause-within g c =
     c.make_again.ensures.within.0 (c.put_restored.ensures.within (g.P.BlockDev.state c.make_again.new.parity))
 
 pub returns-in_err-made-clause-came : goal.returns-in_err-made-clause-came
-returns-in_err-made-clause-came g c = tells-from c.args.missing.now.place.height c.from_residual.result c.from_residual.ensures.1 (ends-read (world-none c.args.image.now) (refused-within c.block_size-size.result (omega (arith, c.block_size-size.ensures, (size-block c.args.missing.now.repair.now.shape c.args.missing.now.place.height c.requires.can.valid).most)) c.in_err-made.ensures.err.1))
+returns-in_err-made-clause-came g c = tells-from c.args.missing.now.place.height c.from_residual.result c.from_residual.ensures.1 (ends-read (world-none c.args.image.now.world) (refused-within c.block_size-size.result (omega (arith, c.block_size-size.ensures, (size-block c.args.missing.now.repair.now.shape c.args.missing.now.place.height c.requires.can.valid).most)) c.in_err-made.ensures.err.1))
 
 pub returns-in_err-read-clause-came : goal.returns-in_err-read-clause-came
-returns-in_err-read-clause-came g c = tells-from c.args.missing.now.place.height c.from_residual-in_err-read.result c.from_residual-in_err-read.ensures.1 (ends-read (world-none c.args.image.now) (refused-within c.block_size-size.result (omega (arith, c.block_size-size.ensures, (size-block c.args.missing.now.repair.now.shape c.args.missing.now.place.height c.requires.can.valid).most)) c.in_err-read.ensures.err.1))
+returns-in_err-read-clause-came g c = tells-from c.args.missing.now.place.height c.from_residual-in_err-read.result c.from_residual-in_err-read.ensures.1 (ends-read (world-none c.args.image.now.world) (refused-within c.block_size-size.result (omega (arith, c.block_size-size.ensures, (size-block c.args.missing.now.repair.now.shape c.args.missing.now.place.height c.requires.can.valid).most)) c.in_err-read.ensures.err.1))
 
 pub returns-in_err-back-clause-came : goal.returns-in_err-back-clause-came
 returns-in_err-back-clause-came g c = tells-from c.args.missing.now.place.height c.from_residual-in_err-back.result c.from_residual-in_err-back.ensures.1 (ends-refused _ c.in_err-back.ensures.err c.make_again.ensures.read)
@@ -97,3 +102,40 @@ returns-then-not-back-clause-came g c = tells-none c.args.missing.now.place.heig
 
 pub returns-clause-came : goal.returns-clause-came
 returns-clause-came g c = tells-behind c.make_again.ensures.read c.put_restored.ensures.came
+
+pub returns-in_err-made-clause-handed : goal.returns-in_err-made-clause-handed
+returns-in_err-made-clause-handed g c =
+    let asks = DeviceDoes g.D.BlockDev.state g.D.BlockDev.does in
+    let does = DeviceDoes g.H.BlockDev.state g.H.BlockDev.does in
+    hands-ended asks does (job c.args.missing.now.repair.now) c.args.image.now c.args.image.now c.from_residual.result _ c.from_residual.ensures.1 (hands-none asks does (job c.args.missing.now.repair.now) c.args.image.now)
+
+pub returns-in_err-read-clause-handed : goal.returns-in_err-read-clause-handed
+returns-in_err-read-clause-handed g c =
+    let asks = DeviceDoes g.D.BlockDev.state g.D.BlockDev.does in
+    let does = DeviceDoes g.H.BlockDev.state g.H.BlockDev.does in
+    hands-ended asks does (job c.args.missing.now.repair.now) c.args.image.now c.args.image.now c.from_residual-in_err-read.result _ c.from_residual-in_err-read.ensures.1 (hands-none asks does (job c.args.missing.now.repair.now) c.args.image.now)
+
+pub returns-in_err-back-clause-handed : goal.returns-in_err-back-clause-handed
+returns-in_err-back-clause-handed g c =
+    let asks = DeviceDoes g.D.BlockDev.state g.D.BlockDev.does in
+    let does = DeviceDoes g.H.BlockDev.state g.H.BlockDev.does in
+    hands-ended asks does (job c.args.missing.now.repair.now) c.args.image.now c.make_again.new.image c.from_residual-in_err-back.result _ c.from_residual-in_err-back.ensures.1
+    (hands-fault asks does (job c.args.missing.now.repair.now) _ (Image NoMemory) c.args.image.now c.make_again.new.image c.in_err-back.ensures.err.0 (hands-read asks does (job c.args.missing.now.repair.now) c.args.image.now c.make_again.new.image c.make_again.ensures.called))
+
+pub returns-then-not-back-clause-handed : goal.returns-then-not-back-clause-handed
+returns-then-not-back-clause-handed g c =
+    let asks = DeviceDoes g.D.BlockDev.state g.D.BlockDev.does in
+    let does = DeviceDoes g.H.BlockDev.state g.H.BlockDev.does in
+    hands-read asks does (job c.args.missing.now.repair.now) c.args.image.now c.make_again.new.image c.make_again.ensures.called
+
+pub returns-clause-handed : goal.returns-clause-handed
+returns-clause-handed g c =
+    let asks = DeviceDoes g.D.BlockDev.state g.D.BlockDev.does in
+    let does = DeviceDoes g.H.BlockDev.state g.H.BlockDev.does in
+    let m = c.args.missing.now in
+    let h = m.place.height in
+    let i = m.place.index in
+    let p = m.path.now in
+    let done = wrote_all c.put_restored.result in
+    hands-behind asks does (job c.args.missing.now.repair.now) done c.args.image.now c.make_again.new.image c.put_restored.new.image c.make_again.ensures.called
+    (hands-visit asks does (job c.args.missing.now.repair.now) h i p done c.make_again.new.image c.put_restored.new.image c.requires.place.inside c.requires.way (visit-restored asks does (job c.args.missing.now.repair.now) h i p done c.make_again.new.image c.put_restored.new.image c.put_restored.ensures.handed))

@@ -8,6 +8,13 @@ use Rattle.tree_repair.proofs.RepairLemmas.{can-begin, ends-of, err-from, is_err
 use Rattle.tree_repair.proofs.RunLemmas.{ended-from}
 use Rattle.tree_repair.proofs.ParityPassLemmas.{repairs-passes, runs-from}
 use Rattle.tree_repair.proofs.WholeLemmas.{unfailed-since}
+use Rattle.block_device.specs.Call.{DeviceDoes}
+use Rattle.verity_format.specs.declared.verifying.VerifyFault.TheVariants.{TooSmall}
+use Rattle.tree_repair.specs.declared.fault.RepairFault.TheVariants.{Image}
+use Rattle.tree_repair.specs.RepairCalls.{wrote_all}
+use Rattle.tree_repair.specs.Repairs.{job_of}
+use Rattle.tree_repair.specs.RunCalls.{MakesRepair}
+use Rattle.tree_repair.proofs.RunCallLemmas.{hands-ended, hands-fault, hands-none}
 use Rattle.tree_repair.proofs.passes.repair_with_parity.Goals as goal
 
 pub returns-in_err-check_room-clause-parity : goal.returns-in_err-check_room-clause-parity
@@ -20,7 +27,7 @@ pub run_passes-requires-clause-asked : goal.run_passes-requires-clause-asked
 run_passes-requires-clause-asked g c = ap (λ (j : Job). j.parity) c.repair_of-repair.ensures
 
 pub run_passes-requires-clause-can : goal.run_passes-requires-clause-can
-run_passes-requires-clause-can g c = can-begin c.args.plan.now true (job c.repair_of-repair.result) c.args.image.now c.repair_of-repair.ensures c.in_ok-check_room.ensures.ok c.requires.allowed c.requires.first
+run_passes-requires-clause-can g c = can-begin c.args.plan.now true (job c.repair_of-repair.result) c.args.image.now.world c.repair_of-repair.ensures c.in_ok-check_room.ensures.ok c.requires.allowed c.requires.first
 
 pub returns-in_err-all-clause-parity : goal.returns-in_err-all-clause-parity
 returns-in_err-all-clause-parity g c = c.run_passes.ensures.parity.read
@@ -30,12 +37,12 @@ returns-clause-parity g c = c.run_passes.ensures.parity.read
 
 pub returns-in_err-all-clause-err : goal.returns-in_err-all-clause-err
 returns-in_err-all-clause-err g c =
-    whole-err c.args.plan.now true (job c.repair_of-repair.result) c.args.image.now c.repair_of-repair.ensures c.in_ok-check_room.ensures.ok c.run_passes.new.image (g.W.Write.contents c.args.writer.now.inner)
+    whole-err c.args.plan.now true (job c.repair_of-repair.result) c.args.image.now.world c.repair_of-repair.ensures c.in_ok-check_room.ensures.ok c.run_passes.new.image.world (g.W.Write.contents c.args.writer.now.inner)
     (g.W.Write.contents c.run_passes.new.writer.inner) c.from_residual-in_err-all.result (ended-from c.from_residual-in_err-all.result c.from_residual-in_err-all.ensures.1 c.in_err-all.ensures.run)
 
 pub returns-clause-ok : goal.returns-clause-ok
 returns-clause-ok g c =
-    repairs-of c.args.plan.now true (job c.repair_of-repair.result) c.args.image.now c.repair_of-repair.ensures c.in_ok-check_room.ensures.ok c.run_passes.new.image (g.W.Write.contents c.args.writer.now.inner)
+    repairs-of c.args.plan.now true (job c.repair_of-repair.result) c.args.image.now.world c.repair_of-repair.ensures c.in_ok-check_room.ensures.ok c.run_passes.new.image.world (g.W.Write.contents c.args.writer.now.inner)
     (g.W.Write.contents c.run_passes.new.writer.inner) None c.in_ok-all.ensures.run
 
 pub returns-in_err-check_room-clause-within : goal.returns-in_err-check_room-clause-within
@@ -50,8 +57,8 @@ returns-clause-within g c = inr (repairs-passes c.args.plan.now (job c.repair_of
 
 pub returns-clause-whole : goal.returns-clause-whole
 returns-clause-whole g c =
-    let w = c.args.image.now in
-    let y = c.run_passes.new.image in
+    let w = c.args.image.now.world in
+    let y = c.run_passes.new.image.world in
     subst (IsParityOutcome c.args.plan.now w y) (sym c.outcome_of.ensures)
     (parity-outcome c.args.plan.now (job c.repair_of-repair.result) w y c.repair_of-repair.ensures c.in_ok-check_room.ensures.ok
     c.in_ok-all.all c.none_since-sure.result c.blocks-blocks.result c.blocks-blocks.ensures.value c.in_ok-all.ensures.whole
@@ -59,5 +66,25 @@ returns-clause-whole g c =
 
 pub returns-clause-sought : goal.returns-clause-sought
 returns-clause-sought g c =
-    ends-of c.args.plan.now (job c.repair_of-repair.result) c.args.layout.now c.args.image.now c.run_passes.new.image
+    ends-of c.args.plan.now (job c.repair_of-repair.result) c.args.layout.now c.args.image.now.world c.run_passes.new.image.world
     (g.P.BlockDev.state c.args.parity_dev.now) (g.P.BlockDev.state c.run_passes.new.parity) c.repair_of-repair.ensures c.in_ok-check_room.ensures.ok c.in_ok-all.ensures.asks
+
+pub returns-in_err-check_room-clause-handed : goal.returns-in_err-check_room-clause-handed
+returns-in_err-check_room-clause-handed g c =
+    let asks = DeviceDoes g.D.BlockDev.state g.D.BlockDev.does in
+    let does = DeviceDoes g.H.BlockDev.state g.H.BlockDev.does in
+    hands-ended asks does (job_of c.args.plan.now true) c.args.image.now c.args.image.now c.from_residual.result _ c.from_residual.ensures.1
+    (hands-fault asks does (job_of c.args.plan.now true) _ (Image TooSmall) c.args.image.now c.args.image.now c.in_err-check_room.ensures.err.is (hands-none asks does (job_of c.args.plan.now true) c.args.image.now))
+
+pub returns-in_err-all-clause-handed : goal.returns-in_err-all-clause-handed
+returns-in_err-all-clause-handed g c =
+    let asks = DeviceDoes g.D.BlockDev.state g.D.BlockDev.does in
+    let does = DeviceDoes g.H.BlockDev.state g.H.BlockDev.does in
+    subst (λ (k : Job). MakesRepair asks does k (wrote_all c.from_residual-in_err-all.result) c.args.image.now c.run_passes.new.image) c.repair_of-repair.ensures
+    (hands-ended asks does (job c.repair_of-repair.result) c.args.image.now c.run_passes.new.image c.from_residual-in_err-all.result _ c.from_residual-in_err-all.ensures.1 c.in_err-all.ensures.handed)
+
+pub returns-clause-handed : goal.returns-clause-handed
+returns-clause-handed g c =
+    let asks = DeviceDoes g.D.BlockDev.state g.D.BlockDev.does in
+    let does = DeviceDoes g.H.BlockDev.state g.H.BlockDev.does in
+    subst (λ (k : Job). MakesRepair asks does k true c.args.image.now c.run_passes.new.image) c.repair_of-repair.ensures c.in_ok-all.ensures.handed

@@ -4,6 +4,9 @@ use Rattle.tree_repair.proofs.BackLemmas.{all-good-pass}
 use Rattle.tree_repair.proofs.PassLemmas.{pass-of}
 use Rattle.tree_repair.proofs.RunLemmas.{can-later, ended-from, has-then, laid-later, parity-none}
 use Rattle.tree_repair.proofs.ParityPassLemmas.{runs-not, runs-pass, runs-told}
+use Rattle.block_device.specs.Call.{DeviceDoes}
+use Rattle.tree_repair.specs.Jobs.{job}
+use Rattle.tree_repair.proofs.RunCallLemmas.{hands-ended, hands-then}
 use Rattle.tree_repair.proofs.passes.run_pass.Goals as goal
 use Rattle.tree_repair.proofs.passes.run_pass.Goals.{then-tree, else-tree}
 
@@ -57,3 +60,22 @@ returns-clause-within g c =
     let came : IsTrue c.if-tree.result → IsTrue c.in_ok-came.came.tree =
     λ more. elim c.if-tree.branch [ then-tree w ↦ w.if-tree.true | else-tree w ↦ sym w.result-is ∙ more ] in
     runs-pass c.if-tree.result came c.noted.result.now c.in_ok-repair_heights.ensures.notes c.new-bad.ensures.asked c.new-bad.ensures.none c.noted.ensures c.in_ok-repair_heights.ensures.few c.repair_heights.ensures.asked c.in_ok-came.ensures.came c.restore_bad.ensures.within
+
+pub returns-in_err-repair_heights-clause-handed : goal.returns-in_err-repair_heights-clause-handed
+returns-in_err-repair_heights-clause-handed g c =
+    let asks = DeviceDoes g.D.BlockDev.state g.D.BlockDev.does in
+    let does = DeviceDoes g.H.BlockDev.state g.H.BlockDev.does in
+    hands-ended asks does (job c.args.repair.now) c.args.image.now c.repair_heights.new.image c.from_residual.result _ c.from_residual.ensures.1 c.in_err-repair_heights.ensures.handed
+
+pub returns-in_err-came-clause-handed : goal.returns-in_err-came-clause-handed
+returns-in_err-came-clause-handed g c =
+    let asks = DeviceDoes g.D.BlockDev.state g.D.BlockDev.does in
+    let does = DeviceDoes g.H.BlockDev.state g.H.BlockDev.does in
+    hands-ended asks does (job c.args.repair.now) c.args.image.now c.restore_bad.new.image c.from_residual-in_err-came.result _ c.from_residual-in_err-came.ensures.1
+    (hands-then asks does (job c.args.repair.now) _ c.args.image.now c.repair_heights.new.image c.restore_bad.new.image c.in_ok-repair_heights.ensures.handed c.in_err-came.ensures.handed)
+
+pub returns-clause-handed : goal.returns-clause-handed
+returns-clause-handed g c =
+    let asks = DeviceDoes g.D.BlockDev.state g.D.BlockDev.does in
+    let does = DeviceDoes g.H.BlockDev.state g.H.BlockDev.does in
+    hands-then asks does (job c.args.repair.now) _ c.args.image.now c.repair_heights.new.image c.restore_bad.new.image c.in_ok-repair_heights.ensures.handed c.in_ok-came.ensures.handed

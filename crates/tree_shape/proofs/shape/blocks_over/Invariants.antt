@@ -2,7 +2,7 @@ use Rattle.std.proofs.Common.{◌≡◌, ◌+◌, ◌≤◌, ◌/◌}
 use Rattle.tree_shape.specs.Shape.{ShapeRecord, area_blocks}
 use Rattle.tree_shape.proofs.shape.blocks_over.Given as goal
 
--- the blocks counted, and those that stand above the level that was counted last
+-- the blocks counted, and those that are above the level that was counted last
 abbrev pub invariant-loop-count : goal.invariant-loop-count
 invariant-loop-count l = record {
   digests : l.per_block ≡ l.fn.hash_block / 32;

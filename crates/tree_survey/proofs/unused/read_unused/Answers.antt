@@ -1,12 +1,10 @@
-use Rattle.std.proofs.Common.{◌≡◌, ◌-◌, ◌*◌, ◌/◌, ℕ, List, ap, subst, sym, ◌∙◌}
+use Rattle.std.proofs.Common.{◌≡◌, ◌-◌, ◌*◌, ◌/◌, ℕ, ap, subst, sym}
 use Rattle.block_device.specs.Device.{Device}
-use Rattle.tree_shape.specs.Shape.{ShapeRecord, levels}
-use Rattle.tree_path.specs.Path.{IsPathOf, PathRecord}
+use Rattle.tree_shape.specs.Shape.{levels}
+use Rattle.tree_path.specs.Path.{PathRecord}
 use Rattle.tree_path.specs.Steps.{HasReadAtMost}
-use Rattle.verity_format.specs.Superblock.{shape_of}
-use Rattle.verity_format.specs.Trees.{superblock_tree}
 use Rattle.tree_survey.specs.Hashes.{tree_of_path}
-use Rattle.tree_survey.specs.Passes.{super_tree}
+use Rattle.tree_survey.specs.Passes.{tree_under}
 use Rattle.tree_survey.specs.Surveys.{Tree}
 use Rattle.tree_survey.specs.Unused.{AreZeroFrom, IsReadDown, IsUnusedFound, last_data}
 use Rattle.tree_survey.proofs.SurveyLemmas.{tree-of}
@@ -17,16 +15,12 @@ pub returns-clause-ok : goal.returns-clause-ok
 returns-clause-ok g c =
     let d : Device = g.H.BlockDev.state c.args.hash_dev.now in
     let d' : Device = g.H.BlockDev.state c.read_down-good.new.device in
-    let s = c.args.superblock.now in
-    let t : Tree = super_tree s c.args.root.now in
+    let t : Tree = tree_under c.args.tree.now c.args.root.now in
     let good : ℕ = c.read_down-good.result in
     let zeros = c.are_zero_from-zeros.result in
     let q : PathRecord = c.read_down-good.new.path in
-    let path : IsPathOf (shape_of s) s.salt c.args.root.now c.in_ok-path.path =
-    subst (λ (x : ShapeRecord). IsPathOf x s.salt c.args.root.now c.in_ok-path.path) c.shape-shape.ensures.value
-    (subst (λ (x : List ℕ). IsPathOf c.shape-shape.result x c.args.root.now c.in_ok-path.path) c.salt.ensures c.in_ok-path.ensures.ok) in
-    let tree : tree_of_path c.in_ok-path.path ≡ t = tree-of (superblock_tree s) c.args.root.now c.in_ok-path.path path in
-    let last : c.blocks-last.result - 1 ≡ last_data t = ap (λ (n : ℕ). n - 1) (c.blocks-last.ensures.value ∙ ap (λ (x : ShapeRecord). x.blocks) c.shape-shape.ensures.value) in
+    let tree : tree_of_path c.in_ok-path.path ≡ t = tree-of c.args.tree.now c.args.root.now c.in_ok-path.path c.in_ok-path.ensures.ok in
+    let last : c.blocks-last.result - 1 ≡ last_data t = ap (λ (n : ℕ). n - 1) c.blocks-last.ensures.value in
     let down : IsReadDown t d d' (last_data t) good q =
     subst (λ (i : ℕ). IsReadDown t d d' i good q) last (subst (λ (u : Tree). IsReadDown u d d' (c.blocks-last.result - 1) good q) tree c.read_down-good.ensures.down) in
     record {

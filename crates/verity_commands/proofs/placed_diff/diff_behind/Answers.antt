@@ -11,7 +11,7 @@ pub returns-clause-ok : goal.returns-clause-ok
 returns-clause-ok g c =
     let state = g.D.BlockDev.state in
     let starts = c.args.starts.now in
-    let trusted = c.args.trusted.now in
+    let sought = c.args.sought.now in
     let form = c.args.form in
     let new = c.diff_devices-ended.new.two in
     let first' = windowed (state new.first.device.inner) new.first.device.part in
@@ -26,14 +26,14 @@ returns-clause-ok g c =
         (new.first.device.part, ap (λ d. windowed (state d) new.first.device.part) (sym c.whole_files.ensures.first)),
         (new.second.device.part, ap (λ d. windowed (state d) new.second.device.part) (sym c.whole_files.ensures.second)),
       );
-      holds = subst₂ (λ (a b : Device). DiffsWorld (difference_world a b first' second' old printed) starts trusted form) c.place_both-placed.ensures.first c.place_both-placed.ensures.second done;
+      holds = subst₂ (λ (a b : Device). DiffsWorld (difference_world a b first' second' old printed) starts sought form) c.place_both-placed.ensures.first c.place_both-placed.ensures.second done;
     }) c.diff_devices-ended.ensures.ok
 
 pub returns-clause-err : goal.returns-clause-err
 returns-clause-err g c =
     let state = g.D.BlockDev.state in
     let starts = c.args.starts.now in
-    let trusted = c.args.trusted.now in
+    let sought = c.args.sought.now in
     let form = c.args.form in
     let new = c.diff_devices-ended.new.two in
     let first' = windowed (state new.first.device.inner) new.first.device.part in
@@ -48,5 +48,5 @@ returns-clause-err g c =
         (new.first.device.part, ap (λ d. windowed (state d) new.first.device.part) (sym c.whole_files.ensures.first)),
         (new.second.device.part, ap (λ d. windowed (state d) new.second.device.part) (sym c.whole_files.ensures.second)),
       );
-      holds = subst₂ (λ (a b : Device). IsWorldEnd (difference_world a b first' second' old printed) starts trusted form writer.failed fault) c.place_both-placed.ensures.first c.place_both-placed.ensures.second ends;
+      holds = subst₂ (λ (a b : Device). IsWorldEnd (difference_world a b first' second' old printed) starts sought form writer.failed fault) c.place_both-placed.ensures.first c.place_both-placed.ensures.second ends;
     }) c.diff_devices-ended.ensures.err

@@ -56,7 +56,7 @@ returns-clause-any g c = (whole g c).any
 pub returns-clause-steady : goal.returns-clause-steady
 returns-clause-steady g c = (whole g c).steady
 
--- nothing was written, for want of memory
+-- nothing was written, since memory ran out
 
 pub returns-in-Err-clause-any : goal.returns-in-Err-clause-any
 returns-in-Err-clause-any g c = (none-written c.args.self.now c.args.d.0 c.args.first c.args.bytes.now c.in-Err.ensures.err c.requires.piece (omega (arith, c.requires.piece.sectors.some, c.requires.piece.sectors.whole))).any

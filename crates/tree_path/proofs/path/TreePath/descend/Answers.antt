@@ -1,13 +1,24 @@
 use Rattle.std.proofs.Common.{◌≡◌, ◌-◌, ◌+◌, ◌*◌, ◌/◌, ◌<◌, ℕ, suc, sym, arith, subst, add-one}
 use Rattle.std.proofs.lemmas.Result.{err_from_is_err_and}
+use Rattle.block_device.specs.Call.{DeviceDoes}
 use Rattle.block_device.specs.Device.{Device}
 use Rattle.tree_path.specs.Path.{PathRecord}
 use Rattle.tree_shape.specs.Shape.{ShapeRecord}
 use Rattle.tree_path.specs.Steps.{HasReadAtMost, IsDown, steps}
 use Rattle.verity_format.proofs.lemmas.DeviceLemmas.{failed-then}
-use Rattle.tree_path.proofs.lemmas.AtMostLemmas.{at_most-fewer, at_most-more}
-use Rattle.tree_path.proofs.lemmas.PathLemmas.{down-bad, down-good, down-read, kept-unloaded}
+use Rattle.tree_path.proofs.lemmas.AtMostLemmas.{at_most-fewer, at_most-more, at_most-none}
+use Rattle.tree_path.proofs.lemmas.PathLemmas.{down-bad, down-good, down-none, down-read, kept-unloaded}
+use Rattle.tree_path.proofs.lemmas.ReadCallLemmas.{reads-none, reads-then}
 use Rattle.tree_path.proofs.path.TreePath.descend.Goals as goal
+
+pub levels-init : goal.levels-init
+levels-init g c = record {
+  down = down-none c.args.self.now (g.H.BlockDev.state c.args.device.now) c.args.index c.args.from;
+  low = c.requires.order;
+  high = omega arith;
+  asked = at_most-none (g.H.BlockDev.state c.args.device.now) (c.args.self.now.shape.hash_block / 512) c.args.from;
+  calls = reads-none (DeviceDoes g.H.BlockDev.state g.H.BlockDev.does) c.args.device.now;
+}
 
 pub returns-then-not-branch-clause-ok : goal.returns-then-not-branch-clause-ok
 returns-then-not-branch-clause-ok g c =
@@ -48,6 +59,7 @@ levels-preserved g c =
           let n : ℕ = old.shape.hash_block / 512 in
           let here : HasReadAtMost dm n d' = subst (λ (s : ShapeRecord). HasReadAtMost dm (s.hash_block / 512) d') c.levels.invariant.down.same.shape_is c.load.ensures.asked in
           at_most-more d dm d' n c.args.from l low (subst (λ (k : ℕ). HasReadAtMost d ((c.args.from - k) * n) dm) level c.levels.invariant.asked) here;
+      calls = reads-then (DeviceDoes g.H.BlockDev.state g.H.BlockDev.does) c.args.device.now c.levels.device c.load.new.device c.levels.invariant.calls c.load.ensures.calls;
     }
 
 pub returns-in_err-load-clause-asked : goal.returns-in_err-load-clause-asked
@@ -97,3 +109,12 @@ returns-in_err-load-clause-kept g c =
     rw p.1
     (kept-unloaded c.args.self.now c.levels.self c.load.new.self (g.H.BlockDev.state c.args.device.now) (g.H.BlockDev.state c.levels.device) (g.H.BlockDev.state c.load.new.device) c.args.index c.args.from
     c.levels.level c.levels.level l low c.levels.invariant.down c.in_err-load.ensures.fault)
+
+pub returns-clause-calls : goal.returns-clause-calls
+returns-clause-calls g c = c.levels.invariant.calls
+
+pub returns-then-not-branch-clause-calls : goal.returns-then-not-branch-clause-calls
+returns-then-not-branch-clause-calls g c = reads-then (DeviceDoes g.H.BlockDev.state g.H.BlockDev.does) c.args.device.now c.levels.device c.load.new.device c.levels.invariant.calls c.load.ensures.calls
+
+pub returns-in_err-load-clause-calls : goal.returns-in_err-load-clause-calls
+returns-in_err-load-clause-calls g c = reads-then (DeviceDoes g.H.BlockDev.state g.H.BlockDev.does) c.args.device.now c.levels.device c.load.new.device c.levels.invariant.calls c.load.ensures.calls

@@ -1,9 +1,10 @@
-use Rattle.std.proofs.Common.{◌≡◌, ◌≢◌, ◌<◌, ◌+◌, ◌/◌, ℕ, List, Vec, Global, arith, ap, refl, sym, subst, ◌∙◌, [], length, get_or, get_or-set_same, get_or-set_other}
-use Rattle.std.specs.Prelude.{slice_set}
+use Rattle.std.proofs.Common.{◌≡◌, ◌≢◌, ◌<◌, ◌+◌, ◌*◌, ◌/◌, ℕ, List, Vec, Global, arith, ap, refl, sym, subst, ◌∙◌, [], length, get_or, get_or-set_same, get_or-set_other}
+use Rattle.std.specs.Prelude.{is_ok, slice_set}
 use Rattle.std.specs.Str.{bytes_eq}
 use Rattle.std.specs.Vec.{with_items}
 use Rattle.std.proofs.lemmas.Result.{err_from_is_err_and}
 use Rattle.std.proofs.lemmas.List.{length-map, with_items_is}
+use Rattle.block_device.specs.Call.{DeviceDoes}
 use Rattle.tree_shape.specs.Digests.{digest}
 use Rattle.tree_shape.specs.Shape.{ancestor, position, area_end}
 use Rattle.tree_shape.proofs.lemmas.ShapeFactLemmas.{levels-few}
@@ -13,6 +14,7 @@ use Rattle.tree_path.specs.Seen.{seen_path}
 use Rattle.tree_path.proofs.MemoryLemmas.{bytes_of, path-put, put-is, read-sized}
 use Rattle.verity_format.proofs.lemmas.SizeLemmas.{block-size, block-inside}
 use Rattle.tree_path.proofs.lemmas.PathLemmas.{digest_on-same}
+use Rattle.tree_path.proofs.lemmas.ReadCallLemmas.{reads-one}
 use Rattle.tree_path.proofs.path.TreePath.load.Goals as goal
 
 pub read_block-requires : goal.read_block-requires
@@ -134,3 +136,13 @@ returns-in_err-read_block-clause-fault g c =
       is = ap (λ (bs : List (List ℕ)). record { shape = s; salt = c.self.inside.salt; root = c.self.inside.root; blocks = bs }) put;
       fault = c.in_err-read_block.ensures.fault;
     })
+
+pub returns-clause-calls : goal.returns-clause-calls
+returns-clause-calls g c =
+    let does = DeviceDoes g.H.BlockDev.state g.H.BlockDev.does in
+    reads-one does (c.position-place.result * (length c.deref_mut.result.now / 512)) c.read_block.new.block (is_ok c.read_block.result) c.args.device.now c.read_block.new.device c.read_block.ensures.call
+
+pub returns-in_err-read_block-clause-calls : goal.returns-in_err-read_block-clause-calls
+returns-in_err-read_block-clause-calls g c =
+    let does = DeviceDoes g.H.BlockDev.state g.H.BlockDev.does in
+    reads-one does (c.position-place.result * (length c.deref_mut.result.now / 512)) c.read_block.new.block (is_ok c.read_block.result) c.args.device.now c.read_block.new.device c.read_block.ensures.call

@@ -4,6 +4,8 @@ use Rattle.tree_shape.specs.Shape.{ShapeRecord, levels}
 use Rattle.verity_format.specs.Image.{tree_sectors}
 use Rattle.tree_repair.specs.Jobs.{job}
 use Rattle.tree_repair.proofs.VerifiedPathLemmas.{cut-off, leads-kept, tree-down, tree-kept, way-down, way-within}
+use Rattle.block_device.specs.Call.{DeviceDoes}
+use Rattle.tree_repair.proofs.RepairCallLemmas.{calls-path}
 use Rattle.tree_repair.proofs.verified_path.VerifiedPath.reach_on.Goals as goal
 
 pub descend-requires : goal.descend-requires
@@ -73,3 +75,12 @@ pub invariant_of-self-in-Err : goal.invariant_of-self-in-Err
 invariant_of-self-in-Err g c =
     let of_tree = tree-kept (job c.args.repair.now).tree c.requires.tree c.shared_level-from.ensures.leads c.in-Err.ensures.kept in
     record { inside = omega (arith, c.requires.place.inside, ap (λ (s : ShapeRecord). s.blocks) of_tree.shape_is); leads = leads-kept (job c.args.repair.now).tree c.requires.tree c.shared_level-from.ensures.leads c.in-Err.ensures.kept }
+
+pub returns-in-Ok-None-clause-called : goal.returns-in-Ok-None-clause-called
+returns-in-Ok-None-clause-called g c = calls-path (DeviceDoes g.H.BlockDev.state g.H.BlockDev.does) c.args.device.now c.descend.new.device c.descend.ensures.calls
+
+pub returns-in-Ok-Some-clause-called : goal.returns-in-Ok-Some-clause-called
+returns-in-Ok-Some-clause-called g c = calls-path (DeviceDoes g.H.BlockDev.state g.H.BlockDev.does) c.args.device.now c.descend.new.device c.descend.ensures.calls
+
+pub returns-in-Err-clause-called : goal.returns-in-Err-clause-called
+returns-in-Err-clause-called g c = calls-path (DeviceDoes g.H.BlockDev.state g.H.BlockDev.does) c.args.device.now c.descend.new.device c.descend.ensures.calls

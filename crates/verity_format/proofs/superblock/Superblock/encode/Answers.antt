@@ -1,4 +1,4 @@
--- Each part is written right behind what stands there.
+-- Each part is written right after what is written already.
 use Rattle.std.proofs.Common.{◌≡◌, ◌∙◌, ap, ℕ, length, List, arith}
 use Rattle.std.specs.Int.{w16, w32, w64, to_le_bytes}
 use Rattle.tree_shape.specs.Algorithms.{algorithm_name}

@@ -1,4 +1,4 @@
--- A shape that is valid behind a superblock is valid without one.
+-- A shape that is valid after a superblock is valid without one.
 use Rattle.std.proofs.Common.{◌≡◌, ◌∙◌, ℕ, None, ap}
 use Rattle.tree_shape.specs.Shape.{ShapeRecord, first_fault, shape_with}
 use Rattle.tree_shape.proofs.lemmas.ShapeFaultLemmas.{first_fault-none}

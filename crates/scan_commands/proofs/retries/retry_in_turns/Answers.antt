@@ -1,0 +1,70 @@
+use Rattle.std.proofs.Common.{◌≡◌, ◌≤◌, ◌<◌, ℕ, suc, IsTrue, length, inl, inr, refl, sym, ap, ◌∙◌, subst, arith}
+use Rattle.stack_rules.specs.Names.{mapped, size}
+use Rattle.stack_rules.specs.Records.{Configuration}
+use Rattle.stack_recovery.specs.Retries.{no_step}
+use Rattle.stack_recovery.proofs.lemmas.StepLemmas.{more-steps}
+use Rattle.scan_commands.specs.MapFiles.{map_path_of}
+use Rattle.scan_commands.specs.PassesInTurns.{IsSilentTurns, after_turns, phase_after}
+use Rattle.scan_commands.specs.Turns.{kept}
+use Rattle.scan_commands.proofs.RetryTurnLemmas.{ended-turns, whole-turns}
+use Rattle.scan_commands.proofs.TurnLemmas.{err-from}
+use Rattle.scan_commands.proofs.retries.retry_in_turns.Goals as goal
+
+pub passes-init : goal.passes-init
+passes-init g c = record {
+  steps = no_step;
+  few = omega arith;
+  left = record { map = c.requires.fits; config = refl; same_size = refl; allowed = c.requires.can.allowed };
+}
+
+pub read_in_turns-requires-clause-device : goal.read_in_turns-requires-clause-device
+read_in_turns-requires-clause-device g c = subst (λ (x : Configuration). c.args.passing.now.device.0 < length x.devices) (sym c.passes.invariant.left.config) c.requires.can.device
+
+pub read_in_turns-requires-clause-fits : goal.read_in_turns-requires-clause-fits
+read_in_turns-requires-clause-fits g c = c.passes.invariant.left.map ∙ ap (λ (x : Configuration). size x (mapped c.args.passing.now.device.0)) (sym c.passes.invariant.left.config)
+
+pub read_in_turns-requires-clause-room : goal.read_in_turns-requires-clause-room
+read_in_turns-requires-clause-room g c =
+    let left = c.passes.invariant.left in
+    subst (λ (x : Configuration). size x (mapped c.args.passing.now.device.0) ≤ (g.O.BlockDev.state c.passes.passing.out).size) (sym left.config)
+    (subst (λ (m : ℕ). size c.args.passing.now.stack.config (mapped c.args.passing.now.device.0) ≤ m) (sym left.same_size) c.requires.can.room)
+
+pub read_in_turns-requires-clause-allowed : goal.read_in_turns-requires-clause-allowed
+read_in_turns-requires-clause-allowed g c = c.passes.invariant.left.allowed
+
+pub passes-preserved : goal.passes-preserved
+passes-preserved g c =
+    let u = c.passes.invariant in
+    let d : ℕ = c.args.passing.now.device.0 in
+    let file = map_path_of c.args.file in
+    let replaces = g.I.Images.relations.replaces in
+    let goes = c.in_ok-left.ensures.goes_on in
+    let now = after_turns c.passes.images c.passes.passing.stack (g.O.BlockDev.state c.passes.passing.out) c.passes.left in
+    let next = after_turns c.read_in_turns.new.images c.read_in_turns.new.stack (g.O.BlockDev.state c.read_in_turns.new.out) c.in_ok-left.left in
+    record {
+      steps = more-steps (IsSilentTurns (kept replaces file d (size c.args.passing.now.stack.config (mapped d)))) _ c.passes.passes _ now next (omega arith) u.steps
+          (_, _, whole-turns replaces file d _ _ (phase_after c.passes.passes) _ _ _ _ _ u.left.config c.phase_after.ensures c.in_ok-left.ensures.ok);
+      few = omega (arith, c.passes-test.true);
+      left = record {
+        map = goes.map ∙ ap (λ (x : Configuration). size x (mapped d)) u.left.config;
+        config = goes.config ∙ u.left.config;
+        same_size = goes.same_size ∙ u.left.same_size;
+        allowed = goes.allowed;
+      };
+    }
+
+pub returns-in_err-left-clause-err : goal.returns-in_err-left-clause-err
+returns-in_err-left-clause-err g c =
+    let u = c.passes.invariant in
+    let d : ℕ = c.args.passing.now.device.0 in
+    let file = map_path_of c.args.file in
+    let replaces = g.I.Images.relations.replaces in
+    err-from c.from_residual.result _ c.in_err-left.field-0.0 c.from_residual.ensures.1 (record {
+      left = after_turns c.passes.images c.passes.passing.stack (g.O.BlockDev.state c.passes.passing.out) c.passes.left;
+      passes = c.passes.passes;
+      before = _;
+      after = _;
+      steps = u.steps;
+      few = omega (arith, c.passes-test.true);
+      ends = ended-turns replaces file d _ _ (phase_after c.passes.passes) _ _ _ _ _ u.left.config c.phase_after.ensures c.in_err-left.ensures.err;
+    })

@@ -1,0 +1,88 @@
+-- The passes over a device with a map file, each in turns.
+use Rattle.std.specs.Prelude.{◌≡◌, ◌⊎◌, ℕ, ◌<◌, ◌==◌, List, if◌then◌else◌}
+use Rattle.block_device.specs.Device.{Device}
+use Rattle.rescue_map.specs.declared.map.Run.{Run}
+use Rattle.rescue_map.specs.Maps.{map_totals}
+use Rattle.rescue_map.specs.declared.totals.Totals.{Totals}
+use Rattle.stack_engine.specs.Stacks.{StackRecord}
+use Rattle.stack_recovery.specs.Listings.{Listed}
+use Rattle.stack_recovery.specs.Recoveries.{Sides, sides}
+use Rattle.stack_recovery.specs.Retries.{AfterPass, IsEnough, Steps, after_pass}
+use Rattle.scan_commands.specs.declared.phase.Phase.{Phase}
+use Rattle.scan_commands.specs.declared.phase.Phase.TheVariants.{Rescue, Retry, Skim}
+use Rattle.scan_commands.specs.declared.rescue_fault.PassFault.{PassFault}
+use Rattle.scan_commands.specs.declared.retries.TriedMap.{TriedMap}
+use Rattle.scan_commands.specs.Turns.{IsPassTurnsEnd, Kept, Progressed, ReadsInTurns, progressed}
+
+-- what the turns of a pass leave: the opener, and the stack, the output device and the map
+pub record AfterTurns (S : Type 0) : Type 0 where
+  pub images : S
+  pub left : AfterPass Device
+
+abbrev pub after_turns : {S : Type 0} → S → StackRecord → Device → List Run → AfterTurns S
+after_turns images stack out map = record { images = images; left = after_pass stack out map }
+
+-- the next pass begins at the first sector
+abbrev pub pass_from : {S : Type 0} → AfterTurns S → Listed → Progressed S
+pass_from a printed = progressed a.images (sides a.left.stack a.left.out printed) a.left.map 0
+
+-- the pass after the first one and n further ones
+abbrev pub phase_after : ℕ → Phase
+phase_after n = if n == 0 then Rescue else Retry
+
+-- the pass after the first one and n further ones, which reported to nobody
+abbrev pub IsSilentTurns : {S : Type 0} → Kept S → ℕ → AfterTurns S → AfterTurns S → Type 0
+IsSilentTurns k n old new = (before : Listed) × (after : Listed) × ReadsInTurns k (phase_after n) (pass_from old before) new.images (sides new.left.stack new.left.out after) new.left.map
+
+-- so many passes after the first one, which reported to nobody; one for each retry, or fewer if no sector is left to be read
+abbrev pub RetriesInTurns : {S : Type 0} → Kept S → ℕ → AfterTurns S → ℕ → AfterTurns S → Type 0
+RetriesInTurns k retries old passes new = Steps (IsSilentTurns k) old passes new × IsEnough retries passes new.left.map
+
+-- The first pass, those that report nothing, and the last one, with a map between them. The totals are those of the last map.
+pub record RescuesInTurns {S : Type 0} (k : Kept S) (retries : ℕ) (first : Progressed S) (images : S) (sides : Sides) (totals : Totals) : Type 0 where
+  pub between : Progressed S
+  pub passes : ℕ
+  pub left : AfterTurns S
+  pub runs : List Run
+  pub skims : ReadsInTurns k Skim first between.images between.sides between.runs
+  pub again : RetriesInTurns k retries (after_turns between.images between.sides.stack between.sides.out between.runs) passes left
+  pub rescues : ReadsInTurns k (phase_after passes) (pass_from left between.sides.printed) images sides runs
+  pub counted : totals ≡ map_totals runs
+
+-- ---- a pass that ended early
+
+-- one of the passes that report nothing ended early
+pub record EndsRetries {S : Type 0} (k : Kept S) (retries : ℕ) (old : AfterTurns S) (images : S) (stack : StackRecord) (out : Device) (fault : PassFault) : Type 0 where
+  pub left : AfterTurns S
+  pub passes : ℕ
+  pub before : Listed
+  pub after : Listed
+  pub steps : Steps (IsSilentTurns k) old passes left
+  pub few : passes < retries
+  pub ends : IsPassTurnsEnd k (phase_after passes) (pass_from left before) images (sides stack out after) fault
+
+-- the last pass ended early
+pub record EndsLastTurns {S : Type 0} (k : Kept S) (retries : ℕ) (old : AfterTurns S) (printed : Listed) (images : S) (new : Sides) (fault : PassFault) : Type 0 where
+  pub left : AfterTurns S
+  pub passes : ℕ
+  pub again : RetriesInTurns k retries old passes left
+  pub ends : IsPassTurnsEnd k (phase_after passes) (pass_from left printed) images new fault
+
+abbrev pub EndsLaterTurns : {S : Type 0} → Kept S → ℕ → AfterTurns S → Listed → S → Sides → PassFault → Type 0
+EndsLaterTurns k retries old printed images new fault =
+    (EndsRetries k retries old images new.stack new.out fault × (new.printed ≡ printed)) ⊎ EndsLastTurns k retries old printed images new fault
+
+-- the first pass was completed, and a later one wasn't
+pub record IsRescueTurnsEnd {S : Type 0} (k : Kept S) (retries : ℕ) (first : Progressed S) (images : S) (new : Sides) (fault : PassFault) : Type 0 where
+  pub between : Progressed S
+  pub skims : ReadsInTurns k Skim first between.images between.sides between.runs
+  pub later : EndsLaterTurns k retries (after_turns between.images between.sides.stack between.sides.out between.runs) between.sides.printed images new fault
+
+abbrev pub IsTurnsEnd : {S : Type 0} → Kept S → ℕ → Progressed S → S → Sides → PassFault → Type 0
+IsTurnsEnd k retries first images new fault = IsPassTurnsEnd k Skim first images new fault ⊎ IsRescueTurnsEnd k retries first images new fault
+
+-- ---- in terms of the arguments of a call
+
+-- the passes that report nothing, by the stack and the output device before and after them
+abbrev pub RetriesBy : {S : Type 0} → Kept S → ℕ → AfterTurns S → S → StackRecord → Device → TriedMap → Type 0
+RetriesBy k retries old images stack out tried = RetriesInTurns k retries old tried.passes (after_turns images stack out tried.map)

@@ -1,0 +1,62 @@
+-- What the passes between the first one and the last leave.
+use Rattle.std.proofs.Common.{◌≡◌, ◌⊎◌, ℕ, suc, ◌+◌, ◌≤◌, ◌<◌, Bool, true, IsTrue, List, [], ◌∷◌, length, Some, Ok, Err, Result, IfErr, inl, inr, refl, sym, ap, ◌∙◌, subst, arith}
+use Rattle.std.specs.List.{list_all}
+use Rattle.block_device.specs.Call.{Call}
+use Rattle.block_device.specs.Device.{Device, IsSameDevice}
+use Rattle.stack_rules.specs.Names.{mapped, size}
+use Rattle.stack_rules.specs.Records.{Configuration}
+use Rattle.stack_engine.specs.Stacks.{StackRecord}
+use Rattle.rescue_map.specs.declared.map.Run.{Run}
+use Rattle.rescue_map.specs.Maps.{marks}
+use Rattle.stack_recovery.specs.Handing.{HandsOver, HandsOverPart}
+use Rattle.stack_recovery.specs.declared.fault.RecoveryFault.{RecoveryFault}
+use Rattle.stack_recovery.specs.Recoveries.{parties}
+use Rattle.stack_recovery.specs.Retries.{AfterPass, IsEnough, IsSilentHanding, IsSilentPass, ReadsAgain, Retried, Steps, after_pass, no_step, one_more}
+use Rattle.stack_recovery.specs.Surveys.{IsSurveyOver, PieceRead, all_states, states_of}
+use Rattle.stack_recovery.proofs.AheadLemmas.{length-noted}
+use Rattle.stack_recovery.proofs.CopyLemmas.{same-device}
+use Rattle.stack_recovery.proofs.SkimEndLemmas.{found-config}
+
+survey-config : (before : List Bool) (d first : ℕ) (w : StackRecord) (reads : List PieceRead) (w' : StackRecord) → IsSurveyOver before d first w reads w' → w'.config ≡ w.config
+survey-config before d first w [] w' s = ap (λ (t : StackRecord). t.config) s
+survey-config before d first w (r ∷ more) w' s =
+    survey-config before d (first + length (states_of r)) r.after more w' s.1 ∙ found-config before d first w r.count r.found r.after s.0.answered
+
+-- the configuration stays, the output device stays one, and the map is of all sectors
+pub record AreKept (d : ℕ) (old new : AfterPass Device) : Type 0 where
+  pub config : new.stack.config ≡ old.stack.config
+  pub same : IsSameDevice old.out new.out
+  pub sectors : length (marks new.map) ≡ size new.stack.config (mapped d)
+
+silent-kept : (d : ℕ) (old new : AfterPass Device) → IsSilentPass d old new → AreKept d old new
+silent-kept d old new p =
+    let over = p.3 in
+    let config : new.stack.config ≡ old.stack.config = survey-config (marks old.map) d 0 old.stack over.reads new.stack over.survey in
+    record {
+      config = config;
+      same = over.copied.same;
+      sectors = length-noted new.map (all_states over.reads) over.noted ∙ over.whole ∙ ap (λ (c : Configuration). size c (mapped d)) (sym config);
+    }
+
+none-kept : (d : ℕ) (first : AfterPass Device) → length (marks first.map) ≡ size first.stack.config (mapped d) → AreKept d first first
+none-kept d first fits = record { config = refl; same = record { size = refl; may_write = refl; steady = refl; never_fails = λ h. h }; sectors = fits }
+
+pub steps-kept : (d : ℕ) (first : AfterPass Device) → length (marks first.map) ≡ size first.stack.config (mapped d) → {n : ℕ} {last : AfterPass Device} → Steps (λ (k : ℕ). IsSilentPass d) first n last → AreKept d first last
+steps-kept d first fits no_step = none-kept d first fits
+steps-kept d first fits (one_more {n} {now} {next} before step) =
+    let so_far = steps-kept d first fits before in
+    let here = silent-kept d now next step in
+    record { config = here.config ∙ so_far.config; same = same-device so_far.same here.same; sectors = here.sectors }
+
+pub again-kept : (t : Retried) (old new : AfterPass Device) → length (marks old.map) ≡ size old.stack.config (mapped t.d) → ReadsAgain t old new → AreKept t.d old new
+again-kept t old new fits p = steps-kept t.d old fits p.steps
+
+-- ---- calls
+
+-- whom a pass reports to doesn't matter for its calls
+pub silent-handing : {O L : Type 0} (Did : O → Call → O → Type 0) (d : ℕ) (old new : AfterPass O) (a b : L) → HandsOver Did (marks old.map) d (parties old.stack old.out a) (Some new.map) (parties new.stack new.out b) → IsSilentHanding Did d old new
+silent-handing Did d old new a b p = record { reads = p.reads; survey = p.survey; whole = p.whole; noted = p.noted; made = p.made }
+
+pub silent-part : {O L : Type 0} (Did : O → Call → O → Type 0) (d : ℕ) (old : AfterPass O) (stack : StackRecord) (out : O) (a b : L) (fault : RecoveryFault) → HandsOverPart Did (marks old.map) d (parties old.stack old.out a) (parties stack out b) fault
+    → HandsOverPart Did (marks old.map) d (parties old.stack old.out (tt {0})) (parties stack out (tt {0})) fault
+silent-part Did d old stack out a b fault p = record { reads = p.reads; left = p.left; last = p.last; survey = p.survey; made = p.made; ends = p.ends }

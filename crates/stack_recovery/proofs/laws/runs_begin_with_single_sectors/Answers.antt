@@ -1,0 +1,5 @@
+use Rattle.stack_recovery.proofs.GrowthLemmas.{begins-small}
+use Rattle.stack_recovery.proofs.laws.runs_begin_with_single_sectors.Goals as goal
+
+pub returns : goal.returns
+returns c = λ first reads h few. begins-small first reads h few
