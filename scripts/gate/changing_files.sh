@@ -184,7 +184,7 @@ for closed in '>&-' '<&- >&-' '<&- >&- 2>&-' '> /dev/full' '> /dev/full 2>&-'; d
     said=$unprinted
     [[ $closed != *'2>&-' ]] || said=
     for words in 'session A=rw:a' 'load stack A=rw:a' 'read stack a 0 8 A=rw:a' 'write stack a 0 source A=rw:a' \
-        'scan stack a A=rw:a' 'copy stack a copied A=rw:a' 'nbd stack a A=rw:a'; do
+        'scan stack a A=rw:a' 'copy stack a copied A=rw:a' 'nbd --quiet stack a A=rw:a'; do
         # A client of nbd that has gone isn't reported, and a session without input writes nothing.
         [[ $words = nbd* || "$words $closed" = session*'<&-'* ]] && output= || output=$said
         ran 1 "$output" bash -c "\"\$0\" $words $closed" "$program"

@@ -1,10 +1,10 @@
 // Fails call number FAIL (from 1) of the kind FAIL_KIND of the program that it is loaded into: `device` counts positioned reads
-// and writes and syncs, `input` reads of standard input, `output` writes of standard output, `text` other reads, and each fails
-// with EIO. `short` and `interrupted` count all of these but the syncs; such a call moves one byte, or is interrupted. `cut`
-// counts the calls that change files and folders, but positioned writes, and the process is killed before that one. The file
-// FAIL_MET then says which call it was, how many whole sectors positioned reads and writes had requested, including it, and of
-// which file. With FAIL_CUT the program is killed in place of the call. `changed` counts positioned reads: before that one the file
-// FAIL_CHANGED gets the first bytes of the file FAIL_TO, at most 4,096.
+// and writes and syncs, `input` reads of standard input, `errors` writes of standard error, `output` other writes, `text` other
+// reads, and each fails with EIO. `short` and `interrupted` count all of these but the syncs; such a call moves one byte, or is
+// interrupted. `cut` counts the calls that change files and folders, but positioned writes, and the process is killed before
+// that one. The file FAIL_MET then says which call it was, how many whole sectors positioned reads and writes had requested,
+// including it, and of which file. With FAIL_CUT the program is killed in place of the call. `changed` counts positioned reads:
+// before that one the file FAIL_CHANGED gets the first bytes of the file FAIL_TO, at most 4,096.
 #define _GNU_SOURCE
 #include <dlfcn.h>
 #include <errno.h>
@@ -150,7 +150,7 @@ ssize_t write(int fd, const void *bytes, size_t n) {
     REAL(ssize_t, "write", int, const void *, size_t);
     if (fd > 2)
         may_cut("write", path_of(fd));
-    return fails("output", "write", fd, &n) ? -1 : real(fd, bytes, n);
+    return fails(fd == 2 ? "errors" : "output", "write", fd, &n) ? -1 : real(fd, bytes, n);
 }
 
 int open(const char *path, int flags, ...) {

@@ -104,6 +104,7 @@ def pages_of(page, readme):
     usages = [f"  dmstack {plain(head)}" for head, _ in commands]
     about = paragraphs_of(section_of(page, "NAME"))[0]
     bindings = list_of(entries_of(section_of(page, "BINDINGS")))
+    images = list_of(entries_of(section_of(page, "IMAGES")))
     common = list_of(it for it in options if it[0] in dict(COMMON))
     yield "", "dmstack COMMAND [OPTION..] WORD..", [about, "", *[textwrap.fill(it, WIDTH, subsequent_indent="      ", break_on_hyphens=False) for it in usages], "", "A BINDING gives a leaf, a device at the bottom of the stack, its name:", *bindings, "", "An option of every command:", *common, "", "Statuses:", *statuses, "", "`dmstack manual COMMAND` says more of a command."]
     for head, said in commands:
@@ -116,6 +117,8 @@ def pages_of(page, readme):
             lines += ["", "Options:", *list_of(own)]
         if "BINDING" in words:
             lines += ["", "Bindings:", *bindings]
+        if re.search(r"\bHASH1?\b", words):
+            lines += ["", "Images:", *images]
         lines += ["", "Statuses:", *statuses]
         if name in documents:
             lines += ["", f"More: {documents[name]}"]

@@ -17,6 +17,7 @@ import random
 import shutil
 import sys
 import tempfile
+import time
 
 sys.dont_write_bytecode = True
 
@@ -184,14 +185,16 @@ def copied_in(data):
 
 
 def changed_block(data):
-    """A volume with one changed block: an error at its place and nowhere else."""
+    """A volume with one changed block: an error at its place and nowhere else, and at the end how many requests had it."""
     nbd = libnbd()
     bad = 37
     image = bytearray(data)
     image[bad * BLOCK + 99] ^= 1
     open("changed", "wb").write(image)
     handle = nbd.NBD()
-    handle.connect_command(words_for("verity", "v", "D=ro:" + os.path.abspath("changed"), "H=ro:" + os.path.abspath("hash")))
+    words = words_for("verity", "v", "D=ro:" + os.path.abspath("changed"), "H=ro:" + os.path.abspath("hash"))
+    words.remove("--quiet")
+    handle.connect_command(["sh", "-c", 'exec "$@" 2> errors', "sh", *words])
     say("changed block: size", handle.get_size() == len(data))
     say("changed block: read only", handle.is_read_only())
     say("changed block: several connections", handle.can_multi_conn())
@@ -209,9 +212,24 @@ def changed_block(data):
             say(f"bytes at {offset} over the changed block", False)
         except nbd.Error as error:
             say(f"bytes at {offset} over the changed block", error.errno == "EIO")
-    for offset, length in ((bad * BLOCK - 9, 10), (bad * BLOCK + 7, 9), (0, len(data)), (3, 1 << 20), (5, 700), (1, len(data) // 2 - 1)):
+    parts = ((bad * BLOCK - 9, 10), (bad * BLOCK + 7, 9), (0, len(data)), (3, 1 << 20), (5, 700), (1, len(data) // 2 - 1))
+    for offset, length in parts:
         chunks_of(handle, data, offset, length, bad * BLOCK)
     handle.shutdown()
+    over = sum(offset < (bad + 1) * BLOCK and bad * BLOCK < offset + length for offset, length in parts)
+    log_told(len(data), len(data) // BLOCK + 4 + 3 + len(parts), 1 + 3 + over)
+
+
+def log_told(size, requests, faults):
+    """What the service of the volume has printed by its end, which may be a moment after the client's."""
+    log = f"dmstack: export v {size} bytes ro\ndmstack: served {requests} requests, {faults} with an input/output error\n"
+    end = f"faults {faults} requests {requests}\n"
+    for _ in range(100):
+        errors = open("errors").read()
+        if errors.endswith(end):
+            break
+        time.sleep(0.05)
+    say("changed block: standard error", errors.startswith(log) and errors.endswith(end) and errors.count("\n") == 4, errors[:300])
 
 
 def chunks_of(handle, data, offset, length, bad):

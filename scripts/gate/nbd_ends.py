@@ -10,9 +10,10 @@ import time
 
 from nbd_messages import (
     ACK, CACHE, DF, DISC, EXPORT_NAME, Export, FLUSH, FUA, GO, GREETING, INFO, LIST, LIST_META, READ, REQ_ONE, SECTOR, SERVER, SET_META,
-    STACK, STATUS, STRUCTURED, TRIM, WRITE, ZEROES, asks, begun, begun_in_chunks, context, exports, flags, option, option_reply, queries,
-    reply, request,
+    STACK, STATUS, STRUCTURED, TRIM, WRITE, ZEROES, asks, begun, begun_in_chunks, context, exports, faults_line, flags, option,
+    option_reply, queries, reply, request, requests_in, without_log,
 )
+from sentences import without_sentence
 
 
 def cuts(runner):
@@ -111,7 +112,7 @@ def sent_ahead(runner, label, sent, wanted, after):
     writer.join(60)
     status = served.wait()
     limit.cancel()
-    runner.count(label, found == wanted and status == 0 and not said, f"status {status}, {len(found)} of {len(wanted)} bytes, {said[:80]!r}")
+    runner.count(label, found == wanted and status == 0 and not without_log(said), f"status {status}, {len(found)} of {len(wanted)} bytes, {said[:80]!r}")
     runner.count(f"{label}: the image", open("F", "rb").read() == after)
 
 
@@ -144,13 +145,14 @@ def gone_within(runner):
     for kind, (asked, answer) in replies.items():
         given, whole = sent + asked + request(WRITE, 1, 4, data=b"next"), told + answer
         for taken in range(len(whole) - len(answer), len(whole) + 1):
-            gone_behind(runner, f"gone within {kind}", given, whole + reply(), taken, (bytes(first), bytes(second)))
+            gone_behind(runner, f"gone within {kind}", given, whole + reply(), taken, (bytes(first), bytes(second)), kind == "ERROR_OFFSET")
         for taken in range(len(whole) - len(answer) - len(reply()), len(whole) + len(reply())):
             cut_behind(runner, f"cut within {kind}", given, whole + reply(), taken, bytes(second if taken >= len(whole) else first))
 
 
-def gone_behind(runner, label, sent, whole, taken, images):
-    """The client takes so many bytes and closes both its ends; the service may have put more into the pipe by then."""
+def gone_behind(runner, label, sent, whole, taken, images, faulty):
+    """The client takes so many bytes and closes both its ends; the service may have put more into the pipe by then. If it ends well,
+    it tells whether one of the requests had a fault."""
     open("F", "wb").write(exports()["file"].content)
     served = subprocess.Popen([runner.program, "nbd", "patched", "p", "F=rw:F"], bufsize=0, stdin=subprocess.PIPE, stdout=subprocess.PIPE, stderr=subprocess.PIPE)
     limit = threading.Timer(60, served.kill)
@@ -164,8 +166,9 @@ def gone_behind(runner, label, sent, whole, taken, images):
         said = served.stderr.read()
     status = served.wait(60)
     limit.cancel()
-    good = found == whole[:taken] and status in (0, 1) and not said
-    runner.count(f"{label} after {taken} bytes", good and open("F", "rb").read() in images[status == 0 :], f"status {status}, {said[:80]!r}")
+    told = faults_line(1, requests_in(sent)) if status == 3 else b""
+    good = found == whole[:taken] and status in (3 if faulty else 0, 1) and without_sentence(b"", without_log(said), status) == told
+    runner.count(f"{label} after {taken} bytes", good and open("F", "rb").read() in images[status != 1 :], f"status {status}, {said[:200]!r}")
 
 
 def cut_behind(runner, label, sent, whole, taken, after):
@@ -182,5 +185,5 @@ def cut_behind(runner, label, sent, whole, taken, after):
         done = subprocess.run([runner.program, "nbd", "patched", "p", "F=rw:F"], input=sent, stdout=out, stderr=subprocess.PIPE, timeout=60, preexec_fn=limited)
         out.seek(start)
         found = out.read()
-    good = found == whole[:taken] and done.returncode == 1 and not done.stderr
+    good = found == whole[:taken] and done.returncode == 1 and not without_log(done.stderr)
     runner.count(f"{label} after {taken} bytes", good and open("F", "rb").read() == after, f"status {done.returncode}, {len(found)} bytes")

@@ -5,7 +5,7 @@ import subprocess
 
 from nbd_messages import (
     DF, EIO, ENOMEM, ERROR_OFFSET, FLUSH, FUA, GREETING, READ, SECTOR, STACK, STATUS, WRITE, ZEROES, begun, begun_in_chunks, chunk, exports,
-    failed, flags, reply, request,
+    failed, faults_line, flags, log_of, reply, request, without_log,
 )
 from sentences import without_sentence
 
@@ -47,8 +47,15 @@ def talks(chunked, failing=None, error=EIO):
             sent += request(READ, *rest)
             answer = reply(error) if number == failing else e.read(*rest)
         wanted += answer
-    kinds = [kind for kind, *_ in asked]
-    return sent, wanted, bytes(e.content), kinds
+    return sent, wanted, bytes(e.content), asked
+
+
+def faults_by(asked, chunked, failing):
+    """How many requests report an error where the request of that number fails: a piece is read again, and goes well."""
+    kind = asked[failing][0]
+    if kind == "flush":
+        return sum(later == "flush" for later, *_ in asked[failing:])
+    return int(kind != "read" or not chunked)
 
 
 def forced(runner):
@@ -90,7 +97,7 @@ def forced(runner):
         # the sync at the end is that of the third binding
         failing = [later for _, later in syncs[found - 1 :]]
         wanted = told + b"".join(reply(EIO) if k in failing else it for k, it in enumerate(answers))
-        good = done.stdout == wanted and done.returncode == 3 and without_sentence(b"", done.stderr, 3) == b"fault 3 Device 3\n" and int(call[2]) == put
+        good = done.stdout == wanted and done.returncode == 3 and without_sentence(b"", without_log(done.stderr), 3) == b"fault 3 Device 3\n" and int(call[2]) == put
         runner.count(f"sync {found} fails", good, f"status {done.returncode}, {len(done.stdout)} of {len(wanted)} bytes, after {call[2]} sectors of {put}")
         runner.count(f"sync {found} fails: the image", open("F", "rb").read() == bytes(e.content))
     runner.count("each sync failed", found == len(syncs), f"{found} of {len(syncs)}")
@@ -101,14 +108,26 @@ def failures(runner):
         failures_of(runner, chunked)
 
 
+def device_ends(asked, chunked, synced):
+    """How the exchange may end where a call on the device fails: the output, the status, the file, and what standard error has but the
+    sentence. A failed sync is one of a flush, and of the end's, or of the end's alone; the file is the third binding."""
+    e, ends = exports()["file"], []
+    for failing in [k for k, it in enumerate(asked) if (it[0] == "flush") == synced] + [None] * synced:
+        _, told, left, _ = talks(chunked, failing)
+        faults = 0 if failing is None else faults_by(asked, chunked, failing)
+        line = b"fault 3 Device 3\n" if synced else faults_line(1, len(asked)) if faults else b""
+        ends.append((told, 3 if line else 0, left, log_of([e], len(asked), faults) + line))
+    return ends
+
+
 def failures_of(runner, chunked):
     """Each call of the system, and each allocation, fails in turn: the request that met it says so, and the others nothing."""
     library = os.path.join(os.getcwd(), "fail.so")
     sources = [os.path.join(os.path.dirname(os.path.realpath(__file__)), it) for it in ("fail_calls.c", "refuse_alloc.c")]
     subprocess.run(["cc", "-shared", "-fPIC", "-O2", "-o", library, *sources, "-ldl"], check=True)
     open("stack", "w").write(STACK)
-    sent, plain, after, kinds = talks(chunked)
-    for kind in ("device", "memory", "input", "output"):
+    sent, plain, after, asked = talks(chunked)
+    for kind in ("device", "memory", "input", "output", "errors"):
         for number in range(1, 10000):
             open("F", "wb").write(exports()["file"].content)
             if os.path.exists("met"):
@@ -121,21 +140,21 @@ def failures_of(runner, chunked):
                 break
             met = open("met").read()
             found, said = (done.stdout, done.returncode, open("F", "rb").read()), b""
+            errors = without_sentence(b"", done.stderr, done.returncode)
             if kind == "device":
-                synced = met.startswith("sync")
-                # the sync at the end, which fails too if a flush did: the file is the third binding
-                status, said = (3, b"fault 3 Device 3\n") if synced else (0, b"")
-                ends = [(told, status, left) for _, told, left, _ in (talks(chunked, k) for k, it in enumerate(kinds) if (it == "flush") == synced)]
-                good = found in ends or synced and found == (plain, status, after)
+                good = (*found, errors) in device_ends(asked, chunked, met.startswith("sync"))
+                errors = b""
+            elif kind == "errors":
+                good, errors = found == (plain, 0, after), b""
             elif kind == "memory":
-                ends = [(told, 0, left) for _, told, left, _ in (talks(chunked), *(talks(chunked, k, ENOMEM) for k in range(len(kinds))))]
+                ends = [(told, 0, left) for _, told, left, _ in (talks(chunked), *(talks(chunked, k, ENOMEM) for k in range(len(asked))))]
                 if found[:2] == (b"", 1):
                     good, said = True, b"no memory\n"
                 else:
                     good = found in ends or found[:2] == (GREETING, 1)
             else:
                 good = done.returncode == 1 and plain.startswith(done.stdout)
-            runner.count(f"{kind} {number} fails ({met.strip()})", good and without_sentence(b"", done.stderr, done.returncode) == said, f"status {done.returncode}, {len(done.stdout)} of {len(plain)} bytes, {done.stdout[-40:]!r}, {done.stderr[:80]!r}")
+            runner.count(f"{kind} {number} fails ({met.strip()})", good and errors is not None and without_log(errors) == said, f"status {done.returncode}, {len(done.stdout)} of {len(plain)} bytes, {done.stdout[-40:]!r}, {done.stderr[:80]!r}")
         runner.count(f"{kind}: some failed", number > 1)
 
 

@@ -1,5 +1,6 @@
 """The messages of the NBD protocol, field by field, what an export answers, and the service that an exchange runs on."""
 import os
+import re
 import struct
 import subprocess
 
@@ -248,6 +249,44 @@ def begins_to_differ(found, wanted):
     return len(wanted) if found == wanted else len(os.path.commonprefix([bytes(found), bytes(wanted)]))
 
 
+# What standard error has of a client that broke the protocol or was lost.
+ENDS = [b"client 1 Lost\n", b"client 2 Magic\n", b"client 3 Flags\n", b"client 4 NoSuchExport\n"]
+
+
+def faults_line(faults, requests):
+    """What standard error has of a client some of whose requests had faults."""
+    return b"faults %d requests %d\n" % (faults, requests)
+
+
+# The lines on standard error on a service, unless it is quiet: one for each export, and at its end one on the requests.
+LOG = re.compile(rb"((?:dmstack: export [!-~]+ [0-9]+ bytes r[ow]\n)+)(dmstack: served ([0-9]+) requests, ([0-9]+) with an input/output error\n)")
+
+
+def log_of(served, requests, faults=0):
+    """These lines, of a service of these exports."""
+    lines = [b"dmstack: export %s %d bytes %s\n" % (it.name.encode(), len(it.content), b"rw" if it.writable else b"ro") for it in served]
+    return b"".join(lines) + b"dmstack: served %d requests, %d with an input/output error\n" % (requests, faults)
+
+
+def without_log(errors):
+    """The error output without these lines, if it has them."""
+    return LOG.sub(b"", errors, 1)
+
+
+def requests_in(sent):
+    """How many requests a client sends that are answered: each whole one but DISC."""
+    at, count = 4, 0
+    while sent[at : at + 8] == OPTION_MAGIC:
+        at += 16 + int.from_bytes(sent[at + 12 : at + 16], "big")
+    while sent[at : at + 4] == struct.pack(">I", REQUEST):
+        kind = int.from_bytes(sent[at + 6 : at + 8], "big")
+        at += 28 + (int.from_bytes(sent[at + 24 : at + 28], "big") if kind == WRITE else 0)
+        if kind == DISC or at > len(sent):
+            break
+        count += 1
+    return count
+
+
 class Runner(Checks):
     """Runs exchanges on the program, and counts those that agree."""
 
@@ -268,17 +307,23 @@ class Runner(Checks):
             problems.append(f"output differs at {at}: {done.stdout[at:at+32].hex()} and not {wanted[at:at+32].hex()}")
         if done.returncode != status:
             problems.append(f"status {done.returncode} and not {status}")
-        if without_sentence(b"", done.stderr, done.returncode) != told:
+        served = [] if status == 1 else [*exports().values()] if name is None else [exports()[name]]
+        log = log_of(served, requests_in(sent), int(told.split()[1]) if status == 3 else 0) if served else b""
+        if without_sentence(b"", done.stderr, done.returncode) not in [log + it for it in (ENDS if status == 4 and not told else [told])]:
             problems.append(f"standard error: {done.stderr[:200]!r}")
         if after is not None and open("F", "rb").read() != after:
             problems.append("the image differs")
         self.count(label, not problems, "; ".join(problems))
 
-    def serve(self, label, words, sent, wanted):
-        """The service with these arguments reads what is sent, and then the end of its input."""
+    def serve(self, label, words, sent, wanted, faults=0):
+        """The service with these arguments reads what is sent, and then the end of its input. So many requests have faults."""
         done = subprocess.run([self.program, "nbd", *words], input=sent, capture_output=True, timeout=60)
-        at = begins_to_differ(done.stdout, wanted)
-        self.count(label, done.stdout == wanted and done.returncode == 0 and not done.stderr, f"differs at {at} of {len(wanted)}, status {done.returncode}, {done.stderr[:80]!r}")
+        at, requests, status = begins_to_differ(done.stdout, wanted), requests_in(sent), 3 if faults else 0
+        rest = without_sentence(b"", done.stderr, done.returncode)
+        log = LOG.match(rest or b"")
+        good = done.stdout == wanted and done.returncode == status and log and [*map(int, log.groups()[2:])] == [requests, faults]
+        good = good and rest[log.end() :] == (faults_line(faults, requests) if faults else b"")
+        self.count(label, good, f"differs at {at} of {len(wanted)}, status {done.returncode}, {done.stderr[:200]!r}")
 
 
 def begun(export, bits=3):

@@ -5,7 +5,7 @@ import subprocess
 from nbd_messages import (
     ACK, BLOCK, CACHE, DF, DISC, EINVAL, EXPORT_NAME, Export, FAST_ZERO, FLUSH, FUA, GO, GREETING, INVALID, LIST, MOST, NO_HOLE, PIECE,
     READ, REQ_ONE, SECTOR, SERVER, STATUS, STRUCTURED, TRIM, WRITE, ZEROES, asks, begun, begun_in_chunks, exports, failed,
-    flags, option, option_reply, reply, request,
+    faults_line, flags, option, option_reply, reply, request, without_log,
 )
 
 
@@ -51,7 +51,7 @@ def transmissions(runner):
         for length in (1, 2, 512, 513, 1024):
             sent += request(READ, offset, length)
             wanted += e.read(offset, length)
-    runner.run("reads of holed", "holed", sent, wanted)
+    runner.run("reads of holed", "holed", sent, wanted, status=3, told=faults_line(19, 35))
 
 
 def chunks(runner):
@@ -97,7 +97,7 @@ def chunks(runner):
         for length in (1, 2, 512, 513, 1024):
             sent += request(READ, offset, length) + request(READ, offset, length, bits=DF)
             wanted += e.chunks(offset, length) + e.chunks(offset, length, df=True)
-    runner.run("reads of holed in chunks", "holed", sent, wanted)
+    runner.run("reads of holed in chunks", "holed", sent, wanted, status=3, told=faults_line(38, 70))
     large_chunks(runner)
     large_holes(runner)
     large_zeros(runner)
@@ -117,13 +117,15 @@ def large_chunks(runner):
         open("F", "wb").write(content)
         e = Export("l", content, lost=[(k, k + 1) for k in lost])
         sent, wanted = map(bytearray, begun_in_chunks(e))
+        faults = 0
         for offset in (0, 1, 511, 512, PIECE - 513, PIECE - 512, PIECE - 1, PIECE, PIECE + 1, 2 * PIECE - 1024, 4 * PIECE - 3, size - 1):
             for length in (1, 512, 513, 1025, PIECE - 1, PIECE, PIECE + 1, 3 * PIECE, size - offset):
                 if offset + length <= size:
                     cookie = offset ^ length << 32
+                    faults += 2 * e.fails(offset, length)
                     sent += request(READ, offset, length, cookie) + request(READ, offset, length, cookie, bits=DF)
                     wanted += e.chunks(offset, length, cookie) + e.chunks(offset, length, cookie, df=True)
-        runner.serve(f"large reads with {lost} lost", ["large", "l", "F=ro:F"], sent + request(DISC), wanted)
+        runner.serve(f"large reads with {lost} lost", ["large", "l", "F=ro:F"], sent + request(DISC), wanted, faults)
 
 
 def large_holes(runner):
@@ -144,12 +146,14 @@ def large_holes(runner):
         open("F", "wb").write(b"".join(struct.pack(">I", k) for k in range(at * 128)))
         e = Export("h", content, lost=spans["error"], zeros=spans["zero"])
         sent, wanted = map(bytearray, begun_in_chunks(e))
+        faults = 0
         for offset in (0, 1, 511, 512, 3 * SECTOR - 1, 3 * SECTOR, 5 * SECTOR, 13 * SECTOR, PIECE - 1, PIECE, 2 * PIECE - 3, 4 * PIECE + 1):
             for length in (1, 511, 512, 513, 1025, 700 * SECTOR, PIECE - 1, PIECE, PIECE + 1, 3 * PIECE, len(content) - offset):
                 if offset + length <= len(content):
+                    faults += 2 * e.fails(offset, length)
                     sent += request(READ, offset, length, offset) + request(READ, offset, length, offset, bits=DF)
                     wanted += e.chunks(offset, length, offset) + e.chunks(offset, length, offset, df=True)
-        runner.serve(f"reads of {lines}", ["holes", "h", "F=ro:F"], sent + request(DISC), wanted)
+        runner.serve(f"reads of {lines}", ["holes", "h", "F=ro:F"], sent + request(DISC), wanted, faults)
 
 
 def large_zeros(runner):
@@ -201,4 +205,4 @@ def gone(runner):
         status = served.wait(60)
         # the last bytes may be in the pipe already
         wanted = (1,) if len(whole) - taken > 1 << 17 else (0, 1)
-        runner.count(f"gone behind {taken} bytes", found == whole[:taken] and not told_of and status in wanted, f"status {status}, {told_of[:80]!r}")
+        runner.count(f"gone behind {taken} bytes", found == whole[:taken] and not without_log(told_of) and status in wanted, f"status {status}, {told_of[:80]!r}")

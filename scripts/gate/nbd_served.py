@@ -172,4 +172,4 @@ def encrypted(size):
 
 
 def words_for(stack, name, *bindings):
-    return [program, "nbd", os.path.abspath(stack), name, *bindings]
+    return [program, "nbd", "--quiet", os.path.abspath(stack), name, *bindings]

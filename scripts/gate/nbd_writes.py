@@ -4,7 +4,7 @@ import struct
 from cipher import xts_encrypt
 from nbd_messages import (
     DF, DISC, EINVAL, EIO, ENOSPC, EPERM, Export, FAST_ZERO, FLUSH, FUA, MOST, NO_HOLE, RAMP, READ, REQ_ONE, SECTOR, WRITE, ZEROES, begun,
-    exports, reply, request,
+    exports, faults_line, reply, request,
 )
 
 
@@ -54,7 +54,7 @@ def writes(runner):
     for offset, length in ((1000, 100), (1500, 700), (1024, 1), (1535, 1)):
         asked += request(ZEROES, offset, length) + request(READ, 512, 512) + request(READ, 1536, 512)
         told += reply(EIO) + reply(data=bytes(512)) + reply(data=RAMP[1536:2048])
-    runner.run("writes of holed", "holed", asked, told)
+    runner.run("writes of holed", "holed", asked, told, status=3, told=faults_line(10, 30))
 
 
 def zeroes(runner):

@@ -248,8 +248,8 @@ def run_nbd(options, words, files, given, features):
     if not name:
         # the sizes of all others have no 64 bits
         devices = [device for device in stack.configuration.devices.values() if device.sectors < 2**55]
-        return Service(stack, devices).serve(given)
-    return Service(stack, [looked_up(stack.configuration, name[0])]).serve(given)
+        return Service(stack, devices).serve(given, b"quiet" in options)
+    return Service(stack, [looked_up(stack.configuration, name[0])]).serve(given, b"quiet" in options)
 
 
 def run_session(options, words, files, given, features):

@@ -57,14 +57,16 @@ def run_format(options, words, files, _given, _features):
     *paths, (*sizes, blocks, salt), uuid, first = read_format(options, words)
     is_bare, fec = b"no-superblock" in options, read_fec(options)
     kept = options.get(b"pin", options.get(b"root-hash-file"))
-    if kept is not None:
-        check_kept(files, paths, kept)
     if fec:
         check_one_size(*sizes)
         if b"grow" in options:
             found(files, paths, fec)
         else:
-            measured(files, paths, fec, first, (*sizes, blocks, salt))
+            measured(files, paths, fec, first, (*sizes, blocks, salt), is_bare)
+    if kept is not None:
+        check_kept(files, paths, kept)
+        if fec:
+            check_kept(files, (fec[0], fec[0]), kept)
     check_aligned(first, sizes[1])
     if b"grow" in options:
         check_data(files.image(paths[0], False), *sizes, blocks)
@@ -85,7 +87,7 @@ def run_format(options, words, files, _given, _features):
         image.extend(bytes(max(0, first * SECTOR - len(image))))
         image.extend(part)
     if fec:
-        protect(files, paths, fec, first, b"grow" in options)
+        protect(files, paths, fec, first, b"grow" in options, (*sizes, count, salt) if is_bare else None)
     if kept is not None:
         pin = Pin(root, salt, *sizes, count)
         files.replace(kept, pin.text() if b"pin" in options else root.hex().encode())
@@ -216,9 +218,9 @@ def run_partitions(options, words, files, _given, _features):
     warnings = warning_lines(image, table)
     try:
         if root is not None:
-            lines = root_lines(image, table.partitions, table.size, root, pin)
+            lines = root_lines(image, table, root, pin, b"writable" in options)
         elif b"stack" in options:
-            lines = stack_lines(image, table.partitions, table.size)
+            lines = stack_lines(image, table, b"writable" in options)
         elif b"json" in options:
             lines = [Json(table_facts(table.partitions, table.copies))]
         else:

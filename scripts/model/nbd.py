@@ -26,15 +26,15 @@ MOST_OF_AN_OPTION, MOST_OF_A_REQUEST = 65536, 32 * 1024 * 1024
 # Where the pieces of a READ end, and the blocks at the ends of one that are holes where they are zeros. A BLOCK_STATUS that
 # reads does so up to the end of a piece, or of a part of one where one extent is asked for, and tells zeros by such blocks.
 PIECE, PART, BLOCK = 256 * 1024, 64 * 1024, 4096
-DONE, BROKEN = 0, 4
+DONE, FAULTS, BROKEN = 0, 3, 4
 
 
 class Ended(Exception):
-    """The end of the service, with its status."""
+    """The end of the service, with its status and the line on a client that broke the protocol or is lost."""
 
-    def __init__(self, status):
+    def __init__(self, status, line=b""):
         super().__init__(status)
-        self.status = status
+        self.status, self.line = status, line
 
 
 class Refused(Exception):
@@ -46,10 +46,10 @@ class Refused(Exception):
 
 
 class Replies:
-    """What is written to a client: each reply with what it answers."""
+    """What is written to a client: each reply with what it answers; and the lines on standard error, but for the sentence."""
 
     def __init__(self):
-        self.parts = []
+        self.parts, self.warnings = [], []
 
     def add(self, answered, octets):
         self.parts.append((answered, octets))
@@ -71,9 +71,9 @@ class Service:
 
     def __init__(self, stack, devices):
         self.stack, self.devices = stack, devices
-        self.replies = Replies()
+        self.replies, self.requests, self.faults = Replies(), 0, 0
 
-    def serve(self, given):
+    def serve(self, given, is_quiet=False):
         """The replies to a whole input, and the status."""
         self.given, self.at = given, 0
         self.replies.add("the greeting", OLD_MAGIC + OPTION_MAGIC + struct.pack(">H", FIXED_NEWSTYLE | NO_ZEROES))
@@ -84,7 +84,16 @@ class Service:
             while True:
                 self.request()
         except Ended as end:
-            return self.replies, end.status
+            status, line = end.status, end.line
+        if status == DONE and self.faults:
+            status, line = FAULTS, b"faults %d requests %d" % (self.faults, self.requests)
+        self.replies.warnings = [*([] if is_quiet else self.log()), *([line] if line else [])]
+        return self.replies, status
+
+    def log(self):
+        """The lines on a service that isn't quiet: one on each device, and one on the requests at the end."""
+        devices = [b"dmstack: export %s %d bytes %s" % (it.name, it.sectors * SECTOR, b"rw" if it.writable else b"ro") for it in self.devices]
+        return [*devices, b"dmstack: served %d requests, %d with an input/output error" % (self.requests, self.faults)]
 
     def begin(self):
         """A message begins: where the input has ended, the client went away between two of them."""
@@ -94,7 +103,7 @@ class Service:
     def take(self, count):
         """So many bytes of a message; a client that goes away in it is lost."""
         if len(self.given) - self.at < count:
-            raise Ended(BROKEN)
+            raise Ended(BROKEN, b"client 1 Lost")
         self.at += count
         return self.given[self.at - count:self.at]
 
@@ -102,7 +111,7 @@ class Service:
         self.begin()
         flags, = struct.unpack(">I", self.take(4))
         if flags & ~(FIXED_NEWSTYLE | NO_ZEROES):
-            raise Ended(BROKEN)
+            raise Ended(BROKEN, b"client 3 Flags")
         return bool(flags & NO_ZEROES)
 
     # The handshake
@@ -112,7 +121,7 @@ class Service:
         self.begin()
         magic, option, length = struct.unpack(">8sII", self.take(16))
         if magic != OPTION_MAGIC:
-            raise Ended(BROKEN)
+            raise Ended(BROKEN, b"client 2 Magic")
         data = self.take(length)
         if option == EXPORT_NAME:
             return self.export_name(data)
@@ -161,7 +170,7 @@ class Service:
     def export_name(self, name):
         device = self.named(name)
         if device is None:
-            raise Ended(BROKEN)
+            raise Ended(BROKEN, b"client 4 NoSuchExport")
         self.replies.add("EXPORT_NAME", self.fields(device) + (b"" if self.no_zeroes else bytes(124)))
         return self.begin_with(device)
 
@@ -210,10 +219,11 @@ class Service:
         head = self.take(28)
         magic, flags, command, cookie, offset, length = struct.unpack(">IHHQQI", head)
         if magic != REQUEST_MAGIC:
-            raise Ended(BROKEN)
+            raise Ended(BROKEN, b"client 2 Magic")
         if command == DISCONNECT:
             raise Ended(DONE)
         data = self.take(length) if command == WRITE else b""
+        self.requests += 1
         asked = "command %d at %d of %d bytes" % (command, offset, length)
         try:
             self.check(flags, command, offset, length)
@@ -226,6 +236,7 @@ class Service:
             error, answer = refused.error, b""
         except Fault:
             error, answer = EIO, b""
+            self.faults += 1
         if self.structured and command in (READ, BLOCK_STATUS):
             octets = framed(cookie, True, *self.chunk(command, offset, error, answer))
         else:
@@ -249,6 +260,7 @@ class Service:
                 octets = self.read(at, behind - at)
             except Fault:
                 if at // SECTOR == (behind - 1) // SECTOR:
+                    self.faults += 1
                     yield True, ERROR_OFFSET, struct.pack(">IHQ", EIO, 0, at)
                     return
                 slow = behind

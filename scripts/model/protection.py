@@ -45,11 +45,11 @@ def laid_out(files, paths, fec, first, writable, said=None):
     return tree, covered(data, image, tree.data_block, tree.blocks, tree.start), parity
 
 
-def protect(files, paths, fec, first, is_grown):
-    """Writes the parity of an image."""
+def protect(files, paths, fec, first, is_grown, said):
+    """Writes the parity of an image. Without a superblock options say the tree."""
     if is_grown:
         files.make(fec[0])
-    tree, area, parity = laid_out(files, paths, fec, first, True)
+    tree, area, parity = laid_out(files, paths, fec, first, True, said)
     if is_grown:
         parity.extend(bytes(max(0, sectors_of_parity(area, tree.data_block, fec[1]) * SECTOR - len(parity))))
     check_parity(tree, area, parity, fec[1])
@@ -73,7 +73,7 @@ def found(files, paths, fec):
     files.opened.clear()
 
 
-def measured(files, paths, fec, first, options):
+def measured(files, paths, fec, first, options, is_bare):
     """The parity's file has the sectors that the image takes that a format is to make, where the options make one."""
     data_block, _, blocks, _ = options
     files.opened.clear()
@@ -86,7 +86,7 @@ def measured(files, paths, fec, first, options):
         blocks = len(data) // SECTOR // (data_block // SECTOR)
     if not has_shape(data_block, data_block, blocks):
         return
-    covered_blocks = blocks + max(0, len(image[first * SECTOR:]) // SECTOR * SECTOR // data_block - 1)
+    covered_blocks = blocks + max(0, len(image[first * SECTOR:]) // SECTOR * SECTOR // data_block - (not is_bare))
     needed = -(-covered_blocks // (WORD - fec[1])) * fec[1] * data_block // SECTOR
     if len(parity) // SECTOR < needed:
         raise Stop(b"refused 48 FecTooSmall needed %d" % needed)

@@ -48,6 +48,9 @@ class Disks(Trees):
         parts = [(halves[0], b"".join(it.contents)), (halves[1], bytes(area))]
         if self.chance(0.1):
             parts.append((self.pick(halves), b""))
+        for _ in range(self.pick([0, 0, 1, 2])):
+            named = root if self.chance(0.8) else self.random.randbytes(32)
+            parts.append((self.random.randbytes(16), self.pick([b'{"rootHash":"', b'{"rootHash": "']) + named.hex().encode() + b'"}'))
         self.random.shuffle(parts)
         return root, parts
 
@@ -142,4 +145,6 @@ class Disks(Trees):
             words.append(b"--json")
         if self.chance(0.03):
             words.append(b"--stack")
+        if self.chance(0.2 if form in (1, 2) else 0.03):
+            words.append(b"--writable")
         return Run([b"partitions"] + words + [self.pick([b"disk"] * 15 + [b"missing", b"."])])

@@ -100,7 +100,7 @@ class Trees(Dice):
             fec = [b"--fec", self.pick([b"parity"] * 9 + names), b"--fec-roots=%d" % self.pick([2, 2, 8, 23, 24, 25, 1])]
             self.files[b"parity"] = bytes(self.pick([0, 512, 4096, 40000]))
             checked = [b"verify"] + fec + self.bare_words(it) + self.offset_words(offset) + names + [root.hex().encode()]
-            runs = [Run([b"format"] + fec + words + names), Run(checked)]
+            runs = [Run([b"format"] + fec + self.written_root() + words + names), Run(checked)]
         return runs + [self.tree_run(it, names, root, offset) for _ in range(2)]
 
     def checked_tree(self):
@@ -248,7 +248,7 @@ class Trees(Dice):
         """In some cases the file to which `format` writes a pin or the root hash."""
         if self.chance(0.8):
             return []
-        return [self.pick([b"--pin", b"--root-hash-file"]), self.pick([b"kept"] * 8 + [b"data", b"hash", b"none/kept", b"-"])]
+        return [self.pick([b"--pin", b"--root-hash-file"]), self.pick([b"kept"] * 8 + [b"data", b"hash", b"parity", b"none/kept", b"-"])]
 
     def drawn_pin(self, it, root):
         """The text of a tree's pin, in some cases with another value, or no pin."""

@@ -51,7 +51,7 @@ def is_reply(out):
 
 def expected(out, errors, status, words):
     """The sentence on what ended a command. A session doesn't end with its last reply, unless the images can't be synced."""
-    if status not in (1, 3) or b"--quiet" in words[1:]:
+    if status not in (1, 3, 4) or b"--quiet" in words[1:]:
         return b""
     if words[:1] == [b"session"] and status == 1 and is_reply(out):
         return b""

@@ -23,13 +23,13 @@ OPTIONS = {
     "scan": (b"cache", b"map", b"retries", b"progress", b"json", b"chart"),
     "copy": (b"cache", b"map", b"retries", b"differing", b"progress"),
     "cat": (b"cache", b"first", b"count", b"progress"), "store": (b"cache", b"first", b"progress"),
-    "partitions": (b"sector-size", b"stack", b"root", b"json", b"pin"),
+    "partitions": (b"sector-size", b"stack", b"root", b"json", b"pin", b"writable"),
     "diff": (*TREE, b"no-superblock", b"all", b"runs", b"json", b"old-hash-offset", b"hash-offset", b"old-root-hash-file",
              b"root-hash-file", b"old-pin", b"pin"),
     "manual": (), "version": (),
 }
 OPTIONS = {name: (b"quiet", *options) for name, options in OPTIONS.items()}
-FLAGS = (b"quiet", b"all", b"stack", b"no-superblock", b"grow", b"json", b"differing", b"progress", b"check", b"chart", b"tree")
+FLAGS = (b"quiet", b"all", b"stack", b"no-superblock", b"grow", b"json", b"differing", b"progress", b"check", b"chart", b"tree", b"writable")
 # veritysetup's names of options that have another here.
 OTHER_NAMES = {b"data-block-size": b"data-block", b"hash-block-size": b"hash-block",
                b"data-blocks": b"blocks", b"fec-device": b"fec"}
@@ -229,9 +229,9 @@ def read_format(options, words):
     check_pin(options)
     check_pin(options, b"root-hash-file")
     written = [name for name in (b"pin", b"root-hash-file") if name in options]
-    if written and (len(written) == 2 or b"fec" in options or b"fec-roots" in options):
+    if len(written) == 2:
         raise Usage
-    read_fec(options, (b"no-superblock",))
+    read_fec(options)
     return *exactly(words, 2), read_sizes(options), uuid, read_offset(options)
 
 
@@ -276,6 +276,8 @@ def read_on_stack(options, words, positional):
 
 def read_partitions(options, words):
     if sum(name in options for name in (b"pin", b"root", b"stack", b"json")) > 1:
+        raise Usage
+    if b"writable" in options and not {b"pin", b"root", b"stack"} & {*options}:
         raise Usage
     check_pin(options)
     size = the_number(options.get(b"sector-size", b"512"))

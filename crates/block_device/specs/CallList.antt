@@ -1,7 +1,7 @@
 -- What a list of calls adds up to.
 use Rattle.std.specs.Prelude.{ℕ, ◌+◌, ◌/◌, ◌≤◌, Bool, true, false, IsTrue, List, [], ◌∷◌, length}
 use Rattle.block_device.specs.Call.{Call, Calls, DeviceDoes, Read, Sync, Write}
-use Rattle.block_device.specs.Device.{Device, sectors_of, spliced}
+use Rattle.block_device.specs.Device.{Device}
 
 abbrev pub has_succeeded : Call → Bool
 has_succeeded (Read first bytes ok) = ok
@@ -25,10 +25,6 @@ sectors_written (Read first bytes ok) = 0
 sectors_written (Write first bytes ok) = length bytes / 512
 sectors_written (Sync ok) = 0
 
-abbrev pub AllSucceeded : List Call → Type 0
-AllSucceeded [] = Unit {0}
-AllSucceeded (call ∷ more) = IsTrue (has_succeeded call) × AllSucceeded more
-
 abbrev pub AllReads : List Call → Type 0
 AllReads [] = Unit {0}
 AllReads (call ∷ more) = IsTrue (is_read call) × AllReads more
@@ -40,13 +36,6 @@ all_read (call ∷ more) = sectors_read call + all_read more
 abbrev pub all_written : List Call → ℕ
 all_written [] = 0
 all_written (call ∷ more) = sectors_written call + all_written more
-
--- the image after calls that all succeeded
-abbrev pub image_after : List (List ℕ) → List Call → List (List ℕ)
-image_after image [] = image
-image_after image (Read first bytes ok ∷ more) = image_after image more
-image_after image (Write first bytes ok ∷ more) = image_after (spliced image first (sectors_of (length bytes / 512) bytes)) more
-image_after image (Sync ok ∷ more) = image_after image more
 
 -- calls on a device lead from one state of it to another, and they read and write at most so many sectors in all
 pub record DeviceCalls {D : Type 0} (state : D → Device) (does : D → Call → D → Type 0) (reads writes : ℕ) (old new : D) : Type 0 where

@@ -21,8 +21,8 @@ pub IsOfFile : File → Metadata → Type 0
 IsOfFile file metadata = Unit {0}
 
 -- the system made the file so many bytes long
-pub IsLengthened : File → ℕ → Type 0
-IsLengthened file bytes = Unit {0}
+pub IsLengthened : File → ℕ → File → Type 0
+IsLengthened old bytes new = Unit {0}
 
 -- the system told these numbers of a file
 pub Told : Metadata → FileNumbers → Type 0
@@ -50,9 +50,9 @@ pub was-said-of-file : (file : File) (metadata : Metadata) → Seal → IsOfFile
 unfolding IsOfFile
 was-said-of-file file metadata seal = tt
 
-pub was-lengthened : (file : File) (bytes : ℕ) → Seal → IsLengthened file bytes
+pub was-lengthened : (old : File) (bytes : ℕ) (new : File) → Seal → IsLengthened old bytes new
 unfolding IsLengthened
-was-lengthened file bytes seal = tt
+was-lengthened old bytes new seal = tt
 
 pub was-told : (metadata : Metadata) (numbers : FileNumbers) → Seal → Told metadata numbers
 unfolding Told

@@ -92,14 +92,15 @@ impl FileDev {
     /// # Errors
     ///
     /// The fault of what the system answered.
-    pub fn lengthen(self, bytes: u64) -> Result<(), OpenFault>
-        ensures { OnOk result (IsLongEnough (file_of self) bytes) }
+    pub fn lengthen(&mut self, bytes: u64) -> Result<(), OpenFault>
+        ensures long { OnOk result (IsLongEnough (file_of self.old) bytes (file_of self.new)) }
+        ensures same { file_id self.new ≡ file_id self.old }
     {
         let metadata = metadata_of(&self.file)?;
         if !metadata.is_file() || metadata.len() >= bytes {
             return Ok(());
         }
-        lengthen_file(&self.file, &metadata, bytes)
+        lengthen_file(&mut self.file, &metadata, bytes)
     }
 
     /// Locks the file against other processes that lock it, until the lock is dropped.

@@ -50,10 +50,14 @@ pub fn metadata_of(file: &File) -> Result<Metadata, OpenFault>
 }
 
 // Makes a file so many bytes long, which are more than the system said that it has.
-pub(crate) fn lengthen_file(file: &File, metadata: &Metadata, bytes: u64) -> Result<(), OpenFault>
-    requires of { IsOfFile file.now metadata.now }
+pub(crate) fn lengthen_file(
+    file: &mut File,
+    metadata: &Metadata,
+    bytes: u64,
+) -> Result<(), OpenFault>
+    requires of { IsOfFile file.old metadata.now }
     requires longer { metadata_len metadata.now < bytes }
-    ensures { OnOk result (IsLengthened file.now bytes) }
+    ensures { OnOk result (IsLengthened file.old bytes file.new) }
 {
     // The caller's conditions are those of the call: nothing more is known of a file's length.
     let _ = metadata;

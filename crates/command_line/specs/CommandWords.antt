@@ -27,11 +27,6 @@ unless_late None said = said
 unfoldable pub invocation_of : List ℕ → OptionTexts → List (List ℕ) → Bool → Reading InvocationRecord
 invocation_of name texts words behind_dashes = unless_late (late_option words behind_dashes) (invocation_said name texts words)
 
--- the fault is `Usage` with that cause, or memory ran out
-abbrev pub IsUsage : WordsFault → Type 0 → Type 0
-IsUsage (Usage misuse) Cause = Cause
-IsUsage NoMemory Cause = Unit {0}
-
 -- the fault is a misuse that it holds of, or memory ran out
 abbrev pub IsMisuse : (MisuseRecord → Type 0) → WordsFault → Type 0
 IsMisuse Holds (Usage misuse) = Holds (misuse_record misuse)

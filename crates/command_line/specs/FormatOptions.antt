@@ -57,6 +57,7 @@ pub record OptionTexts : Type 0 where
   pub chart : Bool
   pub tree : Bool
   pub quiet : Bool
+  pub writable : Bool
 
 -- what the program's own value says
 abbrev pub text_of : Option (Bor (List ℕ)) → Option (List ℕ)
@@ -101,6 +102,7 @@ option_texts words = record {
   chart = words.chart;
   tree = words.tree;
   quiet = words.quiet;
+  writable = words.writable;
 }
 
 -- each value is the one that its text says; if there is no text, it is 4,096 for a block size, and none for the others

@@ -1,5 +1,5 @@
 -- The commands of a command line.
-use Rattle.std.specs.Prelude.{◌&&◌, ◌||◌, ℕ, List, codes, Ok, Option, is_some, if◌then◌else◌}
+use Rattle.std.specs.Prelude.{◌&&◌, ℕ, List, codes, Ok, Option, is_some, if◌then◌else◌}
 use Rattle.std.specs.Str.{bytes_eq}
 use Rattle.command_line.specs.FormatOptions.{OptionTexts, text_of}
 use Rattle.command_line.specs.words.Cat.{CatRecord, cat_record, cat_said}
@@ -17,21 +17,19 @@ use Rattle.command_line.specs.words.Write.{WriteRecord, write_record, write_said
 use Rattle.command_line.specs.Misuses.{Reading, misused, refuse_if, said_as, when}
 use Rattle.command_line.specs.OptionGroups.{has_fec_value}
 use Rattle.command_line.specs.Positional.{no_more}
-use Rattle.command_line.specs.declared.misuse.Cause.TheVariants.{Unknown, WithFec, WithNoSuperblock, WithPin}
+use Rattle.command_line.specs.declared.misuse.Cause.TheVariants.{Unknown, WithNoSuperblock, WithPin}
 use Rattle.command_line.specs.words.FecFormat.{FecFormatRecord, fec_format_record, fec_format_said}
 use Rattle.command_line.specs.words.FecVerify.{FecVerifyRecord, fec_verify_record, fec_verify_said}
-use Rattle.command_line.specs.words.PinFormat.{PinFormatRecord, pin_format_record, pin_format_said}
 use Rattle.command_line.specs.words.Format.{FormatRecord, format_record, format_said}
 use Rattle.command_line.specs.words.Verify.{VerifyRecord, verify_record, verify_said}
 use Rattle.command_line.specs.words.Dump.{DumpRecord, dump_record, dump_said}
 use Rattle.command_line.specs.words.Table.{TableRecord, table_record, table_said}
 use Rattle.command_line.specs.words.Partitions.{PartitionsRecord, partitions_record, partitions_said}
 use Rattle.command_line.specs.words.Diff.{DiffRecord, diff_record, diff_said}
-use Rattle.command_line.specs.words.TreeFormat.{TreeFormatRecord, tree_format_record, tree_format_said}
 use Rattle.command_line.specs.words.TreeVerify.{TreeVerifyRecord, tree_verify_record, tree_verify_said}
 use Rattle.command_line.specs.words.TreeTable.{TreeTableRecord, tree_table_record, tree_table_said}
 use Rattle.command_line.specs.declared.invocation.Invocation.{Invocation}
-use Rattle.command_line.specs.declared.invocation.Invocation.TheVariants.{Load, Read, Write, Session, Nbd, Exports, Scan, Copy, Cat, Store, Format, Verify, Dump, Table, Partitions, Diff, Repair, FormatTree, VerifyTree, TableTree, FormatFec, VerifyFec, FormatPin, Manual, Version}
+use Rattle.command_line.specs.declared.invocation.Invocation.TheVariants.{Load, Read, Write, Session, Nbd, Exports, Scan, Copy, Cat, Store, Format, Verify, Dump, Table, Partitions, Diff, Repair, VerifyTree, TableTree, FormatFec, VerifyFec, Manual, Version}
 
 pub data InvocationRecord : Type 0 where
   load : LoadRecord → InvocationRecord
@@ -52,15 +50,12 @@ pub data InvocationRecord : Type 0 where
   partitions : PartitionsRecord → InvocationRecord
   diff : DiffRecord → InvocationRecord
   repair : RepairRecord → InvocationRecord
-  -- `format --no-superblock`
-  format_tree : TreeFormatRecord → InvocationRecord
+  -- `verify --no-superblock`
   verify_tree : TreeVerifyRecord → InvocationRecord
   table_tree : TreeTableRecord → InvocationRecord
   -- `format --fec`
   format_fec : FecFormatRecord → InvocationRecord
   verify_fec : FecVerifyRecord → InvocationRecord
-  -- `format --pin` and `format --root-hash-file`
-  format_pin : PinFormatRecord → InvocationRecord
   -- the name of the command whose page is printed, if there is one
   manual : Option (List ℕ) → InvocationRecord
   version : InvocationRecord
@@ -68,7 +63,7 @@ pub data InvocationRecord : Type 0 where
 -- the commands on trees without a superblock
 unfoldable pub tree_said : List ℕ → OptionTexts → List (List ℕ) → Reading InvocationRecord
 tree_said name texts words =
-    if bytes_eq name (codes "format") then said_as format_tree (tree_format_said texts words)
+    if bytes_eq name (codes "format") then said_as format (format_said texts words)
     else if bytes_eq name (codes "verify") then said_as verify_tree (tree_verify_said texts words)
     else if bytes_eq name (codes "table") then said_as table_tree (tree_table_said texts words)
     else if bytes_eq name (codes "diff") then said_as diff (diff_said texts words)
@@ -81,29 +76,14 @@ fec_said name texts words =
     else if bytes_eq name (codes "verify") then said_as verify_fec (fec_verify_said texts words)
     else misused (codes "--fec") Unknown
 
--- an image with a pin has a superblock, and a format with parity writes no pin
-unfoldable pub pin_conflicts : List ℕ → OptionTexts → Reading (Unit {0})
-pin_conflicts name texts =
-    when (refuse_if texts.no_superblock (codes "--no-superblock") WithPin) (λ a.
-    if bytes_eq name (codes "format") then refuse_if (has_fec_value texts) (codes "--pin") WithFec else Ok tt)
+-- an image with a pin has a superblock
+unfoldable pub pin_allowed : OptionTexts → Reading (Unit {0})
+pin_allowed texts = refuse_if (is_some texts.pin && texts.no_superblock) (codes "--no-superblock") WithPin
 
--- so if `--pin` is given
-unfoldable pub pin_allowed : List ℕ → OptionTexts → Reading (Unit {0})
-pin_allowed name texts = if is_some texts.pin then pin_conflicts name texts else Ok tt
-
--- a format writes the file of the root hash only of an image with a superblock and without parity
+-- a format writes the file of the root hash only of an image with a superblock
 unfoldable pub root_file_allowed : List ℕ → OptionTexts → Reading (Unit {0})
 root_file_allowed name texts =
-    if bytes_eq name (codes "format") && is_some texts.root_hash_file
-    then when (refuse_if (has_fec_value texts) (codes "--root-hash-file") WithFec) (λ a.
-    refuse_if texts.no_superblock (codes "--root-hash-file") WithNoSuperblock)
-    else Ok tt
-
--- an image is made, and with `--pin` or `--root-hash-file` its pin or its root hash written
-unfoldable pub formatted_said : OptionTexts → List (List ℕ) → Reading InvocationRecord
-formatted_said texts words =
-    if is_some texts.pin || is_some texts.root_hash_file
-    then said_as format_pin (pin_format_said texts words) else said_as format (format_said texts words)
+    refuse_if (bytes_eq name (codes "format") && (is_some texts.root_hash_file && texts.no_superblock)) (codes "--root-hash-file") WithNoSuperblock
 
 -- no argument is after `version`
 abbrev pub version_said : List (List ℕ) → Reading InvocationRecord
@@ -112,7 +92,7 @@ version_said words = said_as (λ none. version) (no_more words)
 -- the commands on images, or on nothing
 unfoldable pub image_said : List ℕ → OptionTexts → List (List ℕ) → Reading InvocationRecord
 image_said name texts words =
-    if bytes_eq name (codes "format") then formatted_said texts words
+    if bytes_eq name (codes "format") then said_as format (format_said texts words)
     else if bytes_eq name (codes "verify") then said_as verify (verify_said texts words)
     else if bytes_eq name (codes "dump") then said_as dump (dump_said texts words)
     else if bytes_eq name (codes "table") then said_as table (table_said texts words)
@@ -148,7 +128,7 @@ command_said name texts words =
 -- by the same, with `--fec` or `--no-superblock`, or without them, if nothing conflicts with the file of a pin or a root hash
 unfoldable pub invocation_said : List ℕ → OptionTexts → List (List ℕ) → Reading InvocationRecord
 invocation_said name texts words =
-    when (pin_allowed name texts) (λ a.
+    when (pin_allowed texts) (λ a.
     when (root_file_allowed name texts) (λ b.
     if bytes_eq name (codes "repair") then said_as repair (repair_said texts words)
     else if has_fec_value texts then fec_said name texts words
@@ -173,11 +153,9 @@ invocation_record (Table w) = table (table_record w)
 invocation_record (Partitions w) = partitions (partitions_record w)
 invocation_record (Diff w) = diff (diff_record w)
 invocation_record (Repair w) = repair (repair_record w)
-invocation_record (FormatTree w) = format_tree (tree_format_record w)
 invocation_record (VerifyTree w) = verify_tree (tree_verify_record w)
 invocation_record (TableTree w) = table_tree (tree_table_record w)
 invocation_record (FormatFec w) = format_fec (fec_format_record w)
 invocation_record (VerifyFec w) = verify_fec (fec_verify_record w)
-invocation_record (FormatPin w) = format_pin (pin_format_record w)
 invocation_record (Manual command) = manual (text_of command)
 invocation_record Version = version

@@ -3,9 +3,11 @@ pub mod Misuses
 pub mod Bindings
 pub mod BindingWords
 pub mod FecFiles
+pub mod FilePlaces
 pub mod FormatOptions
 pub mod OptionGroups
 pub mod Values
+pub mod RootFiles
 pub mod Positional
 pub mod ImageValues
 pub mod ImageCopies

@@ -1,5 +1,5 @@
 -- Options that belong together.
-use Rattle.std.specs.Prelude.{◌||◌, not, Bool, codes, is_some, if◌then◌else◌}
+use Rattle.std.specs.Prelude.{◌&&◌, ◌||◌, not, Bool, codes, is_some, if◌then◌else◌}
 use Rattle.command_line.specs.declared.misuse.Cause.TheVariants.{InSuperblock, Missing}
 use Rattle.command_line.specs.FormatOptions.{OptionTexts}
 use Rattle.command_line.specs.Misuses.{Reading, refuse_if, when}
@@ -7,6 +7,10 @@ use Rattle.command_line.specs.Misuses.{Reading, refuse_if, when}
 -- an option of parity is given
 unfoldable pub has_fec_value : OptionTexts → Bool
 has_fec_value texts = is_some texts.fec || is_some texts.fec_roots
+
+-- the table is to be printed, no stack, and yet a stack is to be writable
+unfoldable pub is_writable_table : OptionTexts → Bool
+is_writable_table texts = texts.writable && (not texts.stack && (not (is_some texts.root) && not (is_some texts.pin)))
 
 -- no option of the tree is given whose value the superblock holds
 unfoldable pub in_superblock : OptionTexts → Reading (Unit {0})

@@ -10,14 +10,12 @@ pub mod Load
 pub mod Manual
 pub mod Nbd
 pub mod Partitions
-pub mod PinFormat
 pub mod Read
 pub mod Repair
 pub mod Scan
 pub mod Session
 pub mod Store
 pub mod Table
-pub mod TreeFormat
 pub mod TreeTable
 pub mod TreeVerify
 pub mod Verify

@@ -3,7 +3,7 @@ ghost use Rattle.std.specs.Prelude.{◌≡◌, drop, find, option_copied};
 ghost use Rattle.command_line.specs.FormatOptions.{option_texts, text_of, texts_of};
 ghost use Rattle.command_line.specs.CommandWords.{invoked_by, is_option, late_option};
 ghost use Rattle.command_line.specs.Misuses.{ReadsValue};
-ghost use Rattle.command_line.specs.Invocations.{command_said, device_said, fec_said, formatted_said, image_said, invocation_said, pin_allowed, pin_conflicts, root_file_allowed, served_said, tree_said};
+ghost use Rattle.command_line.specs.Invocations.{command_said, device_said, fec_said, image_said, invocation_said, pin_allowed, root_file_allowed, served_said, tree_said};
 ghost use Rattle.command_line.specs.Reading.{ReadsCommand};
 
 use crate::fault::WordsFault;
@@ -22,14 +22,12 @@ use crate::words::load::load_of;
 use crate::words::manual::{manual_of, version_of};
 use crate::words::nbd::nbd_of;
 use crate::words::partitions::partitions_of;
-use crate::words::pin_format::pin_format_of;
 use crate::words::read::read_of;
 use crate::words::repair::repair_of;
 use crate::words::scan::scan_of;
 use crate::words::session::session_of;
 use crate::words::store::store_of;
 use crate::words::table::table_of;
-use crate::words::tree_format::tree_format_of;
 use crate::words::tree_table::tree_table_of;
 use crate::words::tree_verify::tree_verify_of;
 use crate::words::verify::verify_of;
@@ -68,7 +66,7 @@ fn said_by<'a>(
 ) -> Result<Invocation<'a>, WordsFault<'a>>
     ensures { ReadsCommand (invocation_said name.now (option_texts options.now) (texts_of words.now)) result }
 {
-    allow_pin(name, options)?;
+    allow_pin(options)?;
     allow_root_file(name, options)?;
     if name == b"repair".as_slice() {
         repair_of(alloc, options, words)
@@ -81,47 +79,29 @@ fn said_by<'a>(
     }
 }
 
-// Refuses `--pin` if it conflicts with another option.
+// An image with a pin has a superblock.
 #[tactic(auto, unfolding(crate::specs::Invocations::pin_allowed))]
-fn allow_pin<'a>(name: &[u8], options: &OptionWords<'a>) -> Result<(), Misuse<'a>>
-    ensures { ReadsValue (λ none. none) (pin_allowed name.now (option_texts options.now)) result }
+fn allow_pin<'a>(options: &OptionWords<'a>) -> Result<(), Misuse<'a>>
+    ensures { ReadsValue (λ none. none) (pin_allowed (option_texts options.now)) result }
 {
-    if options.pin.is_some() {
-        check_pin(name, options)
-    } else {
-        Ok(())
-    }
+    refuse_if(
+        options.pin.is_some() && options.no_superblock,
+        "--no-superblock",
+        Cause::WithPin,
+    )
 }
 
-// An image with a pin has a superblock. A format with parity writes no pin.
-#[tactic(auto, unfolding(crate::specs::Invocations::pin_conflicts))]
-fn check_pin<'a>(name: &[u8], options: &OptionWords<'a>) -> Result<(), Misuse<'a>>
-    ensures { ReadsValue (λ none. none) (pin_conflicts name.now (option_texts options.now)) result }
-{
-    refuse_if(options.no_superblock, "--no-superblock", Cause::WithPin)?;
-    if name == b"format".as_slice() {
-        refuse_if(has_fec_value(options), "--pin", Cause::WithFec)
-    } else {
-        Ok(())
-    }
-}
-
-// A format writes the file of the root hash only of an image with a superblock and without parity.
+// A format writes the file of the root hash only of an image with a superblock.
 #[tactic(auto, unfolding(crate::specs::Invocations::root_file_allowed))]
 fn allow_root_file<'a>(name: &[u8], options: &OptionWords<'a>) -> Result<(), Misuse<'a>>
     ensures { ReadsValue (λ none. none) (root_file_allowed name.now (option_texts options.now)) result }
 {
-    if name == b"format".as_slice() && options.root_hash_file.is_some() {
-        let fec = has_fec_value(options);
-        refuse_if(fec, "--root-hash-file", Cause::WithFec)?;
-        refuse_if(
-            options.no_superblock,
-            "--root-hash-file",
-            Cause::WithNoSuperblock,
-        )
-    } else {
-        Ok(())
-    }
+    let bare = options.root_hash_file.is_some() && options.no_superblock;
+    refuse_if(
+        name == b"format".as_slice() && bare,
+        "--root-hash-file",
+        Cause::WithNoSuperblock,
+    )
 }
 
 // The command of that name on an image with parity.
@@ -152,7 +132,7 @@ fn tree_of<'a>(
     ensures { ReadsCommand (tree_said name.now (option_texts options.now) (texts_of words.now)) result }
 {
     if name == b"format".as_slice() {
-        tree_format_of(options, words)
+        format_of(options, words)
     } else if name == b"verify".as_slice() {
         tree_verify_of(options, words)
     } else if name == b"table".as_slice() {
@@ -238,7 +218,7 @@ fn image_of<'a>(
     ensures { ReadsCommand (image_said name.now (option_texts options.now) (texts_of words.now)) result }
 {
     if name == b"format".as_slice() {
-        formatted_of(options, words)
+        format_of(options, words)
     } else if name == b"verify".as_slice() {
         verify_of(options, words)
     } else if name == b"dump".as_slice() {
@@ -255,21 +235,6 @@ fn image_of<'a>(
         version_of(words)
     } else {
         Err(WordsFault::Usage(Misuse::new("COMMAND", Cause::Unknown)))
-    }
-}
-
-// An image is made, and with `--pin` or `--root-hash-file` its pin or its root hash written.
-#[tactic(auto, unfolding(crate::specs::Invocations::formatted_said))]
-fn formatted_of<'a>(
-    options: &OptionWords<'a>,
-    words: &[&'a str],
-) -> Result<Invocation<'a>, WordsFault<'a>>
-    ensures { ReadsCommand (formatted_said (option_texts options.now) (texts_of words.now)) result }
-{
-    if options.pin.is_some() || options.root_hash_file.is_some() {
-        pin_format_of(options, words)
-    } else {
-        format_of(options, words)
     }
 }
 

@@ -147,7 +147,8 @@ fn uuid_of<'a>(word: Option<&'a str>) -> Result<Option<[u8; 16]>, Misuse<'a>>
     }
 }
 
-fn identifier_of(word: &str) -> Option<[u8; 16]>
+/// Returns the bytes of an identifier in one of its usual forms.
+pub(crate) fn identifier_of(word: &str) -> Option<[u8; 16]>
     ensures { result ≡ parsed word.now }
 {
     match Uuid::try_parse(word) {

@@ -10,14 +10,12 @@ use crate::words::format::FormatWords;
 use crate::words::load::LoadWords;
 use crate::words::nbd::NbdWords;
 use crate::words::partitions::PartitionsWords;
-use crate::words::pin_format::PinFormatWords;
 use crate::words::read::ReadWords;
 use crate::words::repair::RepairWords;
 use crate::words::scan::ScanWords;
 use crate::words::session::SessionWords;
 use crate::words::store::StoreWords;
 use crate::words::table::TableWords;
-use crate::words::tree_format::TreeFormatWords;
 use crate::words::tree_table::TreeTableWords;
 use crate::words::tree_verify::TreeVerifyWords;
 use crate::words::verify::VerifyWords;
@@ -68,15 +66,12 @@ pub enum Invocation<'a> {
     Partitions(PartitionsWords<'a>),
     Diff(DiffWords<'a>),
     Repair(RepairWords<'a>),
-    /// `format --no-superblock`
-    FormatTree(TreeFormatWords<'a>),
+    /// `verify --no-superblock`
     VerifyTree(TreeVerifyWords<'a>),
     TableTree(TreeTableWords<'a>),
     /// `format --fec`
     FormatFec(FecFormatWords<'a>),
     VerifyFec(FecVerifyWords<'a>),
-    /// `format --pin` and `format --root-hash-file`
-    FormatPin(PinFormatWords<'a>),
     /// The name of the command whose page is printed, if there is one.
     Manual(Option<&'a str>),
     Version,

@@ -75,6 +75,8 @@ pub enum Cause {
     WithoutAll,
     /// It needs `--fec`.
     WithoutFec,
+    /// It needs `--stack`, `--root` or `--pin`.
+    WithoutStack,
 }
 
 /// An option, the name of a positional argument or the argument itself, and what is wrong with it.

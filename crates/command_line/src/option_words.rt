@@ -1,7 +1,7 @@
 //! The options of a command line, as words.
 ghost use Rattle.std.specs.Prelude.{◌≡◌};
 ghost use Rattle.command_line.specs.FormatOptions.{option_texts};
-ghost use Rattle.command_line.specs.OptionGroups.{has_fec_value, in_superblock, tree_stated};
+ghost use Rattle.command_line.specs.OptionGroups.{has_fec_value, in_superblock, is_writable_table, tree_stated};
 ghost use Rattle.command_line.specs.Misuses.{ReadsValue};
 
 use crate::misuse::{Cause, Misuse, refuse_if};
@@ -43,6 +43,7 @@ pub struct OptionWords<'a> {
     pub chart: bool,
     pub tree: bool,
     pub quiet: bool,
+    pub writable: bool,
 }
 
 /// Returns whether `--fec` or `--fec-roots` is given.
@@ -51,6 +52,14 @@ pub fn has_fec_value(options: &OptionWords<'_>) -> bool
     ensures { result ≡ has_fec_value (option_texts options.now) }
 {
     options.fec.is_some() || options.fec_roots.is_some()
+}
+
+/// Returns whether `--writable` is given without an option that prints a stack: `--stack`, `--root` or `--pin`.
+#[tactic(auto, unfolding(crate::specs::OptionGroups::is_writable_table))]
+pub fn is_writable_table(options: &OptionWords<'_>) -> bool
+    ensures { result ≡ is_writable_table (option_texts options.now) }
+{
+    options.writable && !options.stack && options.root.is_none() && options.pin.is_none()
 }
 
 /// Refuses the options of the tree whose values the superblock holds.

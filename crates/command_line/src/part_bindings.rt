@@ -38,8 +38,8 @@ fn access_of(access: &[u8]) -> Option<bool>
     }
 }
 
-// `FIRST+COUNT`
-fn part_of(place: &str) -> Option<FilePart>
+/// `FIRST+COUNT`
+pub(crate) fn part_of(place: &str) -> Option<FilePart>
     ensures { option_map part_record result ≡ said_part place.now }
 {
     let (first, count) = place.split_once('+')?;

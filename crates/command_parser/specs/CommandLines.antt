@@ -56,6 +56,7 @@ texts_in rows = record {
   chart = is_there (codes "chart") rows;
   tree = is_there (codes "tree") rows;
   quiet = is_there (codes "quiet") rows;
+  writable = is_there (codes "writable") rows;
 }
 
 -- the positional words

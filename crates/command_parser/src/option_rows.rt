@@ -206,6 +206,12 @@ pub(crate) const TREE: OptionRow = OptionRow {
     has_value: false,
 };
 
+pub(crate) const WRITABLE: OptionRow = OptionRow {
+    name: "writable",
+    others: &[],
+    has_value: false,
+};
+
 /// Of every command.
 pub(crate) const QUIET: OptionRow = OptionRow {
     name: "quiet",

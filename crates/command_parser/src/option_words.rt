@@ -47,6 +47,7 @@ pub fn option_words<'a>(found: &ArgMatches<'a>) -> OptionWords<'a>
         chart: is_there(found, "chart"),
         tree: is_there(found, "tree"),
         quiet: is_there(found, "quiet"),
+        writable: is_there(found, "writable"),
     }
 }
 

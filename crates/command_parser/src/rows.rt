@@ -3,7 +3,7 @@ use crate::option_rows::{
     ALL, BLOCKS, CACHE, CHART, CHECK, COUNT, DATA_BLOCK, DIFFERING, FEC, FEC_ROOTS, FIRST, GROW,
     HASH_BLOCK, HASH_OFFSET, JSON, LINUX, MAP, NAME, NO_SUPERBLOCK, OLD_HASH_OFFSET, OLD_PIN,
     OLD_ROOT_HASH_FILE, OptionRow, PIN, PROGRESS, QUIET, RETRIES, ROOT, ROOT_HASH_FILE, RUNS, SALT,
-    SECTOR_SIZE, STACK, TREE, UUID,
+    SECTOR_SIZE, STACK, TREE, UUID, WRITABLE,
 };
 
 /// A command: its name, and the options that may precede its positional words.
@@ -128,7 +128,7 @@ pub static COMMANDS: [CommandRow; 18] = [
     },
     CommandRow {
         name: "partitions",
-        options: &[QUIET, SECTOR_SIZE, STACK, ROOT, JSON, PIN],
+        options: &[QUIET, SECTOR_SIZE, STACK, ROOT, JSON, PIN, WRITABLE],
     },
     CommandRow {
         name: "diff",

@@ -1,19 +1,21 @@
 -- Parts of images in memory as parts of files.
-use Rattle.std.proofs.Common.{◌≡◌, ◌+◌, ◌*◌, ◌/◌, ◌≤◌, ◌++◌, ℕ, Bool, true, List, [], length, take, drop, Some, Ok, arith, refl, sym, ap, subst, ◌∙◌, nat_le, rules, add-zero, length-drop}
+use Rattle.std.proofs.Common.{◌≡◌, ◌+◌, ◌-◌, ◌*◌, ◌/◌, ◌≤◌, ◌++◌, ℕ, Bool, true, List, [], length, take, drop, Some, Ok, arith, refl, sym, ap, subst, ◌∙◌, nat_le, rules, add-zero, length-drop}
 use Rattle.std.proofs.lemmas.List.{append-nil, length-take-le}
 use Rattle.std.proofs.Math.Nat.{mul_comm}
-use Rattle.block_device.proofs.lemmas.SectorLemmas.{sectors_of-append, sectors_of-split}
+use Rattle.block_device.proofs.lemmas.SectorLemmas.{drop-sectors_of, sectors_of-append, sectors_of-split, take-sectors_of}
 use Rattle.block_device.specs.contracts.memory.MemoryDevBlockDev.TheImpl.{ghosts}
 use Rattle.block_device.specs.declared.memory.MemoryDev.{MemoryDev}
-use Rattle.block_device.specs.Device.{Device, sectors_of}
+use Rattle.block_device.specs.Device.{Device, run_of, sectors_of}
 use Rattle.block_device.specs.Memory.{memory_bytes}
+use Rattle.block_device.specs.Whole.{length-sectors_of}
 use Rattle.device_adapters.specs.declared.part.Part.{Part}
 use Rattle.image_files.proofs.lemmas.OverwriteLemmas.{IsOverwritten, overwritten}
 use Rattle.image_files.specs.declared.images.OpenImage.{OpenImage}
+use Rattle.image_files.specs.Opener.{IsNarrowed}
 use Rattle.image_files.specs.Promises.{FileRecord, HoldsPart, IsGrown, IsSameFile, TakesPart}
 use Rattle.command_tests.specs.declared.named_images.MemoryImages.{MemoryImages}
 use Rattle.command_tests.specs.Files.{file_under}
-use Rattle.command_tests.specs.MemoryRelations.{ChangesAt, GrowsAt, IsPartCopy}
+use Rattle.command_tests.specs.MemoryRelations.{ChangesAt, GrowsAt, IsNarrowedCopy, IsPartCopy}
 use Rattle.command_tests.specs.Named.{named_place}
 use Rattle.command_tests.specs.Parts.{LiesWithin, grown_image, part_bytes, with_bytes, with_part}
 use Rattle.command_tests.proofs.FileLemmas.{changed, file-of, regular-under, under}
@@ -39,6 +41,40 @@ sectors-held bytes part inside =
     let len : length (part_bytes bytes part) ≡ part.count * 512 = length-take-le (part.count * 512) (drop (part.first * 512) bytes) enough in
     let count : length (part_bytes bytes part) / 512 ≡ part.count = omega (arith, len) in
     ap (λ (n : ℕ). sectors_of n (part_bytes bytes part)) count ∙ sectors-take part.count (drop (part.first * 512) bytes) enough
+
+-- a part's bytes as sectors are a run of the image's
+run-held : (bytes : List ℕ) (part : Part) → LiesWithin bytes part
+    → sectors_of (length (part_bytes bytes part) / 512) (part_bytes bytes part) ≡ run_of (sectors_of (length bytes / 512) bytes) part.first part.count
+run-held bytes part inside =
+    let k : ℕ = length bytes / 512 in
+    let rest : ℕ = k - (part.first + part.count) in
+    let split : k ≡ part.first + (part.count + rest) = omega (arith, inside) in
+    let front : 512 * part.first ≤ length bytes = omega (arith, inside) in
+    let enough : 512 * part.count ≤ length (drop (512 * part.first) bytes) = omega (arith, length-drop (512 * part.first) bytes, inside) in
+    let enough' : part.count * 512 ≤ length (drop (part.first * 512) bytes) = omega (arith, length-drop (part.first * 512) bytes, inside) in
+    sectors-held bytes part inside
+    ∙ sym (
+    ap (λ (j : ℕ). run_of (sectors_of j bytes) part.first part.count) split
+    ∙ (ap (take part.count) (drop-sectors_of part.first (part.count + rest) bytes front)
+    ∙ (take-sectors_of part.count rest (drop (512 * part.first) bytes) enough
+    ∙ (ap (λ (n : ℕ). sectors_of part.count (take (512 * part.count) (drop n bytes))) (mul_comm 512 part.first)
+    ∙ (ap (λ (n : ℕ). sectors_of part.count (take n (drop (part.first * 512) bytes))) (mul_comm 512 part.count)
+    ∙ sectors-take part.count (drop (part.first * 512) bytes) enough')))))
+
+-- a device over a part's bytes is that part of a device over the image
+pub narrowed-memory : (device narrowed : MemoryDev) (part : Part) → LiesWithin (memory_bytes device) part → (ghosts.state device).image ≡ sectors_of (length (memory_bytes device) / 512) (memory_bytes device)
+    → IsNarrowedCopy device part narrowed → IsNarrowed (ghosts.state device) part (ghosts.state narrowed)
+narrowed-memory device narrowed part inside image copy =
+    let bytes : List ℕ = memory_bytes device in
+    let enough : part.count * 512 ≤ length (drop (part.first * 512) bytes) = omega (arith, length-drop (part.first * 512) bytes, inside) in
+    let len : length (part_bytes bytes part) ≡ part.count * 512 = length-take-le (part.count * 512) (drop (part.first * 512) bytes) enough in
+    let count : length (part_bytes bytes part) / 512 ≡ part.count = omega (arith, len) in
+    record {
+      size = ap (λ (d : Device). d.size) copy.is ∙ (length-sectors_of (length (part_bytes bytes part) / 512) (part_bytes bytes part) ∙ count);
+      image = ap (λ (d : Device). d.image) copy.is ∙ (run-held bytes part inside ∙ ap (λ (sectors : List (List ℕ)). run_of sectors part.first part.count) (sym image));
+      may_write = ap (λ (d : Device). d.may_write) copy.is;
+      clean = λ clean. ap (λ (d : Device). d.dirty) copy.is;
+    }
 
 pub part-opened : (m : MemoryImages) (path : List ℕ) (writable : Bool) (part : Part) (image : OpenImage MemoryDev) → IsPartCopy m path writable part image
     → (file : FileRecord) × (file_under m path ≡ Some file) × (image.id ≡ file.id) × HoldsPart (ghosts.state image.device) part file

@@ -67,6 +67,11 @@ pub record IsPartCopy (m : MemoryImages) (path : List ℕ) (writable : Bool) (pa
   pub holds : memory_bytes image.device ≡ part_bytes bytes part
   pub id : image.id ≡ id_at place
 
+-- a device over that part of a device's bytes
+pub record IsNarrowedCopy (device : MemoryDev) (part : Part) (narrowed : MemoryDev) : Type 0 where
+  pub is : ghosts.state narrowed ≡ in_memory (sectors_of (length (part_bytes (memory_bytes device) part) / 512) (part_bytes (memory_bytes device) part)) (ghosts.state device).may_write
+  pub holds : memory_bytes narrowed ≡ part_bytes (memory_bytes device) part
+
 -- the part isn't within the image with that name
 pub record IsOutside (m : MemoryImages) (path : List ℕ) (part : Part) : Type 0 where
   pub place : ℕ
@@ -122,6 +127,7 @@ abbrev pub memory_relations : Opener MemoryImages MemoryDev
 memory_relations = record {
   opens = λ old path writable outcome new. (new ≡ old) × OpensCopy old path writable outcome;
   opens_part = λ old path writable part outcome new. (new ≡ old) × OpensPartCopy old path writable part outcome;
+  narrows = λ old device part narrowed new. (new ≡ old) × IsNarrowedCopy device part narrowed;
   tells = λ old path most outcome new. (new ≡ old) × TellsText old path most outcome;
   takes = λ old path device new. PutsAt (named_place old.names.items path) (memory_bytes device) old new;
   takes_part = λ old path part device new. ChangesAt (named_place old.names.items path) (λ image. with_part image part (memory_bytes device)) old new;

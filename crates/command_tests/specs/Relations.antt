@@ -6,6 +6,7 @@ abbrev pub any_relations : {S D : Type 0} → Opener S D
 any_relations = record {
   opens = λ old path writable outcome new. Unit {0};
   opens_part = λ old path writable part outcome new. Unit {0};
+  narrows = λ old device part narrowed new. Unit {0};
   tells = λ old path most outcome new. Unit {0};
   takes = λ old path device new. Unit {0};
   takes_part = λ old path part device new. Unit {0};

@@ -39,6 +39,12 @@ impl Images for FailingImages {
         Ok(OpenImage { device, id })
     }
 
+    // The call that fails is the same one.
+    fn narrow(&mut self, device: FailAt<MemoryDev>, part: Part) -> FailAt<MemoryDev> {
+        let call = device.calls_to_failure;
+        FailAt::new(self.images.narrow(device.inner, part), call)
+    }
+
     fn read_text(&mut self, path: &str, most: usize) -> Result<FileText, OpenFault> {
         self.images.read_text(path, most)
     }

@@ -3,8 +3,8 @@ ghost use Rattle.std.specs.Prelude.{◌≡◌, IfErr, IfOk, OnErr, OnOk};
 ghost use Rattle.command_tests.specs.Named.{IsChanged, AreBytesPut, IsUncopied, Stands, named_place};
 ghost use Rattle.command_tests.specs.Parts.{grown_image, with_part};
 
-use crate::part::{lengthen, overwrite, part_of};
-use block_device::{FileId, MemoryDev, OpenFault};
+use crate::part::{held_in, lengthen, overwrite, part_of};
+use block_device::{BlockDev, FileId, MemoryDev, OpenFault};
 use device_adapters::Part;
 use image_files::{FileText, Images, OpenImage, PartFault, ReplaceFault};
 use std::alloc::AllocError;
@@ -125,6 +125,11 @@ impl Images for MemoryImages {
                 inode: place as u64,
             }),
         })
+    }
+
+    fn narrow(&mut self, device: MemoryDev, part: Part) -> MemoryDev {
+        let writable = device.writable();
+        MemoryDev::new(held_in(device.into_bytes(), part), writable)
     }
 
     // Returns the first bytes.

@@ -11,7 +11,7 @@ const SECTOR: usize = 512;
 const MOST_SECTORS: u64 = 1 << 54;
 
 /// Returns the bytes of a part, if the part is within the image.
-pub fn part_of(mut bytes: Vec<u8>, part: Part) -> Option<Vec<u8>>
+pub fn part_of(bytes: Vec<u8>, part: Part) -> Option<Vec<u8>>
     ensures inside { IsSome result ↔ LiesWithin bytes.items part }
     ensures bytes { IfSome result (λ held. held.items ≡ part_bytes bytes.items part) }
 {
@@ -19,9 +19,17 @@ pub fn part_of(mut bytes: Vec<u8>, part: Part) -> Option<Vec<u8>>
     if part.first > sectors || part.count > sectors - part.first {
         return None;
     }
+    Some(held_in(bytes, part))
+}
+
+/// Returns the bytes of a part that is within the image.
+pub fn held_in(mut bytes: Vec<u8>, part: Part) -> Vec<u8>
+    requires { LiesWithin bytes.items part }
+    ensures { result.items ≡ part_bytes bytes.items part }
+{
     bytes.rotate_left(part.first as usize * SECTOR);
     bytes.truncate(part.count as usize * SECTOR);
-    Some(bytes)
+    bytes
 }
 
 /// Replaces the bytes of a part of an image, if the part is within the image.

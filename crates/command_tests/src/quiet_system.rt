@@ -25,6 +25,10 @@ impl<R> Progress for QuietSystem<'_, R> {
     fn begin(&mut self) {}
 
     fn tell(&mut self, _done: u64, _all: Option<u64>) {}
+
+    fn seconds(&mut self) -> u64 {
+        0
+    }
 }
 
 impl<R> Watchers for QuietSystem<'_, R> {

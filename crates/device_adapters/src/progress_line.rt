@@ -89,4 +89,12 @@ impl<R: Clock + Eprint> Progress for ProgressLine<'_, R> {
             self.shown = Some(now);
         }
     }
+
+    // Of the clock that doesn't go back.
+    fn seconds(&mut self) -> u64 {
+        let Ok(time) = self.rt.monotonic() else {
+            return 0;
+        };
+        time.as_secs()
+    }
 }

@@ -98,6 +98,29 @@ impl<D: BlockDev> Window<D> {
     {
         Window::<D, Brand>::behind(inner, 0)
     }
+
+    /// Returns a window of a part of this one.
+    pub fn narrow(self, part: Part) -> Window<D>
+        requires { LiesInside (⟦<Window<D, Brand> as BlockDev>⟧.state self) part }
+        ensures inner { result.inner ≡ self.inner }
+        ensures part { result.part ≡ record { first = self.part.first + part.first; count = part.count } }
+        ensures state { ⟦<Window<D, Brand> as BlockDev>⟧.state result ≡ windowed (⟦<Window<D, Brand> as BlockDev>⟧.state self) part }
+    {
+        let Window {
+            inner,
+            part: outer,
+            beside: _,
+        } = self;
+        let part = Part {
+            first: outer.first + part.first,
+            count: part.count,
+        };
+        Window {
+            inner,
+            part,
+            beside: PhantomData,
+        }
+    }
 }
 
 impl<D: BlockDev, K: Beside> BlockDev for Window<D, K> {

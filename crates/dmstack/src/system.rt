@@ -44,6 +44,10 @@ impl<R: Clock + Eprint> Progress for System<'_, R> {
     fn tell(&mut self, done: u64, all: Option<u64>) {
         self.line.tell(done, all);
     }
+
+    fn seconds(&mut self) -> u64 {
+        self.line.seconds()
+    }
 }
 
 impl<'a, R: Clock + Eprint> Watchers for System<'a, R> {

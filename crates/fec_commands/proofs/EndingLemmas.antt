@@ -1,7 +1,10 @@
 -- Commands that end early.
-use Rattle.std.proofs.Common.{◌≡◌, ℕ, List, Option, Result, Ok, Err, refl, sym, subst}
+use Rattle.std.proofs.Common.{◌≡◌, ℕ, Bool, List, Option, Result, Ok, Err, refl, sym, subst}
 use Rattle.std.specs.Prelude.{IfErr, IsErrAnd}
 use Rattle.image_commands.proofs.lemmas.EndingLemmas.{quiet as image-quiet}
+use Rattle.image_commands.specs.declared.fault.ImageFault.{ImageFault}
+use Rattle.image_commands.specs.declared.fault.ImageFault.TheVariants as image
+use Rattle.image_commands.specs.Endings.{IsLineUnwritten}
 use Rattle.verity_commands.specs.declared.verity_fault.VerityFault.{VerityFault}
 use Rattle.verity_commands.specs.declared.verity_fault.VerityFault.TheVariants as verity
 use Rattle.command_line.specs.CommandWords.{RefusesWords}
@@ -38,3 +41,19 @@ at-fault {T} {E} r P fault is holds = subst (λ (x : Result T E). IfErr x P) is 
 pub unsaid : (texts : OptionTexts) (fault : WordsFault) → RefusesWords (options_read texts) fault → IsUnsaid texts (words_ending fault)
 unsaid texts (words.Usage misuse) refused = (misuse_record misuse, refused)
 unsaid texts words.NoMemory refused = refused
+
+-- where a line can't be written, what was written before may be anything
+pub unwritten-quiet : (failed : Bool) (fault : ImageFault) (old new : Option (List ℕ)) → IsLineUnwritten failed fault → IsFecQuiet (fec.Verity (verity.Image fault)) old new
+unwritten-quiet failed image.Write old new h = tt
+unwritten-quiet failed image.NoMemory old new h = absurd h
+unwritten-quiet failed (image.Open file) old new h = absurd h
+unwritten-quiet failed (image.Format fault) old new h = absurd h
+unwritten-quiet failed (image.Verify fault) old new h = absurd h
+unwritten-quiet failed (image.Differs verdict) old new h = absurd h
+unwritten-quiet failed image.RootText old new h = absurd h
+unwritten-quiet failed image.Unaligned old new h = absurd h
+unwritten-quiet failed image.DataOverlapsTree old new h = absurd h
+unwritten-quiet failed (image.Pin fault) old new h = absurd h
+unwritten-quiet failed (image.Unpinned mismatch) old new h = absurd h
+unwritten-quiet failed (image.PinUnwritten fault) old new h = absurd h
+unwritten-quiet failed image.Random old new h = absurd h

@@ -1,11 +1,9 @@
 -- Faults of the commands on images with parity that are those of images.
-use Rattle.image_commands.specs.declared.fault.ImageFault.{ImageFault}
 use Rattle.image_commands.specs.declared.fault.ImageFault.TheVariants as image
 use Rattle.image_commands.specs.declared.tree_source.NoSource.{NoSource}
 use Rattle.image_commands.specs.declared.tree_source.NoSource.TheVariants as no_source
 use Rattle.image_commands.specs.Finding.{no_tree_fault}
 use Rattle.image_files.specs.declared.opening.UnopenedFile.{UnopenedFile}
-use Rattle.verity_commands.specs.declared.verity_fault.VerityFault.{VerityFault}
 use Rattle.verity_commands.specs.declared.verity_fault.VerityFault.TheVariants as verity
 use Rattle.verity_format.specs.declared.formatting.FormatFault.TheVariants as format
 use Rattle.fec_commands.specs.declared.fault.FecFault.{FecFault}
@@ -23,12 +21,3 @@ no_source_fault no_source.Shape = fec.Verity (verity.Image (image.Format format.
 -- a line can't be written
 abbrev pub unwritten : FecFault
 unwritten = fec.Verity (verity.Image image.Write)
-
--- The text of a `format` is kept in memory, so it can't be written only if memory ran out.
-abbrev pub kept_image : ImageFault → ImageFault
-kept_image image.Write = image.NoMemory
-kept_image fault = fault
-
-abbrev pub kept_fault : VerityFault → VerityFault
-kept_fault verity.Usage = verity.Usage
-kept_fault (verity.Image fault) = verity.Image (kept_image fault)

@@ -3,9 +3,8 @@ use Rattle.std.specs.Prelude.{◌≡◌, ◌≢◌, ◌⊎◌, ℕ, ◌<◌, ◌
 use Rattle.block_device.specs.Device.{Device}
 use Rattle.fec_area.specs.Layouts.{IsLaidOn, IsLayoutOf}
 use Rattle.image_commands.specs.declared.fault.ImageFault.TheVariants.{Verify}
-use Rattle.image_commands.specs.declared.tree_source.NoSource.{NoSource}
 use Rattle.image_commands.specs.declared.tree_source.TreeSource.{TreeSource}
-use Rattle.image_commands.specs.TreeSources.{IsNoTreeOf, IsTreeOf}
+use Rattle.image_commands.specs.TreeSources.{IsNoTreeOf, IsSourceRefused, IsTreeOf}
 use Rattle.verity_commands.specs.declared.verity_fault.VerityFault.TheVariants.{Image}
 use Rattle.verity_format.specs.declared.tree.VerityTree.{VerityTree}
 use Rattle.verity_format.specs.declared.verifying.VerifyFault.TheVariants.{TooSmall}
@@ -29,10 +28,6 @@ pub record LaysOut (data_dev hash_dev : Device) (first : ℕ) (source : TreeSour
   pub is : IsLayoutOf laid.tree.shape hash_dev.size roots laid.layout
   pub laid_on : IsLaidOn laid.layout data_dev hash_dev'
 
--- there is no tree of that source
-abbrev pub IsSourceRefused : Device → Device → ℕ → TreeSource → Device → FecFault → Type 0
-IsSourceRefused data_dev hash_dev first source hash_dev' fault = (cause : NoSource) × IsNoTreeOf source data_dev.size hash_dev first hash_dev' cause × (fault ≡ no_source_fault cause)
-
 -- the tree covers more data than there are
 pub record AreDataShort (data_dev hash_dev : Device) (first : ℕ) (source : TreeSource) (hash_dev' : Device) (fault : FecFault) : Type 0 where
   pub tree : VerityTree
@@ -50,7 +45,7 @@ pub record HasOtherSizes (data_dev hash_dev : Device) (first : ℕ) (source : Tr
 -- why there is no layout
 abbrev pub IsLayoutEnd : Device → Device → ℕ → TreeSource → Device → FecFault → Type 0
 IsLayoutEnd data_dev hash_dev first source hash_dev' fault =
-    IsSourceRefused data_dev hash_dev first source hash_dev' fault
+    IsSourceRefused no_source_fault (IsNoTreeOf source data_dev.size hash_dev first hash_dev') fault
     ⊎ (AreDataShort data_dev hash_dev first source hash_dev' fault ⊎ HasOtherSizes data_dev hash_dev first source hash_dev' fault)
 
 -- ---- in terms of devices of any type

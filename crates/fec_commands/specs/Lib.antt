@@ -7,7 +7,9 @@ pub mod Growing
 pub mod Verifying
 pub mod Finding
 pub mod FixedSize
+pub mod Wanted
 pub mod Needed
 pub mod Fitting
 pub mod Sizes
+pub mod Formatting
 pub mod Commands

@@ -1,39 +1,41 @@
 //! `format --grow --fec`: opens the files that exist before any file is created or extended.
 ghost use Rattle.std.specs.Prelude.{◌≡◌, IfErr, IfOk, OnOk};
-ghost use Rattle.image_files.specs.FileUses.{image_use};
 ghost use Rattle.image_files.specs.OnePlace.{FailsToCompare};
-ghost use Rattle.image_files.specs.Opened.{Refuses};
 ghost use Rattle.image_files.specs.Opener.{calls};
-ghost use Rattle.fec_commands.specs.Finding.{CanBeNew, ComparesNew, FindsFile, FindsThree, IsNotNew, IsReady, IsUnfound, IsUnready, is_used};
+ghost use Rattle.fec_commands.specs.Finding.{CanBeNew, ComparesNew, FindsThree, IsNotNew, IsReady, IsUnfound, IsUnready, is_used};
 ghost use Rattle.fec_commands.specs.Images.{Does};
 
 use crate::growing::check_path;
 use block_device::OpenFault;
 use command_line::FecFile;
 use image_commands::ImagePlaces;
-use image_files::{FileUse, Images, OpenImage, UnopenedFile, has_clash, is_one_place, open_image};
+use image_files::{
+    Images, PlacedImage, UnopenedFile, find_place, has_clash, is_one_place, open_place, place_use,
+};
+use std::alloc::Global;
 
 /// DATA, and HASH and the parity file if they exist, open.
 #[derive(Drop)]
-pub(crate) struct FoundThree<D> {
-    pub data: OpenImage<D>,
-    pub hash: Option<OpenImage<D>>,
-    pub parity: Option<OpenImage<D>>,
+pub(crate) struct FoundThree<'a, D> {
+    pub data: PlacedImage<'a, D>,
+    pub hash: Option<PlacedImage<'a, D>>,
+    pub parity: Option<PlacedImage<'a, D>>,
 }
 
 /// Opens DATA for reading, HASH if it exists, and the parity file for writing if it exists. The parity file must be neither
 /// DATA nor HASH. If it doesn't exist, it must be possible to create it, and HASH mustn't be created at the same place.
 pub(crate) fn find_three<'a, I: Images>(
+    alloc: Global,
     images: &mut I,
     places: &ImagePlaces<'a>,
     fec: &FecFile<'a>,
-) -> Result<FoundThree<I::Dev>, UnopenedFile<'a>>
+) -> Result<FoundThree<'a, I::Dev>, UnopenedFile<'a>>
     ensures ok { IfOk result (Does FindsThree I.relations I.Dev.state images.old images.new places.now fec.now) }
     ensures err { IfErr result (Does IsUnfound I.relations I.Dev.state images.old images.new places.now fec.now) }
 {
-    let data = open_image(images, places.data, false)?;
-    let hash = find(images, places.hash, false)?;
-    let parity = find(images, fec.path, true)?;
+    let data = open_place(alloc, images, places.data, false)?;
+    let hash = find_place(alloc, images, places.hash, false)?;
+    let parity = find_place(alloc, images, fec.path, true)?;
     let path = fec.path;
     if is_used(&data, &hash, &parity) {
         let fault = OpenFault::SameFile;
@@ -46,8 +48,8 @@ pub(crate) fn find_three<'a, I: Images>(
 // Checks that the parity file exists or can be created.
 fn check_ready<'a, I: Images>(
     images: &mut I,
-    parity: &Option<OpenImage<I::Dev>>,
-    hash: &Option<OpenImage<I::Dev>>,
+    parity: &Option<PlacedImage<'_, I::Dev>>,
+    hash: &Option<PlacedImage<'_, I::Dev>>,
     path: &'a str,
     hash_path: &str,
 ) -> Result<(), UnopenedFile<'a>>
@@ -63,7 +65,7 @@ fn check_ready<'a, I: Images>(
 // Checks that a missing parity file can be created, and won't be the same file as HASH.
 fn check_new<'a, I: Images>(
     images: &mut I,
-    hash: &Option<OpenImage<I::Dev>>,
+    hash: &Option<PlacedImage<'_, I::Dev>>,
     path: &'a str,
     hash_path: &str,
 ) -> Result<(), UnopenedFile<'a>>
@@ -81,7 +83,7 @@ fn check_new<'a, I: Images>(
 // Whether HASH is missing too, and both would be created at the same place.
 fn is_made_twice<'a, I: Images>(
     images: &mut I,
-    hash: &Option<OpenImage<I::Dev>>,
+    hash: &Option<PlacedImage<'_, I::Dev>>,
     path: &'a str,
     hash_path: &str,
 ) -> Result<bool, UnopenedFile<'a>>
@@ -94,48 +96,22 @@ fn is_made_twice<'a, I: Images>(
     }
 }
 
-// Opens the image at a path. Returns `None` if there is no such file.
-fn find<'a, I: Images>(
-    images: &mut I,
-    path: &'a str,
-    writable: bool,
-) -> Result<Option<OpenImage<I::Dev>>, UnopenedFile<'a>>
-    ensures ok { IfOk result (FindsFile (calls I.relations I.Dev.state images.old images.new) path.now writable) }
-    ensures err { IfErr result (Refuses (calls I.relations I.Dev.state images.old images.new) path.now writable) }
-{
-    match images.open(path, writable) {
-        Ok(image) => Ok(Some(image)),
-        Err(OpenFault::NotFound) => Ok(None),
-        Err(fault) => Err(UnopenedFile { fault, path }),
-    }
-}
-
 // Whether the parity file is DATA or HASH.
 fn is_used<D>(
-    data: &OpenImage<D>,
-    hash: &Option<OpenImage<D>>,
-    parity: &Option<OpenImage<D>>,
+    data: &PlacedImage<'_, D>,
+    hash: &Option<PlacedImage<'_, D>>,
+    parity: &Option<PlacedImage<'_, D>>,
 ) -> bool
     ensures { result ≡ is_used «data».now hash.now parity.now }
 {
     match parity {
         None => false,
         Some(parity) => {
-            let file = file_use(parity, true);
+            let file = place_use(parity, true);
             match hash {
-                None => has_clash(&[file_use(data, false)], file),
-                Some(hash) => has_clash(&[file_use(data, false), file_use(hash, false)], file),
+                None => has_clash(&[place_use(data, false)], file),
+                Some(hash) => has_clash(&[place_use(data, false), place_use(hash, false)], file),
             }
         }
-    }
-}
-
-fn file_use<D>(image: &OpenImage<D>, writable: bool) -> FileUse
-    ensures { result ≡ image_use writable image.now }
-{
-    FileUse {
-        id: image.id,
-        writable,
-        part: None,
     }
 }

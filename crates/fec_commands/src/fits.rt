@@ -7,47 +7,53 @@ ghost use Rattle.fec_commands.specs.Layings.{IsRoots};
 use crate::fault::FecFault;
 use crate::image::{Extent, ThreeImages, data_end, open_three};
 use crate::needed::needed_sectors;
+use crate::wanted::WantedTree;
 use block_device::BlockDev;
-use command_line::{FecFile, ImageOptions};
+use command_line::FecFile;
 use device_adapters::Window;
 use fec_area::ParityFault;
 use image_commands::ImagePlaces;
-use image_files::{Images, OpenImage};
+use image_files::{Images, PlacedImage};
+use std::alloc::Global;
 use std::marker::Brand;
 
 /// Opens DATA and HASH for reading and FILE for writing, and checks that FILE has enough sectors for the parity of the image
 /// that the options make.
 pub(crate) fn measure_words<'a, I: Images>(
+    alloc: Global,
     images: &mut I,
     places: &ImagePlaces<'a>,
     fec: &FecFile<'a>,
-    options: &ImageOptions,
+    wanted: &WantedTree,
 ) -> Result<(), FecFault<'a>>
     requires { IsRoots fec.now.roots }
-    ensures ok { OnOk result (Does (OpensForWords options.now) I.relations I.Dev.state images.old images.new places.now fec.now) }
-    ensures err { IfErr result (Does (IsTooShortByWords options.now) I.relations I.Dev.state images.old images.new places.now fec.now) }
+    ensures ok { OnOk result (Does (OpensForWords wanted.now) I.relations I.Dev.state images.old images.new places.now fec.now) }
+    ensures err { IfErr result (Does (IsTooShortByWords wanted.now) I.relations I.Dev.state images.old images.new places.now fec.now) }
 {
-    let three = open_three(images, places, fec, true)?;
+    let three = open_three(alloc, images, places, fec, true)?;
     let extent = Extent {
         end: data_end(&three, places.hash_first),
         first: places.hash_first,
         roots: fec.roots,
     };
     let ThreeImages {
-        data: OpenImage {
+        data: PlacedImage {
             device: data_dev,
             id: _,
+            place: _,
         },
-        hash: OpenImage {
+        hash: PlacedImage {
             device: hash_dev,
             id: _,
+            place: _,
         },
-        parity: OpenImage {
+        parity: PlacedImage {
             device: parity_dev,
             id: _,
+            place: _,
         },
     } = three;
-    check_room(data_dev, hash_dev, &parity_dev, extent, options)?;
+    check_room(data_dev, hash_dev, &parity_dev, extent, wanted)?;
     Ok(())
 }
 
@@ -58,15 +64,15 @@ fn check_room<D: BlockDev + Drop, H: BlockDev + Drop, P: BlockDev>(
     hash_dev: H,
     parity: &P,
     extent: Extent,
-    options: &ImageOptions,
+    wanted: &WantedTree,
 ) -> Result<(), ParityFault>
     requires { IsRoots extent.roots }
-    ensures ok { OnOk result (FitsByOptions options.now (D.state data_dev) (H.state hash_dev) (P.state parity.now) extent) }
-    ensures err { IfErr result (IsShortByOptions options.now (D.state data_dev) (H.state hash_dev) (P.state parity.now) extent) }
+    ensures ok { OnOk result (FitsByOptions wanted.now (D.state data_dev) (H.state hash_dev) (P.state parity.now) extent) }
+    ensures err { IfErr result (IsShortByOptions wanted.now (D.state data_dev) (H.state hash_dev) (P.state parity.now) extent) }
 {
     let before = Window::<D, Brand>::before(data_dev, extent.end);
     let behind = Window::<H, Brand>::behind(hash_dev, extent.first);
-    let needed = match needed_sectors(options, before.sectors(), behind.sectors(), extent.roots) {
+    let needed = match needed_sectors(wanted, before.sectors(), behind.sectors(), extent.roots) {
         None => return Ok(()),
         Some(needed) => needed,
     };

@@ -3,9 +3,8 @@ ghost use Rattle.std.specs.Prelude.{◌≡◌, true, Err, IfErr, IfSome, OnOk};
 ghost use Rattle.image_files.specs.Opener.{calls};
 ghost use Rattle.fec_area.specs.declared.writing.ParityFault.TheVariants as parity_fault;
 ghost use Rattle.fec_commands.specs.declared.fault.FecFault.TheVariants as fec_fault;
-ghost use Rattle.verity_commands.specs.Growing.{GrowsFile};
 ghost use Rattle.fec_commands.specs.Finding.{CanMake, FailsToMake};
-ghost use Rattle.fec_commands.specs.Growing.{FailsToProtect, IsFileUnmade, Protects};
+ghost use Rattle.fec_commands.specs.Growing.{FailsToProtect, Protects};
 ghost use Rattle.fec_commands.specs.Images.{Does};
 ghost use Rattle.fec_commands.specs.Layings.{IsRoots};
 
@@ -13,24 +12,9 @@ use crate::fault::FecFault;
 use crate::protect::protect_image;
 use command_line::FecFile;
 use fec_area::ParityFault;
-use image_commands::ImagePlaces;
-use image_files::{Images, UnopenedFile};
+use image_commands::{ImagePlaces, TreeSource};
+use image_files::{Images, UnopenedFile, grow_place};
 use std::alloc::Global;
-
-// Makes sure that the file at a path has at least `sectors` sectors.
-fn make_room<'a, I: Images>(
-    images: &mut I,
-    path: &'a str,
-    sectors: u64,
-) -> Result<(), UnopenedFile<'a>>
-    ensures ok { OnOk result (GrowsFile (calls I.relations I.Dev.state images.old images.new) path.now sectors) }
-    ensures err { IfErr result (IsFileUnmade (calls I.relations I.Dev.state images.old images.new) path.now sectors) }
-{
-    match images.grow(path, sectors) {
-        Ok(()) => Ok(()),
-        Err(fault) => Err(UnopenedFile { fault, path }),
-    }
-}
 
 /// Checks that a file can be created at a path. If the trial fails, the file is created at once; if this fails too, its fault
 /// is returned.
@@ -43,7 +27,7 @@ pub(crate) fn check_path<'a, I: Images>(
 {
     match images.try_replace(path) {
         Ok(()) => Ok(()),
-        Err(_) => make_room(images, path, 0),
+        Err(_) => grow_place(images, path, 0),
     }
 }
 
@@ -63,16 +47,17 @@ pub(crate) fn protect_growing<'a, I: Images>(
     images: &mut I,
     places: &ImagePlaces<'a>,
     fec: &FecFile<'a>,
+    source: &TreeSource,
 ) -> Result<(), FecFault<'a>>
     requires { IsRoots fec.now.roots }
-    ensures ok { OnOk result (Does (Protects true) I.relations I.Dev.state images.old images.new places.now fec.now) }
-    ensures err { IfErr result (FailsToProtect true I.relations I.Dev.state images.old images.new places.now fec.now) }
+    ensures ok { OnOk result (Does (Protects source.now true) I.relations I.Dev.state images.old images.new places.now fec.now) }
+    ensures err { IfErr result (FailsToProtect source.now true I.relations I.Dev.state images.old images.new places.now fec.now) }
 {
-    make_room(images, fec.path, 0)?;
-    let tried = protect_image(alloc, images, places, fec);
+    grow_place(images, fec.path, 0)?;
+    let tried = protect_image(alloc, images, places, fec, source);
     let Some(sectors) = needed_by(&tried) else {
         return tried;
     };
-    make_room(images, fec.path, sectors)?;
-    protect_image(alloc, images, places, fec)
+    grow_place(images, fec.path, sectors)?;
+    protect_image(alloc, images, places, fec, source)
 }

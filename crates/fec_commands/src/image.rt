@@ -6,20 +6,23 @@ ghost use Rattle.fec_commands.specs.Images.{Does, OpensThree, RefusesThree, end_
 ghost use Rattle.fec_commands.specs.Layings.{IsLaidOut, IsNotLaidOut, IsRoots, is_roots};
 
 use crate::fault::FecFault;
-use block_device::{BlockDev, FileId};
+use block_device::BlockDev;
 use command_line::FecFile;
 use fec_area::Layout;
 use image_commands::{ImageFault, ImagePlaces, TreeSource, seek_tree};
-use image_files::{FileUse, Images, OpenImage, UnopenedFile, is_one_file, open_apart, open_image};
+use image_files::{
+    Images, PlacedImage, UnopenedFile, is_one_image, open_place, open_place_apart, place_use,
+};
+use std::alloc::Global;
 use verity_commands::VerityFault;
 use verity_format::{VerifyFault, VerityTree, data_sectors};
 
 /// A data image, its hash image and their parity file, open.
 #[derive(Drop)]
-pub(crate) struct ThreeImages<D> {
-    pub data: OpenImage<D>,
-    pub hash: OpenImage<D>,
-    pub parity: OpenImage<D>,
+pub(crate) struct ThreeImages<'a, D> {
+    pub data: PlacedImage<'a, D>,
+    pub hash: PlacedImage<'a, D>,
+    pub parity: PlacedImage<'a, D>,
 }
 
 /// A tree, and the layout of the parity of its image.
@@ -48,46 +51,40 @@ pub(crate) fn is_roots(roots: u32) -> bool
 /// Opens the data image for reading, the hash image for reading, and then the parity file; if `write` is set, the latter for
 /// writing, and it must be neither of the images.
 pub(crate) fn open_three<'a, I: Images>(
+    alloc: Global,
     images: &mut I,
     places: &ImagePlaces<'a>,
     fec: &FecFile<'a>,
     write: bool,
-) -> Result<ThreeImages<I::Dev>, UnopenedFile<'a>>
+) -> Result<ThreeImages<'a, I::Dev>, UnopenedFile<'a>>
     ensures ok { IfOk result (Does OpensThree I.relations I.Dev.state images.old images.new places.now fec.now write) }
     ensures fresh { IfOk result (λ three. IsFresh (I.Dev.state three.parity.device) write) }
     ensures err { IfErr result (RefusesThree I.relations I.Dev.state images.old images.new places.now fec.now write) }
 {
-    let data = open_image(images, places.data, false)?;
-    let hash = open_image(images, places.hash, false)?;
-    let files = [
-        FileUse {
-            id: data.id,
-            writable: false,
-            part: None,
-        },
-        FileUse {
-            id: hash.id,
-            writable: false,
-            part: None,
-        },
-    ];
-    let parity = open_apart(images, &files, fec.path, write)?;
+    let data = open_place(alloc, images, places.data, false)?;
+    let hash = open_place(alloc, images, places.hash, false)?;
+    let files = [place_use(&data, false), place_use(&hash, false)];
+    let parity = open_place_apart(alloc, images, &files, fec.path, write)?;
     Ok(ThreeImages { data, hash, parity })
 }
 
-/// Returns the sector where the data end: the hash image's first sector if both are one file, otherwise the end of the data
-/// file.
-pub(crate) fn data_end<D>(three: &ThreeImages<D>, first: u64) -> u64
+/// Returns the sector where the data end: the hash image's first sector if both are one image, otherwise the end of the data
+/// image.
+pub(crate) fn data_end<D>(three: &ThreeImages<'_, D>, first: u64) -> u64
     ensures { result ≡ three_data_end three.now first }
 {
-    end_of_data(three.data.id, three.hash.id, first)
+    end_of_data(&three.data, &three.hash, first)
 }
 
-/// Returns the sector where the data end, by the identities of the files DATA and HASH.
-pub(crate) fn end_of_data(data: Option<FileId>, hash: Option<FileId>, first: u64) -> u64
-    ensures { result ≡ end_of_data «data» hash first }
+/// Returns the sector where the data end, by the places of DATA and HASH.
+pub(crate) fn end_of_data<D>(
+    data: &PlacedImage<'_, D>,
+    hash: &PlacedImage<'_, D>,
+    first: u64,
+) -> u64
+    ensures { result ≡ end_of_data «data».now hash.now first }
 {
-    if first > 0 && is_one_file(data, hash) {
+    if first > 0 && is_one_image(data, hash) {
         return first;
     }
     u64::MAX

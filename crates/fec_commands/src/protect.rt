@@ -14,43 +14,48 @@ use command_line::FecFile;
 use device_adapters::Window;
 use fec_area::{Layout, ParityFault, write_parity};
 use image_commands::{ImagePlaces, TreeSource};
-use image_files::{Images, OpenImage};
+use image_files::{Images, PlacedImage, close_place};
 use std::alloc::Global;
 use std::marker::Brand;
 
-/// Writes the parity of an image in files to a file, syncs it, and closes it.
+/// Writes the parity of an image in files, whose tree is that of a source, to a file, syncs it, and closes it.
 pub(crate) fn protect_image<'a, I: Images>(
     alloc: Global,
     images: &mut I,
     places: &ImagePlaces<'a>,
     fec: &FecFile<'a>,
+    source: &TreeSource,
 ) -> Result<(), FecFault<'a>>
     requires { IsRoots fec.now.roots }
-    ensures ok { OnOk result (Does ProtectsImage I.relations I.Dev.state images.old images.new places.now fec.now) }
-    ensures err { IfErr result (Does IsProtectEnd I.relations I.Dev.state images.old images.new places.now fec.now) }
+    ensures ok { OnOk result (Does (ProtectsImage source.now) I.relations I.Dev.state images.old images.new places.now fec.now) }
+    ensures err { IfErr result (Does (IsProtectEnd source.now) I.relations I.Dev.state images.old images.new places.now fec.now) }
 {
-    let three = open_three(images, places, fec, true)?;
+    let three = open_three(alloc, images, places, fec, true)?;
     let extent = Extent {
         end: data_end(&three, places.hash_first),
         first: places.hash_first,
         roots: fec.roots,
     };
+    let place = three.parity.place;
     let ThreeImages {
-        data: OpenImage {
+        data: PlacedImage {
             device: data_dev,
             id: _,
+            place: _,
         },
-        hash: OpenImage {
+        hash: PlacedImage {
             device: hash_dev,
             id: _,
+            place: _,
         },
-        parity: OpenImage {
+        parity: PlacedImage {
             device: mut parity_dev,
             id: _,
+            place: _,
         },
     } = three;
-    protect_behind(alloc, data_dev, hash_dev, &mut parity_dev, extent)?;
-    images.close(fec.path, parity_dev);
+    protect_behind(alloc, data_dev, hash_dev, &mut parity_dev, extent, source)?;
+    close_place(images, place, parity_dev);
     Ok(())
 }
 
@@ -61,15 +66,15 @@ fn protect_behind<'a, D: BlockDev + Drop, H: BlockDev + Drop, P: SyncDev>(
     hash_dev: H,
     parity: &mut P,
     extent: Extent,
+    source: &TreeSource,
 ) -> Result<(), FecFault<'a>>
     requires { IsRoots extent.roots }
-    ensures ok { OnOk result (IsProtectedBy D.state H.state P.state data_dev hash_dev parity.old extent parity.new) }
-    ensures err { IfErr result (IsUnprotected D.state H.state P.state data_dev hash_dev parity.old extent parity.new) }
+    ensures ok { OnOk result (IsProtectedBy D.state H.state P.state data_dev hash_dev parity.old extent source.now parity.new) }
+    ensures err { IfErr result (IsUnprotected D.state H.state P.state data_dev hash_dev parity.old extent source.now parity.new) }
 {
     let mut before = Window::<D, Brand>::before(data_dev, extent.end);
     let mut behind = Window::<H, Brand>::behind(hash_dev, extent.first);
-    let source = TreeSource::Superblock(None);
-    let laid = lay_out(&before, &mut behind, extent.first, &source, extent.roots)?;
+    let laid = lay_out(&before, &mut behind, extent.first, source, extent.roots)?;
     write_synced(alloc, &laid.layout, &mut before, &mut behind, parity)?;
     Ok(())
 }

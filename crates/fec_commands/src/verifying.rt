@@ -13,7 +13,6 @@ use fec_area::{Layout, ParityFault, check_parity};
 use image_commands::{
     Bounds, ImagePair, SoughtTree, TreeSource, bytes_to_read, compare, place_parts, tree_start,
 };
-use image_files::OpenImage;
 use program_io::Counted;
 use std::alloc::Global;
 use std::io::Write;
@@ -23,33 +22,21 @@ use verity_commands::sector_at;
 pub(crate) fn verify_open<'a, D: BlockDev + Drop, S: Watchers, W: Write>(
     alloc: Global,
     watchers: &S,
-    three: ThreeImages<D>,
+    three: ThreeImages<'_, D>,
     words: &FecVerifyWords<'a>,
     sought: &SoughtTree,
     writer: &mut Counted<W>,
 ) -> Result<(), FecFault<'a>>
     requires { IsRoots words.now.fec.roots }
-    ensures ok { OnOk result (VerifiesOpen D.state three words.now sought.now W.contents writer.old writer.new) }
-    ensures err { IfErr result (FailsToVerifyOpen D.state three words.now sought.now W.contents writer.old writer.new) }
+    ensures ok { OnOk result (VerifiesOpen D.state three.entry words.now sought.now W.contents writer.old writer.new) }
+    ensures err { IfErr result (FailsToVerifyOpen D.state three.entry words.now sought.now W.contents writer.old writer.new) }
 {
     let first = sector_at(words.verify.hash_offset);
     let end = data_end(&three, first);
     let all = bytes_to_read(&sought.source, bytes_before(&three.data.device, end));
-    let ThreeImages {
-        data: OpenImage {
-            device: data_dev,
-            id: _,
-        },
-        hash: OpenImage {
-            device: hash_dev,
-            id: _,
-        },
-        parity: OpenImage {
-            device: mut parity_dev,
-            id: _,
-        },
-    } = three;
-    let mut two = place_parts(data_dev, hash_dev, Bounds { end, first });
+    let ThreeImages { data, hash, parity } = three;
+    let mut parity_dev = parity.device;
+    let mut two = place_parts(data.device, hash.device, Bounds { end, first });
     let source = &sought.source;
     let roots = words.fec.roots;
     let laid = measure(&two.data, &mut two.hash, &parity_dev, first, source, roots)?;

@@ -3,16 +3,17 @@ use Rattle.std.proofs.Common.{◌≡◌, ◌+◌, ◌*◌, ◌/◌, ℕ, IsTrue,
 use Rattle.std.proofs.Math.Nat.{zero-mul}
 use Rattle.block_device.specs.Device.{Device, IsSameDevice, spliced}
 use Rattle.block_device.specs.Whole.{length-sectors_of}
+use Rattle.verity_format.specs.declared.formatting.FormatFault.{FormatFault}
 use Rattle.verity_format.specs.declared.tree.VerityTree.{VerityTree}
 use Rattle.verity_format.specs.Formatting.{room_refusal}
 use Rattle.verity_format.specs.Image.{area_sectors, tree_over, tree_sectors, with_tree}
 use Rattle.verity_format.specs.Superblock.{SuperRecord}
-use Rattle.verity_format.specs.Trees.{IsTreeBuilt, shape_alone, tree_alone, tree_refusal}
+use Rattle.verity_format.specs.Trees.{IsBuildCause, IsTreeBuilt, shape_alone, tree_alone, tree_refusal}
 use Rattle.verity_format.specs.Writing.{IsPartOfTree}
 use Rattle.verity_format.proofs.lemmas.DeviceLemmas.{same-none, same-then, steady-then}
 use Rattle.verity_format.proofs.lemmas.SizeLemmas.{tree-end}
 use Rattle.image_commands.specs.Clearing.{IsCleared}
-use Rattle.image_commands.specs.ClearedTrees.{IsKeptBehind, IsMadeCleared, IsTreeCleared, IsTreeUncleared, sectors_alone}
+use Rattle.image_commands.specs.ClearedTrees.{IsClearedEnd, IsKeptBehind, IsMadeCleared, IsTreeCleared, IsTreeUncleared, IsUnfinishedTree, sectors_alone}
 use Rattle.image_commands.proofs.ClearingLemmas.{drop-cleared, drop-more}
 
 same-cleared : (old new : Device) → IsCleared old new → IsSameDevice old new
@@ -90,15 +91,36 @@ module _ (s : SuperRecord) (tree : VerityTree) (n : ℕ) (is : tree ≡ tree_alo
     kept-is part = kept-cleared s hash_dev cleared hash_dev' clearing-is (subst (λ (t : VerityTree). IsPartOfTree t.shape cleared hash_dev') is part)
 
     -- the tree that was made after the clearing
-    pub made-is : None ≡ room_refusal tree.shape n data_dev hash_dev → (root : List ℕ) → IsTreeBuilt tree.shape tree.salt data_dev cleared data_dev' hash_dev' root → IsMadeCleared s data_dev hash_dev data_dev' hash_dev' root
-    made-is fits root built =
+    pub made-is : (Hash : Device → Type 0) → Hash cleared → None ≡ room_refusal tree.shape n data_dev hash_dev → (root : List ℕ) → IsTreeBuilt tree.shape tree.salt data_dev cleared data_dev' hash_dev' root → IsMadeCleared Hash s data_dev hash_dev data_dev' hash_dev' root
+    made-is Hash left fits root built =
         let making : IsTreeBuilt (shape_alone s) s.salt data_dev cleared data_dev' hash_dev' root =
         subst (λ (t : VerityTree). IsTreeBuilt t.shape t.salt data_dev cleared data_dev' hash_dev' root) is built in
         let same : IsSameDevice hash_dev cleared = same-tree_cleared (sectors_alone s) hash_dev cleared clearing-is in
         record {
           cleared = cleared;
+          left = left;
           fit = sym (fits ∙ refusal-is);
           clearing = clearing-is;
           making = making;
           image = λ a b. making.written.image a (steady-then same b) ∙ with_tree-cleared s data_dev.image hash_dev cleared clearing-is b;
         }
+
+    -- or that wasn't made after it
+    pub unfinished-is : (Hash : Device → Type 0) → Hash cleared → None ≡ room_refusal tree.shape n data_dev hash_dev → (fault : FormatFault) → IsBuildCause tree.shape data_dev cleared data_dev' hash_dev' fault
+        → IsUnfinishedTree Hash s data_dev hash_dev data_dev' hash_dev' fault
+    unfinished-is Hash left fits fault cause = record {
+      cleared = cleared;
+      left = left;
+      fit = sym (fits ∙ refusal-is);
+      clearing = clearing-is;
+      cause = subst (λ (t : VerityTree). IsBuildCause t.shape data_dev cleared data_dev' hash_dev' fault) is cause;
+    }
+
+-- what holds of the device that the clearing left, weakened
+pub made-known : {Hash Hash' : Device → Type 0} (s : SuperRecord) (d h d' h' : Device) (root : List ℕ) → IsMadeCleared Hash s d h d' h' root → ((c : Device) → Hash c → Hash' c) → IsMadeCleared Hash' s d h d' h' root
+made-known s d h d' h' root made to = record { cleared = made.cleared; left = to made.cleared made.left; fit = made.fit; clearing = made.clearing; making = made.making; image = made.image }
+
+pub end-known : {Hash Hash' : Device → Type 0} (s : SuperRecord) (d h d' h' : Device) (fault : FormatFault) → IsClearedEnd Hash s d h d' h' fault → ((c : Device) → Hash c → Hash' c) → IsClearedEnd Hash' s d h d' h' fault
+end-known s d h d' h' fault (inl refused) to = inl refused
+end-known s d h d' h' fault (inr (inl uncleared)) to = inr (inl uncleared)
+end-known s d h d' h' fault (inr (inr cut)) to = inr (inr (record { cleared = cut.cleared; left = to cut.cleared cut.left; fit = cut.fit; clearing = cut.clearing; cause = cut.cause }))

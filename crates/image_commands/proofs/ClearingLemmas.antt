@@ -1,12 +1,14 @@
 -- Hash devices on which an old superblock was cleared.
-use Rattle.std.proofs.Common.{◌≡◌, ◌<◌, ◌+◌, ◌-◌, ℕ, Bool, true, false, not, refl, IsTrue, List, ◌++◌, length, drop, ap, subst, sym, ◌∙◌, arith, inl, inr}
+use Rattle.std.proofs.Common.{◌≡◌, ◌<◌, ◌+◌, ◌-◌, ℕ, Bool, true, false, not, refl, IsTrue, List, ◌++◌, length, drop, ap, subst, sym, ◌∙◌, arith, inl, inr, Result, Ok, Err, is_ok}
+use Rattle.std.specs.Prelude.{IsErrAnd, OnErr}
 use Rattle.std.proofs.lemmas.List.{drop-drop}
+use Rattle.block_device.specs.Call.{Call}
 use Rattle.block_device.specs.Device.{Device, sectors_of}
 use Rattle.block_device.specs.Whole.{length-sectors_of}
 use Rattle.std.specs.List.{concat}
 use Rattle.verity_format.specs.Image.{area_over, first_block, formatted, image_sectors}
 use Rattle.verity_format.specs.Superblock.{SuperRecord, shape_of}
-use Rattle.image_commands.specs.Clearing.{IsCleared}
+use Rattle.image_commands.specs.Clearing.{HandsClearing, HandsFewer, IsCleared}
 
 -- a device stays steady
 pub steady-cleared : (old new : Device) → IsCleared old new → new.steady ≡ old.steady
@@ -42,3 +44,17 @@ false-from_not false h = refl
 pub true-from_not : (b : Bool) → false ≡ not b → b ≡ true
 true-from_not true h = refl
 true-from_not false h = cc
+
+-- a clearing that failed in its read or its write
+pub fewer-ended : {H : Type 0} (does : H → Call → H → Type 0) (old new : H) {T E : Type 0} (P : E → Type 0) (r : Result T E) → IsErrAnd r P → HandsFewer does old new false → HandsClearing does old new (is_ok r)
+fewer-ended does old new P (Ok done) ended fewer = absurd ended
+fewer-ended does old new P (Err fault) ended fewer = inr fewer
+
+-- what holds of calls that ended early holds of the result that hands the fault on
+pub ended-on : {T E : Type 0} {X : Type 0} (r : Result T E) → X → OnErr r X
+ended-on (Ok done) holds = tt
+ended-on (Err fault) holds = holds
+
+pub ended-and : {T E : Type 0} (P : E → Type 0) {X : Type 0} (r : Result T E) → IsErrAnd r P → X → IsErrAnd r (λ (e : E). X)
+ended-and P (Ok done) ended holds = absurd ended
+ended-and P (Err fault) ended holds = holds

@@ -40,7 +40,7 @@ joined old new sectors f c inside few part front back =
     ∙ sym (append_assoc (take f old) sectors (drop (f + m) old))
 
 -- what holds of the data device that calls left, weakened
-pub made-left : {Data Data' : Device → Type 0} {s : SuperRecord} {d h h' : Device} {first : ℕ} {made : MadeImage} → IsTreeMade Data s d h first h' made → ((device : Device) → Data device → Data' device) → IsTreeMade Data' s d h first h' made
+pub made-left : {Data Data' Hash : Device → Type 0} {s : SuperRecord} {d h h' : Device} {first : ℕ} {made : MadeImage} → IsTreeMade Data Hash s d h first h' made → ((device : Device) → Data device → Data' device) → IsTreeMade Data' Hash s d h first h' made
 made-left m f = record {
   data_dev' = m.data_dev';
   left = f m.data_dev' m.left;
@@ -57,16 +57,16 @@ made-left m f = record {
 }
 
 -- a tree that isn't made, over a data device around another one, of the type of `outer`
-pub tree_end-inner : {D E : Type 0} (outer : E) (inner : E → D) (state : D → Device) (s : SuperRecord) (d h : Device) (first : ℕ) (h' : Device) (fault : FormatFault)
-    → IsTreeEnd (IsPartState (λ (e : E). state (inner e))) s d h first h' fault → IsTreeEnd (IsPartState state) s d h first h' fault
+pub tree_end-inner : {D E : Type 0} {Hash : Device → Type 0} (outer : E) (inner : E → D) (state : D → Device) (s : SuperRecord) (d h : Device) (first : ℕ) (h' : Device) (fault : FormatFault)
+    → IsTreeEnd (IsPartState (λ (e : E). state (inner e))) Hash s d h first h' fault → IsTreeEnd (IsPartState state) Hash s d h first h' fault
 tree_end-inner outer inner state s d h first h' fault (inl none) = inl none
 tree_end-inner outer inner state s d h first h' fault (inr ends) = inr ((ends.0.0, ((inner ends.0.1.0.0, ends.0.1.0.1), ends.0.1.1)), ends.1)
 
-module _ (Data : Device → Type 0) (s : SuperRecord) (data_dev data_dev' hash_dev hash_dev' : Device) (first : ℕ) (left : Data data_dev') (is_whole : IsWhole hash_dev) (image image' : Device) (root : Result (List ℕ) FormatFault)
+module _ (Data Hash : Device → Type 0) (s : SuperRecord) (data_dev data_dev' hash_dev hash_dev' : Device) (first : ℕ) (left : Data data_dev') (is_whole : IsWhole hash_dev) (image image' : Device) (root : Result (List ℕ) FormatFault)
     (written : IsKeptBehind s (windowed hash_dev (part_behind hash_dev first)) image) (back : image' ≡ windowed hash_dev' (part_behind hash_dev first))
     (outside : StandOutside hash_dev' (part_behind hash_dev first) (outside_of hash_dev.image (part_behind hash_dev first))) where
   -- a tree that was made and put on the medium
-  pub made-placed : (made : MadeImage) → IsMadeCleared s data_dev (windowed hash_dev (part_behind hash_dev first)) data_dev' image made.root → IsFinished s root image image' made → IsTreeMade Data s data_dev hash_dev first hash_dev' made
+  pub made-placed : (made : MadeImage) → IsMadeCleared Hash s data_dev (windowed hash_dev (part_behind hash_dev first)) data_dev' image made.root → IsFinished s root image image' made → IsTreeMade Data Hash s data_dev hash_dev first hash_dev' made
   made-placed made built done =
       let p = part_behind hash_dev first in
       let sectors : List (List ℕ) = tree_over (shape_alone s) s.salt data_dev.image in
@@ -101,17 +101,17 @@ module _ (Data : Device → Type 0) (s : SuperRecord) (data_dev data_dev' hash_d
   }
 
   -- a tree that wasn't made, or not put on the medium
-  pub end-placed : (fault : FormatFault) → IfOk root (IsMadeCleared s data_dev (windowed hash_dev (part_behind hash_dev first)) data_dev' image) → IfErr root (IsClearedEnd s data_dev (windowed hash_dev (part_behind hash_dev first)) data_dev' image)
-      → IsUnfinished root image image' fault → IsPlacedTreeCause Data s data_dev hash_dev first hash_dev' fault × IsTreeKept s hash_dev first hash_dev'
+  pub end-placed : (fault : FormatFault) → IfOk root (IsMadeCleared Hash s data_dev (windowed hash_dev (part_behind hash_dev first)) data_dev' image) → IfErr root (IsClearedEnd Hash s data_dev (windowed hash_dev (part_behind hash_dev first)) data_dev' image)
+      → IsUnfinished root image image' fault → IsPlacedTreeCause Data Hash s data_dev hash_dev first hash_dev' fault × IsTreeKept s hash_dev first hash_dev'
   end-placed fault ok err (inl (is, same)) =
-      let cause : IsClearedEnd s data_dev (windowed hash_dev (part_behind hash_dev first)) data_dev' image fault =
-      subst (λ (r : Result (List ℕ) FormatFault). IfErr r (IsClearedEnd s data_dev (windowed hash_dev (part_behind hash_dev first)) data_dev' image)) is err in (
-        (data_dev', (left, inl (subst (λ (d : Device). IsClearedEnd s data_dev (windowed hash_dev (part_behind hash_dev first)) data_dev' d fault) (sym same ∙ back) cause))),
+      let cause : IsClearedEnd Hash s data_dev (windowed hash_dev (part_behind hash_dev first)) data_dev' image fault =
+      subst (λ (r : Result (List ℕ) FormatFault). IfErr r (IsClearedEnd Hash s data_dev (windowed hash_dev (part_behind hash_dev first)) data_dev' image)) is err in (
+        (data_dev', (left, inl (subst (λ (d : Device). IsClearedEnd Hash s data_dev (windowed hash_dev (part_behind hash_dev first)) data_dev' d fault) (sym same ∙ back) cause))),
         kept-placed (ap (λ (d : Device). d.image) same),
       )
   end-placed fault ok err (inr dirty) =
-      let made : IsMadeCleared s data_dev (windowed hash_dev (part_behind hash_dev first)) data_dev' image dirty.made =
-      subst (λ (r : Result (List ℕ) FormatFault). IfOk r (IsMadeCleared s data_dev (windowed hash_dev (part_behind hash_dev first)) data_dev' image)) dirty.root_is ok in (
+      let made : IsMadeCleared Hash s data_dev (windowed hash_dev (part_behind hash_dev first)) data_dev' image dirty.made =
+      subst (λ (r : Result (List ℕ) FormatFault). IfOk r (IsMadeCleared Hash s data_dev (windowed hash_dev (part_behind hash_dev first)) data_dev' image)) dirty.root_is ok in (
         (data_dev', (left, inr (record { root = dirty.made; written = image; made = made; unsynced = subst (IsUnsynced image) back dirty.unsynced; is = dirty.is }))),
         kept-placed (ap (λ (d : Device). d.image) dirty.unsynced.moved),
       )

@@ -1,7 +1,8 @@
 -- A superblock that was stored on the hash device is cleared before anything of the tree is written.
-use Rattle.std.specs.Prelude.{◌≡◌, ◌⊎◌, ℕ, Bool, true, false, IsTrue, List, take, drop}
+use Rattle.std.specs.Prelude.{◌≡◌, ◌⊎◌, ℕ, Bool, true, false, IsTrue, List, [], ◌∷◌, take, drop}
 use Rattle.std.specs.Str.{bytes_eq}
-use Rattle.block_device.specs.Device.{Device, HasFailed, IsRead, IsSameDevice, IsWritten, spliced, synced, zeros_image}
+use Rattle.block_device.specs.Call.{Call, Calls, Read, Sync, Write}
+use Rattle.block_device.specs.Device.{Device, HasFailed, IsRead, IsSameDevice, IsWritten, filled_sector, spliced, synced, zeros_image}
 use Rattle.verity_format.specs.Superblock.{signature}
 use Rattle.verity_format.specs.Verifying.{IsFirstSector}
 
@@ -36,3 +37,33 @@ pub record IsUncleared (old new : Device) : Type 0 where
   pub failed : HasFailed old new
   pub same : IsSameDevice old new
   pub after : IsTrue old.steady → drop 1 new.image ≡ drop 1 old.image
+
+-- ---- all calls of a clearing, whatever the device does
+
+-- the first sector was read; it begins as a superblock does, and zeros were written in its place and synced. `ok` is whether the
+-- sync ended well.
+pub record HandsZeros {H : Type 0} (does : H → Call → H → Type 0) (old new : H) (ok : Bool) : Type 0 where
+  pub sector : List ℕ
+  pub begins : begins_super sector ≡ true
+  pub made : Calls does old (Read 0 sector true ∷ Write 0 (filled_sector 0) true ∷ Sync ok ∷ []) new
+
+-- the first sector was read and doesn't begin so, and nothing was written
+pub record HandsNone {H : Type 0} (does : H → Call → H → Type 0) (old new : H) : Type 0 where
+  pub sector : List ℕ
+  pub other : begins_super sector ≡ false
+  pub made : Calls does old (Read 0 sector true ∷ []) new
+
+-- the write of the zeros failed, and nothing was synced
+pub record HandsFailedWrite {H : Type 0} (does : H → Call → H → Type 0) (old new : H) : Type 0 where
+  pub sector : List ℕ
+  pub begins : begins_super sector ≡ true
+  pub made : Calls does old (Read 0 sector true ∷ Write 0 (filled_sector 0) false ∷ []) new
+
+-- fewer calls: nothing had to be cleared; or, if the clearing failed, the read or the write did
+abbrev pub HandsFewer : {H : Type 0} → (H → Call → H → Type 0) → H → H → Bool → Type 0
+HandsFewer does old new true = HandsNone does old new
+HandsFewer does old new false = ((sector : List ℕ) × Calls does old (Read 0 sector false ∷ []) new) ⊎ HandsFailedWrite does old new
+
+-- `ok` is whether the clearing ended well
+abbrev pub HandsClearing : {H : Type 0} → (H → Call → H → Type 0) → H → H → Bool → Type 0
+HandsClearing does old new ok = HandsZeros does old new ok ⊎ HandsFewer does old new ok

@@ -21,3 +21,4 @@ pub mod ClearedTrees
 pub mod TreeSources
 pub mod TreeFormats
 pub mod TreeImages
+pub mod Verifying

@@ -1,14 +1,14 @@
--- The images of a command: which paths are opened, in which order and with which rights.
-use Rattle.std.specs.Prelude.{◌⊎◌, ℕ, List, Bool, false, Ok}
+-- The images of a command: which are opened, in which order and with which rights.
+use Rattle.std.specs.Prelude.{◌⊎◌, ℕ, List, Bool, false}
 use Rattle.block_device.specs.Device.{Device}
-use Rattle.image_files.specs.declared.images.OpenImage.{OpenImage}
+use Rattle.image_files.specs.declared.placed_image.PlacedImage.{PlacedImage}
 use Rattle.image_files.specs.declared.opening.UnopenedFile.{UnopenedFile}
-use Rattle.image_files.specs.Opened.{Refuses}
 use Rattle.image_files.specs.Opener.{Calls, Opener, calls}
+use Rattle.image_files.specs.OpenPlaces.{OpensPlace, RefusesPlace}
 use Rattle.image_commands.specs.declared.paths.ImagePaths.{ImagePaths}
 use Rattle.image_commands.specs.declared.paths.TwoImages.{TwoImages}
 
--- the paths of a data image and of its hash image
+-- the arguments that name a data image and its hash image
 pub record TwoPaths : Type 0 where
   pub data_path : List ℕ
   pub hash_path : List ℕ
@@ -19,19 +19,19 @@ two_paths paths = record { data_path = paths.data.now; hash_path = paths.hash.no
 -- the data image was opened for reading, and then the hash image
 pub record OpensTwo {S D : Type 0} (w : Calls S D) (paths : TwoPaths) (writable : Bool) (two : TwoImages D) : Type 0 where
   pub between : S
-  pub data_opened : w.relations.opens w.old paths.data_path false (Ok two.data) between
-  pub hash_opened : w.relations.opens between paths.hash_path writable (Ok two.hash) w.new
+  pub data_opened : OpensPlace (record w { new = between }) paths.data_path false two.data
+  pub hash_opened : OpensPlace (record w { old = between }) paths.hash_path writable two.hash
 
 -- the data image was opened, and the hash image wasn't
 pub record RefusesHash {S D : Type 0} (w : Calls S D) (paths : TwoPaths) (writable : Bool) (file : UnopenedFile) : Type 0 where
-  pub data_image : OpenImage D
+  pub data_image : PlacedImage D
   pub between : S
-  pub data_opened : w.relations.opens w.old paths.data_path false (Ok data_image) between
-  pub refused : Refuses (record w { old = between }) paths.hash_path writable file
+  pub data_opened : OpensPlace (record w { new = between }) paths.data_path false data_image
+  pub refused : RefusesPlace (record w { old = between }) paths.hash_path writable file
 
 -- one of them isn't opened, the first that the opener refuses
 abbrev pub FailsToOpenTwo : {S D : Type 0} → Calls S D → TwoPaths → Bool → UnopenedFile → Type 0
-FailsToOpenTwo w paths writable file = Refuses w paths.data_path false file ⊎ RefusesHash w paths writable file
+FailsToOpenTwo w paths writable file = RefusesPlace w paths.data_path false file ⊎ RefusesHash w paths writable file
 
 -- ---- as a call sees them: an opener's relations, what a proof sees of its devices, and the opener before and after
 

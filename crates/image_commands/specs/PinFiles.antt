@@ -1,14 +1,15 @@
 -- Pins and root hashes in files.
 use Rattle.std.specs.Borrow.{Bor}
-use Rattle.std.specs.Prelude.{◌≡◌, ◌⊎◌, ◌||◌, ℕ, Bool, true, false, List, Option, None, Ok, Err}
+use Rattle.std.specs.Prelude.{◌≡◌, ◌⊎◌, ◌||◌, ℕ, Bool, true, false, List, Option, None, Some, Ok, Err}
 use Rattle.allocation.specs.Refusal.{IsOutOfMemory}
 use Rattle.block_device.specs.declared.file_id.FileId.{FileId}
 use Rattle.block_device.specs.declared.open_fault.OpenFault.{OpenFault}
 use Rattle.block_device.specs.declared.open_fault.OpenFault.TheVariants.{SameFile}
 use Rattle.command_line.specs.declared.image_options.ImageOptions.{ImageOptions}
-use Rattle.command_line.specs.declared.words.pin_format.RootForm.{RootForm}
-use Rattle.command_line.specs.declared.words.pin_format.RootForm.TheVariants.{Digits, Pin as PinForm}
-use Rattle.command_line.specs.words.PinFormat.{RootFileRecord}
+use Rattle.command_line.specs.declared.root_file.RootForm.{RootForm}
+use Rattle.command_line.specs.declared.root_file.RootForm.TheVariants.{Digits, Pin as PinForm}
+use Rattle.command_line.specs.FilePlaces.{FilePlaceRecord, file_place_of}
+use Rattle.command_line.specs.RootFiles.{RootFileRecord}
 use Rattle.hex.specs.Hex.{encode_lower}
 use Rattle.image_files.specs.declared.images.FileText.{FileText}
 use Rattle.image_files.specs.declared.opening.UnopenedFile.{UnopenedFile}
@@ -65,7 +66,18 @@ TellsId w path id =
     ((text : FileText) × w.relations.tells w.old path 0 (Ok text) w.new × (id ≡ text.id))
     ⊎ ((fault : OpenFault) × w.relations.tells w.old path 0 (Err fault) w.new × (id ≡ None))
 
--- the file of a pin is one of two images, or leads to the place of the hash image, as far as the opener tells
+-- which file it is of which an argument names a part, if it names one
+abbrev pub TellsPartId : {S D : Type 0} → Calls S D → Option FilePlaceRecord → Option FileId → Type 0
+TellsPartId w None id = (w.new ≡ w.old) × (id ≡ None)
+TellsPartId w (Some place) id = TellsId w place.path id
+
+-- which file the image is in that an argument names: the one under the argument or, if it isn't told, the one of which it names a part
+abbrev pub TellsPlaceId : {S D : Type 0} → Calls S D → List ℕ → Option FileId → Type 0
+TellsPlaceId {S} w text id =
+    ((found : FileText) × w.relations.tells w.old text 0 (Ok found) w.new × (id ≡ found.id))
+    ⊎ ((between : S) × ((fault : OpenFault) × (w.relations.tells w.old text 0 (Err fault) between × TellsPartId (record w { old = between }) (file_place_of text) id)))
+
+-- one of two images is in the file of a pin, or that leads to the place of the hash image, as far as the opener tells
 pub record ToldApart {S D : Type 0} (w : Calls S D) (data_path hash_path path : List ℕ) (is_one : Bool) : Type 0 where
   pub compared : S
   pub pin_told : S
@@ -76,8 +88,8 @@ pub record ToldApart {S D : Type 0} (w : Calls S D) (data_path hash_path path : 
   pub one : Bool
   pub compares : Compares (record w { new = compared }) path hash_path one
   pub pin_tells : TellsId (record w { old = compared; new = pin_told }) path pin_id
-  pub data_tells : TellsId (record w { old = pin_told; new = data_told }) data_path data_id
-  pub hash_tells : TellsId (record w { old = data_told }) hash_path hash_id
+  pub data_tells : TellsPlaceId (record w { old = pin_told; new = data_told }) data_path data_id
+  pub hash_tells : TellsPlaceId (record w { old = data_told }) hash_path hash_id
   pub is : (one || is_one_file pin_id data_id || is_one_file pin_id hash_id) ≡ is_one
 
 abbrev pub AreApart : {S D : Type 0} → Calls S D → List ℕ → List ℕ → List ℕ → Type 0
@@ -128,3 +140,35 @@ pub record FailsToReplace {S D : Type 0} (w : Calls S D) (data_path hash_path : 
 -- it is one of them, or wasn't replaced
 abbrev pub IsPinUnwritten : {S D : Type 0} → Calls S D → List ℕ → List ℕ → RootFileRecord → Pin → ImageFault → Type 0
 IsPinUnwritten w data_path hash_path file pin fault = AreOne w data_path hash_path file.path fault ⊎ FailsToReplace w data_path hash_path file pin fault
+
+-- ---- the file of a format's pin or root hash, if it has one
+
+-- it has none, or it can be written
+abbrev pub CanWriteRoot : {S D : Type 0} → Calls S D → List ℕ → List ℕ → Option RootFileRecord → Type 0
+CanWriteRoot w data_path hash_path None = w.new ≡ w.old
+CanWriteRoot w data_path hash_path (Some file) = IsPinPath w data_path hash_path file.path
+
+-- it has one, which can't be written
+abbrev pub IsRootRefused : {S D : Type 0} → Calls S D → List ℕ → List ℕ → Option RootFileRecord → ImageFault → Type 0
+IsRootRefused w data_path hash_path None fault = ⊥
+IsRootRefused w data_path hash_path (Some file) fault = IsNoPinPath w data_path hash_path file.path fault
+
+-- it has none, or that isn't the file which another argument names
+abbrev pub IsOtherFile : {S D : Type 0} → Calls S D → List ℕ → Option RootFileRecord → Type 0
+IsOtherFile w other None = w.new ≡ w.old
+IsOtherFile w other (Some file) = AreApart w other other file.path
+
+-- it is that file, or memory ran out before that was known
+abbrev pub IsSameFile : {S D : Type 0} → Calls S D → List ℕ → Option RootFileRecord → ImageFault → Type 0
+IsSameFile w other None fault = ⊥
+IsSameFile w other (Some file) fault = AreOne w other other file.path fault
+
+-- it has none, or the pin or its root hash was written to it
+abbrev pub WritesRoot : {S D : Type 0} → Calls S D → List ℕ → List ℕ → Option RootFileRecord → Pin → Type 0
+WritesRoot w data_path hash_path None pin = w.new ≡ w.old
+WritesRoot w data_path hash_path (Some file) pin = WritesPin w data_path hash_path file pin
+
+-- it has one, to which it wasn't written
+abbrev pub IsRootUnwritten : {S D : Type 0} → Calls S D → List ℕ → List ℕ → Option RootFileRecord → Pin → ImageFault → Type 0
+IsRootUnwritten w data_path hash_path None pin fault = ⊥
+IsRootUnwritten w data_path hash_path (Some file) pin fault = IsPinUnwritten w data_path hash_path file pin fault

@@ -8,6 +8,7 @@ use Rattle.verity_format.specs.declared.formatting.FormatFault.{FormatFault}
 use Rattle.verity_format.specs.declared.formatting.FormatOptions.{FormatOptions}
 use Rattle.command_line.specs.declared.image_options.ImageOptions.{ImageOptions}
 use Rattle.image_files.specs.Opener.{Calls, Opener, calls}
+use Rattle.image_files.specs.OpenPlaces.{ClosesPlace}
 use Rattle.image_commands.specs.declared.fault.ImageFault.{ImageFault}
 use Rattle.image_commands.specs.declared.fault.ImageFault.TheVariants.{DataOverlapsTree, Format, Random, Unaligned}
 use Rattle.image_commands.specs.declared.format.MadeImage.{MadeImage}
@@ -37,18 +38,18 @@ image_behind p = windowed p.hash_dev' (part_behind p.hash_dev p.first)
 abbrev pub KeepsBefore : Placing → Type 0
 KeepsBefore p = StandOutside p.hash_dev' (part_behind p.hash_dev p.first) (outside_of p.hash_dev.image (part_behind p.hash_dev p.first))
 
--- the hash image was made of the data that lie before their end; `Data` is what holds of the data device that calls left
-pub record IsMadePlaced (Data : Device → Type 0) (options : FormatOptions) (p : Placing) (image : MadeImage) : Type 0 where
+-- the hash image was made of the data that lie before their end; `Data` and `Hash` are what holds of the two devices that calls left
+pub record IsMadePlaced (Data Hash : Device → Type 0) (options : FormatOptions) (p : Placing) (image : MadeImage) : Type 0 where
   pub data_dev' : Device
   pub left : Data data_dev'
-  pub made : IsMade options (before p.data_dev p.end) (behind p.hash_dev p.first) data_dev' (image_behind p) image
+  pub made : IsMade Hash options (before p.data_dev p.end) (behind p.hash_dev p.first) data_dev' (image_behind p) image
   pub kept : KeepsBefore p
 
 -- it was refused, not finished, or not synced
-pub record IsPlacedEnd (Data : Device → Type 0) (options : FormatOptions) (p : Placing) (fault : FormatFault) : Type 0 where
+pub record IsPlacedEnd (Data Hash : Device → Type 0) (options : FormatOptions) (p : Placing) (fault : FormatFault) : Type 0 where
   pub data_dev' : Device
   pub left : Data data_dev'
-  pub ends : IsFormatEnd options (before p.data_dev p.end) (behind p.hash_dev p.first) data_dev' (image_behind p) (Format fault)
+  pub ends : IsFormatEnd Hash options (before p.data_dev p.end) (behind p.hash_dev p.first) data_dev' (image_behind p) (Format fault)
   pub kept : KeepsBefore p
 
 -- the devices of two images
@@ -56,7 +57,7 @@ abbrev pub placing_of : {S D : Type 0} → Calls S D → TwoImages D → ℕ →
 placing_of w two first hash_dev' = record { data_dev = w.state two.data.device; hash_dev = w.state two.hash.device; hash_dev' = w.state hash_dev'; end = data_end two first; first = first }
 
 -- What was made of the two images, with the options as they are given or drawn. The hash image was synced and closed
--- under its path.
+-- where it was opened.
 pub record MakesPlaced {S D T G : Type 0} (w : Calls S D) (d : Drawing T G) (options : ImageOptions) (places : TwoPlaces) (image : MadeImage) : Type 0 where
   pub given : FormatOptions
   pub two : TwoImages D
@@ -66,8 +67,8 @@ pub record MakesPlaced {S D T G : Type 0} (w : Calls S D) (d : Drawing T G) (opt
   pub opened : OpensPlaced (record w { new = between }) places two
   pub apart : overlaps two places.first options.blocks ≡ false
   pub are_given : AreGiven d options given
-  pub made : IsMadePlaced (IsPartState w.state) given (placing_of w two places.first hash_dev') image
-  pub closed : w.relations.takes between places.paths.hash_path hash_dev' w.new
+  pub made : IsMadePlaced (IsPartState w.state) (IsPartState w.state) given (placing_of w two places.first hash_dev') image
+  pub closed : ClosesPlace (record w { old = between }) two.hash.place hash_dev'
 
 -- no hash block begins there, and nothing was opened or drawn
 pub record EndsUnaligned {S D T G : Type 0} (w : Calls S D) (d : Drawing T G) (options : ImageOptions) (places : TwoPlaces) (fault : ImageFault) : Type 0 where
@@ -81,7 +82,7 @@ pub record EndsUnopenedPlaced {S D T G : Type 0} (w : Calls S D) (d : Drawing T 
   pub unopened : IsUnopened (FailsToOpenPlaced w places) fault
   pub same : d.new ≡ d.old
 
--- both are open, but data and tree are in one file and no number of blocks says where the data end; nothing is drawn
+-- both are open, but data and tree are in one image and no number of blocks says where the data end; nothing is drawn
 pub record EndsOverlapping {S D T G : Type 0} (w : Calls S D) (d : Drawing T G) (options : ImageOptions) (places : TwoPlaces) (fault : ImageFault) : Type 0 where
   pub two : TwoImages D
   pub opened : OpensPlaced w places two
@@ -104,7 +105,7 @@ pub record EndsPlaced {S D T G : Type 0} (w : Calls S D) (d : Drawing T G) (opti
   pub cause : FormatFault
   pub opened : OpensPlaced w places two
   pub are_given : AreGiven d options given
-  pub ends : IsPlacedEnd (IsPartState w.state) given (placing_of w two places.first hash_dev') cause
+  pub ends : IsPlacedEnd (IsPartState w.state) (IsPartState w.state) given (placing_of w two places.first hash_dev') cause
   pub is : fault ≡ Format (format_fault_from places.first cause)
 
 -- one of these
@@ -130,7 +131,7 @@ placing data_state hash_state data_dev hash_dev hash_dev' bounds =
     record { data_dev = data_state data_dev; hash_dev = hash_state hash_dev; hash_dev' = hash_state hash_dev'; end = bounds.end; first = bounds.first }
 
 abbrev pub MakesImageAt : {D H : Type 0} → (D → Device) → (H → Device) → D → H → H → Bounds → FormatOptions → MadeImage → Type 0
-MakesImageAt data_state hash_state data_dev hash_dev hash_dev' bounds options = IsMadePlaced (IsPartState data_state) options (placing data_state hash_state data_dev hash_dev hash_dev' bounds)
+MakesImageAt data_state hash_state data_dev hash_dev hash_dev' bounds options = IsMadePlaced (IsPartState data_state) (IsPartState hash_state) options (placing data_state hash_state data_dev hash_dev hash_dev' bounds)
 
 abbrev pub IsUnmadeAt : {D H : Type 0} → (D → Device) → (H → Device) → D → H → H → Bounds → FormatOptions → FormatFault → Type 0
-IsUnmadeAt data_state hash_state data_dev hash_dev hash_dev' bounds options = IsPlacedEnd (IsPartState data_state) options (placing data_state hash_state data_dev hash_dev hash_dev' bounds)
+IsUnmadeAt data_state hash_state data_dev hash_dev hash_dev' bounds options = IsPlacedEnd (IsPartState data_state) (IsPartState hash_state) options (placing data_state hash_state data_dev hash_dev hash_dev' bounds)

@@ -1,36 +1,28 @@
 -- What the commands on a hash image print, and how they end early. It begins at a sector of its file.
 use Rattle.std.specs.Borrow.{Bor}
-use Rattle.std.specs.Prelude.{◌≡◌, ◌⊎◌, ℕ, Bool, true, false, List, codes, Option, None}
+use Rattle.std.specs.Prelude.{◌≡◌, ◌⊎◌, ℕ, Bool, true, false, List, Option, None}
 use Rattle.std.specs.Io.KnownBytes.{Appends}
 use Rattle.allocation.specs.Refusal.{IsOutOfMemory}
 use Rattle.block_device.specs.Device.{Device}
 use Rattle.program_io.specs.Counted.{CountedRecord}
 use Rattle.command_line.specs.declared.words.dump.DumpForm.{DumpForm}
-use Rattle.image_files.specs.declared.images.OpenImage.{OpenImage}
-use Rattle.image_files.specs.Opened.{Opens, Refuses}
+use Rattle.image_files.specs.declared.placed_image.PlacedImage.{PlacedImage}
 use Rattle.image_files.specs.Opener.{Calls, Opener, calls}
-use Rattle.verity_format.specs.declared.verifying.Verdict.TheVariants.{Matches}
-use Rattle.verity_format.specs.Blocks.{IsFullRead}
+use Rattle.image_files.specs.OpenPlaces.{OpensPlace, RefusesPlace}
 use Rattle.verity_format.specs.Line.{line_room}
-use Rattle.verity_format.specs.Superblock.{SuperRecord, shape_of}
-use Rattle.verity_format.specs.Trees.{superblock_tree}
-use Rattle.verity_format.specs.Verifying.{IsReadCause, IsReadFrom, IsTreeFound}
+use Rattle.verity_format.specs.Superblock.{SuperRecord}
+use Rattle.verity_format.specs.Verifying.{IsReadCause, IsReadFrom}
 use Rattle.image_commands.specs.declared.fault.ImageFault.{ImageFault}
 use Rattle.image_pin.specs.declared.finding.NoTree.{NoTree}
-use Rattle.image_commands.specs.declared.paths.TwoImages.{TwoImages}
-use Rattle.image_commands.specs.declared.places.Bounds.{Bounds}
 use Rattle.image_commands.specs.declared.places.HashPlace.{HashPlace}
 use Rattle.image_commands.specs.declared.table.LineWords.{LineWords}
 use Rattle.image_pin.specs.declared.trusted.TrustedRoot.{TrustedRoot}
-use Rattle.image_commands.specs.declared.watching.WatchedPlaces.{WatchedPlaces}
 use Rattle.image_pin.specs.declared.pin.Pin.{Pin}
 use Rattle.image_pin.specs.PinnedReads.{mismatch_of}
-use Rattle.image_commands.specs.Comparing.{IsComparedEnd}
 use Rattle.image_commands.specs.Endings.{IsCommonEnd, IsUnopened, IsVerifyEnd}
 use Rattle.image_pin.specs.Finding.{IsNoTree, ReadsSuper, is_aligned}
 use Rattle.image_commands.specs.Finding.{no_tree_fault}
-use Rattle.image_commands.specs.Openings.{FailsToOpenTwo, OpensTwo}
-use Rattle.image_commands.specs.Places.{IsPartState, TwoPlaces, before, behind, data_end, tree_start, two_places}
+use Rattle.image_commands.specs.Places.{IsPartState, behind, tree_start}
 use Rattle.image_commands.specs.SuperblockJson.{dump_text}
 use Rattle.image_commands.specs.TableLines.{placed_line}
 
@@ -46,8 +38,8 @@ pub record SaysPlaced (device : Device) (first : ℕ) (pin : Option Pin) (may : 
 
 -- `dump` and `table`, of the image under the path, which is only read
 pub record PrintsPlacedSuper {S D : Type 0} (w : Calls S D) (path : List ℕ) (first : ℕ) (pin : Option Pin) (may : SuperRecord → Bool) (text : SuperRecord → List ℕ) (old new : Option (List ℕ)) : Type 0 where
-  pub image : OpenImage D
-  pub opened : Opens w path false image
+  pub image : PlacedImage D
+  pub opened : OpensPlace w path false image
   pub says : SaysPlaced (w.state image.device) first pin may text old new
 
 -- ---- `Left` is what holds of a device that calls left: it is a part of one of its type (`IsPartState`)
@@ -75,61 +67,20 @@ pub record RefusesLine (first : ℕ) (data_name hash_name : List ℕ) (trusted :
   pub refused : IsOutOfMemory (line_room super data_name hash_name trusted.root (tree_start first super.hash_block 1))
 
 pub record EndsPlacedSuper {S D : Type 0} (w : Calls S D) (path : List ℕ) (first : ℕ) (pin : Option Pin) (memory : Device → Type 0) (failed : Bool) (fault : ImageFault) : Type 0 where
-  pub image : OpenImage D
-  pub opened : Opens w path false image
+  pub image : PlacedImage D
+  pub opened : OpensPlace w path false image
   pub ends : IsPlacedSuperEnd (IsPartState w.state) (memory (w.state image.device)) (w.state image.device) first pin failed fault
 
 pub record EndsPlacedDump {S D : Type 0} (w : Calls S D) (path : List ℕ) (first : ℕ) (memory : Type 0) (failed : Bool) (fault : ImageFault) : Type 0 where
-  pub image : OpenImage D
-  pub opened : Opens w path false image
+  pub image : PlacedImage D
+  pub opened : OpensPlace w path false image
   pub ends : IsPlacedDumpEnd (IsPartState w.state) memory (w.state image.device) first failed fault
 
 abbrev pub IsDumpImageEnd : {S D : Type 0} → Calls S D → List ℕ → ℕ → Type 0 → Bool → ImageFault → Type 0
-IsDumpImageEnd w path first memory failed fault = IsUnopened (Refuses w path false) fault ⊎ EndsPlacedDump w path first memory failed fault
+IsDumpImageEnd w path first memory failed fault = IsUnopened (RefusesPlace w path false) fault ⊎ EndsPlacedDump w path first memory failed fault
 
 abbrev pub IsPlacedImageEnd : {S D : Type 0} → Calls S D → List ℕ → ℕ → Option Pin → (Device → Type 0) → Bool → ImageFault → Type 0
-IsPlacedImageEnd w path first pin memory failed fault = IsUnopened (Refuses w path false) fault ⊎ EndsPlacedSuper w path first pin memory failed fault
-
--- `verify`: the superblock at that sector was read once and has the values of the pin, if there is one; its tree is valid for what
--- lies before the data's end, under the root
-pub record MatchesPlaced (Data Hash : Device → Type 0) (data_dev hash_dev : Device) (end first : ℕ) (trusted : TrustedRoot) (old new : Option (List ℕ)) : Type 0 where
-  pub super : SuperRecord
-  pub read_dev : Device
-  pub data_dev' : Device
-  pub hash_dev' : Device
-  pub left : Hash read_dev × Data data_dev' × Hash hash_dev'
-  pub super_read : ReadsSuper (behind hash_dev first) first trusted.pin super
-  pub one : IsFullRead (behind hash_dev first) 1 read_dev
-  pub found : IsTreeFound (shape_of super) super.salt (before data_dev end) read_dev data_dev' hash_dev' trusted.root Matches
-  pub printed : Appends old new (codes "matches\n")
-
-pub record PrintsPlacedMatches {S D : Type 0} (w : Calls S D) (places : TwoPlaces) (trusted : TrustedRoot) (old new : Option (List ℕ)) : Type 0 where
-  pub two : TwoImages D
-  pub opened : OpensTwo w places.paths false two
-  pub matches : MatchesPlaced (IsPartState w.state) (IsPartState w.state) (w.state two.data.device) (w.state two.hash.device) (data_end two places.first) places.first trusted old new
-
--- the superblock was read once, and the comparison with its tree ends early
-pub record EndsMatching (Data Hash : Device → Type 0) (data_dev hash_dev : Device) (end first : ℕ) (trusted : TrustedRoot) (failed : Bool) (fault : ImageFault) : Type 0 where
-  pub super : SuperRecord
-  pub read_dev : Device
-  pub data_dev' : Device
-  pub hash_dev' : Device
-  pub left : Hash read_dev × Data data_dev' × Hash hash_dev'
-  pub super_read : ReadsSuper (behind hash_dev first) first trusted.pin super
-  pub one : IsFullRead (behind hash_dev first) 1 read_dev
-  pub ends : IsComparedEnd (superblock_tree super) (tree_start first super.hash_block 0) (before data_dev end) read_dev data_dev' hash_dev' trusted.root failed fault
-
-abbrev pub IsMatchingEnd : (Device → Type 0) → (Device → Type 0) → Device → Device → ℕ → ℕ → TrustedRoot → Bool → ImageFault → Type 0
-IsMatchingEnd Data Hash data_dev hash_dev end first trusted failed fault =
-    LacksPlacedTree Hash hash_dev first trusted.pin fault ⊎ EndsMatching Data Hash data_dev hash_dev end first trusted failed fault
-
-pub record EndsPlacedMatches {S D : Type 0} (w : Calls S D) (places : TwoPlaces) (trusted : TrustedRoot) (failed : Bool) (fault : ImageFault) : Type 0 where
-  pub two : TwoImages D
-  pub opened : OpensTwo w places.paths false two
-  pub ends : IsMatchingEnd (IsPartState w.state) (IsPartState w.state) (w.state two.data.device) (w.state two.hash.device) (data_end two places.first) places.first trusted failed fault
-
-abbrev pub IsPlacedMatchesEnd : {S D : Type 0} → Calls S D → TwoPlaces → TrustedRoot → Bool → ImageFault → Type 0
-IsPlacedMatchesEnd w places trusted failed fault = IsUnopened (FailsToOpenTwo w places.paths false) fault ⊎ EndsPlacedMatches w places trusted failed fault
+IsPlacedImageEnd w path first pin memory failed fault = IsUnopened (RefusesPlace w path false) fault ⊎ EndsPlacedSuper w path first pin memory failed fault
 
 -- ---- as a call sees them: an opener's relations and what a proof sees of its devices, what gives generators and what a proof sees of one,
 -- and what a proof sees of a writer, each with its value before and after
@@ -160,18 +111,3 @@ SaysFieldsAt state hash_dev contents writer writer' first form =
 abbrev pub SaysLineAt : {H W : Type 0} → (H → Device) → H × ℕ → (W → Option (List ℕ)) → CountedRecord W → CountedRecord W → Option (Bor (List ℕ)) → LineWords → Type 0
 SaysLineAt state placed contents writer writer' name words =
     SaysPlaced (state placed.0) placed.1 words.root.now.pin (λ s. is_aligned placed.1 s.hash_block) (λ s. placed_line name s words placed.1) (contents writer.inner) (contents writer'.inner)
-
--- two images, or two devices that are open, are compared
-abbrev pub VerifiesImagesAt : {S D W : Type 0} → Opener S D → (D → Device) → S → S → (W → Option (List ℕ)) → CountedRecord W → CountedRecord W → WatchedPlaces → TrustedRoot → Type 0
-VerifiesImagesAt relations state images images' contents writer writer' watched trusted = PrintsPlacedMatches (calls relations state images images') (two_places watched.places) trusted (contents writer.inner) (contents writer'.inner)
-
-abbrev pub FailsToVerifyAt : {S D W : Type 0} → Opener S D → (D → Device) → S → S → CountedRecord W → WatchedPlaces → TrustedRoot → ImageFault → Type 0
-FailsToVerifyAt relations state images images' writer' watched trusted = IsPlacedMatchesEnd (calls relations state images images') (two_places watched.places) trusted writer'.failed
-
-abbrev pub MatchesAt : {D H W : Type 0} → (D → Device) → (H → Device) → D × H → (W → Option (List ℕ)) → CountedRecord W → CountedRecord W → Bounds → TrustedRoot → Type 0
-MatchesAt data_state hash_state devices contents writer writer' bounds trusted =
-    MatchesPlaced (IsPartState data_state) (IsPartState hash_state) (data_state devices.0) (hash_state devices.1) bounds.end bounds.first trusted (contents writer.inner) (contents writer'.inner)
-
-abbrev pub FailsToMatchAt : {D H W : Type 0} → (D → Device) → (H → Device) → D × H → CountedRecord W → Bounds → TrustedRoot → ImageFault → Type 0
-FailsToMatchAt data_state hash_state devices writer' bounds trusted =
-    IsMatchingEnd (IsPartState data_state) (IsPartState hash_state) (data_state devices.0) (hash_state devices.1) bounds.end bounds.first trusted writer'.failed

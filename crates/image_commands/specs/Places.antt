@@ -1,18 +1,19 @@
--- Hash images that begin at a sector of a file: superblock and tree are stored there, and the data may be what lies before.
-use Rattle.std.specs.Prelude.{◌≡◌, ◌⊎◌, ℕ, ◌+◌, ◌-◌, ◌/◌, ◌^◌, ◌==◌, ◌&&◌, nat_lt, Bool, true, false, Option, is_none, if◌then◌else◌}
+-- Hash images that begin at a sector of an image: superblock and tree are stored there, and the data may be what lies before.
+use Rattle.std.specs.Prelude.{◌≡◌, ◌⊎◌, ℕ, ◌+◌, ◌-◌, ◌/◌, ◌^◌, ◌&&◌, nat_lt, not, Bool, true, false, Option, is_none, if◌then◌else◌}
 use Rattle.block_device.specs.Device.{Device}
 use Rattle.block_device.specs.declared.open_fault.OpenFault.TheVariants.{SameFile}
 use Rattle.device_adapters.specs.declared.part.Part.{Part}
 use Rattle.device_adapters.specs.Parts.{part_before, part_behind}
 use Rattle.device_adapters.specs.Windows.{windowed}
 use Rattle.image_files.specs.declared.opening.UnopenedFile.{UnopenedFile}
-use Rattle.image_files.specs.OneFile.{is_one_file}
+use Rattle.image_files.specs.FileUses.{is_clash}
 use Rattle.image_files.specs.Opener.{Calls, Opener, calls}
+use Rattle.image_files.specs.Places.{is_one_image, place_use}
 use Rattle.image_commands.specs.declared.paths.TwoImages.{TwoImages}
 use Rattle.image_commands.specs.declared.places.ImagePlaces.{ImagePlaces}
 use Rattle.image_commands.specs.Openings.{FailsToOpenTwo, OpensTwo, TwoPaths}
 
--- the paths of two images, and the sector of the hash image's file where the hash image begins
+-- the arguments that name two images, and the sector of what the second names where the hash image begins
 pub record TwoPlaces : Type 0 where
   pub paths : TwoPaths
   pub first : ℕ
@@ -40,24 +41,32 @@ IsPartState {D} state device = (d : D) × ((part : Part) × (device ≡ windowed
 abbrev pub IsStateOf : {D : Type 0} → (D → Device) → Device → Type 0
 IsStateOf {D} state device = (d : D) × (device ≡ state d)
 
--- where the data end: in one file before the hash image, else at the end of theirs
+-- data and hash image are one image, in which the hash image begins after the first sector
+abbrev pub is_shared : {D : Type 0} → TwoImages D → ℕ → Bool
+is_shared two first = nat_lt 0 first && is_one_image two.data two.hash
+
+-- otherwise they have a sector in common, as far as the opener tells
+abbrev pub is_taken : {D : Type 0} → TwoImages D → ℕ → Bool
+is_taken two first = is_clash (place_use false two.data) (place_use true two.hash) && not (is_shared two first)
+
+-- where the data end: in one image before the hash image, else at the end of theirs
 abbrev pub data_end : {D : Type 0} → TwoImages D → ℕ → ℕ
-data_end two first = if nat_lt 0 first && is_one_file two.data.id two.hash.id then first else 2 ^ 64 - 1
+data_end two first = if is_shared two first then first else 2 ^ 64 - 1
 
--- data and hash image are in one file, and no number of data blocks says where the data end
+-- data and hash image are in one image, and no number of data blocks says where the data end
 abbrev pub overlaps : {D : Type 0} → TwoImages D → ℕ → Option ℕ → Bool
-overlaps two first blocks = nat_lt 0 first && is_none blocks && is_one_file two.data.id two.hash.id
+overlaps two first blocks = is_none blocks && is_shared two first
 
--- for a format both were opened; one file only where the hash image doesn't begin at its first sector
+-- for a format both were opened; they have a sector in common only if the hash image begins after the first one of their image
 pub record OpensPlaced {S D : Type 0} (w : Calls S D) (places : TwoPlaces) (two : TwoImages D) : Type 0 where
   pub opened : OpensTwo w places.paths true two
-  pub apart : ((places.first == 0) && is_one_file two.data.id two.hash.id) ≡ false
+  pub apart : is_taken two places.first ≡ false
 
--- both were opened, but are one file without a place for the hash image
+-- both were opened, but have a sector in common otherwise
 pub record AreOneImage {S D : Type 0} (w : Calls S D) (places : TwoPlaces) (file : UnopenedFile) : Type 0 where
   pub two : TwoImages D
   pub opened : OpensTwo w places.paths true two
-  pub one : ((places.first == 0) && is_one_file two.data.id two.hash.id) ≡ true
+  pub one : is_taken two places.first ≡ true
   pub is : (file.fault ≡ SameFile) × (file.path.now ≡ places.paths.hash_path)
 
 abbrev pub FailsToOpenPlaced : {S D : Type 0} → Calls S D → TwoPlaces → UnopenedFile → Type 0

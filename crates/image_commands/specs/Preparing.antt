@@ -4,9 +4,9 @@ use Rattle.rand_core.specs.Stream.{Stream}
 use Rattle.block_device.specs.Device.{Device}
 use Rattle.tree_shape.specs.Shape.{first_fault}
 use Rattle.command_line.specs.declared.image_options.ImageOptions.{ImageOptions}
-use Rattle.image_files.specs.declared.images.OpenImage.{OpenImage}
-use Rattle.image_files.specs.Opened.{Opens, Refuses}
+use Rattle.image_files.specs.declared.placed_image.PlacedImage.{PlacedImage}
 use Rattle.image_files.specs.Opener.{Calls, Opener, calls}
+use Rattle.image_files.specs.OpenPlaces.{OpensPlace, RefusesPlace}
 use Rattle.verity_format.specs.declared.formatting.FormatFault.{FormatFault}
 use Rattle.verity_format.specs.declared.formatting.FormatFault.TheVariants.{DataTooSmall, Shape}
 use Rattle.verity_format.specs.declared.formatting.FormatOptions.{FormatOptions}
@@ -41,10 +41,10 @@ IsNoPlacedTree options data_dev fault = ⊥
 -- blocks.
 pub record IsPrepared {S D T G : Type 0} (w : Calls S D) (d : Drawing T G) (options : ImageOptions) (places : TwoPlaces) (said : ImageOptions) : Type 0 where
   pub given : FormatOptions
-  pub image : OpenImage D
+  pub image : PlacedImage D
   pub aligned : is_aligned places.first options.hash_block ≡ true
   pub are_given : AreGiven d options given
-  pub opened : Opens w places.paths.data_path false image
+  pub opened : OpensPlace w places.paths.data_path false image
   pub room : HasRoom given (w.state image.device)
   pub is : said ≡ said_options given
 
@@ -56,9 +56,9 @@ pub record IsUnprepared {S D T G : Type 0} (w : Calls S D) (d : Drawing T G) (op
 
 -- the data image doesn't fit
 pub record HasNoRoom {S D : Type 0} (w : Calls S D) (given : FormatOptions) (places : TwoPlaces) (fault : ImageFault) : Type 0 where
-  pub image : OpenImage D
+  pub image : PlacedImage D
   pub cause : FormatFault
-  pub opened : Opens w places.paths.data_path false image
+  pub opened : OpensPlace w places.paths.data_path false image
   pub unfit : IsNoPlacedTree given (w.state image.device) cause
   pub is : fault ≡ Format cause
 
@@ -66,7 +66,7 @@ pub record HasNoRoom {S D : Type 0} (w : Calls S D) (given : FormatOptions) (pla
 pub record HasNoData {S D T G : Type 0} (w : Calls S D) (d : Drawing T G) (options : ImageOptions) (places : TwoPlaces) (fault : ImageFault) : Type 0 where
   pub given : FormatOptions
   pub are_given : AreGiven d options given
-  pub cause : IsUnopened (Refuses w places.paths.data_path false) fault ⊎ HasNoRoom w given places fault
+  pub cause : IsUnopened (RefusesPlace w places.paths.data_path false) fault ⊎ HasNoRoom w given places fault
 
 abbrev pub IsPreparingEnd : {S D T G : Type 0} → Calls S D → Drawing T G → ImageOptions → TwoPlaces → ImageFault → Type 0
 IsPreparingEnd w d options places fault = EndsUnaligned w d options places fault ⊎ (IsUnprepared w d options fault ⊎ HasNoData w d options places fault)

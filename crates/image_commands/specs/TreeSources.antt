@@ -54,3 +54,7 @@ IsTreeOf (Options options) sectors hash_dev first hash_dev' tree = IsStatedTree 
 abbrev pub IsNoTreeOf : TreeSource → ℕ → Device → ℕ → Device → NoSource → Type 0
 IsNoTreeOf (Superblock pin) sectors hash_dev first hash_dev' fault = IsNotStored hash_dev first pin hash_dev' fault
 IsNoTreeOf (Options options) sectors hash_dev first hash_dev' fault = IsShapeless options sectors fault × (hash_dev' ≡ hash_dev)
+
+-- there is no tree for this cause, and a command ends with the fault that it has for it
+abbrev pub IsSourceRefused : {F : Type 0} → (NoSource → F) → (NoSource → Type 0) → F → Type 0
+IsSourceRefused fault_of IsNone fault = (cause : NoSource) × IsNone cause × (fault ≡ fault_of cause)

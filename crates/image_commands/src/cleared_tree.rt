@@ -1,6 +1,7 @@
 //! A tree without a superblock, made where a superblock of an earlier format may be.
-ghost use Rattle.std.specs.Prelude.{◌≤◌, IfErr, IfOk, IsTrue, OnErr, OnOk};
-ghost use Rattle.image_commands.specs.ClearedTrees.{FailsToMakeCleared, IsTreeCleared, IsTreeUncleared, MakesCleared, OnlyTreeChanges};
+ghost use Rattle.std.specs.Prelude.{◌≤◌, IfErr, IfOk, IsTrue, OnErr, OnOk, is_ok};
+ghost use Rattle.block_device.specs.Call.{DeviceDoes};
+ghost use Rattle.image_commands.specs.ClearedTrees.{FailsToMakeCleared, HandsCleared, HandsTreeClearing, IsTreeCleared, IsTreeUncleared, MakesCleared, OnlyTreeChanges};
 
 use crate::clearing::clear_superblock;
 use block_device::{BlockDev, DeviceFault, SyncDev};
@@ -19,6 +20,7 @@ pub(crate) fn make_cleared<D: BlockDev, H: SyncDev>(
     ensures devices { OnlyTreeChanges D.state H.state params.now data_dev.old hash_dev.old data_dev.new hash_dev.new }
     ensures ok { IfOk result (MakesCleared D.state H.state params.now data_dev.old hash_dev.old data_dev.new hash_dev.new) }
     ensures err { IfErr result (FailsToMakeCleared D.state H.state params.now data_dev.old hash_dev.old data_dev.new hash_dev.new) }
+    ensures handed { HandsCleared D.state D.does H.state H.does params.now data_dev.old hash_dev.old data_dev.new hash_dev.new result }
 {
     let tree = params.tree_alone();
     let sectors = tree_sectors(&tree.shape);
@@ -33,6 +35,7 @@ fn clear_first<H: SyncDev>(hash_dev: &mut H, sectors: u64) -> Result<(), DeviceF
     requires allowed { IsTrue (H.state hash_dev.old).may_write }
     ensures ok { OnOk result (IsTreeCleared sectors (H.state hash_dev.old) (H.state hash_dev.new)) }
     ensures err { OnErr result (IsTreeUncleared sectors (H.state hash_dev.old) (H.state hash_dev.new)) }
+    ensures handed { HandsTreeClearing sectors (DeviceDoes H.state H.does) hash_dev.old hash_dev.new (is_ok result) }
 {
     if sectors == 0 {
         return Ok(());

@@ -1,6 +1,7 @@
 //! A superblock of an earlier format, cleared before the tree beneath it changes.
-ghost use Rattle.std.specs.Prelude.{◌≡◌, ◌<◌, IsTrue, OnErr, OnOk};
-ghost use Rattle.image_commands.specs.Clearing.{IsCleared, IsUncleared};
+ghost use Rattle.std.specs.Prelude.{◌≡◌, ◌<◌, IsTrue, OnErr, OnOk, is_ok};
+ghost use Rattle.block_device.specs.Call.{DeviceDoes};
+ghost use Rattle.image_commands.specs.Clearing.{HandsClearing, IsCleared, IsUncleared};
 
 use block_device::{DeviceFault, SyncDev};
 
@@ -13,6 +14,7 @@ pub(crate) fn clear_superblock<H: SyncDev>(hash_dev: &mut H) -> Result<(), Devic
     requires allowed { IsTrue (H.state hash_dev.old).may_write }
     ensures ok { OnOk result (IsCleared (H.state hash_dev.old) (H.state hash_dev.new)) }
     ensures err { OnErr result (IsUncleared (H.state hash_dev.old) (H.state hash_dev.new)) }
+    ensures handed { HandsClearing (DeviceDoes H.state H.does) hash_dev.old hash_dev.new (is_ok result) }
 {
     let mut sector = [0u8; 512];
     hash_dev.read(0, &mut sector)?;

@@ -2,6 +2,7 @@
 ghost use Rattle.std.specs.Prelude.{◌≡◌};
 ghost use Rattle.image_commands.specs.declared.fault.ImageFault.TheVariants as image_fault;
 
+use crate::tree_source::NoSource;
 use allocation::OutOfMemory;
 use image_files::{ReplaceFault, UnopenedFile};
 use image_pin::{Mismatch, NoTree, PinFault};
@@ -82,6 +83,19 @@ impl From<NoTree> for ImageFault<'_> {
             NoTree::Unread(fault) => ImageFault::Verify(fault),
             NoTree::Unaligned => ImageFault::Unaligned,
             NoTree::Unpinned(mismatch) => ImageFault::Unpinned(mismatch),
+        }
+    }
+}
+
+impl From<NoSource> for ImageFault<'_> {
+    ghost use Rattle.image_commands.specs.Finding.{no_source_fault};
+
+    ghost from_gives = { λ fault given. given ≡ no_source_fault fault };
+
+    fn from(fault: NoSource) -> Self {
+        match fault {
+            NoSource::Stored(fault) => ImageFault::from(fault),
+            NoSource::Shape => ImageFault::Format(FormatFault::Shape),
         }
     }
 }

@@ -1,8 +1,8 @@
 //! Makes a hash image over a data image.
-ghost use Rattle.std.specs.Prelude.{IfErr, IfOk};
+ghost use Rattle.std.specs.Prelude.{IfErr, IfOk, OnErr};
 ghost use Rattle.program_io.specs.Counted.{Writes};
 ghost use Rattle.image_commands.specs.Drawing.{DrawsOptions, FailsToDraw};
-ghost use Rattle.image_commands.specs.Formats.{IsUnmade, MakesImage, made_text};
+ghost use Rattle.image_commands.specs.Formats.{HandsMakingOf, IsUnmade, MakesImage, StopsMakingOf, made_text};
 
 use crate::clearing::clear_superblock;
 use crate::fault::ImageFault;
@@ -36,6 +36,8 @@ pub(crate) fn make<D: BlockDev, H: SyncDev>(
 ) -> Result<MadeImage, FormatFault>
     ensures ok { IfOk result (MakesImage D.state H.state data_dev.old hash_dev.old data_dev.new hash_dev.new options) }
     ensures err { IfErr result (IsUnmade D.state H.state data_dev.old hash_dev.old data_dev.new hash_dev.new options) }
+    ensures handed { IfOk result (HandsMakingOf D.state D.does H.state H.does options data_dev.old hash_dev.old data_dev.new hash_dev.new) }
+    ensures stopped { OnErr result (StopsMakingOf D.state D.does H.state H.does options data_dev.old hash_dev.old data_dev.new hash_dev.new) }
 {
     let blocks = given_blocks(options.blocks, options.data_block, data_dev.sectors());
     let salt = options.salt;

@@ -24,24 +24,26 @@ mod tree_format;
 mod tree_line;
 mod tree_place;
 mod tree_source;
-mod tree_verify;
+mod verifying;
 mod watching;
 
 pub use comparing::{ImagePair, compare, place_parts};
 pub use fault::ImageFault;
 pub use format::{MadeImage, say_made};
 pub use paths::{ImagePaths, TwoImages, open_two};
-pub use pin_file::{check_pin_path, pin_of_image, read_pin, write_pin};
-pub use placed::{dump_placed, table_placed, verify_placed};
+pub use pin_file::{check_other_file, check_root_path, pin_of_image, read_pin, write_root};
+pub use placed::{dump_placed, table_placed};
 pub use placed_format::make_placed;
 pub use places::{Bounds, HashPlace, ImagePlaces, data_end, tree_start};
 pub use preparing::prepare_image;
 pub use random::{Generators, NoRandomBytes, SystemGenerators, draw};
 pub use root_file::read_root;
 pub use table::LineWords;
-pub use tree_format::format_tree;
+pub use tree_format::{make_tree, say_tree};
 pub use tree_line::print_tree_line;
 pub use tree_place::{given_options, unnamed};
-pub use tree_source::{NoSource, SoughtTree, TreeSource, bytes_to_read, may_seek, seek_tree};
-pub use tree_verify::{ExpectedTree, verify_tree};
+pub use tree_source::{
+    NoSource, SoughtTree, TreeSource, bytes_to_read, may_seek, seek_tree, stored_source,
+};
+pub use verifying::verify_images;
 pub use watching::{WatchedPlaces, watch};

@@ -1,17 +1,18 @@
 //! Pins and root hashes in files.
-ghost use Rattle.std.specs.Prelude.{◌≡◌, ◌≤◌, IfErr, IfOk, OnOk};
+ghost use Rattle.std.specs.Prelude.{◌≡◌, ◌≤◌, option_map, IfErr, IfOk, OnOk};
 ghost use Rattle.allocation.specs.Asked.{asked};
-ghost use Rattle.command_line.specs.words.PinFormat.{root_file_record};
+ghost use Rattle.command_line.specs.FilePlaces.{file_place_of};
+ghost use Rattle.command_line.specs.RootFiles.{root_file_record};
 ghost use Rattle.hex.specs.Hex.{encode_lower};
 ghost use Rattle.image_files.specs.Opener.{calls};
-ghost use Rattle.image_commands.specs.PinFiles.{AreApart, AreOne, IsNoPinPath, IsPinFileEnd, IsPinPath, IsPinUnwritten, ReadsPin, TellsId, WritesPin, pin_in, pin_of_image, root_file_text};
+ghost use Rattle.image_commands.specs.PinFiles.{AreApart, AreOne, CanWriteRoot, IsNoPinPath, IsOtherFile, IsPinFileEnd, IsPinPath, IsPinUnwritten, IsRootRefused, IsRootUnwritten, IsSameFile, ReadsPin, TellsId, TellsPartId, TellsPlaceId, WritesPin, WritesRoot, pin_in, pin_of_image, root_file_text};
 
 use crate::fault::ImageFault;
 use crate::format::MadeImage;
 use crate::places::ImagePlaces;
 use allocation::{OutOfMemory, copied};
 use block_device::{FileId, OpenFault};
-use command_line::{ImageOptions, RootFile, RootForm};
+use command_line::{ImageOptions, RootFile, RootForm, file_place_of};
 use image_files::{Images, UnopenedFile, is_one_file, is_one_place};
 use image_pin::{MOST_BYTES, Pin, parse_pin, print_pin};
 use std::alloc::Global;
@@ -64,15 +65,32 @@ pub(crate) fn pin_in(root: Digest, superblock: &Superblock) -> Pin
     }
 }
 
-/// Replaces what a file holds by a pin, or by the digits of its root hash. Another process may have made the file one of the two
-/// images since `check_pin_path`, so that is checked again.
+/// Writes the pin or the root hash to the file of a format, if it has one, as `write_pin` does.
 ///
 /// # Errors
 ///
 /// - `Open` with `SameFile` if the file is one of the two images, or with `NoMemory` if memory ran out.
 /// - `NoMemory` if an allocation of at most 512 bytes was refused.
 /// - `PinUnwritten` if the file can't be replaced.
-pub fn write_pin<'a, I: Images>(
+pub fn write_root<'a, I: Images>(
+    alloc: Global,
+    images: &mut I,
+    places: ImagePlaces<'a>,
+    file: &Option<RootFile<'a>>,
+    pin: &Pin,
+) -> Result<(), ImageFault<'a>>
+    ensures ok { OnOk result (WritesRoot (calls I.relations I.Dev.state images.old images.new) places.entry.data.now places.entry.hash.now (option_map root_file_record file.now) pin.now) }
+    ensures err { IfErr result (IsRootUnwritten (calls I.relations I.Dev.state images.old images.new) places.entry.data.now places.entry.hash.now (option_map root_file_record file.now) pin.now) }
+{
+    match file {
+        Some(file) => write_pin(alloc, images, places, *file, pin),
+        None => Ok(()),
+    }
+}
+
+// Replaces what a file holds by a pin, or by the digits of its root hash. Another process may have made the file one of the two
+// images since `check_root_path`, so that is checked again.
+fn write_pin<'a, I: Images>(
     alloc: Global,
     images: &mut I,
     places: ImagePlaces<'a>,
@@ -113,14 +131,56 @@ fn root_digits(alloc: Global, root: Digest) -> Result<Vec<u8>, OutOfMemory>
     Ok(text)
 }
 
-/// Checks that a pin or a root hash can be written to a file, before an image is made: the file isn't one of the two images, which
-/// would be replaced, also if neither exists yet, and another one can be created in its folder.
+/// Checks that a format can write a pin or a root hash to its file, if it has one, before an image is made: the file isn't one of the
+/// two images, which would be replaced, also if neither exists yet, and another one can be created in its folder.
 ///
 /// # Errors
 ///
 /// - `Open` with `SameFile` if the file is one of the two images, or with `NoMemory` if memory ran out.
 /// - `PinUnwritten` if no file can be created in the folder.
-pub fn check_pin_path<'a, I: Images>(
+pub fn check_root_path<'a, I: Images>(
+    images: &mut I,
+    places: ImagePlaces<'a>,
+    file: &Option<RootFile<'a>>,
+) -> Result<(), ImageFault<'a>>
+    ensures ok { OnOk result (CanWriteRoot (calls I.relations I.Dev.state images.old images.new) places.entry.data.now places.entry.hash.now (option_map root_file_record file.now)) }
+    ensures err { IfErr result (IsRootRefused (calls I.relations I.Dev.state images.old images.new) places.entry.data.now places.entry.hash.now (option_map root_file_record file.now)) }
+{
+    match file {
+        Some(file) => check_pin_path(images, places, file.path),
+        None => Ok(()),
+    }
+}
+
+/// Checks that the file of a pin or a root hash, if there is one, isn't the file that another argument names, also if neither exists
+/// yet.
+///
+/// # Errors
+///
+/// `Open` with `SameFile` if both are one file, or with `NoMemory` if memory ran out.
+pub fn check_other_file<'a, I: Images>(
+    images: &mut I,
+    other: &'a str,
+    file: &Option<RootFile<'a>>,
+) -> Result<(), ImageFault<'a>>
+    ensures ok { OnOk result (IsOtherFile (calls I.relations I.Dev.state images.old images.new) other.now (option_map root_file_record file.now)) }
+    ensures err { IfErr result (IsSameFile (calls I.relations I.Dev.state images.old images.new) other.now (option_map root_file_record file.now)) }
+{
+    match file {
+        Some(file) => {
+            let places = ImagePlaces {
+                data: other,
+                hash: other,
+                hash_first: 0,
+            };
+            check_apart(images, places, file.path)
+        }
+        None => Ok(()),
+    }
+}
+
+// Checks that a pin can be written to a file.
+fn check_pin_path<'a, I: Images>(
     images: &mut I,
     places: ImagePlaces<'a>,
     path: &'a str,
@@ -137,7 +197,7 @@ pub fn check_pin_path<'a, I: Images>(
     }
 }
 
-// Checks that the file of a pin isn't one of the two images, and that its path isn't the one at which HASH is to be made.
+// Checks that none of the two images is in the file of a pin, and that its path isn't the one at which HASH is to be made.
 fn check_apart<'a, I: Images>(
     images: &mut I,
     places: ImagePlaces<'a>,
@@ -148,13 +208,33 @@ fn check_apart<'a, I: Images>(
 {
     let one = is_one_place(images, path, places.hash)?;
     let pin = file_id(images, path);
-    let data = file_id(images, places.data);
-    let hash = file_id(images, places.hash);
+    let data = place_id(images, places.data);
+    let hash = place_id(images, places.hash);
     if one || is_one_file(pin, data) || is_one_file(pin, hash) {
         let fault = OpenFault::SameFile;
         return Err(ImageFault::Open(UnopenedFile { fault, path }));
     }
     Ok(())
+}
+
+// Returns which file the image is in that an argument names, if there is one and the system states it.
+fn place_id<I: Images>(images: &mut I, text: &str) -> Option<FileId>
+    ensures { TellsPlaceId (calls I.relations I.Dev.state images.old images.new) text.now result }
+{
+    match images.read_text(text, 0) {
+        Ok(found) => found.id,
+        Err(_) => part_id(images, text),
+    }
+}
+
+// Returns which file it is of which an argument names a part, if it names one.
+fn part_id<I: Images>(images: &mut I, text: &str) -> Option<FileId>
+    ensures { TellsPartId (calls I.relations I.Dev.state images.old images.new) (file_place_of text.now) result }
+{
+    match file_place_of(text) {
+        Some(place) => file_id(images, place.path),
+        None => None,
+    }
 }
 
 // Returns which file a path leads to, if there is one and the system states it.

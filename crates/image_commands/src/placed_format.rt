@@ -13,21 +13,21 @@ use crate::watching::{WatchedPlaces, bytes_of_blocks, watch};
 use block_device::{BlockDev, SyncDev};
 use command_line::ImageOptions;
 use device_adapters::{Beside, Watchers, Window, bytes_before};
-use image_files::Images;
+use image_files::{Images, close_place};
 use image_pin::is_aligned;
 use std::alloc::Global;
 use std::marker::Brand;
 use verity_format::{FormatFault, FormatOptions};
 
 /// `format [--hash-offset BYTES] [OPTIONS] DATA HASH`: makes the hash image that begins at that sector of HASH, and returns its
-/// root hash and what else is printed of it. Both may be one file if that sector isn't the first; the data are then as many blocks
+/// root hash and what else is printed of it. Both may be one image if that sector isn't the first; the data are then as many blocks
 /// as the options state, before that sector. The hash image is synced and closed.
 ///
 /// # Errors
 ///
 /// - `Unaligned` if no hash block begins at that sector; no file was opened.
-/// - `Open` if one of the two can't be opened, or both are one file and the sector is the first.
-/// - `DataOverlapsTree` if both are one file, and the options state no number of blocks.
+/// - `Open` if one of the two can't be opened, or they share a sector, and aren't one image with a sector after its first.
+/// - `DataOverlapsTree` if both are one image, and the options state no number of blocks.
 /// - `Random` if a salt or an identifier is missing and there are no random bytes.
 /// - `Format` if the image isn't made.
 pub fn make_placed<'a, I: Images, G: Generators + Watchers>(
@@ -42,22 +42,22 @@ pub fn make_placed<'a, I: Images, G: Generators + Watchers>(
 {
     let WatchedPlaces { places, progress } = watched;
     let first = places.hash_first;
-    let hash = places.hash;
     if !is_aligned(first, options.hash_block) {
         return Err(ImageFault::Unaligned);
     }
-    let two = open_placed(images, places)?;
+    let two = open_placed(alloc, images, places)?;
     if overlaps(&two, first, options.blocks) {
         return Err(ImageFault::DataOverlapsTree);
     }
     let end = data_end(&two, first);
+    let place = two.hash.place;
     let options = given_or_drawn(generators, options)?;
     let all = bytes_of_blocks(&options, bytes_before(&two.data.device, end));
     let (data_dev, hash_dev) = watch(two, generators, progress, all);
     let (hash_dev, made) = make_behind(alloc, data_dev, hash_dev, Bounds { end, first }, options);
     match made {
         Ok(made) => {
-            images.close(hash, hash_dev);
+            close_place(images, place, hash_dev);
             Ok(made)
         }
         Err(fault) => Err(ImageFault::Format(format_fault_from(first, fault))),

@@ -1,13 +1,14 @@
 //! Hash images that begin at a sector of a file.
-ghost use Rattle.std.specs.Prelude.{◌≡◌, ◌+◌, ◌^◌, ◌<◌, ◌&&◌, nat_lt, true, false, IfOk, IfErr};
+ghost use Rattle.std.specs.Prelude.{◌≡◌, ◌+◌, ◌^◌, ◌<◌, true, IfOk, IfErr};
 ghost use Rattle.image_files.specs.Opener.{IsFresh};
-ghost use Rattle.image_commands.specs.Places.{FailsToOpenPlaces, OpensPlaces, data_end, overlaps, tree_start};
+ghost use Rattle.image_commands.specs.Places.{FailsToOpenPlaces, OpensPlaces, data_end, is_shared, is_taken, overlaps, tree_start};
 
 use crate::paths::{ImagePaths, TwoImages, open_two};
 use block_device::OpenFault;
-use image_files::{Images, UnopenedFile, is_one_file};
+use image_files::{Images, UnopenedFile, is_clash, is_one_image, place_use};
+use std::alloc::Global;
 
-/// The paths of a data image and of its hash image, and the sector of 512 bytes of the hash image's file where the hash
+/// The arguments that name a data image and its hash image, and the sector of 512 bytes of what the latter names where the hash
 /// image begins.
 #[derive(Clone, Copy, Debug, PartialEq, Eq)]
 pub struct ImagePlaces<'a> {
@@ -16,7 +17,7 @@ pub struct ImagePlaces<'a> {
     pub hash_first: u64,
 }
 
-/// The path of a hash image's file, and the sector of 512 bytes where the hash image begins.
+/// The argument that names a hash image, and the sector of 512 bytes of what it names where the hash image begins.
 #[derive(Clone, Copy, Debug, PartialEq, Eq)]
 pub struct HashPlace<'a> {
     pub path: &'a str,
@@ -41,12 +42,13 @@ pub fn tree_start(first: u64, size: u32, ahead: u64) -> u64
     first / u64::from(size / 512) + ahead
 }
 
-/// Opens the two images as a format does: the hash image for writing too. They may be one file if the hash image doesn't
-/// begin at its first sector.
+/// Opens the two images as a format does: the hash image for writing too. They may be one image if the hash image doesn't
+/// begin at its first sector. Else they mustn't have a sector in common.
 pub(crate) fn open_placed<'a, I: Images>(
+    alloc: Global,
     images: &mut I,
     places: ImagePlaces<'a>,
-) -> Result<TwoImages<I::Dev>, UnopenedFile<'a>>
+) -> Result<TwoImages<'a, I::Dev>, UnopenedFile<'a>>
     ensures ok { IfOk result (OpensPlaces I.relations I.Dev.state images.old images.new places.entry) }
     ensures fresh { IfOk result (λ two. IsFresh (I.Dev.state two.hash.device) true) }
     ensures err { IfErr result (FailsToOpenPlaces I.relations I.Dev.state images.old images.new places.entry) }
@@ -56,8 +58,8 @@ pub(crate) fn open_placed<'a, I: Images>(
         hash,
         hash_first,
     } = places;
-    let two = open_two(images, ImagePaths { data, hash }, true)?;
-    if hash_first == 0 && is_one_file(two.data.id, two.hash.id) {
+    let two = open_two(alloc, images, ImagePaths { data, hash }, true)?;
+    if is_taken(&two, hash_first) {
         return Err(UnopenedFile {
             fault: OpenFault::SameFile,
             path: hash,
@@ -66,20 +68,34 @@ pub(crate) fn open_placed<'a, I: Images>(
     Ok(two)
 }
 
-/// Returns the sector where the data end: the first of the hash image if both are in one file, else `u64::MAX`, which is past the
-/// end of any data image.
-pub fn data_end<D>(two: &TwoImages<D>, first: u64) -> u64
+// Whether data and hash image are one image, in which the hash image begins after the first sector.
+fn is_shared<D>(two: &TwoImages<'_, D>, first: u64) -> bool
+    ensures { result ≡ is_shared two.now first }
+{
+    first > 0 && is_one_image(&two.data, &two.hash)
+}
+
+// Whether data and hash image have a sector in common otherwise.
+fn is_taken<D>(two: &TwoImages<'_, D>, first: u64) -> bool
+    ensures { result ≡ is_taken two.now first }
+{
+    is_clash(place_use(&two.data, false), place_use(&two.hash, true)) && !is_shared(two, first)
+}
+
+/// Returns the sector where the data end: the first of the hash image if both are in one image, else `u64::MAX`, which is past
+/// the end of any data image.
+pub fn data_end<D>(two: &TwoImages<'_, D>, first: u64) -> u64
     ensures { result ≡ data_end two.now first }
 {
-    if first > 0 && is_one_file(two.data.id, two.hash.id) {
+    if is_shared(two, first) {
         return first;
     }
     u64::MAX
 }
 
-/// Whether a format would take all that lies before the hash image in its own file as data.
-pub(crate) fn overlaps<D>(two: &TwoImages<D>, first: u64, blocks: Option<u64>) -> bool
+/// Whether a format would take all that lies before the hash image in one image as data.
+pub(crate) fn overlaps<D>(two: &TwoImages<'_, D>, first: u64, blocks: Option<u64>) -> bool
     ensures { result ≡ overlaps two.now first blocks }
 {
-    first > 0 && blocks.is_none() && is_one_file(two.data.id, two.hash.id)
+    blocks.is_none() && is_shared(two, first)
 }

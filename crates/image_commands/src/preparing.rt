@@ -9,8 +9,9 @@ use crate::random::Generators;
 use crate::tree_place::tree_of;
 use block_device::BlockDev;
 use command_line::ImageOptions;
-use image_files::{Images, open_image};
+use image_files::{Images, open_place};
 use image_pin::is_aligned;
+use std::alloc::Global;
 use verity_format::{FormatFault, FormatOptions, data_sectors};
 
 /// Returns the options with a salt and an identifier, given or drawn. It checks what `format --grow` checks before it makes a file.
@@ -22,6 +23,7 @@ use verity_format::{FormatFault, FormatOptions, data_sectors};
 /// - `Open` if the data image can't be opened.
 /// - `Format` if the options state no valid shape, or the data image has fewer blocks than they state.
 pub fn prepare_image<'a, I: Images, G: Generators>(
+    alloc: Global,
     images: &mut I,
     generators: &mut G,
     options: ImageOptions,
@@ -34,7 +36,7 @@ pub fn prepare_image<'a, I: Images, G: Generators>(
         return Err(ImageFault::Unaligned);
     }
     let given = given_or_drawn(generators, options)?;
-    let data = open_image(images, places.data, false)?;
+    let data = open_place(alloc, images, places.data, false)?;
     check_data(&data.device, &given)?;
     Ok(said_options(&given))
 }

@@ -1,10 +1,9 @@
 //! The command `format --no-superblock`: makes a tree alone.
-ghost use Rattle.std.specs.Prelude.{◌≡◌, Some, IfErr, IfOk, OnOk};
+ghost use Rattle.std.specs.Prelude.{◌≡◌, Some, IfErr, IfOk};
 ghost use Rattle.program_io.specs.Counted.{Writes};
 ghost use Rattle.device_adapters.specs.Parts.{outside_of, part_behind};
-ghost use Rattle.image_commands.specs.Endings.{IsQuiet};
-ghost use Rattle.image_commands.specs.Places.{IsStateOf};
-ghost use Rattle.image_commands.specs.TreeFormats.{FailsToMakeShape, FailsToPlaceTree, FailsToMakeTree, FormatsTree, IsFinished, IsTreeMade, IsUnfinished, MakesTreeBehind, tree_text};
+ghost use Rattle.image_commands.specs.Places.{IsPartState, IsStateOf};
+ghost use Rattle.image_commands.specs.TreeFormats.{FailsToMakeShape, FailsToMakeTree, FailsToMakeTreeAt, IsFinished, IsTreeMade, IsUnfinished, MakesTreeAt, MakesTreeBehind, tree_text};
 
 use crate::cleared_tree::make_cleared;
 use crate::fault::ImageFault;
@@ -18,7 +17,7 @@ use crate::watching::{WatchedPlaces, bytes_of_blocks, watch};
 use block_device::{BlockDev, SyncDev};
 use command_line::ImageOptions;
 use device_adapters::{Beside, Part, Watchers, Window, bytes_before};
-use image_files::Images;
+use image_files::{Images, close_place};
 use image_pin::is_aligned;
 use program_io::{Counted, WriteFault};
 use std::alloc::Global;
@@ -27,50 +26,46 @@ use std::marker::{Brand, PhantomData};
 use tree_shape::Digest;
 use verity_format::{FormatFault, FormatOptions, Superblock};
 
-/// `format --no-superblock [--hash-offset BYTES] [OPTIONS] DATA HASH`: writes the tree alone at that sector of HASH, syncs and
-/// closes HASH, and prints the root hash, the salt and the number of blocks. Both may be one file; the data are then as many blocks
-/// as the options state, before that sector.
+/// `format --no-superblock [--hash-offset BYTES] [OPTIONS] DATA HASH`: writes the tree alone at that sector of HASH, and returns its
+/// root hash and what else is printed of it. Both may be one image; the data are then as many blocks as the options state, before
+/// that sector. HASH is synced and closed.
 ///
 /// # Errors
 ///
 /// - `Unaligned` if no hash block begins at that sector; no file was opened.
-/// - `Open` if one of the two can't be opened, or both are one file and the sector is the first.
-/// - `DataOverlapsTree` if both are one file, and the options state no number of blocks.
+/// - `Open` if one of the two can't be opened, or they share a sector, and aren't one image with a sector after its first.
+/// - `DataOverlapsTree` if both are one image, and the options state no number of blocks.
 /// - `Random` if no salt is given and there are no random bytes.
 /// - `Format` if the tree isn't made.
-/// - `Write` if a line can't be written; the tree was made.
-#[tactic(auto, using(crate::proofs::lemmas::EndingLemmas::quiet))]
-pub fn format_tree<'a, I: Images, G: Generators + Watchers, W: Write>(
+pub fn make_tree<'a, I: Images, G: Generators + Watchers>(
     alloc: Global,
     images: &mut I,
     generators: &mut G,
     options: ImageOptions,
     watched: WatchedPlaces<'a>,
-    writer: &mut Counted<W>,
-) -> Result<(), ImageFault<'a>>
-    ensures ok { OnOk result (FormatsTree I.relations I.Dev.state images.old images.new G.gives G.Generator.stream generators.old generators.new W.contents writer.old writer.new options watched.entry) }
-    ensures err { IfErr result (FailsToPlaceTree I.relations I.Dev.state images.old images.new G.gives G.Generator.stream generators.old generators.new writer.new options watched.entry) }
-    ensures quiet { IfErr result (λ fault. IsQuiet fault (W.contents writer.old.inner) (W.contents writer.new.inner)) }
+) -> Result<MadeImage, ImageFault<'a>>
+    ensures ok { IfOk result (MakesTreeAt I.relations I.Dev.state images.old images.new G.gives G.Generator.stream generators.old generators.new options watched.entry) }
+    ensures err { IfErr result (FailsToMakeTreeAt I.relations I.Dev.state images.old images.new G.gives G.Generator.stream generators.old generators.new options watched.entry) }
 {
     let WatchedPlaces { places, progress } = watched;
     let first = places.hash_first;
-    let hash = places.hash;
     if !is_aligned(first, options.hash_block) {
         return Err(ImageFault::Unaligned);
     }
-    let two = open_placed(images, places)?;
+    let two = open_placed(alloc, images, places)?;
     if overlaps(&two, first, options.blocks) {
         return Err(ImageFault::DataOverlapsTree);
     }
     let end = data_end(&two, first);
+    let place = two.hash.place;
     let options = given_or_drawn(generators, unnamed(options))?;
     let all = bytes_of_blocks(&options, bytes_before(&two.data.device, end));
     let (data_dev, hash_dev) = watch(two, generators, progress, all);
     let (hash_dev, made) = make_at(alloc, data_dev, hash_dev, Bounds { end, first }, options);
     match made {
         Ok(made) => {
-            images.close(hash, hash_dev);
-            Ok(say_tree(writer, &made)?)
+            close_place(images, place, hash_dev);
+            Ok(made)
         }
         Err(fault) => Err(ImageFault::Format(format_fault_from(first, fault))),
     }
@@ -103,7 +98,7 @@ fn make_behind<D: BlockDev, H: SyncDev + Drop>(
     first: u64,
     params: Superblock,
 ) -> (H, Result<MadeImage, FormatFault>)
-    ensures ok { IfOk result.1 (IsTreeMade (IsStateOf D.state) params (D.state data_dev.old) (H.state hash_dev) first (H.state result.0)) }
+    ensures ok { IfOk result.1 (IsTreeMade (IsStateOf D.state) (IsPartState H.state) params (D.state data_dev.old) (H.state hash_dev) first (H.state result.0)) }
     ensures err { IfErr result.1 (FailsToMakeShape params D.state H.state data_dev.old hash_dev result.0 first) }
 {
     make_beside::<D, H, Brand>(alloc, data_dev, hash_dev, first, params)
@@ -118,7 +113,7 @@ fn make_beside<D: BlockDev, H: SyncDev + Drop, K: Beside>(
     params: Superblock,
 ) -> (H, Result<MadeImage, FormatFault>)
     requires { K.outside ≡ Some (outside_of (H.state hash_dev).image (part_behind (H.state hash_dev) first)) }
-    ensures ok { IfOk result.1 (IsTreeMade (IsStateOf D.state) params (D.state data_dev.old) (H.state hash_dev) first (H.state result.0)) }
+    ensures ok { IfOk result.1 (IsTreeMade (IsStateOf D.state) (IsPartState H.state) params (D.state data_dev.old) (H.state hash_dev) first (H.state result.0)) }
     ensures err { IfErr result.1 (FailsToMakeShape params D.state H.state data_dev.old hash_dev result.0 first) }
 {
     let part = Part::behind(&hash_dev, first);
@@ -156,9 +151,13 @@ fn finish<H: SyncDev>(
     }
 }
 
-// Prints the root hash, the salt and the number of blocks of a tree that was made, a line each.
+/// Prints the root hash, the salt and the number of blocks of a tree that was made, a line each.
+///
+/// # Errors
+///
+/// `WriteFault` if the writer failed.
 #[tactic(auto, unfolding(crate::specs::TreeFormats::tree_text))]
-fn say_tree<W: Write>(writer: &mut Counted<W>, made: &MadeImage) -> Result<(), WriteFault>
+pub fn say_tree<W: Write>(writer: &mut Counted<W>, made: &MadeImage) -> Result<(), WriteFault>
     ensures { Writes W.contents writer.old writer.new (tree_text made.now) result }
 {
     say_root(writer, &made.root)?;

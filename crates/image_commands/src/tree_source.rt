@@ -1,12 +1,12 @@
 //! Where the tree of an image is stated, and that tree.
 ghost use Rattle.std.specs.Prelude.{◌≡◌, IfErr, IfOk};
 ghost use Rattle.verity_format.specs.Blocks.{IsOnlyRead};
-ghost use Rattle.image_commands.specs.TreeSources.{IsNoTreeOf, IsNotStored, IsShapeless, IsStatedTree, IsStoredTree, IsTreeOf, may_seek};
+ghost use Rattle.image_commands.specs.TreeSources.{IsNoTreeOf, IsNotStored, IsShapeless, IsStatedTree, IsStoredTree, IsTreeOf, may_seek, stored_source};
 
 use crate::tree_place::tree_of;
 use crate::watching::bytes_of_blocks;
 use block_device::BlockDev;
-use image_pin::{NoTree, Pin, find_tree, is_aligned};
+use image_pin::{NoTree, Pin, TrustedRoot, find_tree, is_aligned};
 use tree_shape::Digest;
 use verity_format::{FormatOptions, VerityTree};
 
@@ -43,6 +43,16 @@ impl From<NoTree> for NoSource {
 
     fn from(fault: NoTree) -> NoSource {
         NoSource::Stored(fault)
+    }
+}
+
+/// Returns the tree of the superblock, which must have the values of the pin, if there is one.
+pub fn stored_source(trusted: &TrustedRoot) -> SoughtTree
+    ensures { result ≡ stored_source trusted.now }
+{
+    SoughtTree {
+        source: TreeSource::Superblock(trusted.pin),
+        root: trusted.root,
     }
 }
 

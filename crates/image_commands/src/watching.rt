@@ -5,7 +5,7 @@ use crate::paths::TwoImages;
 use crate::places::ImagePlaces;
 use block_device::BlockDev;
 use device_adapters::{Watched, Watchers, watcher_of};
-use image_files::OpenImage;
+use image_files::PlacedImage;
 use verity_format::FormatOptions;
 
 /// The places of two images, and whether it is shown how much of the data was read.
@@ -17,22 +17,24 @@ pub struct WatchedPlaces<'a> {
 
 /// Returns the two devices. Reads of the data device are reported as progress, out of `all` bytes.
 pub fn watch<D: BlockDev + Drop, S: Watchers>(
-    two: TwoImages<D>,
+    two: TwoImages<'_, D>,
     watchers: &S,
     progress: bool,
     all: u64,
 ) -> (Watched<D, S::Watcher>, D)
-    ensures data { result.0.inner ≡ two.data.device }
-    ensures hash { result.1 ≡ two.hash.device }
+    ensures data { result.0.inner ≡ two.entry.data.device }
+    ensures hash { result.1 ≡ two.entry.hash.device }
 {
     let TwoImages {
-        data: OpenImage {
+        data: PlacedImage {
             device: data_dev,
             id: _,
+            place: _,
         },
-        hash: OpenImage {
+        hash: PlacedImage {
             device: hash_dev,
             id: _,
+            place: _,
         },
     } = two;
     let watcher = watcher_of(watchers, progress);

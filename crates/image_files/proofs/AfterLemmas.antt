@@ -136,6 +136,7 @@ calls-change {D} state whole ids start calls =
       kept_opening = λ n n' path writable outcome c. after state ids start calls n n' _ c;
       kept_reading = λ n n' path most outcome c. after state ids start calls n n' _ c;
       kept_opening_part = λ n n' path writable part outcome c. after state ids start calls n n' _ c;
+      kept_narrowing = λ n n' device narrowed part c. after state ids start calls n n' _ c;
       kept_measuring = λ n n' path outcome c. after state ids start calls n n' _ c;
       kept_comparing = λ n n' path other outcome c. after state ids start calls n n' _ c;
       kept_trying = λ n n' path outcome c. after state ids start calls n n' _ c;

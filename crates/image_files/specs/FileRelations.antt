@@ -17,7 +17,7 @@ use Rattle.image_files.specs.declared.images.OpenImage.{OpenImage}
 use Rattle.image_files.specs.Calls.{FileRelations}
 use Rattle.image_files.specs.Drafts.{Replaces, Tries}
 use Rattle.image_files.specs.FileLocks.{Locks, LocksAtMost}
-use Rattle.image_files.specs.ImageCalls.{WasMade, Open, OpenPart, ReadText, Close, ClosePart, Grow, Measure, Compare, Replace, TryReplace}
+use Rattle.image_files.specs.ImageCalls.{WasMade, Open, OpenPart, Narrow, ReadText, Close, ClosePart, Grow, Measure, Compare, Replace, TryReplace}
 use Rattle.image_files.specs.NewFiles.{FailsToMake, Makes}
 use Rattle.image_files.specs.OnePlace.{ResolvesAtMost}
 use Rattle.image_files.specs.Opener.{Opener}
@@ -55,6 +55,11 @@ pub record IsOpenPart {S D C F : Type 0} (view : FileView S D C F) (image : Open
   pub device : view.state image.device ≡ windowed (view.whole image.device) part
   pub id : image.id ≡ view.id image.device
 
+-- a part of an open device, of the same file
+pub record IsNarrowedFile {S D C F : Type 0} (view : FileView S D C F) (device : D) (part : Part) (narrowed : D) : Type 0 where
+  pub whole : view.whole narrowed ≡ view.whole device
+  pub part_state : view.state narrowed ≡ windowed (view.state device) part
+
 abbrev pub OpensFile : {D E : Type 0} → (OpenImage D → Type 0) → Result (OpenImage D) E → Type 0
 OpensFile Is (Ok image) = Is image
 OpensFile Is (Err fault) = Unit {0}
@@ -84,12 +89,14 @@ pub record IsOfFixedSize {C : Type 0} (old : C) (path : List ℕ) (new : C) : Ty
   pub kind : IsFile (file_type said) → ⊥
   pub same : new ≡ old
 
--- the file was made if there was none, by no other call of the file system, and has that many sectors
+-- The file was made if there was none, by no other call of the file system, and has that many sectors. It is called on only if
+-- it had fewer bytes.
 pub record IsGrownFile {C F : Type 0} (r : FileRelations C F) (old : C) (path : List ℕ) (sectors : ℕ) (new : C) : Type 0 where
   pub makes : Makes r old path new
   pub file : File
+  pub left : File
   pub opened : Opened path true file
-  pub long : IsLongEnough file (sectors * 512)
+  pub long : IsLongEnough file (sectors * 512) left
 
 -- which calls of the file system are made to grow a file: also if it isn't grown, those that make it or fail to, or none
 abbrev pub Grows : {C F : Type 0} → FileRelations C F → C → List ℕ → ℕ → Result (Unit {0}) OpenFault → C → Type 0
@@ -107,6 +114,7 @@ abbrev pub file_relations : {S D C F : Type 0} → FileView S D C F → Opener S
 file_relations {D = D} view = record {
   opens = λ old path writable outcome new. WasMade old (Open path writable outcome) new × CallsNothing view old new × LocksFile view writable outcome old new × OpensFile (λ image. IsOpenFile view image path writable) outcome;
   opens_part = λ old path writable part outcome new. WasMade old (OpenPart path writable part outcome) new × CallsNothing view old new × LocksFile view writable outcome old new × OpensFile (λ image. IsOpenPart view image path writable part) outcome;
+  narrows = λ old device part narrowed new. WasMade old (Narrow device part narrowed) new × CallsNothing view old new × LocksNoMore view old new × IsNarrowedFile view device part narrowed;
   tells = λ old path most outcome new. WasMade {D = D} old (ReadText path most outcome) new × CallsNothing view old new × LocksNoMore view old new × IfOk outcome (IsTextOf (view.read path) path);
   takes = λ old path device new. WasMade old (Close path device) new × CallsNothing view old new × LocksNoMore view old new;
   takes_part = λ old path part device new. WasMade old (ClosePart path part device) new × CallsNothing view old new × LocksNoMore view old new;

@@ -1,12 +1,13 @@
 -- Calls of an opener, one after the other.
 use Rattle.std.specs.Prelude.{◌≡◌, ℕ, suc, List, [], ◌∷◌, Some, slice_get}
-use Rattle.image_files.specs.ImageCalls.{ImageCall, Open, OpenPart, ReadText, Close, ClosePart, Grow, Measure, Compare, Replace, TryReplace}
+use Rattle.image_files.specs.ImageCalls.{ImageCall, Open, OpenPart, Narrow, ReadText, Close, ClosePart, Grow, Measure, Compare, Replace, TryReplace}
 use Rattle.image_files.specs.Opener.{Opener}
 
 -- the call was made
 abbrev pub IsMade : {S D : Type 0} → Opener S D → S → ImageCall D → S → Type 0
 IsMade o old (Open path writable outcome) new = o.opens old path writable outcome new
 IsMade o old (OpenPart path writable part outcome) new = o.opens_part old path writable part outcome new
+IsMade o old (Narrow device part narrowed) new = o.narrows old device part narrowed new
 IsMade o old (ReadText path most outcome) new = o.tells old path most outcome new
 IsMade o old (Close path device) new = o.takes old path device new
 IsMade o old (ClosePart path part device) new = o.takes_part old path part device new
@@ -36,6 +37,7 @@ abbrev pub in_history : {D : Type 0} → List (ImageCall D) → Opener ℕ D
 in_history calls = record {
   opens = λ n path writable outcome n'. IsCallAt calls n (Open path writable outcome) n';
   opens_part = λ n path writable part outcome n'. IsCallAt calls n (OpenPart path writable part outcome) n';
+  narrows = λ n device part narrowed n'. IsCallAt calls n (Narrow device part narrowed) n';
   tells = λ n path most outcome n'. IsCallAt calls n (ReadText path most outcome) n';
   takes = λ n path device n'. IsCallAt calls n (Close path device) n';
   takes_part = λ n path part device n'. IsCallAt calls n (ClosePart path part device) n';

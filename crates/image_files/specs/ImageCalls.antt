@@ -8,10 +8,11 @@ use Rattle.image_files.specs.declared.parts.PartFault.{PartFault}
 use Rattle.image_files.specs.declared.seal.Seal.{Seal}
 use Rattle.image_files.specs.declared.texts.ReplaceFault.{ReplaceFault}
 
--- a call, its path and other arguments, and its outcome
+-- a call, its path or device and other arguments, and its outcome
 pub data ImageCall (D : Type 0) : Type 0 where
   Open : List ℕ → Bool → Result (OpenImage D) OpenFault → ImageCall D
   OpenPart : List ℕ → Bool → Part → Result (OpenImage D) PartFault → ImageCall D
+  Narrow : D → Part → D → ImageCall D
   ReadText : List ℕ → ℕ → Result FileText OpenFault → ImageCall D
   Close : List ℕ → D → ImageCall D
   ClosePart : List ℕ → Part → D → ImageCall D

@@ -11,6 +11,9 @@ pub mod OnePlace
 pub mod Opened
 pub mod Opener
 pub mod OpenParts
+pub mod OpenPlaces
+pub mod Places
+pub mod Partitions
 pub mod Promises
 pub mod Calls
 pub mod Drafts

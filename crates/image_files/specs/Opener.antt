@@ -2,7 +2,7 @@
 use Rattle.std.specs.Prelude.{◌≡◌, ℕ, Bool, false, List, Result}
 use Rattle.device_adapters.specs.declared.part.Part.{Part}
 use Rattle.block_device.specs.declared.open_fault.OpenFault.{OpenFault}
-use Rattle.block_device.specs.Device.{Device}
+use Rattle.block_device.specs.Device.{Device, run_of}
 use Rattle.image_files.specs.declared.images.FileText.{FileText}
 use Rattle.image_files.specs.declared.images.OpenImage.{OpenImage}
 use Rattle.image_files.specs.declared.parts.PartFault.{PartFault}
@@ -15,6 +15,8 @@ pub record Opener (S D : Type 0) : Type 1 where
   pub opens : S → List ℕ → Bool → Result (OpenImage D) OpenFault → S → Type 0
   -- a path, whether its image is opened for writing too, and a part of it
   pub opens_part : S → List ℕ → Bool → Part → Result (OpenImage D) PartFault → S → Type 0
+  -- an open device, a part of it, and the device of that part
+  pub narrows : S → D → Part → D → S → Type 0
   -- a path, and how many bytes of its file are taken at most
   pub tells : S → List ℕ → ℕ → Result FileText OpenFault → S → Type 0
   -- a path, and the device that is closed
@@ -36,6 +38,13 @@ pub record Opener (S D : Type 0) : Type 1 where
 pub record IsFresh (device : Device) (writable : Bool) : Type 0 where
   pub may_write : device.may_write ≡ writable
   pub clean : device.dirty ≡ false
+
+-- A part of a device as a device of its own. Whether it is steady isn't said: the whole one needn't be.
+pub record IsNarrowed (device : Device) (part : Part) (narrowed : Device) : Type 0 where
+  pub size : narrowed.size ≡ part.count
+  pub image : narrowed.image ≡ run_of device.image part.first part.count
+  pub may_write : narrowed.may_write ≡ device.may_write
+  pub clean : device.dirty ≡ false → narrowed.dirty ≡ false
 
 -- an opener before and after some calls, its relations, and what a proof sees of its devices
 pub record Calls (S D : Type 0) : Type 1 where

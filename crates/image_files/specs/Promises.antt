@@ -71,6 +71,8 @@ pub record ShowsFiles {S D : Type 0} (o : Opener S D) (state : D → Device) (at
   pub opened_part : (old new : S) (path : List ℕ) (writable : Bool) (part : Part) (image : OpenImage D) → o.opens_part old path writable part (Ok image) new
       → (file : FileRecord) × (at old path ≡ Some file) × (image.id ≡ file.id) × HoldsPart (state image.device) part file
   pub steady_part : (old new : S) (path : List ℕ) (writable : Bool) (part : Part) (image : OpenImage D) → o.opens_part old path writable part (Ok image) new → (state image.device).steady ≡ true
+  -- a part of an open device, also of one that isn't steady, is steady while nobody else writes that part
+  pub steady_narrowed : (old new : S) (device narrowed : D) (part : Part) → o.narrows old device part narrowed new → (state narrowed).steady ≡ true
   -- a text is the first bytes of the file, if there is one: the standard input is none, nor is a pipe
   pub told : (old new : S) (path : List ℕ) (most : ℕ) (text : FileText) (file : FileRecord) → o.tells old path most (Ok text) new → at old path ≡ Some file
       → (text.id ≡ file.id) × (text.bytes.items ≡ take most file.bytes)
@@ -81,11 +83,12 @@ pub record ShowsFiles {S D : Type 0} (o : Opener S D) (state : D → Device) (at
   pub made_apart : (old between new : S) (path other : List ℕ) (sectors : ℕ) → o.compares old path other (Ok false) between → o.grows between path sectors (Ok tt) new
       → at between other ≡ None → at new other ≡ None
 
--- What calls leave of files. Those that open, read, measure and compare change none.
+-- What calls leave of files. Those that open, narrow, read, measure and compare change none.
 pub record ChangesFiles {S D : Type 0} (o : Opener S D) (state : D → Device) (at : S → Files) : Type 0 where
   pub kept_opening : (old new : S) (path : List ℕ) (writable : Bool) (outcome : Result (OpenImage D) OpenFault) → o.opens old path writable outcome new → at new ≡ at old
   pub kept_reading : (old new : S) (path : List ℕ) (most : ℕ) (outcome : Result FileText OpenFault) → o.tells old path most outcome new → at new ≡ at old
   pub kept_opening_part : (old new : S) (path : List ℕ) (writable : Bool) (part : Part) (outcome : Result (OpenImage D) PartFault) → o.opens_part old path writable part outcome new → at new ≡ at old
+  pub kept_narrowing : (old new : S) (device narrowed : D) (part : Part) → o.narrows old device part narrowed new → at new ≡ at old
   pub kept_measuring : (old new : S) (path : List ℕ) (outcome : Result Bool OpenFault) → o.measures old path outcome new → at new ≡ at old
   pub kept_comparing : (old new : S) (path other : List ℕ) (outcome : Result Bool OpenFault) → o.compares old path other outcome new → at new ≡ at old
   -- to find out whether a file can be created beside a path changes no file

@@ -131,6 +131,11 @@ impl<R: Files<File = File> + AllocGlobal + Input, C: FileCalls> Images for FileI
         }
     }
 
+    #[tactic(auto, using(crate::proofs::FileLemmas::made))]
+    fn narrow(&mut self, device: Window<AnyDev>, part: Part) -> Window<AnyDev> {
+        device.narrow(part)
+    }
+
     // A file of any kind that can be read, or the standard input.
     #[tactic(auto, using(crate::proofs::FileLemmas::made))]
     fn read_text(&mut self, path: &str, most: usize) -> Result<FileText, OpenFault> {
@@ -167,7 +172,7 @@ impl<R: Files<File = File> + AllocGlobal + Input, C: FileCalls> Images for FileI
             return Err(OpenFault::TooLarge);
         }
         make_file(&mut self.texts.calls, path)?;
-        let file = open_file(self.rt, &mut self.locks, path, true)?;
+        let mut file = open_file(self.rt, &mut self.locks, path, true)?;
         file.lengthen(sectors * SECTOR)
     }
 

@@ -1,7 +1,8 @@
 //! What commands open: images and texts under paths.
 ghost use Rattle.std.specs.Prelude.{◌≡◌, ◌≤◌, length, true, IfErr, IfOk};
 ghost use Rattle.block_device.specs.declared.open_fault.OpenFault.TheVariants as open_fault;
-ghost use Rattle.image_files.specs.Opener.{IsFresh, Opener};
+ghost use Rattle.device_adapters.specs.Parts.{LiesInside};
+ghost use Rattle.image_files.specs.Opener.{IsFresh, IsNarrowed, Opener};
 
 use crate::parts::PartFault;
 use crate::texts::ReplaceFault;
@@ -46,6 +47,12 @@ pub trait Images {
     ) -> Result<OpenImage<Self::Dev>, PartFault>
         ensures opened { relations.opens_part self.old path.now writable part result self.new }
         ensures fresh { IfOk result (λ image. IsFresh (Self.Dev.state image.device) writable) };
+
+    /// Makes a device of a part of an open one. Nothing is opened again, and closing the part closes the whole.
+    fn narrow(&mut self, device: Self::Dev, part: Part) -> Self::Dev
+        requires { LiesInside (Self.Dev.state device) part }
+        ensures narrowed { relations.narrows self.old device part result self.new }
+        ensures part { IsNarrowed (Self.Dev.state device) part (Self.Dev.state result) };
 
     /// Returns at most `most` first bytes of the file under this path.
     fn read_text(&mut self, path: &str, most: usize) -> Result<FileText, OpenFault>

@@ -1,13 +1,16 @@
 //! Opens parts of the images that a command line names.
 ghost use Rattle.std.specs.Prelude.{◌≡◌, IfOk, IfErr};
+ghost use Rattle.command_line.specs.PartBindings.{part_record};
 ghost use Rattle.image_files.specs.declared.parts.PartFault.TheVariants as part_fault;
 ghost use Rattle.image_files.specs.Opener.{IsFresh, calls};
 ghost use Rattle.image_files.specs.OpenParts.{OpensPart, RefusesPart};
+ghost use Rattle.image_files.specs.Places.{device_part};
 
 use crate::file_use::{FileUse, has_clash};
 use crate::images::{Images, OpenImage};
 use crate::opening::UnopenedFile;
 use block_device::{BlockDev, OpenFault};
+use command_line::FilePart;
 use device_adapters::Part;
 
 /// Why a part of an image isn't opened.
@@ -34,6 +37,16 @@ pub enum UnopenedPart<'a> {
     File(UnopenedFile<'a>),
     /// The part isn't inside the file under this path.
     Outside(&'a str),
+}
+
+/// Returns the part that a command line names as a part of a device.
+pub fn device_part(part: FilePart) -> Part
+    ensures { result ≡ device_part (part_record part) }
+{
+    Part {
+        first: part.first,
+        count: part.count,
+    }
 }
 
 /// Opens a part of the image under a path, beside files that are open already.

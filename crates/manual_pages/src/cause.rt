@@ -45,5 +45,6 @@ pub fn cause_text(cause: Cause) -> &'static str
         Cause::NameWithAll => "no device name goes with --all",
         Cause::WithoutAll => "only with --all",
         Cause::WithoutFec => "only with --fec",
+        Cause::WithoutStack => "only with --stack, --root or --pin",
     }
 }

@@ -39,7 +39,7 @@ const REPAIR_USAGE: &str =
     "dmstack repair [--data-block N] [--hash-block N] [--blocks N] [--salt HEX] [--hash-offset BYTES] [--root-hash-file FILE] [--no-superblock] [--check] [--fec FILE] [--fec-roots N] [--pin FILE] DATA HASH ROOT [DATACOPY HASHCOPY]...";
 
 const PARTITIONS_USAGE: &str =
-    "dmstack partitions [--sector-size 512|4096] [--json] [--stack] [--root ROOT] [--pin FILE] IMAGE";
+    "dmstack partitions [--sector-size 512|4096] [--json] [--stack] [--root ROOT] [--pin FILE] [--writable] IMAGE";
 
 const DIFF_USAGE: &str =
     "dmstack diff [--data-block N] [--hash-block N] [--blocks N] [--salt HEX] [--no-superblock] [--all] [--runs N] [--json] [--old-hash-offset BYTES] [--hash-offset BYTES] [--old-root-hash-file FILE] [--root-hash-file FILE] [--old-pin FILE] [--pin FILE] HASH1 [ROOT1] HASH2 [ROOT2]";

@@ -1,5 +1,5 @@
 -- A READ that is answered piece by piece.
-use Rattle.std.proofs.Common.{◌≡◌, ◌<◌, ◌≤◌, ℕ, ◌+◌, ◌-◌, ◌*◌, ◌/◌, ◌%◌, List, [], ◌++◌, drop, length, refl, take, ap, sym, ◌∙◌, subst, arith, inl, inr, Option, Some, None, Result, Ok, Err}
+use Rattle.std.proofs.Common.{◌≡◌, ◌<◌, ◌≤◌, ℕ, ◌+◌, ◌-◌, ◌*◌, ◌/◌, ◌%◌, List, [], ◌++◌, drop, length, refl, take, ap, sym, ◌∙◌, subst, arith, inl, inr, Option, Result, Ok, Err}
 use Rattle.std.specs.Prelude.{◌⊎◌, ◌==◌, Bool, false, true, OnOk}
 use Rattle.std.specs.Io.KnownBytes.{Appends, Keeps}
 use Rattle.std.proofs.KnownBytes.{Appends-kept, Appends-nil, Appends-trans}
@@ -17,12 +17,13 @@ use Rattle.nbd_server.specs.Replies.{RequestOutcome}
 use Rattle.nbd_server.specs.Sectors.{IsFetched, FailsToFetch, EndsIn, HasNoBuffer}
 use Rattle.nbd_server.specs.Status.{IsLineStatus, TouchZeros, touched}
 use Rattle.nbd_server.specs.declared.status.BlockStatus.{BlockStatus}
+use Rattle.nbd_server.specs.Tallies.{is_fault}
 use Rattle.nbd_server.specs.Transmission.{ReadsExport}
 use Rattle.nbd_server.specs.Premises.{AreBytesOf, IsDeliveryRest}
 use Rattle.nbd_protocol.specs.Chunks.{error_at_chunk, hole_chunk}
 use Rattle.nbd_server.specs.Content.{TellsContent}
 use Rattle.stack_rules.specs.Records.{Configuration}
-use Rattle.nbd_server.specs.Delivery.{AnswersPiece, BeginsWithZeros, Delivers, delivers_none, delivers_more, DeliversPart, GoesOnReplying, IsDelivered, IsLost, AreNextBytes, IsReadPiece, IsStuck, SendsPiece, at_first, next_size}
+use Rattle.nbd_server.specs.Delivery.{AnswersPiece, BeginsWithZeros, Delivers, delivers_none, delivers_more, DeliversAs, DeliversPart, GoesOnReplying, IsDelivered, IsLost, AreNextBytes, IsReadPiece, IsStuck, SendsPiece, at_first, next_size}
 use Rattle.nbd_server.specs.declared.delivery.Delivery.{Delivery}
 use Rattle.nbd_server.specs.declared.delivery.Progress.{Progress}
 use Rattle.nbd_server.proofs.ToldLemmas.{some-told}
@@ -112,10 +113,6 @@ pub read-of : (e : ExportRecord) (w w' : World) (at size : ℕ) (sectors rest : 
 read-of e w w' at size sectors rest (Ok done) held p = (sectors, p, sym (part-front sectors rest (at % 512) size (omega (arith, held))))
 read-of e w w' at size sectors rest (Err error) held p = tt
 
-pub then-inside : (result : Result Unit RequestError) (at size : ℕ) (items : List ℕ) → 512 * touched at size ≤ length items → OnOk result (at % 512 + size ≤ length items)
-then-inside (Ok done) at size items room = omega (arith, room)
-then-inside (Err error) at size items room = tt
-
 -- what is left of it has small places
 pub rest-left : (c : Configuration) (e : ExportRecord) (d : Delivery) (p : Progress) → AreBytesOf c e d.offset d.count → p.done ≤ d.count → IsDeliveryRest d p
 rest-left c e d p bytes inside = record { inside = inside; small = omega (arith, bytes.within, bytes.export.fits) }
@@ -144,7 +141,7 @@ module _ (e : ExportRecord) (d : Delivery) (p : Progress) (w w' : World) (size a
 
     -- it is a hole
     pub piece-hole : size ≤ next_size w.stack.config e.device d p → TouchZeros w.stack.config e at size → BeginsWithZeros w.stack.config e at (next_size w.stack.config e.device d p) size → w' ≡ w → Appends old new (hole_chunk (p.done + size == d.count) d.cookie (d.offset + p.done) size)
-        → AnswersPiece e d p w w' old new (Some (record { done = p.done + size; slow = p.slow }))
+        → AnswersPiece e d p w w' old new (Ok (record { done = p.done + size; slow = p.slow }))
     piece-hole front zeros status same a = (hole_chunk (p.done + size == d.count) d.cookie (d.offset + p.done) size, hole-goes front zeros status same, a)
 
     pub hole-stuck : size ≤ next_size w.stack.config e.device d p → TouchZeros w.stack.config e at size → BeginsWithZeros w.stack.config e at (next_size w.stack.config e.device d p) size → w' ≡ w → SendsPiece e d p w w'
@@ -165,11 +162,11 @@ module _ (e : ExportRecord) (d : Delivery) (p : Progress) (w w' : World) (size a
 
     -- it was read
     pub piece-sent : (n : ℕ) → n ≡ size → (content : List ℕ) → ReadsExport e w at size (Ok content) w' → Grows old new (TellsContent d.cookie (p.done + n == d.count) (d.offset + p.done) content)
-        → AnswersPiece e d p w w' old new (Some (record { done = p.done + size; slow = p.slow }))
+        → AnswersPiece e d p w w' old new (Ok (record { done = p.done + size; slow = p.slow }))
     piece-sent n is content reads a = (a.text, sent-goes n is content a.text reads a.holds, a.written)
 
     -- it wasn't, and lies in several sectors
-    pub piece-put_off : (error : RequestError) → ReadsExport e w at size (Err error) w' → 1 < touched at size → new ≡ old → AnswersPiece e d p w w' old new (Some (record { done = p.done; slow = p.done + size }))
+    pub piece-put_off : (error : RequestError) → ReadsExport e w at size (Err error) w' → 1 < touched at size → new ≡ old → AnswersPiece e d p w w' old new (Ok (record { done = p.done; slow = p.done + size }))
     piece-put_off error reads several same = (
       [],
       inr (inl (record {
@@ -185,15 +182,18 @@ module _ (e : ExportRecord) (d : Delivery) (p : Progress) (w w' : World) (size a
     )
 
     -- it wasn't, and lies in one
-    pub piece-lost : (error : RequestError) → ReadsExport e w at size (Err error) w' → touched at size ≤ 1 → IsLost e d p w (error_at_chunk d.cookie at error) w'
-    piece-lost error reads few = record {
-      size = size;
-      error = error;
-      piece = piece;
-      one = omega (arith, few, piece.next.bytes.some, place);
-      reads = subst (λ (k : ℕ). ReadsExport e w k size (Err error) w') place reads;
-      chunk_is = ap (λ (k : ℕ). error_at_chunk d.cookie k error) place;
-    }
+    pub piece-lost : (error : RequestError) → ReadsExport e w at size (Err error) w' → touched at size ≤ 1 → (lost : IsLost e d p w (error_at_chunk d.cookie at error) w') × (lost.error ≡ error)
+    piece-lost error reads few = (
+      record {
+        size = size;
+        error = error;
+        piece = piece;
+        one = omega (arith, few, piece.next.bytes.some, place);
+        reads = subst (λ (k : ℕ). ReadsExport e w k size (Err error) w') place reads;
+        chunk_is = ap (λ (k : ℕ). error_at_chunk d.cookie k error) place;
+      },
+      refl,
+    )
 
     -- the writer failed
     pub sent-stuck : (content : List ℕ) → 0 < length content → ReadsExport e w at size (Ok content) w' → SendsPiece e d p w w'
@@ -202,7 +202,7 @@ module _ (e : ExportRecord) (d : Delivery) (p : Progress) (w w' : World) (size a
         inl (told.text, record { done = p.done + size; slow = p.slow }, sent-goes size refl content told.text reads told.tells)
 
     pub lost-stuck : (error : RequestError) → ReadsExport e w at size (Err error) w' → touched at size ≤ 1 → SendsPiece e d p w w'
-    lost-stuck error reads few = inr (error_at_chunk d.cookie at error, piece-lost error reads few)
+    lost-stuck error reads few = inr (error_at_chunk d.cookie at error, (piece-lost error reads few).0)
 
 -- ---- replies
 
@@ -236,7 +236,7 @@ pub underway-none : (e : ExportRecord) (d : Delivery) (w : World) (old : Option 
 underway-none e d w old bytes = record { written = []; pieces = delivers_none; appended = Appends-nil old; inside = omega arith; bytes = bytes }
 
 module _ (e : ExportRecord) (d : Delivery) (first : World) (p : Progress) (w w' : World) (old mid new : Option (List ℕ)) (u : IsUnderway e d first p w old mid) where
-  pub underway-more : (next : Progress) → AnswersPiece e d p w w' mid new (Some next) → IsUnderway e d first next w' old new
+  pub underway-more : (next : Progress) → AnswersPiece e d p w w' mid new (Ok next) → IsUnderway e d first next w' old new
   underway-more next a = record {
     written = u.written ++ a.0;
     pieces = delivers_more a.0 u.pieces a.1;
@@ -249,8 +249,15 @@ module _ (e : ExportRecord) (d : Delivery) (first : World) (p : Progress) (w w' 
   lost-part : (chunk : List ℕ) → IsLost e d p w chunk w' → DeliversPart e d first (u.written ++ chunk) w'
   lost-part chunk lost = record { last = p; mid = w; written = u.written; chunk = chunk; pieces = u.pieces; lost = lost; reply_is = refl }
 
-  pub underway-lost : AnswersPiece e d p w w' mid new None → Grows old new (λ reply. IsDelivered e d first reply w')
-  underway-lost a = record { text = u.written ++ a.0; holds = inr (lost-part a.0 a.1); written = Appends-trans old mid new u.written a.0 u.appended a.2 }
+  pub underway-lost : (error : RequestError) (faulty : Bool) → faulty ≡ is_fault error → AnswersPiece e d p w w' mid new (Err error) → Grows old new (λ reply. DeliversAs e d first faulty reply w')
+  underway-lost error faulty is a = record {
+    text = u.written ++ a.0;
+    holds = (
+      inr (record { last = p; mid = w; written = u.written; chunk = a.0; pieces = u.pieces; lost = a.1; reply_is = refl }),
+      is ∙ sym (ap (λ (x : RequestError). is_fault x) a.2),
+    );
+    written = Appends-trans old mid new u.written a.0 u.appended a.3;
+  }
 
   -- the writer failed
   pub underway-stuck : SendsPiece e d p w w' → IsStuck e d first w'
@@ -258,8 +265,8 @@ module _ (e : ExportRecord) (d : Delivery) (first : World) (p : Progress) (w w' 
   underway-stuck (inr r) = inr (u.written ++ r.0, inr (lost-part r.0 r.1))
 
 pub underway-all : (e : ExportRecord) (d : Delivery) (first : World) (p : Progress) (w : World) (old new : Option (List ℕ)) → IsUnderway e d first p w old new → d.count ≤ p.done
-    → Grows old new (λ reply. IsDelivered e d first reply w)
-underway-all e d first p w old new u all = record { text = u.written; holds = inl (record { last = p; pieces = u.pieces; all = omega (arith, u.inside, all) }); written = u.appended }
+    → Grows old new (λ reply. DeliversAs e d first false reply w)
+underway-all e d first p w old new u all = record { text = u.written; holds = (inl (record { last = p; pieces = u.pieces; all = omega (arith, u.inside, all) }), refl); written = u.appended }
 
 -- ---- chunks that are handed on
 

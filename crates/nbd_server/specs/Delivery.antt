@@ -1,9 +1,9 @@
 -- A READ whose reply is sent piece by piece: each piece is sent as soon as it is read (the protocol's document, "Structured
 -- reply types": OFFSET_DATA, OFFSET_HOLE and ERROR_OFFSET).
 use Rattle.std.specs.Prelude.{◌≡◌, ◌⊎◌, ◌<◌, ◌≤◌, ℕ, ◌+◌, ◌-◌, ◌*◌, ◌/◌, ◌%◌, ◌==◌, ◌&&◌, min, Bool, true, false, not, nat_lt, List, [], ◌++◌, Option, Some, None, Result, Ok, Err, if◌then◌else◌}
+use mathlib.Core.Logic.{inl, inr}
 use Rattle.std.specs.Io.KnownBytes.{Appends}
-use Rattle.program_io.specs.Counted.{CountedRecord, WritesSome}
-use Rattle.program_io.specs.declared.fault.WriteFault.{WriteFault}
+use Rattle.program_io.specs.Counted.{CountedRecord, Grows}
 use Rattle.alignment.specs.Lengths.{aligned_len}
 use Rattle.stack_rules.specs.Records.{Configuration}
 use Rattle.request_queue.specs.World.{World}
@@ -19,6 +19,7 @@ use Rattle.nbd_protocol.specs.Chunks.{error_at_chunk, hole_chunk}
 use Rattle.nbd_server.specs.Content.{TellsContent}
 use Rattle.nbd_server.specs.Status.{IsLineStatus, IsOtherKind, TouchZeros, touched}
 use Rattle.nbd_server.specs.declared.extent.ExtentKind.TheVariants as known
+use Rattle.nbd_server.specs.Tallies.{is_fault}
 use Rattle.nbd_server.specs.Transmission.{ReadsExport}
 use Rattle.nbd_server.specs.declared.delivery.Delivery.{Delivery}
 use Rattle.nbd_server.specs.declared.delivery.Progress.{Progress}
@@ -125,13 +126,13 @@ pub record IsHole (e : ExportRecord) (d : Delivery) (p : Progress) (w : World) (
 abbrev pub GoesOnReplying : ExportRecord → Delivery → Progress → World → List ℕ → Progress → World → Type 0
 GoesOnReplying e d p w chunk next w' = IsSent e d p w chunk next w' ⊎ (IsPutOff e d p w chunk next w' ⊎ IsHole e d p w chunk next w')
 
--- The result of a piece whose chunks were written: the progress of the reply, or none if it ended at a lost sector.
-abbrev pub AnswersPiece : ExportRecord → Delivery → Progress → World → World → Option (List ℕ) → Option (List ℕ) → Option Progress → Type 0
-AnswersPiece e d p w w' old new (Some next) = (chunk : List ℕ) × GoesOnReplying e d p w chunk next w' × Appends old new chunk
-AnswersPiece e d p w w' old new None = (chunk : List ℕ) × IsLost e d p w chunk w' × Appends old new chunk
+-- The result of a piece whose chunks were written: the progress of the reply, or the error of the lost sector at which it ended.
+abbrev pub AnswersPiece : ExportRecord → Delivery → Progress → World → World → Option (List ℕ) → Option (List ℕ) → Result Progress RequestError → Type 0
+AnswersPiece e d p w w' old new (Ok next) = (chunk : List ℕ) × GoesOnReplying e d p w chunk next w' × Appends old new chunk
+AnswersPiece e d p w w' old new (Err error) = (chunk : List ℕ) × (lost : IsLost e d p w chunk w') × (lost.error ≡ error) × Appends old new chunk
 
 -- the result of a piece of an export whose chunks were written to a writer
-abbrev pub WritesPiece : {W : Type 0} → (W → Option (List ℕ)) → CountedRecord W → CountedRecord W → Export → Delivery → Progress → World → World → Option Progress → Type 0
+abbrev pub WritesPiece : {W : Type 0} → (W → Option (List ℕ)) → CountedRecord W → CountedRecord W → Export → Delivery → Progress → World → World → Result Progress RequestError → Type 0
 WritesPiece contents old new export d p w w' next = AnswersPiece (export_record export) d p w w' (contents old.inner) (contents new.inner) next
 
 -- what a piece did if the writer failed in its chunks
@@ -168,9 +169,18 @@ pub record DeliversPart (e : ExportRecord) (d : Delivery) (w : World) (reply : L
 abbrev pub IsDelivered : ExportRecord → Delivery → World → List ℕ → World → Type 0
 IsDelivered e d w reply w' = DeliversAll e d w reply w' ⊎ DeliversPart e d w reply w'
 
+-- whether the reply reports an input/output error
+abbrev pub reports_fault : (e : ExportRecord) → (d : Delivery) → (w : World) → (reply : List ℕ) → (w' : World) → IsDelivered e d w reply w' → Bool
+reports_fault e d w reply w' (inl whole) = false
+reports_fault e d w reply w' (inr part) = is_fault part.lost.error
+
+-- a reply that reports one, or none
+abbrev pub DeliversAs : ExportRecord → Delivery → World → Bool → List ℕ → World → Type 0
+DeliversAs e d w faulty reply w' = (told : IsDelivered e d w reply w') × (faulty ≡ reports_fault e d w reply w' told)
+
 -- the reply was written
-abbrev pub WritesDelivery : {W : Type 0} → (W → Option (List ℕ)) → CountedRecord W → CountedRecord W → Export → Delivery → World → World → Result Unit WriteFault → Type 0
-WritesDelivery contents old new export d w w' result = WritesSome contents old new (λ reply. IsDelivered (export_record export) d w reply w') result
+abbrev pub WritesDelivery : {W : Type 0} → (W → Option (List ℕ)) → CountedRecord W → CountedRecord W → Export → Delivery → World → World → Bool → Type 0
+WritesDelivery contents old new export d w w' faulty = Grows (contents old.inner) (contents new.inner) (λ reply. DeliversAs (export_record export) d w faulty reply w')
 
 -- the reply began: some pieces were read
 pub record IsBegun (e : ExportRecord) (d : Delivery) (w w' : World) : Type 0 where

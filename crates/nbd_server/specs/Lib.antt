@@ -1,6 +1,7 @@
 pub mod Sectors
 pub mod Replies
 pub mod Status
+pub mod Tallies
 pub mod Transmission
 pub mod Content
 pub mod Delivery

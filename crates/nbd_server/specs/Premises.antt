@@ -9,6 +9,7 @@ use Rattle.nbd_protocol.specs.declared.header.Command.TheVariants.{Write}
 use Rattle.request_queue.specs.World.{World}
 use Rattle.nbd_server.specs.Replies.{RequestOutcome}
 use Rattle.nbd_server.specs.Transmission.{ReadsExport, WritesAtOnce, room_behind}
+use Rattle.nbd_server.specs.Delivery.{most_piece_bytes}
 use Rattle.nbd_server.specs.Sectors.{most_run_bytes}
 use Rattle.nbd_server.specs.Zeros.{zeros_of}
 use Rattle.nbd_server.specs.declared.delivery.Delivery.{Delivery}
@@ -32,6 +33,11 @@ pub record IsGoing (c : Configuration) (exports : List Export) (phase : Phase) :
 pub record AreBytesOf (c : Configuration) (e : ExportRecord) (offset count : ℕ) : Type 0 where
   pub export : IsExport c e
   pub within : offset + count ≤ e.size
+
+-- bytes of a device, as many as a piece of a reply has at most
+pub record ArePieceBytes (c : Configuration) (e : ExportRecord) (offset count : ℕ) : Type 0 where
+  pub bytes : AreBytesOf c e offset count
+  pub few : count ≤ most_piece_bytes
 
 -- a command without payload
 abbrev pub IsBare : Command → Type 0

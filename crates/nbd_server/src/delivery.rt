@@ -4,7 +4,7 @@ ghost use Rattle.program_io.specs.Counted.{Writes, WritesSome};
 ghost use Rattle.nbd_protocol.specs.Exports.{export_record};
 ghost use Rattle.nbd_protocol.specs.Chunks.{hole_chunk};
 ghost use Rattle.nbd_server.specs.Content.{TellsContent};
-ghost use Rattle.nbd_server.specs.Premises.{AreBytesOf, IsDeliveryRest, ReadsTo};
+ghost use Rattle.nbd_server.specs.Premises.{AreBytesOf, ArePieceBytes, IsDeliveryRest, ReadsTo};
 ghost use Rattle.nbd_server.specs.Status.{touched};
 ghost use Rattle.nbd_server.specs.Transmission.{FailsToReadBytes};
 ghost use Rattle.nbd_server.specs.Delivery.{AreNextBytes, IsDeliveryPiece, IsReadPiece, IsStuck, SendsPiece, WritesDelivery, WritesPiece, delivery_of, has_df};
@@ -15,6 +15,7 @@ use crate::fetch::read_into;
 use crate::piece::piece_sectors;
 use crate::room::Room;
 use crate::status::status_at;
+use crate::tally::is_fault;
 use block_device::BlockDev;
 use nbd_protocol::{Agreement, Command, Export, Header, RequestError, say_error_at, say_hole};
 use program_io::{Counted, WriteFault};
@@ -164,7 +165,7 @@ fn read_to<D: BlockDev>(
     )
 }
 
-// Reads the sectors that a byte range touches into the beginning of the buffer, which grows if it is too short.
+// Reads the sectors that a piece touches into the beginning of the buffer.
 fn read_piece<D: BlockDev>(
     room: &mut Room,
     queue: &mut Queue<D>,
@@ -172,17 +173,16 @@ fn read_piece<D: BlockDev>(
     at: u64,
     size: u32,
 ) -> Result<(), RequestError>
-    requires { AreBytesOf queue.old.stack.config (export_record export.now) at size }
-    ensures ok { OnOk result (ReadsTo (export_record export.now) queue.old at size room.new.bytes.items queue.new) }
-    ensures inside { OnOk result (at % 512 + size ≤ length room.new.bytes.items) }
+    requires { ArePieceBytes queue.old.stack.config (export_record export.now) at size }
+    ensures ok { OnOk result (ReadsTo (export_record export.now) queue.old at size room.new.bytes queue.new) }
+    ensures inside { at % 512 + size ≤ length room.new.bytes }
     ensures err { IfErr result (FailsToReadBytes (export_record export.now) queue.old at size queue.new) }
 {
-    room.grow(512 * touched(at, size))?;
-    read_to(queue, export, at, size, room.bytes.as_mut_slice())
+    read_to(queue, export, at, size, &mut room.bytes)
 }
 
-// Reads the next piece and answers it. Returns `None` if the piece lies in one sector that can't be read; the reply has ended
-// then.
+// Reads the next piece and answers it. Returns the error if the piece lies in one sector that can't be read; the reply has
+// ended then.
 fn deliver_piece<D: BlockDev, W: Write>(
     room: &mut Room,
     queue: &mut Queue<D>,
@@ -190,7 +190,7 @@ fn deliver_piece<D: BlockDev, W: Write>(
     delivery: Delivery,
     piece: Piece,
     writer: &mut Counted<W>,
-) -> Result<Option<Progress>, WriteFault>
+) -> Result<Result<Progress, RequestError>, WriteFault>
     requires bytes { AreBytesOf queue.old.stack.config (export_record export.now) delivery.offset delivery.count }
     requires piece { IsReadPiece queue.old.stack.config (export_record export.now) delivery piece.progress piece.size }
     ensures ok { IfOk result (WritesPiece W.contents writer.old writer.new export.now delivery piece.progress queue.old queue.new) }
@@ -205,20 +205,20 @@ fn deliver_piece<D: BlockDev, W: Write>(
         Ok(()) => {
             let content = room.part((at % SECTOR) as usize, size as usize);
             say_piece(writer, delivery, progress, content)?;
-            Ok(Some(Progress {
+            Ok(Ok(Progress {
                 done: progress.done + size,
                 slow: progress.slow,
             }))
         }
         Err(error) => {
             if touched(at, size) > 1 {
-                return Ok(Some(Progress {
+                return Ok(Ok(Progress {
                     done: progress.done,
                     slow: progress.done + size,
                 }));
             }
             say_error_at(writer, delivery.cookie, at, error)?;
-            Ok(None)
+            Ok(Err(error))
         }
     }
 }
@@ -231,7 +231,7 @@ fn deliver_next<D: BlockDev, W: Write>(
     delivery: Delivery,
     progress: Progress,
     writer: &mut Counted<W>,
-) -> Result<Option<Progress>, WriteFault>
+) -> Result<Result<Progress, RequestError>, WriteFault>
     requires bytes { AreBytesOf queue.old.stack.config (export_record export.now) delivery.offset delivery.count }
     requires some { progress.done < delivery.count }
     ensures ok { IfOk result (WritesPiece W.contents writer.old writer.new export.now delivery progress queue.old queue.new) }
@@ -245,7 +245,7 @@ fn deliver_next<D: BlockDev, W: Write>(
     let status = status_at(config, export, at, size);
     if status.zeros {
         say_zeros(writer, delivery, progress, status.count)?;
-        return Ok(Some(Progress {
+        return Ok(Ok(Progress {
             done: progress.done + status.count,
             slow: progress.slow,
         }));
@@ -257,7 +257,7 @@ fn deliver_next<D: BlockDev, W: Write>(
 /// Answers a READ piece by piece, up to the first sector that can't be read. Each piece is sent as soon as it is read.
 ///
 /// A piece that can't be read is read again sector by sector. Zeros are sent as holes. If a piece begins with zeros of `zero`
-/// lines, these aren't read. The buffer is kept between calls; it is as long as the longest piece so far.
+/// lines, these aren't read. Returns whether the reply reports an input/output error.
 ///
 /// # Errors
 ///
@@ -268,17 +268,19 @@ pub(crate) fn deliver<D: BlockDev, W: Write>(
     export: &Export<'_>,
     delivery: Delivery,
     writer: &mut Counted<W>,
-) -> Result<(), WriteFault>
+) -> Result<bool, WriteFault>
     requires { AreBytesOf queue.old.stack.config (export_record export.now) delivery.offset delivery.count }
-    ensures reply { WritesDelivery W.contents writer.old writer.new export.now delivery queue.old queue.new result }
+    ensures reply { IfOk result (WritesDelivery W.contents writer.old writer.new export.now delivery queue.old queue.new) }
+    ensures kept { IfOk result (λ _. writer.new.failed ≡ writer.old.failed) }
+    ensures failed { OnErr result (writer.new.failed ≡ true) }
     ensures stuck { OnErr result (IsStuck (export_record export.now) delivery queue.old queue.new) }
 {
     let mut progress = Progress { done: 0, slow: 0 };
     'pieces: while progress.done < delivery.count {
         match deliver_next(room, queue, export, delivery, progress, writer)? {
-            Some(next) => progress = next,
-            None => return Ok(()),
+            Ok(next) => progress = next,
+            Err(error) => return Ok(is_fault(error)),
         }
     }
-    Ok(())
+    Ok(false)
 }

@@ -12,10 +12,13 @@ mod read_status;
 mod reply;
 mod room;
 mod service;
+mod session_state;
 mod status;
 mod store;
+mod tally;
 mod transmission;
 mod zeros;
 
 pub use nbd_protocol::{Export, ServiceFault};
 pub use service::serve;
+pub use tally::Tally;

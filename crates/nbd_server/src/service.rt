@@ -1,14 +1,16 @@
 //! The session of a client: its messages in order, and the reply to each.
-ghost use Rattle.std.specs.Prelude.{◌≢◌};
+ghost use Rattle.std.specs.Prelude.{◌≡◌, ◌≢◌};
 ghost use Rattle.program_io.specs.Streams.{streams};
 ghost use Rattle.nbd_protocol.specs.Exports.{AreExports, export_records};
 ghost use Rattle.nbd_server.specs.Premises.{IsGoing};
-ghost use Rattle.nbd_server.specs.Service.{IsService, EndsMessage};
+ghost use Rattle.nbd_server.specs.Service.{IsService, EndsTurn};
+ghost use Rattle.nbd_server.specs.Tallies.{no_requests};
 ghost use Rattle.nbd_protocol.specs.Streaming.{HasRead, HasWritten, result_fault};
 ghost use Rattle.nbd_protocol.specs.declared.phase.Phase.TheVariants.{Over};
 
 use crate::haggling::{take_flags, take_option};
-use crate::room::Room;
+use crate::session_state::SessionState;
+use crate::tally::Tally;
 use crate::transmission::take_request;
 use block_device::SyncDev;
 use nbd_protocol::{Export, Phase, ServiceFault, export_at};
@@ -19,9 +21,9 @@ use std::io::{Read, Write};
 
 const GREETING: [u8; 18] = *b"NBDMAGICIHAVEOPT\0\x03";
 
-// Receives one message and writes the reply.
+// Receives one message and writes the reply. A request is counted once it is answered.
 fn take_message<D: SyncDev, R: Read, W: Write>(
-    room: &mut Room,
+    state: &mut SessionState,
     queue: &mut Queue<D>,
     exports: &[Export<'_>],
     phase: Phase,
@@ -29,7 +31,7 @@ fn take_message<D: SyncDev, R: Read, W: Write>(
     writer: &mut Counted<W>,
 ) -> Result<Option<Phase>, ServiceFault>
     requires { IsGoing queue.old.stack.config exports.now phase }
-    ensures turn { EndsMessage (export_records exports.now) phase queue.old queue.new
+    ensures turn { EndsTurn (export_records exports.now) phase queue.old queue.new state.old.tally state.new.tally
         (streams (R.remaining reader.old.inner) (W.contents writer.old.inner)) (streams (R.remaining reader.new.inner) (W.contents writer.new.inner)) result }
     ensures reader { HasRead 1 reader.old reader.new (result_fault result) }
     ensures writer { HasWritten writer.old writer.new (result_fault result) }
@@ -39,15 +41,45 @@ fn take_message<D: SyncDev, R: Read, W: Write>(
         Phase::Haggling { terms } => take_option(exports, terms, reader, writer),
         Phase::Serving { agreed } => {
             let export = export_at(exports, agreed.place);
-            take_request(room, queue, export, agreed, reader, writer)
+            take_request(state, queue, export, agreed, reader, writer)
         }
         Phase::Over => unreachable!(),
     }
 }
 
+// Greets a client and answers its messages until the session ends.
+fn converse<D: SyncDev, R: Read, W: Write>(
+    state: &mut SessionState,
+    queue: &mut Queue<D>,
+    exports: &[Export<'_>],
+    reader: &mut Counted<R>,
+    writer: &mut Counted<W>,
+) -> Result<(), ServiceFault>
+    requires exports { AreExports queue.old.stack.config exports.now }
+    requires tally { state.old.tally ≡ no_requests }
+    ensures service { IsService (export_records exports.now) queue.old queue.new
+        (streams (R.remaining reader.old.inner) (W.contents writer.old.inner)) (streams (R.remaining reader.new.inner) (W.contents writer.new.inner)) state.new.tally result }
+    ensures reader { HasRead 0 reader.old reader.new (result_fault result) }
+    ensures writer { HasWritten writer.old writer.new (result_fault result) }
+{
+    writer.put(&GREETING)?;
+    let mut phase = Phase::Greeted;
+    for _turn in 0..u64::MAX {
+        writer.flush()?;
+        match phase {
+            Phase::Over => return Ok(()),
+            _ => match take_message(state, queue, exports, phase, reader, writer)? {
+                Some(next) => phase = next,
+                None => return Ok(()),
+            },
+        }
+    }
+    Err(ServiceFault::ReadFault)
+}
+
 /// Serves one of the exports to a client, until the client ends the session or disconnects between two messages.
 ///
-/// Each reply is flushed before the next call of the reader.
+/// Each reply is flushed before the next call of the reader. The requests that were answered are counted in `tally`, from zero.
 ///
 /// # Errors
 ///
@@ -63,25 +95,16 @@ pub fn serve<D: SyncDev, R: Read, W: Write>(
     exports: &[Export<'_>],
     reader: &mut Counted<R>,
     writer: &mut Counted<W>,
+    tally: &mut Tally,
 ) -> Result<(), ServiceFault>
     requires { AreExports queue.old.stack.config exports.now }
     ensures service { IsService (export_records exports.now) queue.old queue.new
-        (streams (R.remaining reader.old.inner) (W.contents writer.old.inner)) (streams (R.remaining reader.new.inner) (W.contents writer.new.inner)) result }
+        (streams (R.remaining reader.old.inner) (W.contents writer.old.inner)) (streams (R.remaining reader.new.inner) (W.contents writer.new.inner)) tally.new result }
     ensures reader { HasRead 0 reader.old reader.new (result_fault result) }
     ensures writer { HasWritten writer.old writer.new (result_fault result) }
 {
-    writer.put(&GREETING)?;
-    let mut room = Room::new(alloc);
-    let mut phase = Phase::Greeted;
-    for _turn in 0..u64::MAX {
-        writer.flush()?;
-        match phase {
-            Phase::Over => return Ok(()),
-            _ => match take_message(&mut room, queue, exports, phase, reader, writer)? {
-                Some(next) => phase = next,
-                None => return Ok(()),
-            },
-        }
-    }
-    Err(ServiceFault::ReadFault)
+    let mut state = SessionState::new(alloc);
+    let outcome = converse(&mut state, queue, exports, reader, writer);
+    *tally = state.tally;
+    outcome
 }

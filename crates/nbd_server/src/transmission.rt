@@ -6,7 +6,7 @@ ghost use Rattle.program_io.specs.Streams.{streams};
 ghost use Rattle.nbd_protocol.specs.Exports.{ExportRecord, IsExport, export_at, export_record};
 ghost use Rattle.nbd_protocol.specs.Headers.{IsWithin, most_length, payload_len};
 ghost use Rattle.nbd_server.specs.Premises.{AreBytesOf, IsBare};
-ghost use Rattle.nbd_server.specs.Service.{EndsMessage};
+ghost use Rattle.nbd_server.specs.Service.{EndsTurn};
 ghost use Rattle.nbd_protocol.specs.Streaming.{HasRead, HasWritten, result_fault};
 ghost use Rattle.nbd_server.specs.Transmission.{AreExtentsTold, FallsShort, Flushes, Handles, IsSendable, ReadsExport, ServesCommand, ServesZero, Settles, Stays, StaysOrReads, TellsStatus, WritesGiven, data_outcome, no_bytes};
 ghost use Rattle.nbd_protocol.specs.declared.phase.Phase.TheVariants.{Serving};
@@ -16,8 +16,9 @@ use crate::delivery::{Delivery, deliver};
 use crate::extent::{ExtentKind, is_same_kind};
 use crate::read_status::read_status;
 use crate::reply::{Data, say_reply};
-use crate::room::Room;
+use crate::session_state::SessionState;
 use crate::status::{bytes_at, status_of};
+use crate::tally::is_faulty;
 use allocation::OutOfMemory;
 use block_device::{BlockDev, SyncDev};
 use nbd_protocol::{
@@ -225,9 +226,9 @@ fn serve_request<D: SyncDev, R: Read>(
     }
 }
 
-/// Receives a request and writes the reply. Returns `None` if the input ended before the request.
+/// Receives a request, writes the reply and counts it. Returns `None` if the input ended before the request.
 pub(crate) fn take_request<D: SyncDev, R: Read, W: Write>(
-    room: &mut Room,
+    state: &mut SessionState,
     queue: &mut Queue<D>,
     export: &Export<'_>,
     agreed: Agreement,
@@ -235,7 +236,7 @@ pub(crate) fn take_request<D: SyncDev, R: Read, W: Write>(
     writer: &mut Counted<W>,
 ) -> Result<Option<Phase>, ServiceFault>
     requires { IsExport queue.old.stack.config (export_record export.now) }
-    ensures turn { (es : List ExportRecord) → export_at es agreed.place ≡ export_record export.now → EndsMessage es (Serving agreed) queue.old queue.new
+    ensures turn { (es : List ExportRecord) → export_at es agreed.place ≡ export_record export.now → EndsTurn es (Serving agreed) queue.old queue.new state.old.tally state.new.tally
         (streams (R.remaining reader.old.inner) (W.contents writer.old.inner)) (streams (R.remaining reader.new.inner) (W.contents writer.new.inner)) result }
     ensures reader { HasRead 1 reader.old reader.new (result_fault result) }
     ensures writer { HasWritten writer.old writer.new (result_fault result) }
@@ -253,12 +254,15 @@ pub(crate) fn take_request<D: SyncDev, R: Read, W: Write>(
     }
     match Delivery::of(export, agreed, header) {
         Some(delivery) => {
-            deliver(room, queue, export, delivery, writer)?;
+            let faulty = deliver(&mut state.room, queue, export, delivery, writer)?;
+            state.count(faulty);
             return Ok(Some(Phase::Serving { agreed }));
         }
         None => {}
     }
-    let outcome = serve_request(room.alloc, queue, export, agreed, header, reader)?;
+    let outcome = serve_request(state.room.alloc, queue, export, agreed, header, reader)?;
+    let failed = is_faulty(&outcome);
     say_reply(writer, agreed, header, outcome)?;
+    state.count(failed);
     Ok(Some(Phase::Serving { agreed }))
 }

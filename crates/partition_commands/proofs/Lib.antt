@@ -1,7 +1,8 @@
+mod KindLemmas
 mod EndingLemmas
 mod EntryLemmas
-mod LabelLemmas
 mod LoadLemmas
 mod NameLemmas
 mod NoteLemmas
 mod ObjectLemmas
+mod SignatureLemmas

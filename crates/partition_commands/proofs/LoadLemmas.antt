@@ -40,20 +40,20 @@ unfolding configuration_of
 configuration_of-other leaves text h = leaves-other leaves (first_leaf_fault leaves) (stack_of text) h
 
 -- a fault of a text that memory didn't cause
-unloadable : (sectors : ℕ) (text : List ℕ) (fault : StackFault) → (IsNoMemory (Err fault) → ⊥) → FailsToConfigure (disk_leaves sectors) text fault → IsUnloadable sectors text
-unloadable sectors text fault other (inl is) = inr (fault, is)
-unloadable sectors text fault other (inr memory) = absurd (other (subst (λ (f : StackFault). IsNoMemory (Err f)) (sym memory.0) tt))
+unloadable : (writable : Bool) (sectors : ℕ) (text : List ℕ) (fault : StackFault) → (IsNoMemory (Err fault) → ⊥) → FailsToConfigure (disk_leaves writable sectors) text fault → IsUnloadable writable sectors text
+unloadable writable sectors text fault other (inl is) = inr (fault, is)
+unloadable writable sectors text fault other (inr memory) = absurd (other (subst (λ (f : StackFault). IsNoMemory (Err f)) (sym memory.0) tt))
 
-pub load-end : (sectors : ℕ) (text : List ℕ) (failed : Bool) (fault : StackFault) → FailsToConfigure (disk_leaves sectors) text fault → IsLoadableEnd sectors text failed (load_end fault)
-load-end sectors text failed NoMemory (inl is) = absurd (configuration_of-other (disk_leaves sectors) text (subst IsNoMemory (sym is) tt))
-load-end sectors text failed NoMemory (inr memory) = out_of_memory-more largest_load_allocation stack_room (omega arith) memory.1
-load-end sectors text failed TooLong fails = unloadable sectors text TooLong (λ h. h) fails
-load-end sectors text failed (Open file) fails = unloadable sectors text (Open file) (λ h. h) fails
-load-end sectors text failed (Outside path) fails = unloadable sectors text (Outside path) (λ h. h) fails
-load-end sectors text failed (Leaves cause) fails = unloadable sectors text (Leaves cause) (λ h. h) fails
-load-end sectors text failed (Text cause) fails = unloadable sectors text (Text cause) (λ h. h) fails
-load-end sectors text failed (Load refusal) fails = unloadable sectors text (Load refusal) (λ h. h) fails
-load-end sectors text failed NoSuchDevice fails = unloadable sectors text NoSuchDevice (λ h. h) fails
+pub load-end : (writable : Bool) (sectors : ℕ) (text : List ℕ) (failed : Bool) (fault : StackFault) → FailsToConfigure (disk_leaves writable sectors) text fault → IsLoadableEnd writable sectors text failed (load_end fault)
+load-end writable sectors text failed NoMemory (inl is) = absurd (configuration_of-other (disk_leaves writable sectors) text (subst IsNoMemory (sym is) tt))
+load-end writable sectors text failed NoMemory (inr memory) = out_of_memory-more largest_load_allocation stack_room (omega arith) memory.1
+load-end writable sectors text failed TooLong fails = unloadable writable sectors text TooLong (λ h. h) fails
+load-end writable sectors text failed (Open file) fails = unloadable writable sectors text (Open file) (λ h. h) fails
+load-end writable sectors text failed (Outside path) fails = unloadable writable sectors text (Outside path) (λ h. h) fails
+load-end writable sectors text failed (Leaves cause) fails = unloadable writable sectors text (Leaves cause) (λ h. h) fails
+load-end writable sectors text failed (Text cause) fails = unloadable writable sectors text (Text cause) (λ h. h) fails
+load-end writable sectors text failed (Load refusal) fails = unloadable writable sectors text (Load refusal) (λ h. h) fails
+load-end writable sectors text failed NoSuchDevice fails = unloadable writable sectors text NoSuchDevice (λ h. h) fails
 
 -- what follows from the end of a text
 pub text-end : (memory memory' refused refused' : Type 0) (failed : Bool) (fault : PartitionsFault) → (memory → memory') → (refused → refused') → IsTextEnd memory refused failed fault

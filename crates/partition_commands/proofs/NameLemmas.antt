@@ -1,7 +1,7 @@
 -- The room of a name by a number.
 use Rattle.std.proofs.Common.{◌≡◌, ◌+◌, ◌++◌, ◌≤◌, ℕ, List, ap, codes, length, length-append, refl, arith}
 use Rattle.dm_table.specs.Names.{most_name}
-use Rattle.partition_commands.specs.Labels.{name_room}
+use Rattle.partition_table.specs.Labels.{name_room}
 
 -- `p` and at most 40 digits
 pub room-digits : (asked : ℕ) (digits : List ℕ) → asked ≡ length (codes "p") + length digits → length digits ≤ 40 → asked ≤ name_room

@@ -13,8 +13,9 @@ use Rattle.partition_table.specs.declared.table.PartitionTable.{PartitionTable}
 use Rattle.partition_table.specs.Tables.{IsNoSizedTable, IsSizedTable}
 use Rattle.partition_commands.specs.declared.fault.PartitionsFault.{PartitionsFault}
 use Rattle.partition_commands.specs.declared.fault.PartitionsFault.TheVariants.{NoMemory, NotLoadable, Open, Pin, Refused, Write}
+use Rattle.partition_commands.specs.declared.plan.StackPlan.{StackPlan}
 use Rattle.partition_commands.specs.declared.refusal.PartitionRefusal.TheVariants.{OutsideDevice, Table}
-use Rattle.partition_commands.specs.Labels.{name_room}
+use Rattle.partition_table.specs.Labels.{name_room}
 use Rattle.partition_commands.specs.Loads.{IsStackUnloadable, Loads, stack_room}
 use Rattle.partition_commands.specs.Parts.{are_within}
 use Rattle.partition_commands.specs.Stacks.{entries_text}
@@ -28,12 +29,12 @@ pub record PrintsPartitions (old new : Device) (size : SectorSize) (text : Parti
   pub noted : IsNoted notes (warning_text new table)
 
 -- the stack text of a table whose partitions all end on the device; it loads over the disk
-pub record PrintsEntries (old new : Device) (size : SectorSize) (written now_written : Option (List ℕ)) (notes : Notes) : Type 0 where
+pub record PrintsEntries (old new : Device) (plan : StackPlan) (written now_written : Option (List ℕ)) (notes : Notes) : Type 0 where
   pub table : PartitionTable
-  pub found : IsSizedTable old new size table
+  pub found : IsSizedTable old new plan.size table
   pub within : are_within new table.size table.partitions.items ≡ true
-  pub loads : Loads new.size (entries_text table)
-  pub printed : Appends written now_written (entries_text table)
+  pub loads : Loads plan.writable new.size (entries_text plan.writable table)
+  pub printed : Appends written now_written (entries_text plan.writable table)
   pub noted : IsNoted notes (warning_text new table)
 
 -- this text of the partition table of the image under the path, which is only read, was printed
@@ -43,11 +44,11 @@ pub record PrintsOfImage {S D : Type 0} (w : Calls S D) (path : List ℕ) (size 
   pub opened : Opens w path false image
   pub prints : PrintsPartitions (w.state image.device) (w.state device') size text old new notes
 
-pub record PrintsEntriesOfImage {S D : Type 0} (w : Calls S D) (path : List ℕ) (size : SectorSize) (old new : Option (List ℕ)) (notes : Notes) : Type 0 where
+pub record PrintsEntriesOfImage {S D : Type 0} (w : Calls S D) (path : List ℕ) (plan : StackPlan) (old new : Option (List ℕ)) (notes : Notes) : Type 0 where
   pub image : OpenImage D
   pub device' : D
   pub opened : Opens w path false image
-  pub prints : PrintsEntries (w.state image.device) (w.state device') size old new notes
+  pub prints : PrintsEntries (w.state image.device) (w.state device') plan old new notes
 
 -- there is no table, memory ran out for that cause, or a text can't be written
 abbrev pub IsLabelEnd : Type 0 → Device → Device → SectorSize → Bool → PartitionsFault → Type 0
@@ -71,21 +72,21 @@ pub record EndsOutside (old new : Device) (size : SectorSize) : Type 0 where
   pub outside : are_within new table.size table.partitions.items ≡ false
 
 -- a table was found whose partitions all end on the device, and `load` would refuse its stack text over the disk
-pub record EndsUnloadable (old new : Device) (size : SectorSize) : Type 0 where
+pub record EndsUnloadable (old new : Device) (plan : StackPlan) : Type 0 where
   pub table : PartitionTable
-  pub found : IsSizedTable old new size table
+  pub found : IsSizedTable old new plan.size table
   pub within : are_within new table.size table.partitions.items ≡ true
-  pub unloadable : IsStackUnloadable new.size table.size table.partitions.items
+  pub unloadable : IsStackUnloadable plan.writable new.size table.size table.partitions.items
 
 -- why no stack text is printed: there is no table, a partition ends past the end, the text doesn't load, room was refused, or the
 -- text can't be written
-abbrev pub IsEntriesEnd : Device → Device → SectorSize → Bool → PartitionsFault → Type 0
-IsEntriesEnd old new size failed NoMemory = IsOutOfMemory stack_room
-IsEntriesEnd old new size failed Write = failed ≡ true
-IsEntriesEnd old new size failed NotLoadable = EndsUnloadable old new size
-IsEntriesEnd old new size failed (Refused (Table fault)) = IsNoSizedTable old new size fault
-IsEntriesEnd old new size failed (Refused OutsideDevice) = EndsOutside old new size
-IsEntriesEnd old new size failed fault = ⊥
+abbrev pub IsEntriesEnd : Device → Device → StackPlan → Bool → PartitionsFault → Type 0
+IsEntriesEnd old new plan failed NoMemory = IsOutOfMemory stack_room
+IsEntriesEnd old new plan failed Write = failed ≡ true
+IsEntriesEnd old new plan failed NotLoadable = EndsUnloadable old new plan
+IsEntriesEnd old new plan failed (Refused (Table fault)) = IsNoSizedTable old new plan.size fault
+IsEntriesEnd old new plan failed (Refused OutsideDevice) = EndsOutside old new plan.size
+IsEntriesEnd old new plan failed fault = ⊥
 
 -- an image isn't opened, as is said of it
 abbrev pub IsImageUnopened : (UnopenedFile → Type 0) → PartitionsFault → Type 0
@@ -129,17 +130,17 @@ abbrev pub Prints : {D W : Type 0} → (D → Device) → D → D → (W → Opt
 Prints state device device' contents writer writer' size text notes =
     PrintsPartitions (state device) (state device') size text (contents writer.inner) (contents writer'.inner) notes
 
-abbrev pub PrintsEntriesOf : {D W : Type 0} → (D → Device) → D → D → (W → Option (List ℕ)) → CountedRecord W → CountedRecord W → SectorSize → Notes → Type 0
-PrintsEntriesOf state device device' contents writer writer' size notes =
-    PrintsEntries (state device) (state device') size (contents writer.inner) (contents writer'.inner) notes
+abbrev pub PrintsEntriesOf : {D W : Type 0} → (D → Device) → D → D → (W → Option (List ℕ)) → CountedRecord W → CountedRecord W → StackPlan → Notes → Type 0
+PrintsEntriesOf state device device' contents writer writer' plan notes =
+    PrintsEntries (state device) (state device') plan (contents writer.inner) (contents writer'.inner) notes
 
 abbrev pub PrintsImage : {S D W : Type 0} → Opener S D → (D → Device) → S → S → (W → Option (List ℕ)) → CountedRecord W → CountedRecord W → List ℕ → SectorSize → (PartitionTable → List ℕ) → Notes → Type 0
 PrintsImage relations state images images' contents writer writer' path size text notes =
     PrintsOfImage (calls relations state images images') path size text (contents writer.inner) (contents writer'.inner) notes
 
-abbrev pub PrintsStackOf : {S D W : Type 0} → Opener S D → (D → Device) → S → S → (W → Option (List ℕ)) → CountedRecord W → CountedRecord W → List ℕ → SectorSize → Notes → Type 0
-PrintsStackOf relations state images images' contents writer writer' path size notes =
-    PrintsEntriesOfImage (calls relations state images images') path size (contents writer.inner) (contents writer'.inner) notes
+abbrev pub PrintsStackOf : {S D W : Type 0} → Opener S D → (D → Device) → S → S → (W → Option (List ℕ)) → CountedRecord W → CountedRecord W → List ℕ → StackPlan → Notes → Type 0
+PrintsStackOf relations state images images' contents writer writer' path plan notes =
+    PrintsEntriesOfImage (calls relations state images images') path plan (contents writer.inner) (contents writer'.inner) notes
 
 abbrev pub FailsToPrint : {S D W : Type 0} → Opener S D → (D → Device) → S → S → CountedRecord W → List ℕ → SectorSize → PartitionsFault → Type 0
 FailsToPrint relations state images images' writer' path size = IsOpenedEnd (calls relations state images images') path (λ old new. IsLinesEnd old new size writer'.failed)
@@ -147,8 +148,8 @@ FailsToPrint relations state images images' writer' path size = IsOpenedEnd (cal
 abbrev pub FailsToPrintObject : {S D W : Type 0} → Opener S D → (D → Device) → S → S → CountedRecord W → List ℕ → SectorSize → PartitionsFault → Type 0
 FailsToPrintObject relations state images images' writer' path size = IsOpenedEnd (calls relations state images images') path (λ old new. IsObjectEnd old new size writer'.failed)
 
-abbrev pub FailsToStack : {S D W : Type 0} → Opener S D → (D → Device) → S → S → CountedRecord W → List ℕ → SectorSize → PartitionsFault → Type 0
-FailsToStack relations state images images' writer' path size = IsOpenedEnd (calls relations state images images') path (λ old new. IsEntriesEnd old new size writer'.failed)
+abbrev pub FailsToStack : {S D W : Type 0} → Opener S D → (D → Device) → S → S → CountedRecord W → List ℕ → StackPlan → PartitionsFault → Type 0
+FailsToStack relations state images images' writer' path plan = IsOpenedEnd (calls relations state images images') path (λ old new. IsEntriesEnd old new plan writer'.failed)
 
 -- what was printed among the errors
 abbrev pub NotesImage : {S D : Type 0} → Opener S D → (D → Device) → S → S → List ℕ → SectorSize → Notes → PartitionsFault → Type 0

@@ -10,6 +10,7 @@ use Rattle.image_files.specs.Opener.{Calls, Opener, calls}
 use Rattle.partition_table.specs.declared.sector_size.SectorSize.{SectorSize}
 use Rattle.partition_table.specs.declared.sector_size.SectorSize.TheVariants.{Bytes4096, Bytes512}
 use Rattle.partition_commands.specs.declared.fault.PartitionsFault.{PartitionsFault}
+use Rattle.partition_commands.specs.declared.plan.StackPlan.{StackPlan}
 use Rattle.partition_commands.specs.Commands.{AreImageNotes, IsEntriesEnd, IsLinesEnd, IsObjectEnd, IsOpenedEnd, PrintsEntriesOfImage, PrintsOfImage}
 use Rattle.partition_commands.specs.Lines.{listed_text}
 use Rattle.partition_commands.specs.Loads.{IsQuiet}
@@ -21,23 +22,27 @@ use Rattle.partition_commands.specs.Warnings.{Notes}
 abbrev pub size_of : ℕ → SectorSize
 size_of bytes = if bytes == 4096 then Bytes4096 else Bytes512
 
+-- the size of sectors, and whether a stack is writable
+abbrev pub plan_of : PartitionsRecord → StackPlan
+plan_of p = record { size = size_of p.sector_size; writable = p.writable }
+
 -- a root hash that comes without a pin
 abbrev pub root_alone : List ℕ → TrustedRoot
 root_alone digest = record { root = digest; pin = None }
 
-abbrev pub PrintsForm : {S D : Type 0} → Calls S D → List ℕ → SectorSize → FormRecord → Option (List ℕ) → Option (List ℕ) → Notes → Type 0
-PrintsForm w path size lines old new notes = PrintsOfImage w path size listed_text old new notes
-PrintsForm w path size object old new notes = PrintsOfImage w path size object_text old new notes
-PrintsForm w path size stack old new notes = PrintsEntriesOfImage w path size old new notes
-PrintsForm w path size (root found) old new notes = PrintsRootOfImage w path size (root_alone found) old new notes
-PrintsForm w path size (pin file) old new notes = PrintsPinned w file path size old new notes
+abbrev pub PrintsForm : {S D : Type 0} → Calls S D → List ℕ → StackPlan → FormRecord → Option (List ℕ) → Option (List ℕ) → Notes → Type 0
+PrintsForm w path plan lines old new notes = PrintsOfImage w path plan.size listed_text old new notes
+PrintsForm w path plan object old new notes = PrintsOfImage w path plan.size object_text old new notes
+PrintsForm w path plan stack old new notes = PrintsEntriesOfImage w path plan old new notes
+PrintsForm w path plan (root found) old new notes = PrintsRootOfImage w path plan (root_alone found) old new notes
+PrintsForm w path plan (pin file) old new notes = PrintsPinned w file path plan old new notes
 
-abbrev pub IsFormEnd : {S D : Type 0} → Calls S D → List ℕ → SectorSize → FormRecord → Bool → PartitionsFault → Type 0
-IsFormEnd w path size lines failed fault = IsOpenedEnd w path (λ old new. IsLinesEnd old new size failed) fault
-IsFormEnd w path size object failed fault = IsOpenedEnd w path (λ old new. IsObjectEnd old new size failed) fault
-IsFormEnd w path size stack failed fault = IsOpenedEnd w path (λ old new. IsEntriesEnd old new size failed) fault
-IsFormEnd w path size (root found) failed fault = IsRootOfImageEnd w path size (root_alone found) failed fault
-IsFormEnd w path size (pin file) failed fault = IsPinnedEnd w file path size failed fault
+abbrev pub IsFormEnd : {S D : Type 0} → Calls S D → List ℕ → StackPlan → FormRecord → Bool → PartitionsFault → Type 0
+IsFormEnd w path plan lines failed fault = IsOpenedEnd w path (λ old new. IsLinesEnd old new plan.size failed) fault
+IsFormEnd w path plan object failed fault = IsOpenedEnd w path (λ old new. IsObjectEnd old new plan.size failed) fault
+IsFormEnd w path plan stack failed fault = IsOpenedEnd w path (λ old new. IsEntriesEnd old new plan failed) fault
+IsFormEnd w path plan (root found) failed fault = IsRootOfImageEnd w path plan (root_alone found) failed fault
+IsFormEnd w path plan (pin file) failed fault = IsPinnedEnd w file path plan failed fault
 
 -- what it printed among the errors before
 abbrev pub AreFormNotes : {S D : Type 0} → Calls S D → List ℕ → SectorSize → FormRecord → Notes → PartitionsFault → Type 0
@@ -50,11 +55,11 @@ IsFormQuiet lines old new fault = Unit {0}
 IsFormQuiet form old new fault = IsQuiet old new fault
 
 abbrev pub ListsPartitions : {S D : Type 0} → Calls S D → PartitionsRecord → Option (List ℕ) → Option (List ℕ) → Notes → Type 0
-ListsPartitions w p old new notes = PrintsForm w p.image (size_of p.sector_size) p.form old new notes
+ListsPartitions w p old new notes = PrintsForm w p.image (plan_of p) p.form old new notes
 
 -- why it ends early, and what it printed among the errors before
 abbrev pub IsListingEnd : {S D : Type 0} → Calls S D → PartitionsRecord → Bool → Notes → PartitionsFault → Type 0
-IsListingEnd w p failed notes fault = IsFormEnd w p.image (size_of p.sector_size) p.form failed fault × AreFormNotes w p.image (size_of p.sector_size) p.form notes fault
+IsListingEnd w p failed notes fault = IsFormEnd w p.image (plan_of p) p.form failed fault × AreFormNotes w p.image (size_of p.sector_size) p.form notes fault
 
 -- ---- as a call sees them, by the program's own words
 

@@ -2,7 +2,6 @@ pub mod Commands
 pub mod FaultTexts
 pub mod Invocations
 pub mod Kinds
-pub mod Labels
 pub mod Lines
 pub mod Loads
 pub mod Names
@@ -13,5 +12,6 @@ pub mod RefusalNames
 pub mod RootCommands
 pub mod RootStacks
 pub mod Roots
+pub mod Signatures
 pub mod Stacks
 pub mod Warnings

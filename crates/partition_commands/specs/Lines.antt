@@ -12,7 +12,7 @@ use Rattle.partition_table.specs.declared.table.Source.TheVariants.{Both, Differ
 use Rattle.partition_table.specs.FaultNames.{read_name, read_partition}
 use Rattle.partition_table.specs.Partitions.{partition_sectors}
 use Rattle.partition_commands.specs.Kinds.{partition_type_name}
-use Rattle.partition_commands.specs.Labels.{label_text}
+use Rattle.partition_table.specs.Labels.{label_text}
 
 -- the number, the first sector and how many there are
 unfoldable pub range_text : Partition → List ℕ

@@ -1,5 +1,5 @@
 -- Stack texts that `load` takes over the disk alone, and why others aren't printed.
-use Rattle.std.specs.Prelude.{◌≡◌, ◌⊎◌, ℕ, ◌≤◌, ◌<◌, ◌^◌, Bool, true, false, List, [], ◌∷◌, length, codes, Option, Ok, Err}
+use Rattle.std.specs.Prelude.{◌≡◌, ◌⊎◌, ℕ, ◌≤◌, ◌<◌, ◌^◌, Bool, true, List, [], ◌∷◌, length, codes, Option, Ok, Err}
 use Rattle.std.specs.Io.KnownBytes.{Appends}
 use Rattle.allocation.specs.Refusal.{IsOutOfMemory}
 use Rattle.program_io.specs.Counted.{CountedRecord}
@@ -14,27 +14,27 @@ use Rattle.partition_commands.specs.declared.fault.PartitionsFault.{PartitionsFa
 use Rattle.partition_commands.specs.declared.fault.PartitionsFault.TheVariants.{NoMemory, NotLoadable, Write}
 use Rattle.partition_commands.specs.Stacks.{stack_text}
 
--- the backing device DISK, read-only
-abbrev pub disk_leaves : ℕ → List LeafRecord
-disk_leaves sectors = record { name = codes "DISK"; sectors = sectors; writable = false } ∷ []
+-- the backing device DISK, which is writable if a device of the stack is
+abbrev pub disk_leaves : Bool → ℕ → List LeafRecord
+disk_leaves writable sectors = record { name = codes "DISK"; sectors = sectors; writable = writable } ∷ []
 
 -- the text is one that `load` reads, and over a disk of so many sectors it makes a configuration of it
-pub record Loads (sectors : ℕ) (text : List ℕ) : Type 0 where
+pub record Loads (writable : Bool) (sectors : ℕ) (text : List ℕ) : Type 0 where
   pub config : Configuration
   pub short : length text ≤ 2 ^ 20
-  pub makes : configuration_of (disk_leaves sectors) text ≡ Ok config
+  pub makes : configuration_of (disk_leaves writable sectors) text ≡ Ok config
 
 -- memory ran out, as room for at most n elements was refused
 abbrev pub IsRefusedRoom : ℕ → PartitionsFault → Type 0
 IsRefusedRoom n fault = (fault ≡ NoMemory) × IsOutOfMemory n
 
 -- the text is too long for `load`, or has a fault, or the disk or the load is refused
-abbrev pub IsUnloadable : ℕ → List ℕ → Type 0
-IsUnloadable sectors text = (2 ^ 20 < length text) ⊎ ((fault : StackFault) × (configuration_of (disk_leaves sectors) text ≡ Err fault))
+abbrev pub IsUnloadable : Bool → ℕ → List ℕ → Type 0
+IsUnloadable writable sectors text = (2 ^ 20 < length text) ⊎ ((fault : StackFault) × (configuration_of (disk_leaves writable sectors) text ≡ Err fault))
 
 -- there are more partitions than a stack has devices, or their text isn't one that loads
-abbrev pub IsStackUnloadable : ℕ → SectorSize → List Partition → Type 0
-IsStackUnloadable sectors size partitions = (most_devices < length partitions) ⊎ IsUnloadable sectors (stack_text size partitions)
+abbrev pub IsStackUnloadable : Bool → ℕ → SectorSize → List Partition → Type 0
+IsStackUnloadable writable sectors size partitions = (most_devices < length partitions) ⊎ IsUnloadable writable sectors (stack_text writable size partitions)
 
 -- no allocation for the entries of a stack text, or for its check, has more elements
 abbrev pub stack_room : ℕ
@@ -57,18 +57,18 @@ abbrev pub IsQuiet : Option (List ℕ) → Option (List ℕ) → PartitionsFault
 IsQuiet old new fault = (fault ≡ Write) ⊎ (new ≡ old)
 
 -- of a text
-abbrev pub IsLoadableEnd : ℕ → List ℕ → Bool → PartitionsFault → Type 0
-IsLoadableEnd sectors text failed fault = IsTextEnd (IsOutOfMemory stack_room) (IsUnloadable sectors text) failed fault
+abbrev pub IsLoadableEnd : Bool → ℕ → List ℕ → Bool → PartitionsFault → Type 0
+IsLoadableEnd writable sectors text failed fault = IsTextEnd (IsOutOfMemory stack_room) (IsUnloadable writable sectors text) failed fault
 
 -- of the text of these partitions
-abbrev pub IsStackEnd : ℕ → SectorSize → List Partition → Bool → PartitionsFault → Type 0
-IsStackEnd sectors size partitions failed fault = IsTextEnd (IsOutOfMemory stack_room) (IsStackUnloadable sectors size partitions) failed fault
+abbrev pub IsStackEnd : Bool → ℕ → SectorSize → List Partition → Bool → PartitionsFault → Type 0
+IsStackEnd writable sectors size partitions failed fault = IsTextEnd (IsOutOfMemory stack_room) (IsStackUnloadable writable sectors size partitions) failed fault
 
 -- ---- as a call sees them
 
 -- the text loads and was written
-abbrev pub SaysLoadable : {W : Type 0} → (W → Option (List ℕ)) → CountedRecord W → CountedRecord W → ℕ → List ℕ → Type 0
-SaysLoadable contents writer writer' sectors text = Loads sectors text × Appends (contents writer.inner) (contents writer'.inner) text
+abbrev pub SaysLoadable : {W : Type 0} → (W → Option (List ℕ)) → CountedRecord W → CountedRecord W → Bool → ℕ → List ℕ → Type 0
+SaysLoadable contents writer writer' writable sectors text = Loads writable sectors text × Appends (contents writer.inner) (contents writer'.inner) text
 
 abbrev pub EndsQuiet : {W : Type 0} → (W → Option (List ℕ)) → CountedRecord W → CountedRecord W → PartitionsFault → Type 0
 EndsQuiet contents writer writer' = IsQuiet (contents writer.inner) (contents writer'.inner)

@@ -4,7 +4,7 @@ use Rattle.std.specs.List.{list_any, starts_with}
 use Rattle.std.specs.Str.{bytes_eq}
 use Rattle.dm_table.specs.Names.{is_mapped_name}
 use Rattle.partition_table.specs.declared.partition.Partition.{Partition}
-use Rattle.partition_commands.specs.Labels.{label_text}
+use Rattle.partition_table.specs.Labels.{label_text}
 
 -- `p` and the number
 unfoldable pub numbered_name : ℕ → List ℕ

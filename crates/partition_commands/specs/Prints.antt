@@ -9,7 +9,7 @@ use Rattle.partition_table.specs.declared.table.PartitionTable.{PartitionTable}
 use Rattle.partition_table.specs.Tables.{IsNoSizedTable, IsSizedTable}
 use Rattle.partition_commands.specs.declared.fault.PrintFault.{PrintFault}
 use Rattle.partition_commands.specs.declared.fault.PrintFault.TheVariants.{NoMemory, Table, Write}
-use Rattle.partition_commands.specs.Labels.{name_room}
+use Rattle.partition_table.specs.Labels.{name_room}
 use Rattle.partition_commands.specs.Lines.{listed_text}
 use Rattle.partition_commands.specs.Warnings.{AreNotes, IsNoted, Notes, warning_text}
 

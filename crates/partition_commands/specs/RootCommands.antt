@@ -1,5 +1,5 @@
 -- What `partitions --root` and `--pin` print of an image if they succeed, and how they end early.
-use Rattle.std.specs.Prelude.{◌≡◌, ◌⊎◌, ℕ, Bool, true, false, List, Option, None, Ok, Err}
+use Rattle.std.specs.Prelude.{◌≡◌, ◌⊎◌, ℕ, ◌++◌, Bool, true, false, List, Option, None, Ok, Err}
 use Rattle.std.specs.Io.KnownBytes.{Appends}
 use Rattle.allocation.specs.Refusal.{IsOutOfMemory}
 use Rattle.block_device.specs.Device.{Device}
@@ -18,24 +18,29 @@ use Rattle.image_pin.specs.PinnedReads.{mismatch_of}
 use Rattle.image_pin.specs.declared.pin.Pin.{Pin as ImagePin}
 use Rattle.image_pin.specs.declared.pinned.PinnedFault.{PinnedFault}
 use Rattle.image_pin.specs.declared.pinned.PinnedFault.TheVariants as pinned
+use Rattle.partition_table.specs.declared.partition.Partition.{Partition}
 use Rattle.partition_table.specs.declared.sector_size.SectorSize.{SectorSize}
 use Rattle.partition_table.specs.declared.table.NoTable.{NoTable}
 use Rattle.partition_table.specs.declared.table.PartitionTable.{PartitionTable}
 use Rattle.partition_table.specs.Tables.{IsNoSizedTable, IsSizedTable}
 use Rattle.verity_commands.specs.Places.{TellsPin}
+use Rattle.verity_format.specs.Blocks.{IsOnlyRead}
 use Rattle.verity_format.specs.declared.verifying.VerifyFault.TheVariants.{TooSmall}
 use Rattle.verity_format.specs.Superblock.{SuperRecord}
 use Rattle.verity_format.specs.Verifying.{IsReadCause, IsReadFrom}
 use Rattle.partition_commands.specs.declared.fault.PartitionsFault.{PartitionsFault}
 use Rattle.partition_commands.specs.declared.fault.PartitionsFault.TheVariants.{NoMemory, NotLoadable, Open, Pin, Refused, Write}
+use Rattle.partition_commands.specs.declared.plan.StackPlan.{StackPlan}
 use Rattle.partition_commands.specs.declared.refusal.PartitionRefusal.{PartitionRefusal}
 use Rattle.partition_commands.specs.declared.refusal.PartitionRefusal.TheVariants.{OutsideDevice, Superblock, Table, Unpinned}
 use Rattle.partition_commands.specs.declared.root.ImagePartitions.{ImagePartitions}
 use Rattle.partition_commands.specs.Commands.{EndsTableless, IsImageUnopened, NotesOfImage}
 use Rattle.partition_commands.specs.Loads.{IsUnloadable, Loads}
-use Rattle.partition_commands.specs.Parts.{is_within, part_of}
+use Rattle.image_files.specs.Partitions.{part_of}
+use Rattle.partition_commands.specs.Parts.{is_within}
 use Rattle.partition_commands.specs.RootStacks.{is_unfit, root_room, root_stack_text}
 use Rattle.partition_commands.specs.Roots.{image_partitions}
+use Rattle.partition_commands.specs.Signatures.{SeeksSignature, signature_entry}
 use Rattle.partition_commands.specs.Warnings.{IsNoted, Notes, warning_text}
 
 -- both partitions lie inside the device, the superblock was read in the verity partition, it has the values of the pin, if there
@@ -48,31 +53,35 @@ pub record IsFitting (device : Device) (size : SectorSize) (both : ImagePartitio
   pub pinned : mismatch_of pin super ≡ None
   pub fits : is_unfit size both super ≡ false
 
--- the two partitions of the root were found on the device, and the superblock in the verity partition
+-- the two partitions of the root were found on the device, the one with its signature was sought, and then the superblock was found
+-- in the verity partition
 pub record FindsPair (device : Device) (size : SectorSize) (trusted : TrustedRoot) : Type 0 where
   pub table : PartitionTable
   pub read_device : Device
   pub found : IsSizedTable device read_device size table
   pub both : ImagePartitions
   pub both_is : image_partitions table.partitions.items trusted.root ≡ Ok both
+  pub signed_device : Device
+  pub signed : Option Partition
+  pub sought : SeeksSignature read_device signed_device table.size trusted.root table.partitions.items signed
   pub super : SuperRecord
-  pub fitting : IsFitting read_device table.size both trusted.pin super
+  pub fitting : IsFitting signed_device table.size both trusted.pin super
 
--- the text of the stack over them
-abbrev pub pair_text : {device : Device} {size : SectorSize} {trusted : TrustedRoot} → FindsPair device size trusted → List ℕ
-pair_text {device} {size} {trusted} pair = root_stack_text pair.table.size pair.both pair.super trusted.root
+-- the text of the stack over them, and of the signature's partition
+abbrev pub pair_text : {device : Device} {size : SectorSize} {trusted : TrustedRoot} → Bool → FindsPair device size trusted → List ℕ
+pair_text {device} {size} {trusted} writable pair = root_stack_text writable pair.table.size pair.both pair.super trusted.root ++ signature_entry pair.table.size pair.signed
 
 -- they were found, and their text loads and was written
-pub record PrintsRoot (device : Device) (size : SectorSize) (trusted : TrustedRoot) (old new : Option (List ℕ)) (notes : Notes) : Type 0 where
-  pub pair : FindsPair device size trusted
-  pub loads : Loads pair.read_device.size (pair_text pair)
-  pub printed : Appends old new (pair_text pair)
+pub record PrintsRoot (device : Device) (plan : StackPlan) (trusted : TrustedRoot) (old new : Option (List ℕ)) (notes : Notes) : Type 0 where
+  pub pair : FindsPair device plan.size trusted
+  pub loads : Loads plan.writable pair.signed_device.size (pair_text plan.writable pair)
+  pub printed : Appends old new (pair_text plan.writable pair)
   pub noted : IsNoted notes (warning_text pair.read_device pair.table)
 
-pub record PrintsRootOfImage {S D : Type 0} (w : Calls S D) (path : List ℕ) (size : SectorSize) (trusted : TrustedRoot) (old new : Option (List ℕ)) (notes : Notes) : Type 0 where
+pub record PrintsRootOfImage {S D : Type 0} (w : Calls S D) (path : List ℕ) (plan : StackPlan) (trusted : TrustedRoot) (old new : Option (List ℕ)) (notes : Notes) : Type 0 where
   pub image : OpenImage D
   pub opened : Opens w path false image
-  pub prints : PrintsRoot (w.state image.device) size trusted old new notes
+  pub prints : PrintsRoot (w.state image.device) plan trusted old new notes
 
 -- a table was found, but not the two partitions
 pub record LacksPartitions (device : Device) (size : SectorSize) (root : List ℕ) (refusal : PartitionRefusal) : Type 0 where
@@ -109,14 +118,17 @@ IsPairEnd old new size both pin refusal =
     ((refusal ≡ OutsideDevice) × (is_within old (part_of size both.data) ≡ false))
     ⊎ ((is_within old (part_of size both.data) ≡ true) × (IsPartSuperEnd old new (part_of size both.verity) pin refusal ⊎ ((refusal ≡ Superblock TooSmall) × IsUnfitting old size both pin)))
 
--- Both were found, but don't hold an image. The devices are those that calls left, so that a failed call came after the table was read.
+-- Both were found, but don't hold an image. The devices are those that calls left, so that a failed call came after the table was read
+-- and the signature was sought.
 pub record LacksSuperblock {D : Type 0} (state : D → Device) (device device' : D) (size : SectorSize) (trusted : TrustedRoot) (refusal : PartitionRefusal) : Type 0 where
   pub table : PartitionTable
   pub read_device : D
   pub found : IsSizedTable (state device) (state read_device) size table
   pub both : ImagePartitions
   pub both_is : image_partitions table.partitions.items trusted.root ≡ Ok both
-  pub ends : IsPairEnd (state read_device) (state device') table.size both trusted.pin refusal
+  pub signed_device : D
+  pub read : IsOnlyRead (state read_device) (state signed_device)
+  pub ends : IsPairEnd (state signed_device) (state device') table.size both trusted.pin refusal
 
 -- there is no table
 pub record LacksTable {D : Type 0} (state : D → Device) (device : D) (size : SectorSize) (refusal : PartitionRefusal) : Type 0 where
@@ -131,37 +143,37 @@ pub record RefusesText (device : Device) (size : SectorSize) (trusted : TrustedR
   pub refused : IsOutOfMemory (root_room pair.super trusted.root)
 
 -- both hold an image, and `load` would refuse its text over the disk
-pub record LacksLoad (device : Device) (size : SectorSize) (trusted : TrustedRoot) : Type 0 where
-  pub pair : FindsPair device size trusted
-  pub unloadable : IsUnloadable pair.read_device.size (pair_text pair)
+pub record LacksLoad (device : Device) (plan : StackPlan) (trusted : TrustedRoot) : Type 0 where
+  pub pair : FindsPair device plan.size trusted
+  pub unloadable : IsUnloadable plan.writable pair.signed_device.size (pair_text plan.writable pair)
 
 -- one of these, or the text can't be written
-abbrev pub IsRootTextEnd : {D : Type 0} → (D → Device) → SectorSize → TrustedRoot → Bool → D → PartitionsFault → Type 0
-IsRootTextEnd state size trusted failed device NoMemory = RefusesText (state device) size trusted
-IsRootTextEnd state size trusted failed device Write = failed ≡ true
-IsRootTextEnd state size trusted failed device NotLoadable = LacksLoad (state device) size trusted
-IsRootTextEnd state size trusted failed device (Open file) = ⊥
-IsRootTextEnd state size trusted failed device (Pin fault) = ⊥
-IsRootTextEnd {D} state size trusted failed device (Refused refusal) =
-    LacksTable state device size refusal
-    ⊎ (LacksPartitions (state device) size trusted.root refusal ⊎ ((device' : D) × LacksSuperblock state device device' size trusted refusal))
+abbrev pub IsRootTextEnd : {D : Type 0} → (D → Device) → StackPlan → TrustedRoot → Bool → D → PartitionsFault → Type 0
+IsRootTextEnd state plan trusted failed device NoMemory = RefusesText (state device) plan.size trusted
+IsRootTextEnd state plan trusted failed device Write = failed ≡ true
+IsRootTextEnd state plan trusted failed device NotLoadable = LacksLoad (state device) plan trusted
+IsRootTextEnd state plan trusted failed device (Open file) = ⊥
+IsRootTextEnd state plan trusted failed device (Pin fault) = ⊥
+IsRootTextEnd {D} state plan trusted failed device (Refused refusal) =
+    LacksTable state device plan.size refusal
+    ⊎ (LacksPartitions (state device) plan.size trusted.root refusal ⊎ ((device' : D) × LacksSuperblock state device device' plan.size trusted refusal))
 
-pub record EndsRoot {S D : Type 0} (w : Calls S D) (path : List ℕ) (size : SectorSize) (trusted : TrustedRoot) (failed : Bool) (fault : PartitionsFault) : Type 0 where
+pub record EndsRoot {S D : Type 0} (w : Calls S D) (path : List ℕ) (plan : StackPlan) (trusted : TrustedRoot) (failed : Bool) (fault : PartitionsFault) : Type 0 where
   pub image : OpenImage D
   pub opened : Opens w path false image
-  pub ended : IsRootTextEnd w.state size trusted failed image.device fault
+  pub ended : IsRootTextEnd w.state plan trusted failed image.device fault
 
-abbrev pub IsRootOfImageEnd : {S D : Type 0} → Calls S D → List ℕ → SectorSize → TrustedRoot → Bool → PartitionsFault → Type 0
-IsRootOfImageEnd w path size trusted failed fault = IsImageUnopened (Refuses w path false) fault ⊎ EndsRoot w path size trusted failed fault
+abbrev pub IsRootOfImageEnd : {S D : Type 0} → Calls S D → List ℕ → StackPlan → TrustedRoot → Bool → PartitionsFault → Type 0
+IsRootOfImageEnd w path plan trusted failed fault = IsImageUnopened (Refuses w path false) fault ⊎ EndsRoot w path plan trusted failed fault
 
 -- ---- with a pin
 
 -- the pin of a file was read before the image was opened, and then the stack of its root was printed
-pub record PrintsPinned {S D : Type 0} (w : Calls S D) (pin path : List ℕ) (size : SectorSize) (old new : Option (List ℕ)) (notes : Notes) : Type 0 where
+pub record PrintsPinned {S D : Type 0} (w : Calls S D) (pin path : List ℕ) (plan : StackPlan) (old new : Option (List ℕ)) (notes : Notes) : Type 0 where
   pub between : S
   pub trusted : TrustedRoot
   pub told : TellsPin (record w { new = between }) pin trusted
-  pub prints : PrintsRootOfImage (record w { old = between }) path size trusted old new notes
+  pub prints : PrintsRootOfImage (record w { old = between }) path plan trusted old new notes
 
 -- no pin was read, as is said of it
 abbrev pub IsPinUnread : (ImageFault → Type 0) → PartitionsFault → Type 0
@@ -169,14 +181,14 @@ IsPinUnread Because (Pin fault) = Because fault
 IsPinUnread Because fault = ⊥
 
 -- it was read, and then the command ended early
-pub record EndsPinned {S D : Type 0} (w : Calls S D) (pin path : List ℕ) (size : SectorSize) (failed : Bool) (fault : PartitionsFault) : Type 0 where
+pub record EndsPinned {S D : Type 0} (w : Calls S D) (pin path : List ℕ) (plan : StackPlan) (failed : Bool) (fault : PartitionsFault) : Type 0 where
   pub between : S
   pub trusted : TrustedRoot
   pub told : TellsPin (record w { new = between }) pin trusted
-  pub ended : IsRootOfImageEnd (record w { old = between }) path size trusted failed fault
+  pub ended : IsRootOfImageEnd (record w { old = between }) path plan trusted failed fault
 
-abbrev pub IsPinnedEnd : {S D : Type 0} → Calls S D → List ℕ → List ℕ → SectorSize → Bool → PartitionsFault → Type 0
-IsPinnedEnd w pin path size failed fault = IsPinUnread (IsPinFileEnd w pin) fault ⊎ EndsPinned w pin path size failed fault
+abbrev pub IsPinnedEnd : {S D : Type 0} → Calls S D → List ℕ → List ℕ → StackPlan → Bool → PartitionsFault → Type 0
+IsPinnedEnd w pin path plan failed fault = IsPinUnread (IsPinFileEnd w pin) fault ⊎ EndsPinned w pin path plan failed fault
 
 -- what was printed among the errors: nothing, if there was no table yet
 abbrev pub ArePinnedNotes : {S D : Type 0} → Calls S D → List ℕ → SectorSize → Notes → PartitionsFault → Type 0
@@ -185,22 +197,22 @@ ArePinnedNotes {S} {D} w path size notes fault =
 
 -- ---- as a call sees them
 
-abbrev pub SaysRoot : {D W : Type 0} → (D → Device) → D → (W → Option (List ℕ)) → CountedRecord W → CountedRecord W → SectorSize → TrustedRoot → Notes → Type 0
-SaysRoot state device contents writer writer' size trusted notes = PrintsRoot (state device) size trusted (contents writer.inner) (contents writer'.inner) notes
+abbrev pub SaysRoot : {D W : Type 0} → (D → Device) → D → (W → Option (List ℕ)) → CountedRecord W → CountedRecord W → StackPlan → TrustedRoot → Notes → Type 0
+SaysRoot state device contents writer writer' plan trusted notes = PrintsRoot (state device) plan trusted (contents writer.inner) (contents writer'.inner) notes
 
-abbrev pub PrintsRootOf : {S D W : Type 0} → Opener S D → (D → Device) → S → S → (W → Option (List ℕ)) → CountedRecord W → CountedRecord W → List ℕ → SectorSize → TrustedRoot → Notes → Type 0
-PrintsRootOf relations state images images' contents writer writer' path size trusted notes =
-    PrintsRootOfImage (calls relations state images images') path size trusted (contents writer.inner) (contents writer'.inner) notes
+abbrev pub PrintsRootOf : {S D W : Type 0} → Opener S D → (D → Device) → S → S → (W → Option (List ℕ)) → CountedRecord W → CountedRecord W → List ℕ → StackPlan → TrustedRoot → Notes → Type 0
+PrintsRootOf relations state images images' contents writer writer' path plan trusted notes =
+    PrintsRootOfImage (calls relations state images images') path plan trusted (contents writer.inner) (contents writer'.inner) notes
 
-abbrev pub FailsToFindRoot : {S D W : Type 0} → Opener S D → (D → Device) → S → S → CountedRecord W → List ℕ → SectorSize → TrustedRoot → PartitionsFault → Type 0
-FailsToFindRoot relations state images images' writer' path size trusted = IsRootOfImageEnd (calls relations state images images') path size trusted writer'.failed
+abbrev pub FailsToFindRoot : {S D W : Type 0} → Opener S D → (D → Device) → S → S → CountedRecord W → List ℕ → StackPlan → TrustedRoot → PartitionsFault → Type 0
+FailsToFindRoot relations state images images' writer' path plan trusted = IsRootOfImageEnd (calls relations state images images') path plan trusted writer'.failed
 
-abbrev pub PrintsPinnedOf : {S D W : Type 0} → Opener S D → (D → Device) → S → S → (W → Option (List ℕ)) → CountedRecord W → CountedRecord W → List ℕ → List ℕ → SectorSize → Notes → Type 0
-PrintsPinnedOf relations state images images' contents writer writer' pin path size notes =
-    PrintsPinned (calls relations state images images') pin path size (contents writer.inner) (contents writer'.inner) notes
+abbrev pub PrintsPinnedOf : {S D W : Type 0} → Opener S D → (D → Device) → S → S → (W → Option (List ℕ)) → CountedRecord W → CountedRecord W → List ℕ → List ℕ → StackPlan → Notes → Type 0
+PrintsPinnedOf relations state images images' contents writer writer' pin path plan notes =
+    PrintsPinned (calls relations state images images') pin path plan (contents writer.inner) (contents writer'.inner) notes
 
-abbrev pub FailsToFindPinned : {S D W : Type 0} → Opener S D → (D → Device) → S → S → CountedRecord W → List ℕ → List ℕ → SectorSize → PartitionsFault → Type 0
-FailsToFindPinned relations state images images' writer' pin path size = IsPinnedEnd (calls relations state images images') pin path size writer'.failed
+abbrev pub FailsToFindPinned : {S D W : Type 0} → Opener S D → (D → Device) → S → S → CountedRecord W → List ℕ → List ℕ → StackPlan → PartitionsFault → Type 0
+FailsToFindPinned relations state images images' writer' pin path plan = IsPinnedEnd (calls relations state images images') pin path plan writer'.failed
 
 abbrev pub NotesPinned : {S D : Type 0} → Opener S D → (D → Device) → S → S → List ℕ → SectorSize → Notes → PartitionsFault → Type 0
 NotesPinned relations state images images' path size notes = ArePinnedNotes (calls relations state images images') path size notes

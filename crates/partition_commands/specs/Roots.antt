@@ -2,15 +2,11 @@
 -- unique UUID of the data partition is the first, that of its verity partition the last 128 bits of the root digest. A
 -- digest's byte k is the k-th of the UUID as it is printed; in the table the first three fields are little-endian.
 use Rattle.std.specs.Prelude.{ℕ, ◌==◌, Bool, List, take, drop, find, count_by, Option, Some, None, Result, Ok, Err, if◌then◌else◌}
-use Rattle.std.specs.Str.{bytes_eq}
 use Rattle.partition_table.specs.declared.partition.Partition.{Partition}
+use Rattle.partition_table.specs.Partitions.{has_uuid}
 use Rattle.partition_commands.specs.declared.refusal.PartitionRefusal.{PartitionRefusal}
 use Rattle.partition_commands.specs.declared.refusal.PartitionRefusal.TheVariants.{NoDataPartition, TwoDataPartitions, NoVerityPartition, TwoVerityPartitions}
 use Rattle.partition_commands.specs.declared.root.ImagePartitions.{ImagePartitions}
-
--- a partition has that unique UUID
-abbrev pub has_uuid : List ℕ → Partition → Bool
-has_uuid uuid p = bytes_eq p.uuid uuid
 
 -- the one partition, of so many
 abbrev pub single_partition : PartitionRefusal → PartitionRefusal → Option Partition → ℕ → Result Partition PartitionRefusal

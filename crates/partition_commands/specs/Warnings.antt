@@ -13,7 +13,8 @@ use Rattle.partition_table.specs.declared.table.Source.{Source}
 use Rattle.partition_table.specs.declared.table.Source.TheVariants.{Differ}
 use Rattle.partition_table.specs.declared.warnings.CopyWarnings.{CopyWarnings}
 use Rattle.partition_table.specs.Tables.{IsSizedTable}
-use Rattle.partition_commands.specs.Parts.{is_within, part_of}
+use Rattle.image_files.specs.Partitions.{part_of}
+use Rattle.partition_commands.specs.Parts.{is_within}
 
 -- `dmstack: warning: TEXT`
 unfoldable pub warning_line : List ℕ → List ℕ

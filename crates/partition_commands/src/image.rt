@@ -14,11 +14,11 @@ use crate::object::table_line;
 use crate::parts::are_within;
 use crate::warnings::find_noted;
 use crate::{
-    PartitionRefusal, PartitionsFault, PrintFault, part_of, partition_name, print_partitions,
+    PartitionRefusal, PartitionsFault, PrintFault, StackPlan, partition_name, print_partitions,
 };
 use allocation::OutOfMemory;
 use block_device::BlockDev;
-use image_files::{Images, open_image};
+use image_files::{Images, open_image, part_of};
 use partition_table::{Partition, SectorSize};
 use program_io::Counted;
 use stack_loader::MOST_DEVICES;
@@ -113,8 +113,8 @@ fn list_object<'a, D: BlockDev, W: Write, E: Write>(
     Ok(())
 }
 
-/// `partitions --stack IMAGE`: prints the text of a stack with a read-only device for each partition, over the leaf DISK.
-/// `load` takes it.
+/// `partitions --stack IMAGE`: prints the text of a stack with a device for each partition, which is writable if the plan says so,
+/// over the leaf DISK. `load` takes it.
 ///
 /// # Errors
 ///
@@ -127,70 +127,79 @@ pub fn stack_of_image<'a, I: Images, W: Write, E: Write>(
     alloc: Global,
     images: &mut I,
     path: &'a str,
-    size: SectorSize,
+    plan: &StackPlan,
     writer: &mut Counted<W>,
     errors: &mut Counted<E>,
 ) -> Result<(), PartitionsFault<'a>>
-    ensures ok { OnOk result (PrintsStackOf I.relations I.Dev.state images.old images.new W.contents writer.old writer.new path.now size (notes_of E.contents errors.old errors.new)) }
-    ensures err { IfErr result (FailsToStack I.relations I.Dev.state images.old images.new writer.new path.now size) }
-    ensures noted { IfErr result (NotesImage I.relations I.Dev.state images.old images.new path.now size (notes_of E.contents errors.old errors.new)) }
+    ensures ok { OnOk result (PrintsStackOf I.relations I.Dev.state images.old images.new W.contents writer.old writer.new path.now plan.now (notes_of E.contents errors.old errors.new)) }
+    ensures err { IfErr result (FailsToStack I.relations I.Dev.state images.old images.new writer.new path.now plan.now) }
+    ensures noted { IfErr result (NotesImage I.relations I.Dev.state images.old images.new path.now plan.now.size (notes_of E.contents errors.old errors.new)) }
     ensures quiet { IfErr result (EndsQuiet W.contents writer.old writer.new) }
 {
     let mut image = open_image(images, path, false)?;
-    list_entries(alloc, &mut image.device, size, writer, errors)
+    list_entries(alloc, &mut image.device, plan, writer, errors)
 }
 
 // Prints the stack of all partitions of an open device.
 fn list_entries<'a, D: BlockDev, W: Write, E: Write>(
     alloc: Global,
     device: &mut D,
-    size: SectorSize,
+    plan: &StackPlan,
     writer: &mut Counted<W>,
     errors: &mut Counted<E>,
 ) -> Result<(), PartitionsFault<'a>>
-    ensures ok { OnOk result (PrintsEntriesOf D.state device.old device.new W.contents writer.old writer.new size (notes_of E.contents errors.old errors.new)) }
-    ensures err { IfErr result (IsEntriesEnd (D.state device.old) (D.state device.new) size writer.new.failed) }
-    ensures noted { IfErr result (EndsNoted (D.state device.old) size (notes_of E.contents errors.old errors.new)) }
+    ensures ok { OnOk result (PrintsEntriesOf D.state device.old device.new W.contents writer.old writer.new plan.now (notes_of E.contents errors.old errors.new)) }
+    ensures err { IfErr result (IsEntriesEnd (D.state device.old) (D.state device.new) plan.now writer.new.failed) }
+    ensures noted { IfErr result (EndsNoted (D.state device.old) plan.now.size (notes_of E.contents errors.old errors.new)) }
     ensures quiet { IfErr result (EndsQuiet W.contents writer.old writer.new) }
 {
-    let table = find_noted(alloc, device, size, errors)?;
+    let table = find_noted(alloc, device, plan.size, errors)?;
     if !are_within(device, table.size, &table.partitions) {
         return Err(PartitionsFault::Refused(PartitionRefusal::OutsideDevice));
     }
     let sectors = device.sectors();
-    say_stack(alloc, writer, sectors, table.size, &table.partitions)
+    say_stack(
+        alloc,
+        writer,
+        plan.writable,
+        sectors,
+        table.size,
+        &table.partitions,
+    )
 }
 
 // An entry for each partition.
 fn say_stack<'a, W: Write>(
     alloc: Global,
     writer: &mut Counted<W>,
+    writable: bool,
     sectors: u64,
     size: SectorSize,
     partitions: &[Partition],
 ) -> Result<(), PartitionsFault<'a>>
-    ensures ok { OnOk result (SaysLoadable W.contents writer.old writer.new sectors (stack_text size partitions.now)) }
-    ensures err { IfErr result (IsStackEnd sectors size partitions.now writer.new.failed) }
+    ensures ok { OnOk result (SaysLoadable W.contents writer.old writer.new writable sectors (stack_text writable size partitions.now)) }
+    ensures err { IfErr result (IsStackEnd writable sectors size partitions.now writer.new.failed) }
     ensures quiet { IfErr result (EndsQuiet W.contents writer.old writer.new) }
 {
     if partitions.len() > MOST_DEVICES as usize {
         return Err(PartitionsFault::NotLoadable);
     }
-    let text = stack_text(alloc, size, partitions)?;
-    say_loadable(alloc, writer, sectors, &text)
+    let text = stack_text(alloc, writable, size, partitions)?;
+    say_loadable(alloc, writer, writable, sectors, &text)
 }
 
 fn stack_text(
     alloc: Global,
+    writable: bool,
     size: SectorSize,
     partitions: &[Partition],
 ) -> Result<Vec<u8>, OutOfMemory>
-    ensures ok { IfOk result (λ text. text.items ≡ stack_text size partitions.now) }
+    ensures ok { IfOk result (λ text. text.items ≡ stack_text writable size partitions.now) }
     ensures err { IfErr result (λ e. asked e ≤ stack_room) }
 {
     let mut text = Vec::new(alloc);
     for partition in partitions {
-        push_partition_entry(alloc, &mut text, size, partitions, partition)?;
+        push_partition_entry(alloc, &mut text, writable, size, partitions, partition)?;
     }
     Ok(text)
 }
@@ -199,13 +208,14 @@ fn stack_text(
 fn push_partition_entry(
     alloc: Global,
     text: &mut Vec<u8>,
+    writable: bool,
     size: SectorSize,
     partitions: &[Partition],
     partition: &Partition,
 ) -> Result<(), OutOfMemory>
-    ensures ok { OnOk result (text.new.items ≡ text.old.items ++ partition_entry size partitions.now partition.now) }
+    ensures ok { OnOk result (text.new.items ≡ text.old.items ++ partition_entry writable size partitions.now partition.now) }
     ensures err { IfErr result (λ e. asked e ≤ stack_room) }
 {
     let name = partition_name(alloc, partitions, partition)?;
-    push_linear_entry(text, name.as_bytes(), part_of(size, partition))
+    push_linear_entry(text, writable, name.as_bytes(), part_of(size, partition))
 }

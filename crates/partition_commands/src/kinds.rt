@@ -1,8 +1,25 @@
 //! The names of partition types.
-ghost use Rattle.std.specs.Prelude.{◌≡◌};
-ghost use Rattle.partition_commands.specs.Kinds.{partition_type_name, name_of_arm, name_of_boot, name_of_files, name_of_text};
+ghost use Rattle.std.specs.Prelude.{◌≡◌, find};
+ghost use Rattle.std.specs.Str.{bytes_eq};
+ghost use Rattle.partition_commands.specs.Kinds.{common_name, has_type, is_signature_text, is_signature_type, name_in, partition_type_name, signature_name, type_name, usr_name};
 
+use crate::root_types::ROOT_TYPES;
+use crate::signature_types::SIGNATURE_TYPES;
+use crate::usr_types::USR_TYPES;
 use uuid::Uuid;
+
+/// A type's UUID and its name, of those that no architecture has of its own.
+pub const COMMON_TYPES: &[(&str, &str)] = &[
+    ("c12a7328-f81f-11d2-ba4b-00a0c93ec93b", "esp"),
+    ("bc13c2ff-59e6-4262-a352-b275fd6f7172", "xbootldr"),
+    ("0657fd6d-a4ab-43c4-84e5-0933c84b4f4f", "swap"),
+    ("933ac7e1-2eb4-4f13-b844-0e14e2aef915", "home"),
+    ("3b8f8425-20e0-4f3b-907f-1a25a76f98e8", "srv"),
+    ("4d21b016-b534-45c2-a9fb-5c16e091fd2d", "var"),
+    ("7ec6f557-3bc5-4aca-b293-16ef5df639d1", "tmp"),
+    ("773f91ef-66d4-49b5-bd83-d683bf40ad16", "user-home"),
+    ("0fc63daf-8483-4772-8e79-3d69d8477de4", "linux-generic"),
+];
 
 /// The name of a type that the Discoverable Partitions Specification has, and `-` for any other.
 pub fn kind_name(kind: &[u8; 16]) -> &'static str
@@ -12,81 +29,82 @@ pub fn kind_name(kind: &[u8; 16]) -> &'static str
     let text = Uuid::from_bytes(*kind)
         .hyphenated()
         .encode_lower(&mut buffer);
-    name_of_text(text.as_bytes())
+    type_name(text.as_bytes())
 }
 
-#[tactic(auto, unfolding(crate::specs::Kinds::name_of_text))]
-fn name_of_text(text: &[u8]) -> &'static str
-    ensures { result.now ≡ name_of_text text.now }
+/// Whether partitions of the type hold the signature of a root hash.
+pub(crate) fn is_signature_type(kind: &[u8; 16]) -> bool
+    ensures { result ≡ is_signature_type kind.now }
 {
-    if text == b"4f68bce3-e8cd-4db1-96e7-fbcaf984b709".as_slice() {
-        return "root-x86-64";
-    }
-    if text == b"2c7357ed-ebd2-46d9-aec1-23d437ec2bf5".as_slice() {
-        return "root-x86-64-verity";
-    }
-    if text == b"8484680c-9521-48c6-9c11-b0720656f69e".as_slice() {
-        return "usr-x86-64";
-    }
-    if text == b"77ff5f63-e7b6-4633-acf4-1565b864c0e6".as_slice() {
-        return "usr-x86-64-verity";
-    }
-    name_of_arm(text)
+    let mut buffer = Uuid::encode_buffer();
+    let text = Uuid::from_bytes(*kind)
+        .hyphenated()
+        .encode_lower(&mut buffer);
+    is_signature_text(text.as_bytes())
 }
 
-#[tactic(auto, unfolding(crate::specs::Kinds::name_of_arm))]
-fn name_of_arm(text: &[u8]) -> &'static str
-    ensures { result.now ≡ name_of_arm text.now }
+#[tactic(auto, unfolding(crate::specs::Kinds::is_signature_text))]
+fn is_signature_text(text: &[u8]) -> bool
+    ensures { result ≡ is_signature_text text.now }
 {
-    if text == b"b921b045-1df0-41c3-af44-4c6f280d3fae".as_slice() {
-        return "root-arm64";
-    }
-    if text == b"df3300ce-d69f-4c92-978c-9bfb0f38d820".as_slice() {
-        return "root-arm64-verity";
-    }
-    if text == b"b0e01050-ee5f-4390-949a-9101b17104e9".as_slice() {
-        return "usr-arm64";
-    }
-    if text == b"6e11a4e7-fbca-4ded-b9e9-e1a512bb664e".as_slice() {
-        return "usr-arm64-verity";
-    }
-    name_of_boot(text)
+    has_type(SIGNATURE_TYPES, text)
 }
 
-#[tactic(auto, unfolding(crate::specs::Kinds::name_of_boot))]
-fn name_of_boot(text: &[u8]) -> &'static str
-    ensures { result.now ≡ name_of_boot text.now }
+// Whether a type among these has that UUID.
+#[tactic(auto, unfolding(crate::specs::Kinds::has_type))]
+fn has_type(types: &[(&'static str, &'static str)], text: &[u8]) -> bool
+    ensures { result ≡ has_type types.now (λ row. row.0.now) text.now }
 {
-    if text == b"c12a7328-f81f-11d2-ba4b-00a0c93ec93b".as_slice() {
-        return "esp";
-    }
-    if text == b"bc13c2ff-59e6-4262-a352-b275fd6f7172".as_slice() {
-        return "xbootldr";
-    }
-    if text == b"0657fd6d-a4ab-43c4-84e5-0933c84b4f4f".as_slice() {
-        return "swap";
-    }
-    name_of_files(text)
+    type_in(types, text).is_some()
 }
 
-#[tactic(auto, unfolding(crate::specs::Kinds::name_of_files))]
-fn name_of_files(text: &[u8]) -> &'static str
-    ensures { result.now ≡ name_of_files text.now }
+#[tactic(auto, unfolding(crate::specs::Kinds::type_name))]
+fn type_name(text: &[u8]) -> &'static str
+    ensures { result.now ≡ type_name text.now }
 {
-    if text == b"933ac7e1-2eb4-4f13-b844-0e14e2aef915".as_slice() {
-        return "home";
+    let other = usr_name(text);
+    name_in(ROOT_TYPES, text, other)
+}
+
+#[tactic(auto, unfolding(crate::specs::Kinds::usr_name))]
+fn usr_name(text: &[u8]) -> &'static str
+    ensures { result.now ≡ usr_name text.now }
+{
+    let other = signature_name(text);
+    name_in(USR_TYPES, text, other)
+}
+
+#[tactic(auto, unfolding(crate::specs::Kinds::signature_name))]
+fn signature_name(text: &[u8]) -> &'static str
+    ensures { result.now ≡ signature_name text.now }
+{
+    let other = common_name(text);
+    name_in(SIGNATURE_TYPES, text, other)
+}
+
+#[tactic(auto, unfolding(crate::specs::Kinds::common_name))]
+fn common_name(text: &[u8]) -> &'static str
+    ensures { result.now ≡ common_name text.now }
+{
+    name_in(COMMON_TYPES, text, "-")
+}
+
+// The name of the type with that UUID among these, or else that other name.
+#[tactic(auto, unfolding(crate::specs::Kinds::name_in))]
+fn name_in(types: &[(&'static str, &'static str)], text: &[u8], other: &'static str) -> &'static str
+    ensures { result.now ≡ name_in types.now (λ row. row.0.now) (λ row. row.1.now) text.now other.now }
+{
+    match type_in(types, text) {
+        Some(row) => row.1,
+        None => other,
     }
-    if text == b"3b8f8425-20e0-4f3b-907f-1a25a76f98e8".as_slice() {
-        return "srv";
-    }
-    if text == b"4d21b016-b534-45c2-a9fb-5c16e091fd2d".as_slice() {
-        return "var";
-    }
-    if text == b"7ec6f557-3bc5-4aca-b293-16ef5df639d1".as_slice() {
-        return "tmp";
-    }
-    if text == b"0fc63daf-8483-4772-8e79-3d69d8477de4".as_slice() {
-        return "linux-generic";
-    }
-    "-"
+}
+
+fn type_in(
+    types: &[(&'static str, &'static str)],
+    text: &[u8],
+) -> Option<(&'static str, &'static str)>
+    ensures { result ≡ find (λ row. bytes_eq row.0.now text.now) types.now }
+{
+    types.iter().copied().find(|row| row.0.as_bytes() == text)
 }

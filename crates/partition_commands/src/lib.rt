@@ -1,23 +1,26 @@
 //! The partitions of an image: printed, and the stacks over them.
 #![tactic(auto)]
 
-mod characters;
 mod entries;
 mod fault;
 mod fault_text;
 mod image;
 mod invoke;
 mod kinds;
-mod label;
 mod line;
 mod loading;
 mod names;
 mod object;
 mod parts;
+mod plan;
 mod print;
 mod refusal;
 mod root;
 mod root_stack;
+mod root_types;
+mod signature_types;
+mod signatures;
+mod usr_types;
 mod warnings;
 
 pub use fault::{PartitionsFault, PrintFault};
@@ -25,9 +28,8 @@ pub use fault_text::{partitions_status, say_partitions_fault};
 pub use image::{object_of_image, partitions_of_image, stack_of_image};
 pub use invoke::invoke_partitions;
 pub use kinds::kind_name;
-pub use label::label_text;
 pub use names::partition_name;
-pub use parts::part_of;
+pub use plan::StackPlan;
 pub use print::print_partitions;
 pub use refusal::{PartitionRefusal, say_refusal};
 pub use root::ImagePartitions;

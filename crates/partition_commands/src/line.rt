@@ -4,8 +4,8 @@ ghost use Rattle.program_io.specs.Counted.{Writes};
 ghost use Rattle.partition_commands.specs.Lines.{SaysText, fault_line, line_with, number_word, partition_line, range_text, source_line, uuid_word, uuids_text};
 ghost use Rattle.partition_commands.specs.Prints.{IsSayEnd};
 
-use crate::{PrintFault, kind_name, label_text};
-use partition_table::{Partition, ReadFault, Source};
+use crate::{PrintFault, kind_name};
+use partition_table::{Partition, ReadFault, Source, label_text};
 use program_io::{Counted, WriteFault};
 use std::alloc::Global;
 use std::io::Write;

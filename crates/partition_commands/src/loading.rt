@@ -11,7 +11,7 @@ use stack_files::{MOST_TEXT, StackFault, configuration_of};
 use std::alloc::Global;
 use std::io::Write;
 
-/// Prints a stack text, unless `load` would refuse it over a disk of so many sectors; then nothing is printed.
+/// Prints a stack text, unless `load` would refuse it over a disk of so many sectors, writable or not; then nothing is printed.
 ///
 /// # Errors
 ///
@@ -21,17 +21,18 @@ use std::io::Write;
 pub(crate) fn say_loadable<'a, W: Write>(
     alloc: Global,
     writer: &mut Counted<W>,
+    writable: bool,
     sectors: u64,
     text: &[u8],
 ) -> Result<(), PartitionsFault<'a>>
-    ensures ok { OnOk result (SaysLoadable W.contents writer.old writer.new sectors text.now) }
-    ensures err { IfErr result (IsLoadableEnd sectors text.now writer.new.failed) }
+    ensures ok { OnOk result (SaysLoadable W.contents writer.old writer.new writable sectors text.now) }
+    ensures err { IfErr result (IsLoadableEnd writable sectors text.now writer.new.failed) }
     ensures quiet { IfErr result (EndsQuiet W.contents writer.old writer.new) }
 {
     if text.len() > MOST_TEXT {
         return Err(PartitionsFault::NotLoadable);
     }
-    let leaves = disk_leaves(alloc, sectors)?;
+    let leaves = disk_leaves(alloc, writable, sectors)?;
     let _config = match configuration_of(alloc, leaves, text) {
         Ok(config) => config,
         Err(fault) => return Err(load_end(fault)),
@@ -57,14 +58,14 @@ fn load_end<'a>(fault: StackFault<'_>) -> PartitionsFault<'a>
 }
 
 // The backing device DISK.
-fn disk_leaves(alloc: Global, sectors: u64) -> Result<Vec<Leaf>, OutOfMemory>
-    ensures ok { IfOk result (λ leaves. leaves.items ≡ disk_leaves sectors) }
+fn disk_leaves(alloc: Global, writable: bool, sectors: u64) -> Result<Vec<Leaf>, OutOfMemory>
+    ensures ok { IfOk result (λ leaves. leaves.items ≡ disk_leaves writable sectors) }
     ensures err { IfErr result (λ e. asked e ≤ stack_room) }
 {
     let leaf = Leaf {
         name: copied(alloc, b"DISK")?,
         sectors,
-        writable: false,
+        writable,
     };
     let mut leaves = Vec::new(alloc);
     push(&mut leaves, leaf)?;

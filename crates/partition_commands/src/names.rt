@@ -3,14 +3,13 @@ ghost use Rattle.std.specs.Prelude.{◌≡◌, ◌&&◌, ◌||◌, ◌==◌, ◌
 ghost use Rattle.std.specs.Str.{bytes_eq};
 ghost use Rattle.allocation.specs.Asked.{asked};
 ghost use Rattle.dm_table.specs.Names.{is_mapped_name, most_name};
-ghost use Rattle.partition_commands.specs.Labels.{label_text, name_room};
+ghost use Rattle.partition_table.specs.Labels.{label_text, name_room};
 ghost use Rattle.partition_commands.specs.Names.{is_option_like, is_taken, is_taken_by, numbered_name, partition_name};
 
-use crate::label_text;
 use allocation::{OutOfMemory, joined};
 use dm_table::is_mapped_name;
 use itoa::Buffer;
-use partition_table::Partition;
+use partition_table::{Partition, label_text};
 use std::alloc::Global;
 
 /// Returns the label if it is a name of a mapped device, doesn't begin with `-` and isn't another partition's, and else

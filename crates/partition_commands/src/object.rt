@@ -5,8 +5,8 @@ ghost use Rattle.serde_json.specs.Data.{array, string};
 ghost use Rattle.serde_json.specs.View.{items_of, view};
 ghost use Rattle.partition_commands.specs.Objects.{fault_json, good_copies, number_json, other_copy, partition_json, partitions_json, table_json, object_text};
 
-use crate::{kind_name, label_text};
-use partition_table::{Partition, PartitionTable, ReadFault, Source};
+use crate::kind_name;
+use partition_table::{Partition, PartitionTable, ReadFault, Source, label_text};
 use program_io::line_of;
 use serde_json::{Value, json};
 use std::alloc::{AllocError, Global};

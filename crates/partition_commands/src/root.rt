@@ -1,7 +1,7 @@
 //! The two partitions of a verity image, found by its root digest.
 ghost use Rattle.std.specs.Prelude.{◌≡◌, find, count_by};
-ghost use Rattle.std.specs.Str.{bytes_eq};
-ghost use Rattle.partition_commands.specs.Roots.{data_partition, has_uuid, image_partitions, single_with, verity_partition};
+ghost use Rattle.partition_table.specs.Partitions.{has_uuid};
+ghost use Rattle.partition_commands.specs.Roots.{data_partition, image_partitions, single_with, verity_partition};
 
 use crate::PartitionRefusal;
 use partition_table::Partition;
@@ -76,17 +76,11 @@ fn single_with(
 fn first_with(uuid: &[u8], partitions: &[Partition]) -> Option<Partition>
     ensures { result ≡ find (has_uuid uuid.now) partitions.now }
 {
-    partitions.iter().copied().find(|p| has_uuid(uuid, p))
+    partitions.iter().copied().find(|p| p.has_uuid(uuid))
 }
 
 fn count_with(uuid: &[u8], partitions: &[Partition]) -> usize
     ensures { result ≡ count_by (has_uuid uuid.now) partitions.now }
 {
-    partitions.iter().filter(|p| has_uuid(uuid, p)).count()
-}
-
-fn has_uuid(uuid: &[u8], partition: &Partition) -> bool
-    ensures { result ≡ has_uuid uuid.now partition.now }
-{
-    partition.uuid.as_slice() == uuid
+    partitions.iter().filter(|p| p.has_uuid(uuid)).count()
 }

@@ -13,12 +13,13 @@ ghost use Rattle.partition_commands.specs.Warnings.{notes_of};
 use crate::entries::{push_linear_entry, push_root};
 use crate::loading::say_loadable;
 use crate::parts::is_within;
+use crate::signatures::{find_signature, push_signature};
 use crate::warnings::find_noted;
-use crate::{ImagePartitions, PartitionRefusal, PartitionsFault, part_of};
+use crate::{ImagePartitions, PartitionRefusal, PartitionsFault, StackPlan};
 use block_device::BlockDev;
 use command_line::RootOrPin;
 use device_adapters::{Part, Window};
-use image_files::{Images, open_image};
+use image_files::{Images, open_image, part_of};
 use image_pin::{Pin, PinnedFault, TrustedRoot, read_pinned};
 use partition_table::SectorSize;
 use program_io::Counted;
@@ -40,21 +41,22 @@ pub fn pinned_stack_of_image<'a, I: Images, W: Write, E: Write>(
     images: &mut I,
     pin: &'a str,
     path: &'a str,
-    size: SectorSize,
+    plan: &StackPlan,
     writer: &mut Counted<W>,
     errors: &mut Counted<E>,
 ) -> Result<(), PartitionsFault<'a>>
-    ensures ok { OnOk result (PrintsPinnedOf I.relations I.Dev.state images.old images.new W.contents writer.old writer.new pin.now path.now size (notes_of E.contents errors.old errors.new)) }
-    ensures err { IfErr result (FailsToFindPinned I.relations I.Dev.state images.old images.new writer.new pin.now path.now size) }
-    ensures noted { IfErr result (NotesPinned I.relations I.Dev.state images.old images.new path.now size (notes_of E.contents errors.old errors.new)) }
+    ensures ok { OnOk result (PrintsPinnedOf I.relations I.Dev.state images.old images.new W.contents writer.old writer.new pin.now path.now plan.now (notes_of E.contents errors.old errors.new)) }
+    ensures err { IfErr result (FailsToFindPinned I.relations I.Dev.state images.old images.new writer.new pin.now path.now plan.now) }
+    ensures noted { IfErr result (NotesPinned I.relations I.Dev.state images.old images.new path.now plan.now.size (notes_of E.contents errors.old errors.new)) }
     ensures quiet { IfErr result (EndsQuiet W.contents writer.old writer.new) }
 {
     let trusted = trusted_in(images, &RootOrPin::Pin(pin))?;
-    root_stack_of_image(alloc, images, path, size, &trusted, writer, errors)
+    root_stack_of_image(alloc, images, path, plan, &trusted, writer, errors)
 }
 
-/// `partitions --root ROOT IMAGE`: prints the text of a stack with the devices `data` and `hash` over the two partitions of a
-/// root hash, and `root`, the data blocks checked. `load` takes it.
+/// `partitions --root ROOT IMAGE`: prints the text of a stack with the devices `data`, which is writable if the plan says so, and
+/// `hash` over the two partitions of a root hash, `root`, the data blocks checked, and `signature` over the partition that holds
+/// the signature of the root hash, if there is one. `load` takes it.
 ///
 /// # Errors
 ///
@@ -68,41 +70,51 @@ pub fn root_stack_of_image<'a, I: Images, W: Write, E: Write>(
     alloc: Global,
     images: &mut I,
     path: &'a str,
-    size: SectorSize,
+    plan: &StackPlan,
     trusted: &TrustedRoot,
     writer: &mut Counted<W>,
     errors: &mut Counted<E>,
 ) -> Result<(), PartitionsFault<'a>>
-    ensures ok { OnOk result (PrintsRootOf I.relations I.Dev.state images.old images.new W.contents writer.old writer.new path.now size trusted.now (notes_of E.contents errors.old errors.new)) }
-    ensures err { IfErr result (FailsToFindRoot I.relations I.Dev.state images.old images.new writer.new path.now size trusted.now) }
-    ensures noted { IfErr result (NotesImage I.relations I.Dev.state images.old images.new path.now size (notes_of E.contents errors.old errors.new)) }
+    ensures ok { OnOk result (PrintsRootOf I.relations I.Dev.state images.old images.new W.contents writer.old writer.new path.now plan.now trusted.now (notes_of E.contents errors.old errors.new)) }
+    ensures err { IfErr result (FailsToFindRoot I.relations I.Dev.state images.old images.new writer.new path.now plan.now trusted.now) }
+    ensures noted { IfErr result (NotesImage I.relations I.Dev.state images.old images.new path.now plan.now.size (notes_of E.contents errors.old errors.new)) }
     ensures quiet { IfErr result (EndsQuiet W.contents writer.old writer.new) }
 {
     let image = open_image(images, path, false)?;
-    print_root_stack(alloc, image.device, size, trusted, writer, errors)
+    print_root_stack(alloc, image.device, plan, trusted, writer, errors)
 }
 
 // Prints the stack of a root's partitions on an open device.
 fn print_root_stack<'a, D: BlockDev + Drop, W: Write, E: Write>(
     alloc: Global,
     device: D,
-    size: SectorSize,
+    plan: &StackPlan,
     trusted: &TrustedRoot,
     writer: &mut Counted<W>,
     errors: &mut Counted<E>,
 ) -> Result<(), PartitionsFault<'a>>
-    ensures ok { OnOk result (SaysRoot D.state device W.contents writer.old writer.new size trusted.now (notes_of E.contents errors.old errors.new)) }
-    ensures err { IfErr result (IsRootTextEnd D.state size trusted.now writer.new.failed device) }
-    ensures noted { IfErr result (EndsNoted (D.state device) size (notes_of E.contents errors.old errors.new)) }
+    ensures ok { OnOk result (SaysRoot D.state device W.contents writer.old writer.new plan.now trusted.now (notes_of E.contents errors.old errors.new)) }
+    ensures err { IfErr result (IsRootTextEnd D.state plan.now trusted.now writer.new.failed device) }
+    ensures noted { IfErr result (EndsNoted (D.state device) plan.now.size (notes_of E.contents errors.old errors.new)) }
     ensures quiet { IfErr result (EndsQuiet W.contents writer.old writer.new) }
 {
     let mut device = device;
-    let table = find_noted(alloc, &mut device, size, errors)?;
+    let table = find_noted(alloc, &mut device, plan.size, errors)?;
     let both = ImagePartitions::find(&table.partitions, &trusted.root)?;
+    let signed = find_signature(&mut device, table.size, &table.partitions, &trusted.root);
     let sectors = device.sectors();
     let superblock = superblock_of(device, table.size, &both, &trusted.pin)?;
-    let text = root_text(alloc, table.size, &both, &superblock, &trusted.root)?;
-    say_loadable(alloc, writer, sectors, &text)
+    let writable = plan.writable;
+    let mut text = root_text(
+        alloc,
+        writable,
+        table.size,
+        &both,
+        &superblock,
+        &trusted.root,
+    )?;
+    push_signature(&mut text, table.size, &signed)?;
+    say_loadable(alloc, writer, writable, sectors, &text)
 }
 
 // The superblock of two partitions that hold an image by it, with the values of the pin, if there is one.
@@ -164,16 +176,17 @@ fn unpinned_refusal(fault: PinnedFault) -> PartitionRefusal
     }
 }
 
-// The two partitions, and the data blocks over both.
+// The two partitions, and the data blocks over both; the device of the data is writable if it says so.
 #[tactic(auto, unfolding(crate::specs::RootStacks::root_stack_text, crate::specs::RootStacks::root_entry))]
 fn root_text<'a>(
     alloc: Global,
+    writable: bool,
     size: SectorSize,
     both: &ImagePartitions,
     superblock: &Superblock,
     root: &Digest,
 ) -> Result<Vec<u8>, PartitionsFault<'a>>
-    ensures ok { IfOk result (λ text. text.items ≡ root_stack_text size both.now superblock.now root.now) }
+    ensures ok { IfOk result (λ text. text.items ≡ root_stack_text writable size both.now superblock.now root.now) }
     ensures err { IfErr result (IsRefusedRoom (root_room superblock.now root.now)) }
 {
     let line = table_line(
@@ -184,8 +197,8 @@ fn root_text<'a>(
         root,
     )?;
     let mut text = Vec::new(alloc);
-    push_linear_entry(&mut text, b"data", part_of(size, &both.data))?;
-    push_linear_entry(&mut text, b"hash", part_of(size, &both.verity))?;
+    push_linear_entry(&mut text, writable, b"data", part_of(size, &both.data))?;
+    push_linear_entry(&mut text, false, b"hash", part_of(size, &both.verity))?;
     push_root(&mut text, &line)?;
     Ok(text)
 }

@@ -5,9 +5,9 @@ ghost use Rattle.partition_table.specs.Tables.{IsNoSizedTable, found_reads};
 ghost use Rattle.program_io.specs.Counted.{Writes};
 ghost use Rattle.partition_commands.specs.Warnings.{FindsNoted, backup_sector_warning, backup_warnings, copies_warnings, differ_warning, end_line, end_warning, end_warnings, mbr_warning, notes_of, primary_warnings, sector_warning, warning_if, warning_line, warning_text};
 
-use crate::part_of;
 use crate::parts::is_within;
 use block_device::BlockDev;
+use image_files::part_of;
 use partition_table::{
     CopyWarnings, Mbr, NoTable, Partition, PartitionTable, SectorSize, Source, find_table,
 };

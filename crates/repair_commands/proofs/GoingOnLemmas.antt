@@ -12,7 +12,7 @@ use Rattle.tree_repair.specs.Runs.{IsWriterCause}
 use Rattle.tree_repair.specs.Repairs.{IsAllowed, IsUnrepairedBy}
 use Rattle.tree_repair.specs.Worlds.{RepairWorld}
 use Rattle.tree_repair.proofs.lemmas.SameLemmas.{unrepaired-same}
-use Rattle.repair_commands.specs.Mends.{HalfMends, IsCutBy, IsEndBehind, IsOnMedium, IsRunToEnd, IsUnsyncedCause, KeepsBothImages, end_of}
+use Rattle.repair_commands.specs.Mends.{HalfMends, IsCutBy, IsEndBehind, IsOnMedium, IsRestOfUse, IsRunToEnd, IsUnsyncedCause, KeepsBothImages, ParityUse, end_of}
 
 -- what may be written may be written after a repair that ended early
 pub allowed-then : (plan : Plan) (parity : Bool) (w w' : RepairWorld) (old new : Option (List ℕ)) (fault : RepairFault) → IsUnrepairedBy plan parity w w' old new fault → IsAllowed plan.write w.data_dev w.hash_dev
@@ -29,10 +29,11 @@ laid-then l plan parity w w' old new fault run laid =
     record { layout = laid.layout; data_room = omega (arith, laid.data_room, same.0.size); hash_room = omega (arith, laid.hash_room, same.1.size) }
 
 -- a run that a fault ended, and what came after it
-pub cut-then : {W : Type 0} (writer : CountedRecord W) (plan : Plan) (parity : Option Layout) (w a w' : RepairWorld) (old new : Option (List ℕ)) (fault end : RepairFault) → IsWriterCause writer fault → IsUnrepairedBy plan (is_some parity) w a old new fault → IsEndBehind plan parity fault a w' end
+pub cut-then : {W : Type 0} (writer : CountedRecord W) (plan : Plan) (parity rest : Option ParityUse) (w a w' : RepairWorld) (old new : Option (List ℕ)) (fault end : RepairFault) → IsRestOfUse parity rest → IsWriterCause writer fault
+    → IsUnrepairedBy plan (is_some parity) w a old new fault → IsEndBehind plan rest fault a w' end
     → IsCutBy plan parity w w' old new writer.failed end
-cut-then writer plan parity w a w' old new (Image cause) end told run (is, stays) = inl (cause, (is, subst (λ (x : RepairWorld). IsUnrepairedBy plan (is_some parity) w x old new (Image cause)) (sym stays) run))
-cut-then writer plan parity w a w' old new Write end told run unheard = inr (record { told = told; between = a; cut = run; unheard = unheard })
+cut-then writer plan parity rest w a w' old new (Image cause) end is_rest told run (is, stays) = inl (cause, (is, subst (λ (x : RepairWorld). IsUnrepairedBy plan (is_some parity) w x old new (Image cause)) (sym stays) run))
+cut-then writer plan parity rest w a w' old new Write end is_rest told run unheard = inr (record { told = told; between = a; rest = rest; cut = run; is_rest = is_rest; unheard = unheard })
 
 -- a run that came to its end, and was synced
 pub end-ok : {Whole Mends : Outcome → Type 0} {Synced : Type 0} (r : Result Outcome RepairFault) (s : Result (Unit {0}) RepairFault) → IfOk r Whole → OnOk s Synced → ((t : Outcome) → Whole t → Synced → Mends t)
@@ -44,7 +45,7 @@ end-ok (Err Write) (Err unsynced) whole synced mends = tt
 end-ok (Err (Image cause)) (Err unsynced) whole synced mends = tt
 
 -- or one that didn't, or wasn't
-pub end-err : {Whole : Outcome → Type 0} (plan : Plan) (parity : Option Layout) (w a w' : RepairWorld) (old new : Option (List ℕ)) (failed : Bool) (r : Result Outcome RepairFault) (s : Result (Unit {0}) RepairFault)
+pub end-err : {Whole : Outcome → Type 0} (plan : Plan) (parity : Option ParityUse) (w a w' : RepairWorld) (old new : Option (List ℕ)) (failed : Bool) (r : Result Outcome RepairFault) (s : Result (Unit {0}) RepairFault)
     → ((t : Outcome) → Whole t → IsRunToEnd plan parity w a old new) → IfOk r Whole → IfErr r (IsCutBy plan parity w a old new failed) → KeepsBothImages a w'
     → OnOk s (IsOnMedium plan.write w'.data_dev w'.hash_dev) → IfErr s (IsUnsyncedCause plan.write a w') → IfErr (end_of r s) (HalfMends plan parity w w' old new failed)
 end-err plan parity w a w' old new failed (Ok t) (Ok done) repairs whole cut kept synced un = tt

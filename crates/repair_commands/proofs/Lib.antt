@@ -2,5 +2,6 @@ mod CopyLemmas
 mod EndingLemmas
 mod GoingOnLemmas
 mod MendLemmas
+mod PairLemmas
 mod ScanLemmas
 mod TellingLemmas

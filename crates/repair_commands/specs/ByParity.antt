@@ -1,20 +1,21 @@
 -- What `repair --fec FILE` does to files, and how it ends.
-use Rattle.std.specs.Prelude.{◌≡◌, ◌⊎◌, ℕ, Bool, true, List, Option, Some}
+use Rattle.std.specs.Prelude.{◌≡◌, ◌⊎◌, ℕ, Bool, true, List, Option}
 use Rattle.block_device.specs.Device.{Device}
 use Rattle.program_io.specs.Counted.{CountedRecord}
 use Rattle.command_line.specs.declared.image_copies.ImageCopy.{ImageCopy}
 use Rattle.command_line.specs.declared.fec_file.FecFile.{FecFile}
 use Rattle.command_line.specs.FecFiles.{FecRecord, fec_record}
-use Rattle.fec_area.specs.declared.layout.Layout.{Layout}
 use Rattle.image_commands.specs.declared.tree_source.SoughtTree.{SoughtTree}
 use Rattle.image_commands.specs.TreeSources.{may_seek}
 use Rattle.image_files.specs.declared.opening.UnopenedFile.{UnopenedFile}
 use Rattle.image_files.specs.Opener.{Calls, Opener, calls}
 use Rattle.verity_commands.specs.declared.tree_fault.TreeFault.{TreeFault}
 use Rattle.verity_commands.specs.declared.tree_fault.TreeFault.TheVariants.{Open}
+use Rattle.tree_repair.specs.declared.fault.RepairFault.{RepairFault}
 use Rattle.tree_repair.specs.declared.outcome.Outcome.{Outcome}
 use Rattle.tree_repair.specs.declared.repair.Plan.{Plan}
 use Rattle.tree_repair.specs.Worlds.{RepairWorld}
+use Rattle.verity_format.specs.Blocks.{IsOnlyRead}
 use Rattle.repair_commands.specs.declared.fault.ParityRepairFault.{ParityRepairFault}
 use Rattle.repair_commands.specs.declared.fault.ParityRepairFault.TheVariants.{Tree}
 use Rattle.repair_commands.specs.declared.found_tree.FoundTree.{FoundTree}
@@ -23,24 +24,34 @@ use Rattle.repair_commands.specs.declared.pair.RepairPlaces.{RepairPlaces}
 use Rattle.repair_commands.specs.declared.parity.LaidParity.{LaidParity}
 use Rattle.repair_commands.specs.declared.parity.Parity.{Parity}
 use Rattle.repair_commands.specs.Commands.{EndsEarly, GivesBack, IsRepairUnplaced, Mending, MendsAndTells, MendsHalf, PassesOpened, RefusesOpened, opened_world, plan_of}
-use Rattle.repair_commands.specs.Mends.{MendsInPasses}
+use Rattle.repair_commands.specs.Mends.{MendsInPasses, parity_use}
 use Rattle.repair_commands.specs.Openings.{FailsToOpenCopies, OpensAll}
 use Rattle.repair_commands.specs.Pairs.{Places, places_of}
 use Rattle.repair_commands.specs.Parity.{FailsToOpenParity, IsUnlaid, LaysAcross, OpensParity}
 
+-- the parity device was only read, and this holds of it as it was and as the calls left it
+pub record IsByParity {D : Type 0} (state : D → Device) (device : D) (P : D → D → Type 0) : Type 0 where
+  pub device' : D
+  pub read : IsOnlyRead (state device) (state device')
+  pub holds : P device device'
+
 -- a repair from copies and by parity, in passes
-abbrev pub MendsByParity : Plan → Layout → Device → RepairWorld → Option (List ℕ) → Mending Outcome
-MendsByParity plan layout parity_dev w old = λ mid between outcome. (parity_dev' : Device) × MendsInPasses plan layout parity_dev parity_dev' w mid old between outcome
+abbrev pub MendsByParity : {D : Type 0} → (D → Device) → Plan → LaidParity D → RepairWorld → Option (List ℕ) → Mending Outcome
+MendsByParity state plan laid w old = λ mid between outcome. IsByParity state laid.device (λ device device'. MendsInPasses plan laid.layout (state device) (state device') w mid old between outcome)
+
+-- such a repair that ended early
+abbrev pub MendsHalfByParity : {D : Type 0} → (D → Device) → Plan → LaidParity D → RepairWorld → Option (List ℕ) → Bool → Mending RepairFault
+MendsHalfByParity state plan laid w old failed = λ mid between cause. IsByParity state laid.device (λ device device'. MendsHalf plan (parity_use state laid.layout device device') w old failed mid between cause)
 
 -- the open images were repaired, what is still lost was reported, and both parts were closed
 abbrev pub MendsOpenedByParity : {S D : Type 0} → Calls S D → Places → Opened D → FoundTree → LaidParity D → Option (List ℕ) → Option (List ℕ) → Type 0
 MendsOpenedByParity w p o found laid old new =
-    GivesBack w p o.parts (MendsAndTells (MendsByParity (plan_of p found) laid.layout (w.state laid.device) (opened_world w.state o) old) found.whole (plan_of p found) new)
+    GivesBack w p o.parts (MendsAndTells (MendsByParity w.state (plan_of p found) laid (opened_world w.state o) old) found.whole (plan_of p found) new)
 
 -- this ended early, and both parts were closed
 abbrev pub EndsOpenedByParity : {S D : Type 0} → Calls S D → Places → Opened D → FoundTree → LaidParity D → Option (List ℕ) → Option (List ℕ) → Bool → TreeFault → Type 0
 EndsOpenedByParity w p o found laid old new failed fault =
-    GivesBack w p o.parts (EndsEarly (MendsByParity (plan_of p found) laid.layout (w.state laid.device) (opened_world w.state o) old) (MendsHalf (plan_of p found) (Some laid.layout) (opened_world w.state o) old failed) found.whole (plan_of p found) new failed fault)
+    GivesBack w p o.parts (EndsEarly (MendsByParity w.state (plan_of p found) laid (opened_world w.state o) old) (MendsHalfByParity w.state (plan_of p found) laid (opened_world w.state o) old failed) found.whole (plan_of p found) new failed fault)
 
 -- the images and the copies were opened, and then the parity file; the tree was found
 pub record IsReadyByParity {S D : Type 0} (w : Calls S D) (p : Places) (fec : FecRecord) (copies : List ImageCopy) (sought : SoughtTree) (o : Opened D) (parity : Parity D) (found : FoundTree) : Type 0 where

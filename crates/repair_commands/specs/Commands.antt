@@ -3,7 +3,6 @@ use Rattle.std.specs.Prelude.{◌≡◌, ◌⊎◌, ℕ, Bool, true, false, List
 use Rattle.block_device.specs.Device.{Device}
 use Rattle.program_io.specs.Counted.{CountedRecord}
 use Rattle.command_line.specs.declared.image_copies.ImageCopy.{ImageCopy}
-use Rattle.fec_area.specs.declared.layout.Layout.{Layout}
 use Rattle.image_pin.specs.declared.trusted.TrustedRoot.{TrustedRoot}
 use Rattle.image_commands.specs.declared.tree_source.SoughtTree.{SoughtTree}
 use Rattle.image_commands.specs.TreeSources.{may_seek}
@@ -16,12 +15,14 @@ use Rattle.tree_repair.specs.declared.outcome.Outcome.{Outcome}
 use Rattle.tree_repair.specs.declared.repair.Plan.{Plan}
 use Rattle.tree_repair.specs.Worlds.{RepairWorld, repair_world}
 use Rattle.repair_commands.specs.declared.found_tree.FoundTree.{FoundTree}
+use Rattle.repair_commands.specs.declared.opening.Copies.{Copies}
 use Rattle.repair_commands.specs.declared.opening.Opened.{Opened}
+use Rattle.repair_commands.specs.declared.pair.Pair.{Pair}
 use Rattle.repair_commands.specs.declared.pair.Parts.{Parts}
 use Rattle.repair_commands.specs.declared.pair.RepairPlaces.{RepairPlaces}
 use Rattle.repair_commands.specs.Endings.{ending_fault}
 use Rattle.repair_commands.specs.FoundTrees.{FindsNoTree, FindsTree}
-use Rattle.repair_commands.specs.Mends.{HalfMends, IsOnMedium, MendsInOnePass}
+use Rattle.repair_commands.specs.Mends.{HalfMends, IsOnMedium, MendsInOnePass, ParityUse}
 use Rattle.repair_commands.specs.Openings.{FailsToOpenCopies, OpensAll}
 use Rattle.repair_commands.specs.Pairs.{Places, places_of, pair_places}
 use Rattle.repair_commands.specs.Rest.{IsRestEnd, TellsRest, known_by}
@@ -31,24 +32,28 @@ use Rattle.verity_format.specs.Blocks.{IsOnlyRead}
 abbrev pub plan_of : Places → FoundTree → Plan
 plan_of p found = record { tree = found.tree; root = found.root; copy_first = p.first; write = p.write }
 
+-- the devices of the two images and of their copies
+abbrev pub pair_world : {D : Type 0} → (D → Device) → Pair D → Copies D → RepairWorld
+pair_world state pair copies = repair_world (state pair.data_image.device) (state pair.hash_image.device) (map state copies.data_copies.items) (map state copies.hash_copies.items)
+
 -- the opened devices
 abbrev pub opened_world : {D : Type 0} → (D → Device) → Opened D → RepairWorld
-opened_world state o = repair_world (state o.pair.data_image.device) (state o.pair.hash_image.device) (map state o.copies.data_copies.items) (map state o.copies.hash_copies.items)
+opened_world state o = pair_world state o.pair o.copies
 
 -- the two devices of the image
 abbrev pub devices_in : RepairWorld → SurveyedDevices
 devices_in w = surveyed_devices w.data_dev w.hash_dev
 
 -- both parts were closed, the data first
-pub record TakesBoth {S D : Type 0} (w : Calls S D) (p : Places) (parts : Parts) (data_dev hash_dev : D) : Type 0 where
+pub record TakesBoth {S D : Type 0} (w : Calls S D) (parts : Parts) (data_dev hash_dev : D) : Type 0 where
   pub between : S
-  pub data_taken : w.relations.takes_part w.old p.data_path parts.data_part data_dev between
-  pub hash_taken : w.relations.takes_part between p.hash_path parts.hash_part hash_dev w.new
+  pub data_taken : w.relations.takes_part w.old parts.data_path.now parts.data_part data_dev between
+  pub hash_taken : w.relations.takes_part between parts.hash_path.now parts.hash_part hash_dev w.new
 
 -- both parts were closed if the repair may write; otherwise none
-abbrev pub GivesBackImages : {S D : Type 0} → Bool → Calls S D → Places → Parts → D → D → Type 0
-GivesBackImages true w p parts data_dev hash_dev = TakesBoth w p parts data_dev hash_dev
-GivesBackImages false w p parts data_dev hash_dev = w.new ≡ w.old
+abbrev pub GivesBackImages : {S D : Type 0} → Bool → Calls S D → Parts → D → D → Type 0
+GivesBackImages true w parts data_dev hash_dev = TakesBoth w parts data_dev hash_dev
+GivesBackImages false w parts data_dev hash_dev = w.new ≡ w.old
 
 -- ---- on devices
 
@@ -90,7 +95,7 @@ abbrev pub MendsOnce : Plan → RepairWorld → Option (List ℕ) → Mending Ou
 MendsOnce plan w old = λ mid between outcome. MendsInOnePass plan w mid old between outcome
 
 -- a repair that ended early, of which only verified blocks were written; `failed` is whether the writer failed
-abbrev pub MendsHalf : Plan → Option Layout → RepairWorld → Option (List ℕ) → Bool → Mending RepairFault
+abbrev pub MendsHalf : Plan → Option ParityUse → RepairWorld → Option (List ℕ) → Bool → Mending RepairFault
 MendsHalf plan parity w old failed = λ mid between cause. HalfMends plan parity w mid old between failed cause
 
 -- ---- on files
@@ -100,7 +105,7 @@ pub record GivesBack {S D : Type 0} (w : Calls S D) (p : Places) (parts : Parts)
   pub data_dev : D
   pub hash_dev : D
   pub holds : P (surveyed_devices (w.state data_dev) (w.state hash_dev))
-  pub back : GivesBackImages p.write w p parts data_dev hash_dev
+  pub back : GivesBackImages p.write w parts data_dev hash_dev
 
 -- the open images were repaired, what is still lost was reported, and both parts were closed
 abbrev pub MendsOpened : {S D : Type 0} → Calls S D → Places → Opened D → FoundTree → Option (List ℕ) → Option (List ℕ) → Type 0
@@ -179,7 +184,7 @@ abbrev pub plan_at : RepairPlaces → FoundTree → Plan
 plan_at places found = plan_of (places_of places) found
 
 abbrev pub GivesBackBoth : {S D : Type 0} → Opener S D → (D → Device) → S → S → RepairPlaces → Parts → D → D → Type 0
-GivesBackBoth relations state old new places parts data_dev hash_dev = GivesBackImages places.write (calls relations state old new) (places_of places) parts data_dev hash_dev
+GivesBackBoth relations state old new places parts data_dev hash_dev = GivesBackImages places.write (calls relations state old new) parts data_dev hash_dev
 
 abbrev pub IsPairMended : {S D W : Type 0} → Opener S D → (D → Device) → S → S → RepairPlaces → Opened D → FoundTree → (W → Option (List ℕ)) → CountedRecord W → CountedRecord W → Type 0
 IsPairMended relations state old new places o found contents before behind =

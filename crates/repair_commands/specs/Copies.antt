@@ -1,31 +1,32 @@
 -- The copies that blocks are sought in, as they are opened.
-use Rattle.std.specs.Prelude.{◌≡◌, ◌⊎◌, ℕ, Bool, true, false, List, [], ◌∷◌, Option, Vec, map}
+use Rattle.std.specs.Prelude.{◌≡◌, ◌⊎◌, ℕ, Bool, true, false, List, [], ◌∷◌, Vec, map}
 use Rattle.std.specs.Global.{Global}
 use Rattle.allocation.specs.Refusal.{IsOutOfMemory}
-use Rattle.block_device.specs.declared.file_id.FileId.{FileId}
 use Rattle.block_device.specs.Device.{Device}
 use Rattle.command_line.specs.declared.image_copies.ImageCopy.{ImageCopy}
-use Rattle.image_files.specs.Apart.{OpensApart, RefusesApart}
 use Rattle.image_files.specs.declared.file_use.FileUse.{FileUse}
+use Rattle.image_files.specs.declared.placed_image.PlacedImage.{PlacedImage}
 use Rattle.image_files.specs.Opener.{Calls, Opener, calls}
+use Rattle.image_files.specs.OpenPlaces.{OpensPlaceApart, RefusesPlaceApart}
 use Rattle.verity_commands.specs.declared.tree_fault.TreeFault.{TreeFault}
 use Rattle.verity_commands.specs.declared.tree_fault.TreeFault.TheVariants.{Open, Survey}
 use Rattle.tree_survey.specs.declared.fault.SurveyFault.TheVariants.{Image}
 use Rattle.verity_format.specs.declared.verifying.VerifyFault.TheVariants.{NoMemory}
 
--- the path of a copy's hashes, or of its data
+-- the argument that names a copy's hashes, or its data
 abbrev pub path_in : Bool → ImageCopy → List ℕ
 path_in true copy = copy.hash_path.now
 path_in false copy = copy.data_path.now
 
--- an image was opened for reading, as this device; it is none of these files that is writable
+-- an image was opened for reading, as this device; it has no sector in common with one of these files that is writable
 pub record OpensImageCopy {S D : Type 0} (w : Calls S D) (files : List FileUse) (path : List ℕ) (device : D) : Type 0 where
-  pub id : Option FileId
-  pub opened : OpensApart w files path false (record { device = device; id = id })
+  pub image : PlacedImage D
+  pub opened : OpensPlaceApart w files path false image
+  pub device_is : device ≡ image.device
 
 -- the image can't be opened, or memory for one more device was refused
 abbrev pub IsCopyUnopened : {S D : Type 0} → Calls S D → List FileUse → List ℕ → TreeFault → Type 0
-IsCopyUnopened w files path (Open file) = RefusesApart w files path false file
+IsCopyUnopened w files path (Open file) = RefusesPlaceApart w files path false file
 IsCopyUnopened {S} {D} w files path (Survey (Image NoMemory)) = ((device : D) × OpensImageCopy w files path device) × IsOutOfMemory 1
 IsCopyUnopened w files path fault = ⊥
 

@@ -1,9 +1,8 @@
 -- The tree of a hash image that is repaired, found before anything is written.
 use Rattle.std.specs.Prelude.{◌≡◌, ◌⊎◌, ℕ}
 use Rattle.block_device.specs.Device.{Device}
-use Rattle.image_commands.specs.declared.tree_source.NoSource.{NoSource}
 use Rattle.image_commands.specs.declared.tree_source.SoughtTree.{SoughtTree}
-use Rattle.image_commands.specs.TreeSources.{IsNoTreeOf, IsTreeOf}
+use Rattle.image_commands.specs.TreeSources.{IsNoTreeOf, IsSourceRefused, IsTreeOf}
 use Rattle.verity_commands.specs.declared.tree_fault.TreeFault.{TreeFault}
 use Rattle.verity_commands.specs.Surveys.{no_source_fault}
 use Rattle.verity_format.specs.declared.tree.VerityTree.{VerityTree}
@@ -25,9 +24,6 @@ pub record RefusesTree (sectors : ℕ) (hash_dev : Device) (first : ℕ) (sought
   pub tree_of : IsTreeOf sought.source sectors hash_dev first read_dev tree
   pub cause : IsUnusedCause tree sought.root read_dev hash_dev' fault
 
--- there is no tree of that source
-abbrev pub IsSourceRefused : ℕ → Device → ℕ → SoughtTree → Device → TreeFault → Type 0
-IsSourceRefused sectors hash_dev first sought hash_dev' fault = (cause : NoSource) × IsNoTreeOf sought.source sectors hash_dev first hash_dev' cause × (fault ≡ no_source_fault cause)
-
+-- there is no tree of that source, or it isn't repaired
 abbrev pub FindsNoTree : ℕ → Device → ℕ → SoughtTree → Device → TreeFault → Type 0
-FindsNoTree sectors hash_dev first sought hash_dev' fault = IsSourceRefused sectors hash_dev first sought hash_dev' fault ⊎ RefusesTree sectors hash_dev first sought hash_dev' fault
+FindsNoTree sectors hash_dev first sought hash_dev' fault = IsSourceRefused no_source_fault (IsNoTreeOf sought.source sectors hash_dev first hash_dev') fault ⊎ RefusesTree sectors hash_dev first sought hash_dev' fault

@@ -12,6 +12,7 @@ use Rattle.tree_repair.specs.Outcomes.{IsOutcomeOf, IsParityOutcome}
 use Rattle.tree_repair.specs.ParityBounds.{RepairsInPasses}
 use Rattle.tree_repair.specs.Repairs.{IsUnrepairedBy, LooksAtAll, Repairs, SeeksByParity}
 use Rattle.tree_repair.specs.Worlds.{RepairWorld}
+use Rattle.verity_format.specs.Blocks.{IsOnlyRead}
 use Rattle.verity_format.specs.declared.verifying.VerifyFault.{VerifyFault}
 use Rattle.verity_format.specs.declared.verifying.VerifyFault.TheVariants.{Device as DeviceFailed}
 
@@ -82,20 +83,34 @@ IsUnsyncedEnd write w w' (Some (Image cause)) fault = (fault ≡ Image cause) ×
 
 -- ---- a run that ends early
 
--- the blocks were visited to the end, in passes, and those that were found nowhere were sought by the parity on a device
-pub record SeeksToEnd (plan : Plan) (l : Layout) (w w' : RepairWorld) (old new : Option (List ℕ)) : Type 0 where
-  pub repairs : Repairs plan true w w' old new None
+-- the layout of the parity, and the states of its device before and after a run
+pub record ParityUse : Type 0 where
+  pub layout : Layout
   pub before : Device
   pub after : Device
-  pub sought : SeeksByParity plan l w w' before after
 
--- a run to its end, by parity of that layout if there is one
-abbrev pub IsRunToEnd : Plan → Option Layout → RepairWorld → RepairWorld → Option (List ℕ) → Option (List ℕ) → Type 0
+abbrev pub parity_use : {P : Type 0} → (P → Device) → Layout → P → P → Option ParityUse
+parity_use state l old new = Some (record { layout = l; before = state old; after = state new })
+
+-- the rest of a use of parity, of which the part before only read the device
+abbrev pub IsRestOfUse : Option ParityUse → Option ParityUse → Type 0
+IsRestOfUse None None = Unit {0}
+IsRestOfUse None (Some rest) = ⊥
+IsRestOfUse (Some whole) None = ⊥
+IsRestOfUse (Some whole) (Some rest) = IsOnlyRead whole.before rest.before × ((rest.layout ≡ whole.layout) × (rest.after ≡ whole.after))
+
+-- the blocks were visited to the end, in passes, and those that were found nowhere were sought by the parity
+pub record SeeksToEnd (plan : Plan) (parity : ParityUse) (w w' : RepairWorld) (old new : Option (List ℕ)) : Type 0 where
+  pub repairs : Repairs plan true w w' old new None
+  pub sought : SeeksByParity plan parity.layout w w' parity.before parity.after
+
+-- a run to its end, by parity if there is some
+abbrev pub IsRunToEnd : Plan → Option ParityUse → RepairWorld → RepairWorld → Option (List ℕ) → Option (List ℕ) → Type 0
 IsRunToEnd plan None w w' old new = LooksAtAll plan w w' old new
-IsRunToEnd plan (Some l) w w' old new = SeeksToEnd plan l w w' old new
+IsRunToEnd plan (Some parity) w w' old new = SeeksToEnd plan parity w w' old new
 
 -- a run to its end, or up to a fault
-abbrev pub IsRunTo : Plan → Option Layout → RepairWorld → RepairWorld → Option (List ℕ) → Option (List ℕ) → Option RepairFault → Type 0
+abbrev pub IsRunTo : Plan → Option ParityUse → RepairWorld → RepairWorld → Option (List ℕ) → Option (List ℕ) → Option RepairFault → Type 0
 IsRunTo plan parity w w' old new None = IsRunToEnd plan parity w w' old new
 IsRunTo plan parity w w' old new (Some fault) = IsUnrepairedBy plan (is_some parity) w w' old new fault
 
@@ -104,36 +119,38 @@ abbrev pub unheard_end : Option RepairFault → RepairFault
 unheard_end None = Write
 unheard_end (Some fault) = fault
 
-pub record IsUnheard (plan : Plan) (parity : Option Layout) (w w' : RepairWorld) (fault : RepairFault) : Type 0 where
+pub record IsUnheard (plan : Plan) (parity : Option ParityUse) (w w' : RepairWorld) (fault : RepairFault) : Type 0 where
   pub ended : Option RepairFault
   pub run : IsRunTo plan parity w w' None None ended
   pub is : fault ≡ unheard_end ended
 
 -- what ended a repair; after a failed writer the image was repaired again without a writer
-abbrev pub IsEndBehind : Plan → Option Layout → RepairFault → RepairWorld → RepairWorld → RepairFault → Type 0
+abbrev pub IsEndBehind : Plan → Option ParityUse → RepairFault → RepairWorld → RepairWorld → RepairFault → Type 0
 IsEndBehind plan parity (Image cause) w w' fault = (fault ≡ Image cause) × (w' ≡ w)
 IsEndBehind plan parity Write w w' fault = IsUnheard plan parity w w' fault
 
 -- the writer failed, which it records, and the image was repaired again without a writer
-pub record GoesOnUnheard (plan : Plan) (parity : Option Layout) (w w' : RepairWorld) (old new : Option (List ℕ)) (failed : Bool) (fault : RepairFault) : Type 0 where
+pub record GoesOnUnheard (plan : Plan) (parity : Option ParityUse) (w w' : RepairWorld) (old new : Option (List ℕ)) (failed : Bool) (fault : RepairFault) : Type 0 where
   pub told : failed ≡ true
   pub between : RepairWorld
+  pub rest : Option ParityUse
   pub cut : IsUnrepairedBy plan (is_some parity) w between old new Write
-  pub unheard : IsUnheard plan parity between w' fault
+  pub is_rest : IsRestOfUse parity rest
+  pub unheard : IsUnheard plan rest between w' fault
 
 -- The fault `Write` therefore means that the image was repaired to its end nevertheless.
-abbrev pub IsCutBy : Plan → Option Layout → RepairWorld → RepairWorld → Option (List ℕ) → Option (List ℕ) → Bool → RepairFault → Type 0
+abbrev pub IsCutBy : Plan → Option ParityUse → RepairWorld → RepairWorld → Option (List ℕ) → Option (List ℕ) → Bool → RepairFault → Type 0
 IsCutBy plan parity w w' old new failed fault =
     ((cause : VerifyFault) × ((fault ≡ Image cause) × IsUnrepairedBy plan (is_some parity) w w' old new (Image cause))) ⊎ GoesOnUnheard plan parity w w' old new failed fault
 
 -- a run to its end, or up to a fault, with the writer or after its failure
-abbrev pub IsWholeOrCut : Plan → Option Layout → RepairWorld → RepairWorld → Option (List ℕ) → Option (List ℕ) → Bool → Option RepairFault → Type 0
+abbrev pub IsWholeOrCut : Plan → Option ParityUse → RepairWorld → RepairWorld → Option (List ℕ) → Option (List ℕ) → Bool → Option RepairFault → Type 0
 IsWholeOrCut plan parity w w' old new failed None = IsRunToEnd plan parity w w' old new
 IsWholeOrCut plan parity w w' old new failed (Some fault) = IsCutBy plan parity w w' old new failed fault
 
 -- The repair ended in that fault, and both devices were synced; or a device failed in the sync, and each one was synced or its
 -- own sync failed. Only verified blocks were written.
-pub record HalfMends (plan : Plan) (parity : Option Layout) (w w' : RepairWorld) (old new : Option (List ℕ)) (failed : Bool) (fault : RepairFault) : Type 0 where
+pub record HalfMends (plan : Plan) (parity : Option ParityUse) (w w' : RepairWorld) (old new : Option (List ℕ)) (failed : Bool) (fault : RepairFault) : Type 0 where
   pub mid : RepairWorld
   pub ended : Option RepairFault
   pub run : IsWholeOrCut plan parity w mid old new failed ended
@@ -148,10 +165,10 @@ IsMendedInOnePass contents plan w w' old new outcome = MendsInOnePass plan w w' 
 abbrev pub IsMendedInPasses : {P W : Type 0} → (P → Device) → (W → Option (List ℕ)) → Plan → Layout → P → P → RepairWorld → RepairWorld → CountedRecord W → CountedRecord W → Outcome → Type 0
 IsMendedInPasses state contents plan l p p' w w' old new outcome = MendsInPasses plan l (state p) (state p') w w' (contents old.inner) (contents new.inner) outcome
 
-abbrev pub IsMendingCut : {W : Type 0} → (W → Option (List ℕ)) → Plan → Option Layout → RepairWorld → RepairWorld → CountedRecord W → CountedRecord W → RepairFault → Type 0
+abbrev pub IsMendingCut : {W : Type 0} → (W → Option (List ℕ)) → Plan → Option ParityUse → RepairWorld → RepairWorld → CountedRecord W → CountedRecord W → RepairFault → Type 0
 IsMendingCut contents plan parity w w' old new fault = HalfMends plan parity w w' (contents old.inner) (contents new.inner) new.failed fault
 
-abbrev pub IsRunCut : {W : Type 0} → (W → Option (List ℕ)) → Plan → Option Layout → RepairWorld → RepairWorld → CountedRecord W → CountedRecord W → RepairFault → Type 0
+abbrev pub IsRunCut : {W : Type 0} → (W → Option (List ℕ)) → Plan → Option ParityUse → RepairWorld → RepairWorld → CountedRecord W → CountedRecord W → RepairFault → Type 0
 IsRunCut contents plan parity w w' old new fault = IsCutBy plan parity w w' (contents old.inner) (contents new.inner) new.failed fault
 
 -- each block was visited, in one pass, and this is known of the image

@@ -1,4 +1,4 @@
--- All that `repair` opens: the two parts to be repaired, and the copies.
+-- All that `repair` opens: the two images to be repaired, and the copies.
 use Rattle.std.specs.Prelude.{◌≡◌, ◌⊎◌, true, false, List, map}
 use Rattle.block_device.specs.Device.{Device}
 use Rattle.command_line.specs.declared.image_copies.ImageCopy.{ImageCopy}
@@ -8,7 +8,7 @@ use Rattle.image_files.specs.Opener.{Calls, Opener, calls}
 use Rattle.verity_commands.specs.declared.tree_fault.TreeFault.{TreeFault}
 use Rattle.verity_commands.specs.declared.tree_fault.TreeFault.TheVariants.{Open}
 use Rattle.repair_commands.specs.Copies.{OpensEachCopy, RefusesEach, path_in}
-use Rattle.repair_commands.specs.Pairs.{FailsToMeasure, FailsToOpenPair, MeasuresBoth, OpensPair, Places, pair_uses, places_of}
+use Rattle.repair_commands.specs.Pairs.{FailsToOpenPair, OpensPair, Places, pair_uses, places_of}
 use Rattle.repair_commands.specs.declared.opening.Copies.{Copies}
 use Rattle.repair_commands.specs.declared.opening.Opened.{Opened}
 use Rattle.repair_commands.specs.declared.pair.Pair.{Pair}
@@ -33,42 +33,29 @@ RefusesCopies w files copies fault = RefusesEach w files (map (path_in false) co
 
 -- ---- all files
 
--- the files were measured, and then their parts opened
-pub record IsPairOpen {S D : Type 0} (w : Calls S D) (p : Places) (parts : Parts) (pair : Pair D) : Type 0 where
-  pub between : S
-  pub measures : MeasuresBoth (record w { new = between }) p parts
-  pub opens : OpensPair (record w { old = between }) p parts pair
-
--- and then the copies, none of which is a writable file
+-- the two images, and then the copies, none of which is a writable file
 pub record OpensAll {S D : Type 0} (w : Calls S D) (p : Places) (copies : List ImageCopy) (o : Opened D) : Type 0 where
   pub between : S
-  pub pair_open : IsPairOpen (record w { new = between }) p o.parts o.pair
+  pub pair_open : OpensPair (record w { new = between }) p o.parts o.pair
   pub copies_open : OpensCopies (record w { old = between }) (pair_uses p.write o.parts o.pair) copies o.copies
 
--- the files couldn't be measured
-pub record EndsUnmeasured {S D : Type 0} (w : Calls S D) (p : Places) (fault : TreeFault) : Type 0 where
+-- the images couldn't be opened
+pub record EndsUnpaired {S D : Type 0} (w : Calls S D) (p : Places) (fault : TreeFault) : Type 0 where
   pub file : UnopenedFile
-  pub ends : FailsToMeasure w p file
+  pub ends : FailsToOpenPair w p file
   pub is : fault ≡ Open file
 
--- the files were measured, and their parts couldn't be opened
-pub record EndsUnpaired {S D : Type 0} (w : Calls S D) (p : Places) (fault : TreeFault) : Type 0 where
-  pub between : S
-  pub parts : Parts
-  pub measures : MeasuresBoth (record w { new = between }) p parts
-  pub ends : FailsToOpenPair (record w { old = between }) p parts fault
-
--- the parts were opened, and a copy couldn't be
+-- the images were opened, and a copy couldn't be
 pub record EndsUncopied {S D : Type 0} (w : Calls S D) (p : Places) (copies : List ImageCopy) (fault : TreeFault) : Type 0 where
   pub between : S
   pub parts : Parts
   pub pair : Pair D
-  pub pair_open : IsPairOpen (record w { new = between }) p parts pair
+  pub pair_open : OpensPair (record w { new = between }) p parts pair
   pub refused : RefusesCopies (record w { old = between }) (pair_uses p.write parts pair) copies fault
 
 -- the first of them that is refused
 abbrev pub FailsToOpenCopies : {S D : Type 0} → Calls S D → Places → List ImageCopy → TreeFault → Type 0
-FailsToOpenCopies w p copies fault = EndsUnmeasured w p fault ⊎ (EndsUnpaired w p fault ⊎ EndsUncopied w p copies fault)
+FailsToOpenCopies w p copies fault = EndsUnpaired w p fault ⊎ EndsUncopied w p copies fault
 
 -- ---- in terms of an opener before and after, and the places in the arguments
 

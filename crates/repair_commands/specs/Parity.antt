@@ -1,14 +1,14 @@
 -- The parity file of an image, and the layout of the parity by the shape of the tree.
-use Rattle.std.specs.Prelude.{◌≡◌, ◌≢◌, ℕ, ◌<◌, ◌≤◌, Bool, false, Option}
-use Rattle.block_device.specs.declared.file_id.FileId.{FileId}
+use Rattle.std.specs.Prelude.{◌≡◌, ◌≢◌, ℕ, ◌<◌, ◌≤◌, Bool, false}
 use Rattle.block_device.specs.Device.{Device}
 use Rattle.command_line.specs.declared.fec_file.FecFile.{FecFile}
 use Rattle.command_line.specs.FecFiles.{FecRecord, fec_record}
 use Rattle.fec_area.specs.declared.layout.Layout.{Layout}
 use Rattle.fec_area.specs.Layouts.{IsLaidOn, IsLayoutOf, parity_sectors}
 use Rattle.image_files.specs.declared.opening.UnopenedFile.{UnopenedFile}
-use Rattle.image_files.specs.Apart.{OpensApart, RefusesApart}
+use Rattle.image_files.specs.declared.placed_image.PlacedImage.{PlacedImage}
 use Rattle.image_files.specs.Opener.{Calls, Opener, calls}
+use Rattle.image_files.specs.OpenPlaces.{OpensPlaceApart, RefusesPlaceApart}
 use Rattle.verity_commands.specs.declared.tree_fault.TreeFault.TheVariants as trees
 use Rattle.tree_shape.specs.Shape.{ShapeRecord}
 use Rattle.tree_survey.specs.Causes.{HasRoom, IsCutOff}
@@ -20,14 +20,15 @@ use Rattle.repair_commands.specs.declared.parity.LaidParity.{LaidParity}
 use Rattle.repair_commands.specs.declared.parity.Parity.{Parity}
 use Rattle.repair_commands.specs.Pairs.{pair_uses}
 
--- the parity file was opened for reading; if the repair may write, it is none of the two files to be repaired
+-- the parity was opened for reading; if the repair may write, it has no sector in common with the two parts to be repaired
 pub record OpensParity {S D : Type 0} (w : Calls S D) (write : Bool) (o : Opened D) (fec : FecRecord) (parity : Parity D) : Type 0 where
-  pub id : Option FileId
-  pub opened : OpensApart w (pair_uses write o.parts o.pair) fec.path false (record { device = parity.device; id = id })
+  pub image : PlacedImage D
+  pub opened : OpensPlaceApart w (pair_uses write o.parts o.pair) fec.path false image
+  pub device_is : parity.device ≡ image.device
   pub roots_are : parity.roots ≡ fec.roots
 
 abbrev pub FailsToOpenParity : {S D : Type 0} → Calls S D → Bool → Opened D → FecRecord → UnopenedFile → Type 0
-FailsToOpenParity w write o fec file = RefusesApart w (pair_uses write o.parts o.pair) fec.path false file
+FailsToOpenParity w write o fec file = RefusesPlaceApart w (pair_uses write o.parts o.pair) fec.path false file
 
 -- the parity file was opened, by the opener before and after and the arguments
 abbrev pub IsFecOpened : {S D : Type 0} → Opener S D → (D → Device) → S → S → Bool → Opened D → FecFile → Parity D → Type 0

@@ -1,9 +1,10 @@
 //! `repair --fec FILE`: restores what no copy has by the parity in a file.
-ghost use Rattle.std.specs.Prelude.{◌≤◌, ◌^◌, Some, IfErr, IfOk, OnOk};
+ghost use Rattle.std.specs.Prelude.{◌≤◌, ◌^◌, IfErr, IfOk, OnOk};
 ghost use Rattle.tree_repair.specs.Repairs.{IsAllowed};
 ghost use Rattle.repair_commands.specs.ByParity.{AreRepairedByFec, AreUnrepairedByFec, IsPairMendedByFec, IsPairUnmendedByFec};
 ghost use Rattle.fec_area.specs.Layouts.{IsLaidOn};
-ghost use Rattle.repair_commands.specs.Mends.{IsEndBehind, IsMendedInPasses, IsMendingCut, IsRunByParity, IsRunCut, IsUnheard};
+ghost use Rattle.repair_commands.specs.Mends.{IsEndBehind, IsMendedInPasses, IsMendingCut, IsRunByParity, IsRunCut, IsUnheard, parity_use};
+ghost use Rattle.verity_format.specs.Blocks.{IsOnlyRead};
 
 use crate::fault::ParityRepairFault;
 use crate::found_tree::{FoundTree, find_repaired_tree};
@@ -53,7 +54,7 @@ pub fn repair_by_parity<'a, I: Images, W: Write>(
         return Err(ParityRepairFault::Tree(TreeFault::Unaligned));
     }
     let mut opened = open_all(alloc, images, places, copies)?;
-    let parity = match open_parity(images, places.write, &opened, fec) {
+    let parity = match open_parity(alloc, images, places.write, &opened, fec) {
         Ok(parity) => parity,
         Err(file) => return Err(ParityRepairFault::Tree(TreeFault::Open(file))),
     };
@@ -75,7 +76,7 @@ fn mend_opened<'a, I: Images, W: Write>(
     alloc: Global,
     images: &mut I,
     places: RepairPlaces<'a>,
-    opened: Opened<I::Dev>,
+    opened: Opened<'a, I::Dev>,
     found: &FoundTree,
     laid: LaidParity<I::Dev>,
     writer: &mut Counted<W>,
@@ -83,14 +84,18 @@ fn mend_opened<'a, I: Images, W: Write>(
     requires first { places.hash_first ≤ 2 ^ 55 }
     requires allowed { IsAllowed places.write (I.Dev.state opened.pair.data_image.device) (I.Dev.state opened.pair.hash_image.device) }
     requires laid { IsLaidOn laid.layout (I.Dev.state opened.pair.data_image.device) (I.Dev.state opened.pair.hash_image.device) }
-    ensures ok { OnOk result (IsPairMendedByFec I.relations I.Dev.state images.old images.new places.entry opened found.now laid W.contents writer.old writer.new) }
-    ensures err { IfErr result (IsPairUnmendedByFec I.relations I.Dev.state images.old images.new places.entry opened found.now laid W.contents writer.old writer.new) }
+    ensures ok { OnOk result (IsPairMendedByFec I.relations I.Dev.state images.old images.new places.entry opened.entry found.now laid W.contents writer.old writer.new) }
+    ensures err { IfErr result (IsPairUnmendedByFec I.relations I.Dev.state images.old images.new places.entry opened.entry found.now laid W.contents writer.old writer.new) }
 {
     let LaidParity { layout, device } = laid;
     let mut parity_dev = device;
     let plan = plan_at(places, found);
-    let parts = opened.parts;
-    let mut image = damaged(opened);
+    let Opened {
+        parts,
+        pair,
+        copies,
+    } = opened;
+    let mut image = damaged(pair, copies);
     let ended = mend(alloc, &mut image, &layout, &mut parity_dev, &plan, writer);
     let devices = devices_of(image);
     let (data, hash, told) = tell(alloc, devices, ended, found.whole, &plan, writer);
@@ -110,8 +115,9 @@ fn mend<D: SyncDev, H: SyncDev, C: BlockDev, P: BlockDev, W: Write>(
     requires first { plan.now.copy_first ≤ 2 ^ 55 }
     requires allowed { IsAllowed plan.now.write image.old.world.data_dev image.old.world.hash_dev }
     requires laid { IsLaidOn layout.now image.old.world.data_dev image.old.world.hash_dev }
+    ensures parity { IsOnlyRead (P.state parity_dev.old) (P.state parity_dev.new) }
     ensures ok { IfOk result (IsMendedInPasses P.state W.contents plan.now layout.now parity_dev.old parity_dev.new image.old.world image.new.world writer.old writer.new) }
-    ensures err { IfErr result (IsMendingCut W.contents plan.now (Some layout.now) image.old.world image.new.world writer.old writer.new) }
+    ensures err { IfErr result (IsMendingCut W.contents plan.now (parity_use P.state layout.now parity_dev.old parity_dev.new) image.old.world image.new.world writer.old writer.new) }
 {
     let ended = repair_through(alloc, image, layout, parity_dev, plan, writer);
     let synced = sync_both(image, plan.write);
@@ -130,8 +136,9 @@ fn repair_through<D: BlockDev, H: BlockDev, C: BlockDev, P: BlockDev, W: Write>(
     requires first { plan.now.copy_first ≤ 2 ^ 55 }
     requires allowed { IsAllowed plan.now.write image.old.world.data_dev image.old.world.hash_dev }
     requires laid { IsLaidOn layout.now image.old.world.data_dev image.old.world.hash_dev }
+    ensures parity { IsOnlyRead (P.state parity_dev.old) (P.state parity_dev.new) }
     ensures ok { IfOk result (IsRunByParity P.state W.contents plan.now layout.now parity_dev.old parity_dev.new image.old.world image.new.world writer.old writer.new) }
-    ensures err { IfErr result (IsRunCut W.contents plan.now (Some layout.now) image.old.world image.new.world writer.old writer.new) }
+    ensures err { IfErr result (IsRunCut W.contents plan.now (parity_use P.state layout.now parity_dev.old parity_dev.new) image.old.world image.new.world writer.old writer.new) }
 {
     match repair_with_parity(alloc, image, layout, parity_dev, plan, writer) {
         Ok(outcome) => Ok(outcome),
@@ -151,7 +158,8 @@ fn go_on<D: BlockDev, H: BlockDev, C: BlockDev, P: BlockDev>(
     requires first { plan.now.copy_first ≤ 2 ^ 55 }
     requires allowed { IsAllowed plan.now.write image.old.world.data_dev image.old.world.hash_dev }
     requires laid { IsLaidOn layout.now image.old.world.data_dev image.old.world.hash_dev }
-    ensures { IsEndBehind plan.now (Some layout.now) fault image.old.world image.new.world result }
+    ensures parity { IsOnlyRead (P.state parity_dev.old) (P.state parity_dev.new) }
+    ensures ended { IsEndBehind plan.now (parity_use P.state layout.now parity_dev.old parity_dev.new) fault image.old.world image.new.world result }
 {
     match fault {
         RepairFault::Image(fault) => RepairFault::Image(fault),
@@ -170,7 +178,8 @@ fn repair_unheard<D: BlockDev, H: BlockDev, C: BlockDev, P: BlockDev>(
     requires first { plan.now.copy_first ≤ 2 ^ 55 }
     requires allowed { IsAllowed plan.now.write image.old.world.data_dev image.old.world.hash_dev }
     requires laid { IsLaidOn layout.now image.old.world.data_dev image.old.world.hash_dev }
-    ensures { IsUnheard plan.now (Some layout.now) image.old.world image.new.world result }
+    ensures parity { IsOnlyRead (P.state parity_dev.old) (P.state parity_dev.new) }
+    ensures ended { IsUnheard plan.now (parity_use P.state layout.now parity_dev.old parity_dev.new) image.old.world image.new.world result }
 {
     let mut nowhere = Counted::new(Nowhere);
     match repair_with_parity(alloc, image, layout, parity_dev, plan, &mut nowhere) {

@@ -5,13 +5,13 @@ ghost use Rattle.repair_commands.specs.Copies.{EachIsOpen, RefusesOne, path_in};
 
 use allocation::{OutOfMemory, push};
 use command_line::ImageCopy;
-use image_files::{FileUse, Images, open_apart};
+use image_files::{FileUse, Images, open_place_apart};
 use std::alloc::Global;
 use tree_survey::SurveyFault;
 use verity_commands::TreeFault;
 use verity_format::VerifyFault;
 
-/// Opens the data of the copies, or their hashes, for reading. No copy may be one of `files` that is writable.
+/// Opens the data of the copies, or their hashes, for reading. No copy may have a sector in common with one of `files` that is writable.
 pub(crate) fn open_copies<'a, I: Images>(
     alloc: Global,
     images: &mut I,
@@ -24,7 +24,7 @@ pub(crate) fn open_copies<'a, I: Images>(
 {
     let mut devices = Vec::new(alloc);
     'copies: for copy in copies {
-        let image = open_apart(images, files, path_in(hashes, *copy), false)?;
+        let image = open_place_apart(alloc, images, files, path_in(hashes, *copy), false)?;
         let Ok(()) = add(&mut devices, image.device) else {
             return Err(TreeFault::Survey(SurveyFault::Image(VerifyFault::NoMemory)));
         };

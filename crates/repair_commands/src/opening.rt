@@ -5,7 +5,9 @@ ghost use Rattle.repair_commands.specs.Openings.{AreCopiesOpened, IsAllOpened, I
 ghost use Rattle.repair_commands.specs.Pairs.{pair_uses};
 
 use crate::copies::open_copies;
-use crate::pair::{Pair, Parts, RepairPlaces, measure, open_pair, part_use};
+use crate::pair::{
+    Pair, Parts, RepairPlaces, check_parts, narrow_both, open_files, part_use, parts_of,
+};
 use command_line::ImageCopy;
 use image_files::{FileUse, Images};
 use std::alloc::Global;
@@ -13,8 +15,8 @@ use verity_commands::TreeFault;
 
 /// The two parts of files that are repaired, open, and the copies of each.
 #[derive(Drop)]
-pub(crate) struct Opened<D> {
-    pub parts: Parts,
+pub(crate) struct Opened<'a, D> {
+    pub parts: Parts<'a>,
     pub pair: Pair<D>,
     pub copies: Copies<D>,
 }
@@ -26,21 +28,23 @@ pub(crate) struct Copies<D> {
     pub hash_copies: Vec<D>,
 }
 
-/// Opens the two parts, and then the copies.
+/// Opens the two images once, takes what is repaired of each, and opens the copies.
 pub(crate) fn open_all<'a, I: Images>(
     alloc: Global,
     images: &mut I,
     places: RepairPlaces<'a>,
     copies: &[ImageCopy<'a>],
-) -> Result<Opened<I::Dev>, TreeFault<'a>>
+) -> Result<Opened<'a, I::Dev>, TreeFault<'a>>
     ensures ok { IfOk result (IsAllOpened I.relations I.Dev.state images.old images.new places.entry copies.now) }
     ensures data_fresh { IfOk result (λ o. IsFresh (I.Dev.state o.pair.data_image.device) places.entry.write) }
     ensures hash_fresh { IfOk result (λ o. IsFresh (I.Dev.state o.pair.hash_image.device) places.entry.write) }
     ensures err { IfErr result (IsOneUnopened I.relations I.Dev.state images.old images.new places.entry copies.now) }
 {
     let write = places.write;
-    let parts = measure(images, places)?;
-    let pair = open_pair(images, places, parts)?;
+    let whole = open_files(alloc, images, places)?;
+    let parts = parts_of(&whole, places.hash_first);
+    let pair = narrow_both(images, places.hash_first, whole);
+    check_parts(places, parts, &pair)?;
     let files = [
         part_use(&pair.data_image, write, parts.data_part),
         part_use(&pair.hash_image, write, parts.hash_part),

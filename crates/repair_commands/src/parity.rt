@@ -8,7 +8,8 @@ use crate::pair::{Pair, part_use};
 use block_device::BlockDev;
 use command_line::FecFile;
 use fec_area::Layout;
-use image_files::{Images, UnopenedFile, open_apart};
+use image_files::{Images, UnopenedFile, open_place_apart};
+use std::alloc::Global;
 use tree_shape::Shape;
 use tree_survey::SurveyFault;
 use verity_commands::TreeFault;
@@ -21,11 +22,12 @@ pub(crate) struct Parity<D> {
     pub roots: u32,
 }
 
-/// Opens the parity file for reading. If the repair may write, it mustn't be one of the two images.
+/// Opens the parity file for reading. If the repair may write, it mustn't have a sector in common with one of the two images.
 pub(crate) fn open_parity<'a, I: Images>(
+    alloc: Global,
     images: &mut I,
     write: bool,
-    opened: &Opened<I::Dev>,
+    opened: &Opened<'_, I::Dev>,
     fec: &FecFile<'a>,
 ) -> Result<Parity<I::Dev>, UnopenedFile<'a>>
     ensures ok { IfOk result (IsFecOpened I.relations I.Dev.state images.old images.new write opened.now fec.now) }
@@ -35,7 +37,7 @@ pub(crate) fn open_parity<'a, I: Images>(
         part_use(&opened.pair.data_image, write, opened.parts.data_part),
         part_use(&opened.pair.hash_image, write, opened.parts.hash_part),
     ];
-    let image = open_apart(images, &files, fec.path, false)?;
+    let image = open_place_apart(alloc, images, &files, fec.path, false)?;
     Ok(Parity {
         device: image.device,
         roots: fec.roots,

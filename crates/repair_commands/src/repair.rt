@@ -1,7 +1,7 @@
 //! The command `repair`: seeks corrupt blocks in copies, and reports what is still lost.
 ghost use Rattle.std.specs.Prelude.{◌≡◌, ◌≤◌, ◌^◌, IfErr, OnOk};
 ghost use Rattle.tree_repair.specs.Repairs.{IsAllowed};
-ghost use Rattle.repair_commands.specs.Commands.{AreRepaired, AreUnrepaired, GivesBackBoth, IsPairMended, IsPairUnmended, opened_world, plan_at};
+ghost use Rattle.repair_commands.specs.Commands.{AreRepaired, AreUnrepaired, GivesBackBoth, IsPairMended, IsPairUnmended, pair_world, plan_at};
 
 use crate::found_tree::{FoundTree, find_repaired_tree};
 use crate::mending::mend;
@@ -62,18 +62,22 @@ fn mend_opened<'a, I: Images, W: Write>(
     alloc: Global,
     images: &mut I,
     places: RepairPlaces<'a>,
-    opened: Opened<I::Dev>,
+    opened: Opened<'a, I::Dev>,
     found: &FoundTree,
     writer: &mut Counted<W>,
 ) -> Result<(), TreeFault<'a>>
     requires first { places.hash_first ≤ 2 ^ 55 }
     requires allowed { IsAllowed places.write (I.Dev.state opened.pair.data_image.device) (I.Dev.state opened.pair.hash_image.device) }
-    ensures ok { OnOk result (IsPairMended I.relations I.Dev.state images.old images.new places.entry opened found.now W.contents writer.old writer.new) }
-    ensures err { IfErr result (IsPairUnmended I.relations I.Dev.state images.old images.new places.entry opened found.now W.contents writer.old writer.new) }
+    ensures ok { OnOk result (IsPairMended I.relations I.Dev.state images.old images.new places.entry opened.entry found.now W.contents writer.old writer.new) }
+    ensures err { IfErr result (IsPairUnmended I.relations I.Dev.state images.old images.new places.entry opened.entry found.now W.contents writer.old writer.new) }
 {
     let plan = plan_at(places, found);
-    let parts = opened.parts;
-    let mut image = damaged(opened);
+    let Opened {
+        parts,
+        pair,
+        copies,
+    } = opened;
+    let mut image = damaged(pair, copies);
     let ended = mend(alloc, &mut image, &plan, writer);
     let devices = devices_of(image);
     let (data, hash, told) = tell(alloc, devices, ended, found.whole, &plan, writer);
@@ -94,20 +98,17 @@ pub(crate) fn plan_at(places: RepairPlaces<'_>, found: &FoundTree) -> Plan
 }
 
 /// Returns the image that was opened, and its copies.
-pub(crate) fn damaged<D: BlockDev + Drop>(opened: Opened<D>) -> DamagedImage<D, D, D>
-    ensures { result.world ≡ opened_world D.state opened }
+pub(crate) fn damaged<D: BlockDev + Drop>(pair: Pair<D>, copies: Copies<D>) -> DamagedImage<D, D, D>
+    ensures { result.world ≡ pair_world D.state pair copies }
 {
-    let Opened {
-        parts: _,
-        pair: Pair {
-            data_image,
-            hash_image,
-        },
-        copies: Copies {
-            data_copies,
-            hash_copies,
-        },
-    } = opened;
+    let Pair {
+        data_image,
+        hash_image,
+    } = pair;
+    let Copies {
+        data_copies,
+        hash_copies,
+    } = copies;
     DamagedImage {
         data: data_image.device,
         hash: hash_image.device,
@@ -136,15 +137,15 @@ pub(crate) fn devices_of<D: BlockDev, H: BlockDev, C: BlockDev + Drop>(
 pub(crate) fn give_back<I: Images>(
     images: &mut I,
     places: RepairPlaces<'_>,
-    parts: Parts,
+    parts: Parts<'_>,
     data_dev: I::Dev,
     hash_dev: I::Dev,
 )
-    ensures { GivesBackBoth I.relations I.Dev.state images.old images.new places.entry parts data_dev hash_dev }
+    ensures { GivesBackBoth I.relations I.Dev.state images.old images.new places.entry parts.entry data_dev hash_dev }
 {
     if !places.write {
         return;
     }
-    images.close_part(places.data, parts.data_part, data_dev);
-    images.close_part(places.hash, parts.hash_part, hash_dev);
+    images.close_part(parts.data_path, parts.data_part, data_dev);
+    images.close_part(parts.hash_path, parts.hash_part, hash_dev);
 }

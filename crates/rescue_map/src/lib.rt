@@ -20,4 +20,4 @@ pub use map::{Map, Run};
 pub use print::print_map;
 pub use splicing::{Span, splice};
 pub use text::parse_map;
-pub use totals::{Totals, is_had, is_had_from, totals_of};
+pub use totals::{Totals, is_had, is_had_from, sectors_of, totals_of};

@@ -17,8 +17,8 @@ pub struct Span {
     pub count: u64,
 }
 
-/// Returns a map with the sectors of `span` from `within`, and all other sectors from `around`. Both maps have
-/// `sectors` sectors.
+/// Returns a map with the sectors of `span` from `within`, and all other sectors from `around`, a map of `sectors` sectors.
+/// `within` may end after the span.
 ///
 /// # Errors
 ///
@@ -31,7 +31,7 @@ pub fn splice(
     sectors: u64,
 ) -> Result<Map, OutOfMemory>
     requires around { length (marks around.now) ≡ sectors }
-    requires within { length (marks within.now) ≡ sectors }
+    requires within { span.first + span.count ≤ length (marks within.now) }
     requires inside { span.first + span.count ≤ sectors }
     ensures marks { IfOk result (λ map. marks map ≡ spliced_marks span (marks around.now) (marks within.now)) }
     ensures sectors { IfOk result (λ map. length (marks map) ≡ sectors) }

@@ -1,7 +1,7 @@
 //! The numbers of recovered and other sectors of a map.
-ghost use Rattle.std.specs.Prelude.{◌≡◌, ◌+◌, ◌<◌, ◌^◌, ◌||◌, nat_le};
+ghost use Rattle.std.specs.Prelude.{◌≡◌, ◌+◌, ◌<◌, ◌^◌, ◌||◌, length, nat_le};
 ghost use Rattle.std.specs.List.{list_all};
-ghost use Rattle.rescue_map.specs.Maps.{is_had_from, map_totals, with_run};
+ghost use Rattle.rescue_map.specs.Maps.{is_had_from, map_totals, marks, with_run};
 
 use crate::map::{Map, Run};
 
@@ -67,4 +67,15 @@ pub fn totals_of(map: &Map) -> Totals
         totals = with_run(totals, *run);
     }
     totals
+}
+
+/// Returns the number of sectors of a map.
+pub fn sectors_of(map: &Map) -> u64
+    ensures { result ≡ length (marks map.now) }
+{
+    let mut at = 0;
+    for run in map.runs() {
+        at += run.count;
+    }
+    at
 }

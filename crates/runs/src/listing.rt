@@ -1,10 +1,11 @@
 //! The receivers of lines: a writer, or a list in memory.
-ghost use Rattle.std.specs.Prelude.{◌≡◌, [], ℕ, Bool, List, Option};
+ghost use Rattle.std.specs.Prelude.{◌≡◌, ◌≤◌, [], ℕ, Bool, List, Option};
+ghost use Rattle.allocation.specs.Asked.{refused_size};
 ghost use Rattle.runs.specs.Lines.{listing_line};
 ghost use Rattle.runs.specs.Listings.{Tells};
 
 use crate::line::{Line, say_line};
-use allocation::push;
+use allocation::{OutOfMemory, push};
 use program_io::{Counted, WriteFault};
 use std::alloc::Global;
 use std::io::Write;
@@ -36,11 +37,12 @@ impl<W: Write> Listing for Counted<W> {
     }
 }
 
-/// Lines in memory, and whether one was lost because an allocation failed.
+/// Lines in memory, and the allocation that failed if a line was lost: each is of room for one line.
 #[derive(Drop)]
 pub struct KeptLines {
     pub lines: Vec<Line>,
-    pub refused: bool,
+    pub refused: Option<OutOfMemory>,
+    pub ghost few: { refused_size refused ≤ 1 },
 }
 
 impl KeptLines {
@@ -50,25 +52,25 @@ impl KeptLines {
     {
         KeptLines {
             lines: Vec::new(alloc),
-            refused: false,
+            refused: None,
         }
     }
 }
 
 impl Listing for KeptLines {
-    ghost use Rattle.std.specs.Prelude.{Some};
+    ghost use Rattle.std.specs.Prelude.{Some, is_some};
     ghost use Rattle.runs.specs.Lines.{lines_text};
 
     ghost told = { λ kept. Some (lines_text kept.lines.items) };
 
-    ghost failed = { λ kept. kept.refused };
+    ghost failed = { λ kept. is_some kept.refused };
 
     #[tactic(auto, using(crate::proofs::KeptLemmas::lines_text_last))]
     fn tell(&mut self, line: Line) -> Result<(), WriteFault> {
         match push(&mut self.lines, line) {
             Ok(()) => Ok(()),
-            Err(_refused) => {
-                self.refused = true;
+            Err(refused) => {
+                self.refused = Some(refused);
                 Err(WriteFault)
             }
         }

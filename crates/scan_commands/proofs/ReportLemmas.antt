@@ -1,5 +1,9 @@
 -- Reports of passes of which more is known.
-use Rattle.std.proofs.Common.{◌≡◌, ℕ, Bool, false, List, [], Option, Some, inl, inr, ap, ◌∙◌}
+use Rattle.std.proofs.Common.{◌≡◌, ◌≤◌, ℕ, Bool, true, false, List, [], Option, Some, None, inl, inr, ap, ◌∙◌}
+use Rattle.std.specs.Prelude.{is_some}
+use Rattle.allocation.specs.declared.out_of_memory.OutOfMemory.{OutOfMemory}
+use Rattle.allocation.specs.Asked.{refused_size}
+use Rattle.allocation.proofs.lemmas.AskedLemmas.{asked-refused}
 use Rattle.stack_recovery.specs.declared.listing.KeptRuns.{KeptRuns}
 use Rattle.stack_recovery.specs.declared.recovery.Counts.{Counts}
 use Rattle.stack_recovery.specs.Listings.{Listed, listed}
@@ -7,7 +11,7 @@ use Rattle.stack_recovery.specs.LostRuns.{LostRun}
 use Rattle.stack_recovery.specs.Texts.{lost_text}
 use Rattle.charts.specs.declared.form.ReportForm.{ReportForm}
 use Rattle.scan_commands.specs.declared.recovering_fault.RecoveringFault.{RecoveringFault}
-use Rattle.scan_commands.specs.Reports.{AreKept, Early, IsUnreported, Reports, Whole, kept_text}
+use Rattle.scan_commands.specs.Reports.{AreKept, Early, IsRunRefused, IsUnreported, Reports, Whole, kept_text}
 
 pub reports-more : (P Q : Whole) (form : ReportForm) (old new : Option (List ℕ)) → ((before : Listed) (counts : Counts) (told : Listed) → P before counts told → Q before counts told)
     → Reports P form old new → Reports Q form old new
@@ -34,9 +38,13 @@ unreported-more S T P Q form old new failed fault stops more (inr l) = inr (reco
 })
 
 -- at first no run is kept
-pub none-kept : (runs : List LostRun) (refused : Bool) → runs ≡ [] → refused ≡ false → listed (Some (lost_text runs)) refused ≡ listed (Some []) false
-none-kept runs refused none kept = ap (λ (rs : List LostRun). listed (Some (lost_text rs)) refused) none ∙ ap (λ (b : Bool). listed (Some []) b) kept
+pub none-kept : (runs : List LostRun) (refused : Option OutOfMemory) → runs ≡ [] → refused ≡ None → listed (Some (lost_text runs)) (is_some refused) ≡ listed (Some []) false
+none-kept runs refused none kept = ap (λ (rs : List LostRun). listed (Some (lost_text rs)) (is_some refused)) none ∙ ap (λ (r : Option OutOfMemory). listed (Some []) (is_some r)) kept
 
 -- none was refused
-abbrev pub all-kept : (kept : KeptRuns) → kept.refused ≡ false → AreKept (kept_text kept)
+abbrev pub all-kept : (kept : KeptRuns) → is_some kept.refused ≡ false → AreKept (kept_text kept)
 all-kept kept is = record { runs = kept.runs.items; same = ap (λ (b : Bool). listed (Some (lost_text kept.runs.items)) b) is }
+
+-- one was
+abbrev pub one-unkept : (kept : KeptRuns) → is_some kept.refused ≡ true → IsRunRefused (kept_text kept)
+one-unkept kept is = (is, asked-refused kept.refused 1 kept.few is)

@@ -1,5 +1,5 @@
 -- A turn over a device.
-use Rattle.std.proofs.Common.{◌≡◌, ◌⊎◌, ℕ, suc, ◌+◌, ◌-◌, ◌<◌, ◌^◌, Bool, IsTrue, List, [], ◌∷◌, length, map, Result, Ok, Err, IfErr, IfOk, IsErrAnd, arith, inl, inr, true, refl, sym, ap, ◌∙◌, subst}
+use Rattle.std.proofs.Common.{◌≡◌, ◌⊎◌, ℕ, suc, ◌+◌, ◌-◌, ◌<◌, ◌≤◌, ◌^◌, Bool, IsTrue, List, [], ◌∷◌, length, map, Option, Some, Result, Ok, Err, IfErr, IfOk, IsErrAnd, arith, inl, inr, true, refl, sym, ap, ◌∙◌, subst}
 use Rattle.allocation.specs.Refusal.{IsOutOfMemory}
 use Rattle.block_device.specs.Device.{Device, HasFailed, IsSameDevice}
 use Rattle.rescue_map.specs.declared.map.Run.{Run}
@@ -13,20 +13,19 @@ use Rattle.scan_commands.specs.declared.rescue_fault.PassFault.TheVariants.{NoMa
 use Rattle.scan_commands.specs.MapFiles.{MapPathRecord, recovery_ending}
 use Rattle.image_files.specs.declared.texts.ReplaceFault.{ReplaceFault}
 use Rattle.rescue_map.specs.declared.splicing.Span.{Span}
-use Rattle.scan_commands.specs.Turns.{EndsSectors, EndsUnmapped, FailsToWrite, IsSpan, RunsOut, asked_marks, IsPassTurnsEnd, IsMapUnwritten, IsUnfailed, Kept, Progressed, ReadsInTurns, ReadsSectors, StopsIn, IsTurn, Turns, kept as kept_by, largest_print_allocation, progressed}
+use Rattle.scan_commands.specs.Turns.{EndsSectors, EndsUnmapped, FailsToWrite, IsSpan, RunsOut, asked_marks, IsPassTurnsEnd, IsMapUnwritten, IsUnfailed, Kept, Progressed, ReadsInTurns, ReadsLeftUntil, ReadsPast, ReadsSectors, StopsIn, IsTurn, Turns, kept as kept_by, largest_print_allocation, progressed}
+use Rattle.stack_recovery.specs.declared.deadline.Deadline.{Deadline}
 use Rattle.stack_recovery.specs.declared.fault.RecoveryFault.{RecoveryFault}
 use Rattle.stack_recovery.specs.declared.fault.RecoveryFault.TheVariants as recovery
 use Rattle.scan_commands.specs.declared.phase.Phase.{Phase}
 use Rattle.scan_commands.specs.declared.phase.Phase.TheVariants.{Rescue, Retry, Skim}
-use Rattle.stack_recovery.specs.FirstPasses.{EndsSkim, Skims, SkimsShort, Transfer}
+use Rattle.stack_recovery.specs.declared.rescued.Rescued.{Rescued}
+use Rattle.stack_recovery.specs.Deadlines.{EndsAt}
+use Rattle.stack_recovery.specs.FirstPasses.{EndsSkim, SkimsShort, SkimsUntil, Transfer}
 use Rattle.stack_recovery.specs.Skims.{IsSkimOver, Skim as Skimmed, marks_of, skim_marks}
 use Rattle.stack_recovery.specs.TwoPasses.{transfer_of}
-use Rattle.stack_recovery.specs.Recoveries.{FailsOutput, FindsNoMemory, IsMapRefused, RunsShort, Sides, is_had}
+use Rattle.stack_recovery.specs.Recoveries.{FailsOutput, FindsNoMemory, GoesOverTo, IsMapRefused, RescuesUntil, RunsShort, Sides, counted_sectors, is_had}
 use Rattle.stack_recovery.specs.Surveys.{AnswersFinding, Finding, IsSurveyOver, PieceRead, SectorState, again, all_states, had, kept, lost, states_of}
-
-length-map : (states : List SectorState) → length (map is_had states) ≡ length states
-length-map [] = refl
-length-map (x ∷ states) = ap suc (length-map states)
 
 answers-config : (w : StackRecord) (d first n : ℕ) (found : Finding) (w' : StackRecord) → AnswersFinding w d first n found w' → w'.config ≡ w.config
 answers-config w d first n (had bytes) w' a = a.any.config
@@ -43,12 +42,6 @@ skim-config : (before : List Bool) (d first : ℕ) (w : StackRecord) (skims : Li
 skim-config before d first w [] w' s = ap (λ (t : StackRecord). t.config) s
 skim-config before d first w (x ∷ more) w' s =
     skim-config before d (first + length (marks_of x)) x.piece.after more w' s.1 ∙ answers-config w d first x.piece.count x.piece.found x.piece.after s.0.answered
-
--- the map that was made is of all sectors
-pub reads-sectors : (phase : Phase) (before : List Bool) (d : ℕ) (old : Sides) (made : List Run) (new : Sides) → ReadsSectors phase before d old made new → length (marks made) ≡ size old.stack.config (mapped d)
-reads-sectors Skim before d old made new r = ap length r.0.noted ∙ r.0.whole
-reads-sectors Rescue before d old made new r = ap length r.1.noted ∙ length-map _ ∙ r.1.whole
-reads-sectors Retry before d old made new r = ap length r.1.noted ∙ length-map _ ∙ r.1.whole
 
 -- the configuration stays
 pub reads-config : (phase : Phase) (before : List Bool) (d : ℕ) (old : Sides) (made : List Run) (new : Sides) → ReadsSectors phase before d old made new → new.stack.config ≡ old.stack.config
@@ -69,10 +62,43 @@ reads-unfailed Retry before d old made new r = r.1.unfailed
 
 -- ---- one pass over the sectors of a turn
 
-pub skim-reads : (r : Result (List Run) RecoveryFault) (before : List Bool) (d : ℕ) (old new : Sides) → new.printed ≡ old.printed → IfOk r (λ made. Skims true before d (transfer_of old) made (transfer_of new))
-    → IfOk r (λ made. ReadsSectors Skim before d old made new)
-skim-reads (Ok made) before d old new told p = (p, told)
-skim-reads (Err fault) before d old new told p = tt
+-- it ended past the first sector
+ends-past : (deadline : Deadline) (at sectors : ℕ) → deadline.first < sectors → EndsAt (Some deadline) at sectors → (deadline.first < at) × (at ≤ sectors)
+ends-past deadline at sectors inside (inl whole) = (omega (arith, inside, whole), omega (arith, whole))
+ends-past deadline at sectors inside (inr early) = early
+
+reads-past : (phase : Phase) (deadline : Deadline) (before : List Bool) (d : ℕ) (old : Sides) (made : List Run) (new : Sides) → deadline.first < size old.stack.config (mapped d)
+    → ReadsSectors phase before d old made new → EndsAt (Some deadline) (length (marks made)) (size old.stack.config (mapped d)) → ReadsPast phase before d deadline.first old made new
+reads-past phase deadline before d old made new inside reads ends =
+    let past = ends-past deadline (length (marks made)) (size old.stack.config (mapped d)) inside ends in
+    record { reads = reads; some = past.0; few = past.1 }
+
+pub skim-reads : (r : Result (List Run) RecoveryFault) (deadline : Deadline) (before : List Bool) (d : ℕ) (old new : Sides) → deadline.first < size old.stack.config (mapped d) → new.printed ≡ old.printed
+    → IfOk r (λ made. SkimsUntil (Some deadline) true before d (transfer_of old) made (transfer_of new)) → IfOk r (λ made. ReadsPast Skim before d deadline.first old made new)
+skim-reads (Ok made) deadline before d old new inside told p = reads-past Skim deadline before d old made new inside (p.reads, told) p.ends
+skim-reads (Err fault) deadline before d old new inside told p = tt
+
+pub rescue-reads : (r : Result (List Run) RecoveryFault) (deadline : Deadline) (before : List Bool) (d : ℕ) (old new : Sides) → deadline.first < size old.stack.config (mapped d)
+    → IfOk r (λ made. ReadsLeftUntil (Some deadline) before d old made new) → IfOk r (λ made. ReadsPast Rescue before d deadline.first old made new)
+rescue-reads (Ok made) deadline before d old new inside p = reads-past Rescue deadline before d old made new inside p.0 p.1
+rescue-reads (Err fault) deadline before d old new inside p = tt
+
+pub retry-reads : (r : Result (List Run) RecoveryFault) (deadline : Deadline) (before : List Bool) (d : ℕ) (old new : Sides) → deadline.first < size old.stack.config (mapped d)
+    → IfOk r (λ made. ReadsLeftUntil (Some deadline) before d old made new) → IfOk r (λ made. ReadsPast Retry before d deadline.first old made new)
+retry-reads (Ok made) deadline before d old new inside p = reads-past Retry deadline before d old made new inside p.0 p.1
+retry-reads (Err fault) deadline before d old new inside p = tt
+
+length-states : (states : List SectorState) → length (map is_had states) ≡ length states
+length-states [] = refl
+length-states (x ∷ states) = ap suc (length-states states)
+
+-- the sectors that are counted are those of the map
+pub left-until : (deadline : Option Deadline) (before : List Bool) (d : ℕ) (old : Sides) (rescued : Rescued) (new : Sides) → RescuesUntil deadline before d old rescued new → ReadsLeftUntil deadline before d old rescued.map new
+left-until deadline before d old rescued new p =
+    let end : counted_sectors rescued.counts ≡ length (marks rescued.map) = sym (ap length p.goes.noted ∙ length-states (all_states p.goes.reads) ∙ p.goes.whole) in (
+      (rescued.counts, subst (λ (n : ℕ). GoesOverTo before d n old rescued.counts (Some rescued.map) new) end p.goes),
+      subst (λ (n : ℕ). EndsAt deadline n (size old.stack.config (mapped d))) end p.ends,
+    )
 
 pub skim-ends : (r : Result (List Run) RecoveryFault) (before : List Bool) (d : ℕ) (old new : Sides) → new.printed ≡ old.printed → IfErr r (λ fault. EndsSkim true before d (transfer_of old) (transfer_of new) fault)
     → IfErr r (λ fault. EndsSectors Skim before d old new fault)

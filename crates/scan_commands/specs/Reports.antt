@@ -1,7 +1,8 @@
 -- The report on a device after a complete pass: lines as lost runs are found, and then the counts; the
 -- lines, a map and the counts; or one JSON object.
-use Rattle.std.specs.Prelude.{◌≡◌, ◌⊎◌, ℕ, ◌<◌, Bool, true, false, List, [], ◌++◌, Option, Some}
+use Rattle.std.specs.Prelude.{◌≡◌, ◌⊎◌, ℕ, ◌<◌, Bool, true, false, List, [], ◌++◌, Option, Some, is_some}
 use Rattle.std.specs.Io.KnownBytes.{Appends}
+use Rattle.allocation.specs.Refusal.{IsOutOfMemory}
 use Rattle.program_io.specs.Counted.{CountedRecord}
 use Rattle.program_io.specs.JsonLines.{json_line}
 use Rattle.scan_commands.specs.LostJson.{lost_json}
@@ -45,18 +46,22 @@ IsReported Lines counts told old new = (told.failed ≡ false) × TellsCounts co
 IsReported Chart counts told old new = (kept : AreKept told) × (counts.lost ≡ 0) × Appends old new (charted_text kept.runs counts ++ counts_text counts.read 0)
 IsReported Object counts told old new = (kept : AreKept told) × (counts.lost ≡ 0) × PrintsLost kept.runs counts old new
 
+-- room for one run was refused, so a run wasn't kept
+abbrev pub IsRunRefused : Listed → Type 0
+IsRunRefused told = (told.failed ≡ true) × IsOutOfMemory 1
+
 -- sectors are lost, as the object states; or the object can't be written; or memory ran out for a run or for the object
 abbrev pub IsObjectEnd : Counts → Listed → Option (List ℕ) → Option (List ℕ) → Bool → RecoveringFault → Type 0
 IsObjectEnd counts told old new failed LostAsSaid = (kept : AreKept told) × (0 < counts.lost) × PrintsLost kept.runs counts old new
 IsObjectEnd counts told old new failed Write = AreKept told × (failed ≡ true)
-IsObjectEnd counts told old new failed NoMemory = ((told.failed ≡ true) ⊎ AreKept told) × (new ≡ old)
+IsObjectEnd counts told old new failed NoMemory = (IsRunRefused told ⊎ AreKept told) × (new ≡ old)
 IsObjectEnd counts told old new failed fault = ⊥
 
 -- sectors are lost, after the lines and the map; or not all is printed; or memory ran out for a run
 abbrev pub IsChartEnd : Counts → Listed → Option (List ℕ) → Option (List ℕ) → Bool → RecoveringFault → Type 0
 IsChartEnd counts told old new failed (Lost read lost) = (kept : AreKept told) × (read ≡ counts.read) × (lost ≡ counts.lost) × (0 < counts.lost) × Appends old new (charted_text kept.runs counts)
 IsChartEnd counts told old new failed Write = AreKept told × (failed ≡ true)
-IsChartEnd counts told old new failed NoMemory = (told.failed ≡ true) × (new ≡ old)
+IsChartEnd counts told old new failed NoMemory = IsRunRefused told × (new ≡ old)
 IsChartEnd counts told old new failed fault = ⊥
 
 abbrev pub IsReportEnd : ReportForm → Counts → Listed → Option (List ℕ) → Option (List ℕ) → Bool → RecoveringFault → Type 0
@@ -103,7 +108,7 @@ IsUnreported Stopped Done form old new failed fault = StopsEarly Stopped form ol
 
 -- the text of the runs that are kept, and whether a run couldn't be kept
 abbrev pub kept_text : KeptRuns → Listed
-kept_text kept = listed (Some (lost_text kept.runs.items)) kept.refused
+kept_text kept = listed (Some (lost_text kept.runs.items)) (is_some kept.refused)
 
 abbrev pub TellsObject : {T : Type 0} → (T → Option (List ℕ)) → KeptRuns → Counts → CountedRecord T → CountedRecord T → Type 0
 TellsObject contents kept counts old new = IsReported Object counts (kept_text kept) (contents old.inner) (contents new.inner)

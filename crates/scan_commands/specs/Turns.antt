@@ -1,5 +1,5 @@
 -- A device that is read by a pass in turns, with its map file replaced after each turn.
-use Rattle.std.specs.Prelude.{◌≡◌, ◌⊎◌, ℕ, ◌+◌, ◌*◌, ◌/◌, ◌≤◌, max, Bool, true, IsTrue, List, length, replicate, Option, Some, None, Result, Ok, Err, if◌then◌else◌}
+use Rattle.std.specs.Prelude.{◌≡◌, ◌⊎◌, ℕ, ◌+◌, ◌-◌, ◌*◌, ◌/◌, ◌<◌, ◌≤◌, max, min, Bool, true, IsTrue, List, length, replicate, Option, Some, None, Result, Ok, Err, if◌then◌else◌}
 use Rattle.std.specs.List.{list_all}
 use Rattle.allocation.specs.Refusal.{IsOutOfMemory}
 use Rattle.block_device.specs.Device.{Device, HasFailed, IsUnsynced, synced}
@@ -7,13 +7,16 @@ use Rattle.rescue_map.specs.declared.map.Run.{Run}
 use Rattle.rescue_map.specs.declared.splicing.Span.{Span}
 use Rattle.rescue_map.specs.Maps.{is_had_from, marks, spliced_marks}
 use Rattle.rescue_map.specs.MapText.{map_text}
+use Rattle.stack_recovery.specs.declared.deadline.Deadline.{Deadline}
+use Rattle.stack_recovery.specs.declared.deadline.DevicePass.{DevicePass}
 use Rattle.stack_recovery.specs.declared.fault.RecoveryFault.{RecoveryFault}
 use Rattle.stack_recovery.specs.declared.recovery.Counts.{Counts}
-use Rattle.stack_recovery.specs.FirstPasses.{EndsSkim, FailsSkimOutput, Skims, SkimsShort}
+use Rattle.stack_recovery.specs.Deadlines.{EndsAt}
+use Rattle.stack_recovery.specs.FirstPasses.{EndsSkim, FailsSkimOutput, SkimsShort, SkimsTo}
 use Rattle.stack_rules.specs.Names.{mapped, size}
 use Rattle.stack_meaning.specs.Memory.{largest_allocation}
 use Rattle.stack_recovery.specs.Listings.{Listed}
-use Rattle.stack_recovery.specs.Recoveries.{FailsOutput, GoesOver, IsRescueEnd, Parties, RunsShort, Sides, seen_sides, sides}
+use Rattle.stack_recovery.specs.Recoveries.{FailsOutput, GoesOverTo, IsRescueEnd, Parties, RunsShort, Sides, seen_sides, sides}
 use Rattle.stack_recovery.specs.TwoPasses.{transfer_of}
 use Rattle.image_files.specs.declared.texts.ReplaceFault.{ReplaceFault}
 use Rattle.scan_commands.specs.MapFiles.{MapPathRecord, map_path_of}
@@ -22,6 +25,7 @@ use Rattle.scan_commands.specs.declared.map_file.MapPath.{MapPath}
 use Rattle.scan_commands.specs.declared.phase.Phase.{Phase}
 use Rattle.scan_commands.specs.declared.phase.Phase.TheVariants.{Rescue, Retry, Skim}
 use Rattle.scan_commands.specs.declared.turns.NextTurn.{NextTurn}
+use Rattle.scan_commands.specs.declared.turns.TurnEnd.{TurnEnd}
 use Rattle.scan_commands.specs.declared.rescue_fault.PassFault.{PassFault}
 use Rattle.scan_commands.specs.declared.rescue_fault.PassFault.TheVariants.{NoMemory, Output, Unwritten}
 
@@ -76,25 +80,32 @@ pub record IsSpan (sectors at : ℕ) (span : Span) (at' : ℕ) : Type 0 where
   pub end : at' ≡ at + span.count
   pub inside : at' ≤ sectors
 
--- sectors were read in a pass after the first one
+-- sectors were read in a pass after the first one, which made a map of these sectors
 abbrev pub ReadsLeft : List Bool → ℕ → Sides → List Run → Sides → Type 0
-ReadsLeft before d old made new = (counts : Counts) × GoesOver before d old counts (Some made) new
+ReadsLeft before d old made new = (counts : Counts) × GoesOverTo before d (length (marks made)) old counts (Some made) new
 
--- sectors were read in a pass by the marks before it, which made a map; the first pass reports nothing
+-- sectors were read in a pass by the marks before it, which made a map of them; the first pass reports nothing
 abbrev pub ReadsSectors : Phase → List Bool → ℕ → Sides → List Run → Sides → Type 0
-ReadsSectors Skim before d old made new = Skims true before d (transfer_of old) made (transfer_of new) × (new.printed ≡ old.printed)
+ReadsSectors Skim before d old made new = SkimsTo true before d (length (marks made)) (transfer_of old) made (transfer_of new) × (new.printed ≡ old.printed)
 ReadsSectors later before d old made new = ReadsLeft before d old made new
 
--- A turn. Those of the next sectors that weren't read before were read, and the readable ones were copied to the other device,
--- which was synced. Then the map file was replaced by the new map.
+-- the sectors from sector `first` on and before `end`
+abbrev pub span_between : ℕ → ℕ → Span
+span_between first end = record { first = first; count = end - first }
+
+-- A turn, of the next sectors or the first of them. Those that weren't read before were read, and the readable ones were copied to the
+-- other device, which was synced. Then the map file was replaced by the new map.
 pub record IsTurn {S : Type 0} (k : Kept S) (phase : Phase) (old new : Progressed S) : Type 0 where
   pub span : Span
-  pub next : IsSpan k.sectors old.at span new.at
+  pub end : ℕ
+  pub next : IsSpan k.sectors old.at span end
   pub left : Sides
   pub made : List Run
   pub reads : ReadsSectors phase (asked_marks span k.sectors old.runs) k.d old.sides made left
   pub on_medium : new.sides ≡ sides left.stack (synced left.out) left.printed
-  pub map : marks new.runs ≡ spliced_marks span (marks old.runs) (marks made)
+  pub some : old.at < new.at
+  pub here : new.at ≡ min end (length (marks made))
+  pub map : marks new.runs ≡ spliced_marks (span_between old.at new.at) (marks old.runs) (marks made)
   pub written : k.replaces old.images k.file.path (map_text k.file.kind (tried_before phase new.runs new.at) new.runs) (Ok tt) new.images
 
 -- all of the next sectors were read before, so that nothing is done
@@ -129,7 +140,7 @@ IsMapUnwritten replaces path old text new other = ⊥
 abbrev pub IsUnfailed : Sides → Sides → Type 0
 IsUnfailed old new = new.out.failures ≡ old.out.failures
 
--- The output device was not synced after all sectors of a turn were done.
+-- The output device was not synced after the sectors of a turn were done.
 pub record FailsToSyncTurn {S : Type 0} (k : Kept S) (phase : Phase) (span : Span) (now : Progressed S) (new : Sides) : Type 0 where
   pub left : Sides
   pub made : List Run
@@ -155,14 +166,14 @@ abbrev pub RunsOut : Phase → List Bool → ℕ → Sides → Sides → Type 0
 RunsOut Skim before d old new = SkimsShort true before d (transfer_of old) (transfer_of new) × (new.printed ≡ old.printed)
 RunsOut later before d old new = RunsShort true before d old new
 
--- memory ran out in the next turn, before all of its sectors were done
+-- memory ran out in the next turn, for a read or its map
 pub record RunsOutInTurn {S : Type 0} (k : Kept S) (phase : Phase) (now : Progressed S) (new : Sides) : Type 0 where
   pub span : Span
   pub end : ℕ
   pub next : IsSpan k.sectors now.at span end
   pub short : RunsOut phase (asked_marks span k.sectors now.runs) k.d now.sides new
 
--- All sectors of the next turn were done, and the output device was synced.
+-- The sectors of the next turn were done, and the output device was synced.
 pub record EndsUnmapped {S : Type 0} (k : Kept S) (phase : Phase) (now : Progressed S) (new : Sides) : Type 0 where
   pub span : Span
   pub end : ℕ
@@ -192,9 +203,15 @@ pub record IsPassTurnsEnd {S : Type 0} (k : Kept S) (phase : Phase) (first : Pro
 
 -- ---- in terms of the arguments of a call
 
--- the sectors of a turn were read, or the pass ended early
+-- Sectors were read, past sector `first`.
+pub record ReadsPast (phase : Phase) (before : List Bool) (d first : ℕ) (old : Sides) (made : List Run) (new : Sides) : Type 0 where
+  pub reads : ReadsSectors phase before d old made new
+  pub some : first < length (marks made)
+  pub few : length (marks made) ≤ size old.stack.config (mapped d)
+
+-- the sectors of a turn were read, or the first of them; or the pass ended early
 abbrev pub ReadsTurnBy : {O L : Type 0} → (O → Device) → (L → Listed) → ℕ → NextTurn → Parties O L → Parties O L → List Run → Type 0
-ReadsTurnBy state told d turn old new made = ReadsSectors turn.phase (marks turn.wanted.now) d (seen_sides state told old) made (seen_sides state told new)
+ReadsTurnBy state told d turn old new made = ReadsPast turn.phase (marks turn.wanted.now) d turn.span.first (seen_sides state told old) made (seen_sides state told new)
 
 abbrev pub EndsSectors : Phase → List Bool → ℕ → Sides → Sides → RecoveryFault → Type 0
 EndsSectors Skim before d old new fault = EndsSkim true before d (transfer_of old) (transfer_of new) fault × (new.printed ≡ old.printed)
@@ -203,10 +220,10 @@ EndsSectors later before d old new fault = IsRescueEnd before d old new fault
 abbrev pub EndsTurnRead : {O L : Type 0} → (O → Device) → (L → Listed) → ℕ → NextTurn → Parties O L → Parties O L → RecoveryFault → Type 0
 EndsTurnRead state told d turn old new fault = EndsSectors turn.phase (marks turn.wanted.now) d (seen_sides state told old) (seen_sides state told new) fault
 
--- a turn, which results in this map
-abbrev pub TakesTurn : {S O L : Type 0} → Replaces S → (O → Device) → (L → Listed) → ℕ → NextTurn → S → Parties O L → S → Parties O L → List Run → Type 0
-TakesTurn replaces state told d turn images old images' new map =
-    IsTurn (kept replaces (map_path_of turn.file) d turn.sectors) turn.phase (progressed images (seen_sides state told old) turn.map.now turn.span.first) (progressed images' (seen_sides state told new) map (turn.span.first + turn.span.count))
+-- a turn, which results in this map and ends before that sector
+abbrev pub TakesTurn : {S O L : Type 0} → Replaces S → (O → Device) → (L → Listed) → ℕ → NextTurn → S → Parties O L → S → Parties O L → TurnEnd → Type 0
+TakesTurn replaces state told d turn images old images' new ended =
+    IsTurn (kept replaces (map_path_of turn.file) d turn.sectors) turn.phase (progressed images (seen_sides state told old) turn.map.now turn.span.first) (progressed images' (seen_sides state told new) ended.map ended.at)
 
 abbrev pub StopsTurn : {S O L : Type 0} → Replaces S → (O → Device) → (L → Listed) → ℕ → NextTurn → S → Parties O L → S → Parties O L → PassFault → Type 0
 StopsTurn replaces state told d turn images old images' new fault =
@@ -232,6 +249,9 @@ pub record GoesOn {O L : Type 0} (state : O → Device) (d : ℕ) (old new : Par
 abbrev pub LeavesMap : {S : Type 0} → Replaces S → MapPath → S → Option ℕ → List Run → S → PassFault → Type 0
 LeavesMap replaces file images tried map images' = IsMapUnwritten replaces file.path.now images (map_text file.kind tried map) images'
 
--- sectors were read in a pass after the first one
-abbrev pub ReadsLeftBy : {O L : Type 0} → (O → Device) → (L → Listed) → List Bool → ℕ → Parties O L → Parties O L → List Run → Type 0
-ReadsLeftBy state told before d old new made = ReadsLeft before d (seen_sides state told old) made (seen_sides state told new)
+-- sectors were read in a pass after the first one, which ended after the last sector or early
+abbrev pub ReadsLeftUntil : Option Deadline → List Bool → ℕ → Sides → List Run → Sides → Type 0
+ReadsLeftUntil deadline before d old made new = ReadsLeft before d old made new × EndsAt deadline (length (marks made)) (size old.stack.config (mapped d))
+
+abbrev pub ReadsLeftBy : {O L : Type 0} → (O → Device) → (L → Listed) → DevicePass → List Bool → Parties O L → Parties O L → List Run → Type 0
+ReadsLeftBy state told pass before old new made = ReadsLeftUntil pass.deadline before pass.device.0 (seen_sides state told old) made (seen_sides state told new)

@@ -61,7 +61,7 @@ pub(crate) fn tell_chart<'a, W: Write>(
     ensures ok { OnOk result (TellsChart W.contents kept.now counts writer.old writer.new) }
     ensures err { IfErr result (EndsChart W.contents kept.now counts writer.old writer.new) }
 {
-    if kept.refused {
+    if kept.refused.is_some() {
         return Err(RecoveringFault::NoMemory);
     }
     say_charted(writer, kept.runs.as_slice(), counts)?;

@@ -61,7 +61,7 @@ pub(crate) fn tell_object<'a, W: Write>(
     ensures ok { OnOk result (TellsObject W.contents kept.now counts writer.old writer.new) }
     ensures err { IfErr result (EndsObject W.contents kept.now counts writer.old writer.new) }
 {
-    if kept.refused {
+    if kept.refused.is_some() {
         return Err(RecoveringFault::NoMemory);
     }
     let line = lost_line(alloc, kept.runs.as_slice(), counts)?;

@@ -14,10 +14,10 @@ use allocation::OutOfMemory;
 use block_device::{BlockDev, SyncDev};
 use device_adapters::Progress;
 use image_files::Images;
-use rescue_map::{Map, Span, is_had, is_had_from, print_map, splice};
+use rescue_map::{Map, Span, is_had, is_had_from, print_map, sectors_of, splice};
 use stack_config::DevId;
 use stack_engine::Stack;
-use stack_recovery::{Listing, RecoveryFault, rescue, skim};
+use stack_recovery::{Deadline, DevicePass, Listing, RecoveryFault, rescue, skim};
 use std::alloc::Global;
 
 const LEAST_TURN: u64 = 131_072;
@@ -26,6 +26,9 @@ const LEAST_TURN: u64 = 131_072;
 const GROUP: u64 = 8;
 
 const MOST_TURNS: u64 = 65_536;
+
+// After so many seconds a turn ends early.
+const TURN_SECONDS: u64 = 30;
 
 // How many sectors one turn covers, of a device of so many.
 #[tactic(auto, unfolding(crate::specs::Turns::turn_len))]
@@ -81,7 +84,7 @@ fn write_map<'a, I: Images>(
     Ok(images.replace(file.path, text.as_slice())?)
 }
 
-/// A turn of a pass: its sectors, the map before it, and the map that it reads by.
+/// A turn of a pass: its sectors, the map before it, the map that it reads by, and the time at which it ends early.
 #[derive(Clone, Copy)]
 struct NextTurn<'a> {
     phase: Phase,
@@ -90,9 +93,17 @@ struct NextTurn<'a> {
     file: MapPath<'a>,
     map: &'a Map,
     wanted: &'a Map,
+    seconds: u64,
 }
 
-// Reads the sectors of a turn, and returns the map of what was read.
+/// The map after a turn, and the sector before which the turn ended.
+#[derive(Drop)]
+struct TurnEnd {
+    map: Map,
+    at: u64,
+}
+
+// Reads the sectors of a turn until its time is up, and returns the map of what was read.
 fn read_turn<D: BlockDev, O: SyncDev, L: Listing, P: Progress>(
     alloc: Global,
     stack: &mut Stack<D>,
@@ -103,16 +114,24 @@ fn read_turn<D: BlockDev, O: SyncDev, L: Listing, P: Progress>(
     progress: &mut P,
 ) -> Result<Map, RecoveryFault>
     requires device { d.0 < length stack.old.config.devices }
+    requires some { turn.span.first < size stack.old.config (mapped d.0) }
     requires fits { length (marks turn.wanted.now) ≡ size stack.old.config (mapped d.0) }
     requires room { size stack.old.config (mapped d.0) ≤ (O.state out.old).size }
     requires allowed { IsTrue (O.state out.old).may_write }
     ensures ok { IfOk result (ReadsTurnBy O.state L.told d.0 turn.entry (parties stack.old out.old listing.old) (parties stack.new out.new listing.new)) }
     ensures err { IfErr result (EndsTurnRead O.state L.told d.0 turn.entry (parties stack.old out.old listing.old) (parties stack.new out.new listing.new)) }
 {
+    let pass = DevicePass {
+        device: d,
+        deadline: Some(Deadline {
+            first: turn.span.first,
+            seconds: turn.seconds,
+        }),
+    };
     match turn.phase {
-        Phase::Skim => skim(alloc, stack, d, out, turn.wanted, progress),
-        Phase::Rescue => read_left(alloc, stack, d, out, turn.wanted, listing, progress),
-        Phase::Retry => read_left(alloc, stack, d, out, turn.wanted, listing, progress),
+        Phase::Skim => skim(alloc, stack, pass, out, turn.wanted, progress),
+        Phase::Rescue => read_left(alloc, stack, pass, out, turn.wanted, listing, progress),
+        Phase::Retry => read_left(alloc, stack, pass, out, turn.wanted, listing, progress),
     }
 }
 
@@ -120,24 +139,24 @@ fn read_turn<D: BlockDev, O: SyncDev, L: Listing, P: Progress>(
 fn read_left<D: BlockDev, O: SyncDev, L: Listing, P: Progress>(
     alloc: Global,
     stack: &mut Stack<D>,
-    d: DevId,
+    pass: DevicePass,
     out: &mut O,
     wanted: &Map,
     listing: &mut L,
     progress: &mut P,
 ) -> Result<Map, RecoveryFault>
-    requires device { d.0 < length stack.old.config.devices }
-    requires fits { length (marks wanted.now) ≡ size stack.old.config (mapped d.0) }
-    requires room { size stack.old.config (mapped d.0) ≤ (O.state out.old).size }
+    requires device { pass.device.0 < length stack.old.config.devices }
+    requires fits { length (marks wanted.now) ≡ size stack.old.config (mapped pass.device.0) }
+    requires room { size stack.old.config (mapped pass.device.0) ≤ (O.state out.old).size }
     requires allowed { IsTrue (O.state out.old).may_write }
-    ensures ok { IfOk result (ReadsLeftBy O.state L.told (marks wanted.now) d.0 (parties stack.old out.old listing.old) (parties stack.new out.new listing.new)) }
-    ensures err { IfErr result (EndsRescue O.state L.told (marks wanted.now) d.0 (parties stack.old out.old listing.old) (parties stack.new out.new listing.new)) }
+    ensures ok { IfOk result (ReadsLeftBy O.state L.told pass (marks wanted.now) (parties stack.old out.old listing.old) (parties stack.new out.new listing.new)) }
+    ensures err { IfErr result (EndsRescue O.state L.told (marks wanted.now) pass.device.0 (parties stack.old out.old listing.old) (parties stack.new out.new listing.new)) }
 {
-    let rescued = rescue(alloc, stack, d, out, wanted, listing, progress)?;
+    let rescued = rescue(alloc, stack, pass, out, wanted, listing, progress)?;
     Ok(rescued.map)
 }
 
-// Reads the sectors of a turn, syncs the other device, and replaces the map file.
+// Reads the sectors of a turn until its time is up, syncs the other device, and replaces the map file.
 fn take_turn<'a, I: Images, D: BlockDev, O: SyncDev, L: Listing, P: Progress>(
     alloc: Global,
     images: &mut I,
@@ -147,7 +166,7 @@ fn take_turn<'a, I: Images, D: BlockDev, O: SyncDev, L: Listing, P: Progress>(
     turn: NextTurn<'_>,
     listing: &mut L,
     progress: &mut P,
-) -> Result<Map, PassFault<'a>>
+) -> Result<TurnEnd, PassFault<'a>>
     requires device { d.0 < length stack.old.config.devices }
     requires next { IsSpan turn.sectors turn.span.first turn.span (turn.span.first + turn.span.count) }
     requires all { turn.sectors ≡ size stack.old.config (mapped d.0) }
@@ -156,23 +175,27 @@ fn take_turn<'a, I: Images, D: BlockDev, O: SyncDev, L: Listing, P: Progress>(
     requires room { size stack.old.config (mapped d.0) ≤ (O.state out.old).size }
     requires allowed { IsTrue (O.state out.old).may_write }
     ensures ok { IfOk result (TakesTurn I.relations.replaces O.state L.told d.0 turn.entry images.old (parties stack.old out.old listing.old) images.new (parties stack.new out.new listing.new)) }
-    ensures sectors { IfOk result (λ map. length (marks map) ≡ turn.entry.sectors) }
+    ensures sectors { IfOk result (λ ended. length (marks ended.map) ≡ turn.entry.sectors) }
     ensures err { IfErr result (StopsTurn I.relations.replaces O.state L.told d.0 turn.entry images.old (parties stack.old out.old listing.old) images.new (parties stack.new out.new listing.new)) }
 {
     let read = read_turn(alloc, stack, d, out, turn, listing, progress)?;
     out.sync()?;
-    let map = splice(alloc, turn.map, &read, turn.span, turn.sectors)?;
-    let tried = tried_before(turn.phase, &map, turn.span.first + turn.span.count);
+    let first = turn.span.first;
+    let at = (first + turn.span.count).min(sectors_of(&read));
+    let count = at - first;
+    let map = splice(alloc, turn.map, &read, Span { first, count }, turn.sectors)?;
+    let tried = tried_before(turn.phase, &map, at);
     write_map(alloc, images, turn.file, &map, tried)?;
-    Ok(map)
+    Ok(TurnEnd { map, at })
 }
 
-/// Reads the sectors of a mapped device that a map doesn't mark as read, by one pass in turns of 64 MiB, or of about a 65,536th
-/// of a device above 4 TiB, and returns the new map.
+/// Reads the sectors of a mapped device that a map doesn't mark as read, by one pass in turns of at most 64 MiB, or about a
+/// 65,536th of a device above 4 TiB, and returns the new map. A turn ends before a further piece once it has taken 30 seconds, but in
+/// the first pass not after a failed read.
 ///
 /// Each turn copies the readable sectors to the same offset of another device, which has room for all, and syncs that device.
 /// Then it replaces the map file by the map of what was read and lost so far. An interruption therefore loses at most one turn.
-/// A pass after the first one reports the longest runs of sectors that are lost by one fault.
+/// A pass after the first one reports of each turn the longest runs of sectors that are lost by one fault.
 ///
 /// # Errors
 ///
@@ -220,9 +243,11 @@ pub fn read_in_turns<'a, I: Images, D: BlockDev, O: SyncDev, L: Listing, P: Prog
                 file,
                 map: &map,
                 wanted: &wanted,
+                seconds: progress.seconds().saturating_add(TURN_SECONDS),
             };
-            map = take_turn(alloc, images, stack, d, out, turn, listing, progress)?;
-            at += count;
+            let ended = take_turn(alloc, images, stack, d, out, turn, listing, progress)?;
+            map = ended.map;
+            at = ended.at;
         }
     }
     Ok(map)

@@ -10,7 +10,7 @@ use Rattle.program_io.specs.Counted.{CountedRecord, Writes, Writing}
 use Rattle.program_io.specs.declared.fault.WriteFault.{WriteFault}
 use Rattle.stack_commands.specs.declared.command_end.CommandEnd.{CommandEnd}
 use Rattle.stack_commands.specs.declared.fault.CommandFault.{CommandFault}
-use Rattle.stack_commands.specs.declared.fault.CommandFault.TheVariants.{Usage, NoMemory, Stack, Linux, Request, Io, Recovering, Stream, Verity, Fec, Partitions, Trees, Session, Service}
+use Rattle.stack_commands.specs.declared.fault.CommandFault.TheVariants.{Usage, NoMemory, Stack, Linux, Request, Io, Recovering, Stream, Verity, Fec, Partitions, Trees, Session, Service, Faults}
 use Rattle.verity_commands.proofs.EndingLemmas.{quiet as verity-quiet}
 use Rattle.stack_commands.specs.Commands.{ExplainsEnd, ExplainsUsage, IsEndAsOr, IsEndOr, IsTold, TellsErrors, Told, is_usage, misuse_of, reason_line}
 use Rattle.stack_commands.specs.Endings.{IsSilent}
@@ -30,6 +30,7 @@ quiet (Partitions fault) bytes = refl
 quiet (Trees fault) bytes = refl
 quiet (Session fault) bytes = tt
 quiet (Service fault) bytes = refl
+quiet (Faults tally) bytes = refl
 
 -- how an end is reported: by the writer, or elsewhere
 pub told-here : (cat : Bool) (ended : CommandEnd) (old new : Option (List ℕ)) (told : Told) (status : ℕ) → cat ≡ false
@@ -44,7 +45,7 @@ told-elsewhere cat ended output before told status is explained reason ends =
     subst (λ (b : Bool). IsTold b ended output output told status) (sym is) (refl, record { before = before; explained = explained; reason = reason; ends = ends })
 
 -- a text was written, or the writer failed and remembers it
-written-or : {T : Type 0} (old new : CountedRecord T) (result : Result Unit WriteFault) (Done : Type 0) → Writing old new result Done → Done ⊎ (new.failed ≡ true)
+pub written-or : {T : Type 0} (old new : CountedRecord T) (result : Result Unit WriteFault) (Done : Type 0) → Writing old new result Done → Done ⊎ (new.failed ≡ true)
 written-or old new (Ok done) Done writing = inl writing.ok
 written-or old new (Err fault) Done writing = inr writing.failed
 

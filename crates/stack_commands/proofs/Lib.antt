@@ -5,4 +5,5 @@ mod LinuxLemmas
 mod RefusalLemmas
 mod RepairingLemmas
 pub mod ServeLemmas
+pub mod ServiceLogLemmas
 pub mod UsageLemmas

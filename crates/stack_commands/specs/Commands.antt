@@ -118,7 +118,7 @@ IsTold false ended old new told status = IsEndAsOr ended.json told.failed ended.
 IsTold true ended old new told status = (new ≡ old) × IsToldElsewhere ended told status
 
 -- A command ended early: its text, or the object of its line, is printed and its status answered, or that can't be written. If the
--- writer had failed before, that stays known. Among the errors the text follows what the command printed there.
+-- writer had failed before, that stays known. Among the errors the text follows what the command printed there. Nothing more is read.
 pub record EndsCommand {S D T G : Type 0} (u : Uses S D T G) (told : Told) (status : ℕ) : Type 0 where
   pub ended : CommandEnd
   pub before : Streams
@@ -127,6 +127,7 @@ pub record EndsCommand {S D T G : Type 0} (u : Uses S D T G) (told : Told) (stat
   pub begun : notes.old ≡ told.old
   pub noted : notes.failed ≡ true → told.errors_failed ≡ true
   pub fails : IsRunEnd told.words (record u { new = before; notes = notes }) unwritten ended
+  pub read : u.new.input ≡ before.input
   pub kept : unwritten ≡ true → told.failed ≡ true
   pub told_so : IsTold (output_is_data told.words) ended before.output u.new.output (record told { old = notes.new }) status
 

@@ -4,7 +4,7 @@ use Rattle.std.specs.Io.KnownBytes.{Appends}
 use Rattle.command_line.specs.declared.fault.WordsFault.{WordsFault}
 use Rattle.command_line.specs.declared.fault.WordsFault.TheVariants as words
 use Rattle.stack_commands.specs.declared.fault.CommandFault.{CommandFault}
-use Rattle.stack_commands.specs.declared.fault.CommandFault.TheVariants.{Usage, NoMemory, Stack, Linux, Request, Io, Recovering, Stream, Verity, Fec, Partitions, Trees, Session, Service}
+use Rattle.stack_commands.specs.declared.fault.CommandFault.TheVariants.{Usage, NoMemory, Stack, Linux, Request, Io, Recovering, Stream, Verity, Fec, Partitions, Trees, Session, Service, Faults}
 use Rattle.linux_rules.specs.declared.refusal.LinuxFault.{LinuxFault}
 use Rattle.linux_rules.specs.declared.refusal.LinuxFault.TheVariants as linux
 use Rattle.nbd_protocol.specs.declared.fault.ServiceFault.TheVariants as service
@@ -16,7 +16,7 @@ use Rattle.fec_commands.specs.FaultTexts.{fec_status, fec_text}
 use Rattle.partition_commands.specs.FaultTexts.{partitions_status, partitions_text}
 use Rattle.verity_commands.specs.TreeFaultTexts.{tree_status, tree_fault_text}
 use Rattle.io_fault_text.specs.Texts.{io_text, no_memory, usage_text}
-use Rattle.stack_commands.specs.FaultTexts.{io_status, linux_text, recovering_status, recovering_text, request_status, request_text, stack_fault_text, stream_status, stream_text}
+use Rattle.stack_commands.specs.FaultTexts.{faults_text, io_status, linux_text, recovering_status, recovering_text, request_status, request_text, service_text, stack_fault_text, stream_status, stream_text}
 
 -- how a command ends where the words are none
 abbrev pub command_words_ending : WordsFault → CommandFault
@@ -28,7 +28,7 @@ abbrev pub linux_ending : LinuxFault → CommandFault
 linux_ending (linux.Refused refusal) = Linux refusal
 linux_ending linux.NoMemory = NoMemory
 
--- what is printed of it; the own faults of a session and of the service of a client print nothing
+-- what is printed of it; the own faults of a session print nothing
 abbrev pub ending_text : CommandFault → List ℕ
 ending_text (Usage misuse) = usage_text
 ending_text NoMemory = no_memory
@@ -43,9 +43,10 @@ ending_text (Fec fault) = fec_text fault
 ending_text (Partitions fault) = partitions_text fault
 ending_text (Trees fault) = tree_fault_text fault
 ending_text (Session fault) = []
-ending_text (Service fault) = []
+ending_text (Service fault) = service_text fault
+ending_text (Faults tally) = faults_text tally
 
--- 2 for words that are no command, 3 for a fault of the stack, images that differ and lost sectors,
+-- 2 for words that are no command, 3 for a fault of the stack, images that differ, lost sectors and faults that a client got,
 -- 4 for a client that breaks the protocol or is lost, else 1
 abbrev pub ending_status : CommandFault → ℕ
 ending_status (Usage misuse) = 2
@@ -61,6 +62,7 @@ ending_status (Service service.Lost) = 4
 ending_status (Service service.Magic) = 4
 ending_status (Service service.Flags) = 4
 ending_status (Service service.NoSuchExport) = 4
+ending_status (Faults tally) = 3
 ending_status fault = 1
 
 -- its text was printed, and its status answered

@@ -5,6 +5,9 @@ use Rattle.io_fault_text.specs.Paths.{shown_path}
 use Rattle.io_fault_text.specs.Texts.{io_text, kind_then, no_memory, refused_text}
 use Rattle.linux_rules.specs.Kinds.{linux_number, linux_name}
 use Rattle.linux_rules.specs.declared.refusal.LinuxRefusal.{LinuxRefusal}
+use Rattle.nbd_protocol.specs.declared.fault.ServiceFault.{ServiceFault}
+use Rattle.nbd_protocol.specs.declared.fault.ServiceFault.TheVariants as service
+use Rattle.nbd_server.specs.declared.tally.Tally.{Tally}
 use Rattle.stack_meaning.specs.declared.fault.IoFault.{IoFault}
 use Rattle.stack_meaning.specs.declared.fault.IoFault.TheVariants as io
 use Rattle.stack_rules.specs.declared.refusal.ConfigFault.{ConfigFault}
@@ -34,6 +37,19 @@ outside_text path = codes "refused 23 OutsideFile " ++ (shown_path path ++ codes
 abbrev pub config_text : ConfigFault → List ℕ
 config_text config.NoMemory = no_memory
 config_text fault = refused_text (config_number fault) (config_name fault)
+
+-- how a client ended its service; nothing if the input or the output failed
+abbrev pub service_text : ServiceFault → List ℕ
+service_text service.Lost = codes "client 1 Lost\n"
+service_text service.Magic = codes "client 2 Magic\n"
+service_text service.Flags = codes "client 3 Flags\n"
+service_text service.NoSuchExport = codes "client 4 NoSuchExport\n"
+service_text service.ReadFault = []
+service_text service.WriteFault = []
+
+-- so many requests of a client were answered with an input/output error, of so many
+abbrev pub faults_text : Tally → List ℕ
+faults_text tally = codes "faults " ++ (decimal tally.faults ++ (codes " requests " ++ (decimal tally.requests ++ codes "\n")))
 
 -- what Linux would refuse or read otherwise, with the device and the line
 abbrev pub linux_text : LinuxRefusal → List ℕ

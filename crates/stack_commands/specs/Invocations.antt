@@ -2,7 +2,7 @@
 use Rattle.std.specs.Io.KnownBytes.{Appends}
 use Rattle.std.specs.Prelude.{◌≡◌, ◌⊎◌, ◌≢◌, ℕ, Bool, true, false, codes, List, [], None, Ok, Option, Some, unwrap_or}
 use Rattle.command_line.specs.FormatOptions.{OptionTexts}
-use Rattle.command_line.specs.Invocations.{InvocationRecord, cat, copy, diff, dump, exports, format, format_fec, format_pin, format_tree, load, manual, nbd, partitions, read, repair, scan, session, store, table, table_tree, verify, verify_fec, verify_tree, version, write}
+use Rattle.command_line.specs.Invocations.{InvocationRecord, cat, copy, diff, dump, exports, format, format_fec, load, manual, nbd, partitions, read, repair, scan, session, store, table, table_tree, verify, verify_fec, verify_tree, version, write}
 use Rattle.command_line.specs.words.Cat.{CatRecord}
 use Rattle.command_line.specs.words.Copy.{CopyRecord}
 use Rattle.command_line.specs.words.Exports.{ExportsRecord}
@@ -16,7 +16,8 @@ use Rattle.command_line.specs.words.Write.{WriteRecord}
 use Rattle.program_io.specs.Streams.{Streams}
 use Rattle.image_files.specs.Opener.{Calls}
 use Rattle.fec_commands.specs.declared.fault.FecFault.{FecFault}
-use Rattle.fec_commands.specs.Commands.{FormatsFec, IsFormatFecEnd, IsVerifyFecEnd, VerifiesFec}
+use Rattle.fec_commands.specs.Commands.{IsVerifyFecEnd, VerifiesFec}
+use Rattle.fec_commands.specs.Formatting.{FormatsFec, IsFormatFecEnd}
 use Rattle.manual_pages.specs.Pages.{PageRecord, page_of}
 use Rattle.manual_pages.specs.Versions.{version_text}
 use Rattle.partition_commands.specs.declared.fault.PartitionsFault.{PartitionsFault}
@@ -34,10 +35,11 @@ use Rattle.stack_files.specs.NamedDevices.{DeviceWords}
 use Rattle.transfer_commands.specs.StoredFiles.{FileWords, IsFileEnd, PrintsFileStored, file_words}
 use Rattle.transfer_commands.specs.Streaming.{IsBytesEnd, IsStoringEnd, PrintsBytes, PrintsStored}
 use Rattle.stack_commands.specs.ManyExports.{IsExportsEnd, ServesExports}
-use Rattle.stack_commands.specs.StackCommands.{IsClientEnd, IsListEnd, IsReadEnd, IsServeEnd, IsWriteEnd, PrintsDevices, PrintsReply, PrintsWritten, ServesClient, ServesSession, device_on, on}
-use Rattle.verity_commands.specs.Pinned.{FormatsByPin, IsPinFormatEnd}
-use Rattle.verity_commands.specs.Placed.{DumpsAt, FormatsAt, IsDumpEnd, IsSaidFormatEnd, IsTableEnd, PrintsEntry}
-use Rattle.verity_commands.specs.Trees.{FormatsSaidTree, IsSaidFormatTreeEnd, IsTableTreeEnd, PrintsTreeEntry}
+use Rattle.stack_commands.specs.ServiceLog.{Exchange, exchange}
+use Rattle.stack_commands.specs.StackCommands.{IsClientEnd, IsListEnd, IsReadEnd, IsServeEnd, IsWriteEnd, PrintsDevices, PrintsReply, PrintsWritten, ServesClient, ServesSession, ServesWell, device_on, on}
+use Rattle.verity_commands.specs.Formatting.{FormatsAt, IsSaidFormatEnd}
+use Rattle.verity_commands.specs.Placed.{DumpsAt, IsDumpEnd, IsTableEnd, PrintsEntry}
+use Rattle.verity_commands.specs.Trees.{IsTableTreeEnd, PrintsTreeEntry}
 use Rattle.stack_commands.specs.Repairing.{IsRepairWordsEnd, RepairsImage}
 use Rattle.stack_commands.specs.Uses.{IsRecoveringEnd, IsStreamEnd, IsVerityEnd, Uses}
 use Rattle.stack_commands.specs.Verifying.{ChecksImage, ChecksTree, IsCheckCommandEnd, IsCheckTreeEnd}
@@ -87,11 +89,11 @@ ServesInputLines w s old new = ServesSession w s.cache s.bindings old new (Ok tt
 abbrev pub IsSessionWordsEnd : {S D : Type 0} → Calls S D → SessionRecord → Streams → Streams → Bool → CommandFault → Type 0
 IsSessionWordsEnd w s old new failed fault = IsServeEnd w s.cache s.bindings old new failed fault
 
-abbrev pub ServesNamedDevice : {S D : Type 0} → Calls S D → NbdRecord → Streams → Streams → Type 0
-ServesNamedDevice w n old new = ServesClient w (device_on n.stack n.name n.cache n.bindings) old new (Ok tt) (Ok tt)
+abbrev pub ServesNamedDevice : {S D : Type 0} → Calls S D → NbdRecord → Exchange → Type 0
+ServesNamedDevice w n x = ServesWell (λ tally. ServesClient w (device_on n.stack n.name n.cache n.bindings) x tally (Ok tt) (Ok tt))
 
-abbrev pub IsNbdWordsEnd : {S D : Type 0} → Calls S D → NbdRecord → Streams → Streams → Bool → CommandFault → Type 0
-IsNbdWordsEnd w n old new failed fault = IsClientEnd w (device_on n.stack n.name n.cache n.bindings) old new failed fault
+abbrev pub IsNbdWordsEnd : {S D : Type 0} → Calls S D → NbdRecord → Exchange → Bool → CommandFault → Type 0
+IsNbdWordsEnd w n x failed fault = IsClientEnd w (device_on n.stack n.name n.cache n.bindings) x failed fault
 
 -- ---- bytes of a device
 
@@ -140,11 +142,11 @@ IsCopyWordsEnd w c old new failed fault = IsRecoveringEnd (IsCopyEnd w (copied c
 
 -- ---- a client that is served each device
 
-abbrev pub ServesDevices : {S D : Type 0} → Calls S D → ExportsRecord → Streams → Streams → Type 0
-ServesDevices w e old new = ServesExports w (on e.stack e.bindings) e.cache old new (Ok tt) (Ok tt)
+abbrev pub ServesDevices : {S D : Type 0} → Calls S D → ExportsRecord → Exchange → Type 0
+ServesDevices w e x = ServesWell (λ tally. ServesExports w (on e.stack e.bindings) e.cache x tally (Ok tt) (Ok tt))
 
-abbrev pub IsExportsWordsEnd : {S D : Type 0} → Calls S D → ExportsRecord → Streams → Streams → Bool → CommandFault → Type 0
-IsExportsWordsEnd w e old new failed fault = IsExportsEnd w (on e.stack e.bindings) e.cache old new failed fault
+abbrev pub IsExportsWordsEnd : {S D : Type 0} → Calls S D → ExportsRecord → Exchange → Bool → CommandFault → Type 0
+IsExportsWordsEnd w e x failed fault = IsExportsEnd w (on e.stack e.bindings) e.cache x failed fault
 
 -- ---- pages of the manual
 
@@ -164,14 +166,18 @@ IsPageEnd command old new failed fault = ((page_wanted command ≡ None) × ((fa
 
 -- ---- all of them
 
+-- what a client is sent and what is printed meanwhile, with `--quiet` or without it
+abbrev pub exchange_of : {S D T G : Type 0} → OptionTexts → Uses S D T G → Exchange
+exchange_of texts u = exchange u.old u.new texts.quiet u.notes
+
 -- what each prints if it succeeds; the texts are the values of `format`'s options
 abbrev pub Succeeds : {S D T G : Type 0} → OptionTexts → InvocationRecord → Uses S D T G → Type 0
 Succeeds texts (load l) u = ListsDevices u.images l u.old.output u.new.output
 Succeeds texts (read r) u = ReadsDevice u.images r u.old.output u.new.output
 Succeeds texts (write t) u = WritesDevice u.images t u.old.output u.new.output
 Succeeds texts (session s) u = ServesInputLines u.images s u.old u.new
-Succeeds texts (nbd n) u = ServesNamedDevice u.images n u.old u.new
-Succeeds texts (exports e) u = ServesDevices u.images e u.old u.new
+Succeeds texts (nbd n) u = ServesNamedDevice u.images n (exchange_of texts u)
+Succeeds texts (exports e) u = ServesDevices u.images e (exchange_of texts u)
 Succeeds texts (scan s) u = ScansSectors u.images s u.old.output u.new.output
 Succeeds texts (copy c) u = CopiesSectors u.images c u.old.output u.new.output
 Succeeds texts (cat c) u = CatsSectors u.images c u.old.output u.new.output
@@ -183,12 +189,10 @@ Succeeds texts (table t) u = PrintsEntry u.images t u.old.output u.new.output
 Succeeds texts (partitions p) u = ListsPartitions u.images p u.old.output u.new.output u.notes
 Succeeds texts (diff d) u = ComparesImages texts u.images d u.old.output u.new.output
 Succeeds texts (repair r) u = RepairsImage texts u.images r u.old.output u.new.output
-Succeeds texts (format_tree f) u = FormatsSaidTree texts u.images u.drawing f u.old.output u.new.output
 Succeeds texts (verify_tree v) u = ChecksTree texts u.images v u.old.output u.new.output
 Succeeds texts (table_tree t) u = PrintsTreeEntry texts u.images t u.old.output u.new.output
 Succeeds texts (format_fec f) u = FormatsFec texts u.images u.drawing f u.old.output u.new.output
 Succeeds texts (verify_fec v) u = VerifiesFec texts u.images v u.old.output u.new.output
-Succeeds texts (format_pin f) u = FormatsByPin texts u.images u.drawing f u.old.output u.new.output
 Succeeds texts (manual command) u = PrintsPage command u.old.output u.new.output × (u.images.new ≡ u.images.old)
 Succeeds texts version u = Appends u.old.output u.new.output version_text × (u.images.new ≡ u.images.old)
 
@@ -198,8 +202,8 @@ FailsCommand texts (load l) u failed fault = IsLoadWordsEnd u.images l u.old.out
 FailsCommand texts (read r) u failed fault = IsReadWordsEnd u.images r u.old.output u.new.output failed fault
 FailsCommand texts (write t) u failed fault = IsWriteWordsEnd u.images t u.old.output u.new.output failed fault
 FailsCommand texts (session s) u failed fault = IsSessionWordsEnd u.images s u.old u.new failed fault
-FailsCommand texts (nbd n) u failed fault = IsNbdWordsEnd u.images n u.old u.new failed fault
-FailsCommand texts (exports e) u failed fault = IsExportsWordsEnd u.images e u.old u.new failed fault
+FailsCommand texts (nbd n) u failed fault = IsNbdWordsEnd u.images n (exchange_of texts u) failed fault
+FailsCommand texts (exports e) u failed fault = IsExportsWordsEnd u.images e (exchange_of texts u) failed fault
 FailsCommand texts (scan s) u failed fault = IsScanWordsEnd u.images s u.old.output u.new.output failed fault
 FailsCommand texts (copy c) u failed fault = IsCopyWordsEnd u.images c u.old.output u.new.output failed fault
 FailsCommand texts (cat c) u failed fault = IsCatCommandEnd u.images c u.old.output u.new.output failed fault
@@ -211,16 +215,17 @@ FailsCommand texts (table t) u failed fault = IsVerityEnd (IsTableEnd u.images t
 FailsCommand texts (partitions p) u failed fault = IsPartitionsEnd (λ end. IsListingEnd u.images p failed u.notes end × IsFormQuiet p.form u.old.output u.new.output end) fault
 FailsCommand texts (diff d) u failed fault = IsComparingEnd texts u.images d u.old.output u.new.output failed fault
 FailsCommand texts (repair r) u failed fault = IsRepairWordsEnd texts u.images r u.old.output u.new.output failed fault
-FailsCommand texts (format_tree f) u failed fault = IsVerityEnd (IsSaidFormatTreeEnd texts u.images u.drawing f u.old.output u.new.output failed) fault
 FailsCommand texts (verify_tree v) u failed fault = IsCheckTreeEnd texts u.images v u.old.output u.new.output failed fault
 FailsCommand texts (table_tree t) u failed fault = IsVerityEnd (IsTableTreeEnd texts u.images t u.old.output u.new.output failed) fault
 FailsCommand texts (format_fec f) u failed fault = IsFecEnd (IsFormatFecEnd texts u.images u.drawing f u.old.output u.new.output failed) fault
 FailsCommand texts (verify_fec v) u failed fault = IsFecEnd (IsVerifyFecEnd texts u.images v u.old.output u.new.output failed) fault
-FailsCommand texts (format_pin f) u failed fault = IsVerityEnd (IsPinFormatEnd texts u.images u.drawing f u.old.output u.new.output failed) fault
 FailsCommand texts (manual command) u failed fault = IsPageEnd command u.old.output u.new.output failed fault × (u.images.new ≡ u.images.old)
 FailsCommand texts version u failed fault = IsReplyUnwritten failed fault × (u.images.new ≡ u.images.old)
 
--- while it runs, a command prints nothing among the errors, but `partitions` the warnings of its table, of which its row speaks
+-- while it runs, a command prints nothing among the errors, but `partitions` the warnings of its table and `nbd` lines on its
+-- service, of which their rows speak
 abbrev pub AreCommandNotes : InvocationRecord → Notes → Type 0
 AreCommandNotes (partitions p) notes = Unit {0}
+AreCommandNotes (nbd n) notes = Unit {0}
+AreCommandNotes (exports e) notes = Unit {0}
 AreCommandNotes invocation notes = notes.new ≡ notes.old

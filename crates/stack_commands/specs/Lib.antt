@@ -12,6 +12,7 @@ pub mod ManyExports
 pub mod Refusals
 pub mod Repairing
 pub mod Served
+pub mod ServiceLog
 pub mod StackCommands
 pub mod Uses
 pub mod Verifying

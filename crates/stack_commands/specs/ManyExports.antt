@@ -1,13 +1,12 @@
 -- `nbd --all`: each device of a stack is an export under its name.
 use Rattle.std.specs.Prelude.{◌≡◌, ◌⊎◌, ℕ, Bool, true, List, Result, Ok, Err}
 use Rattle.allocation.specs.Refusal.{IsOutOfMemory}
-use Rattle.program_io.specs.Streams.{Streams}
 use Rattle.image_files.specs.Opener.{Calls}
 use Rattle.nbd_protocol.specs.Exports.{ExportRecord}
 use Rattle.nbd_protocol.specs.Offers.{AreNames, Offers, longest_name}
 use Rattle.nbd_protocol.specs.declared.fault.ServiceFault.{ServiceFault}
 use Rattle.nbd_protocol.specs.declared.fault.ServiceFault.TheVariants as service_fault
-use Rattle.nbd_server.specs.Service.{IsService}
+use Rattle.nbd_server.specs.declared.tally.Tally.{Tally}
 use Rattle.request_queue.specs.World.{World}
 use Rattle.stack_engine.specs.Stacks.{StackRecord}
 use Rattle.stack_meaning.specs.declared.fault.IoFault.{IoFault}
@@ -17,7 +16,8 @@ use Rattle.stack_files.specs.StacksOfTexts.{FailsToLoadFile, Loads}
 use Rattle.transfer_commands.specs.Requests.{new_world}
 use Rattle.stack_commands.specs.declared.fault.CommandFault.{CommandFault}
 use Rattle.stack_commands.specs.declared.fault.CommandFault.TheVariants.{NoMemory, Service}
-use Rattle.stack_commands.specs.StackCommands.{IsSyncEnd}
+use Rattle.stack_commands.specs.ServiceLog.{Exchange, IsUnbegun, ServesNoted}
+use Rattle.stack_commands.specs.StackCommands.{IsServedEnd}
 use Rattle.stack_commands.specs.Uses.{IsStackEnd}
 
 -- the exports of a stack are its devices under their names, in their order
@@ -26,22 +26,24 @@ pub record AreOffered (stack : StackRecord) (exports : List ExportRecord) : Type
   pub named : AreNames stack.config.devices names
   pub offered : Offers stack.config names exports
 
--- The service of a client, over each device of the stack. The images were closed with what was written to them, synced or not.
-pub record ServesExports {S D : Type 0} (w : Calls S D) (words : StackWords) (cache : ℕ) (old new : Streams) (outcome : Result Unit ServiceFault) (synced : Result Unit IoFault) : Type 0 where
+-- The service of a client, over each device of the stack, and the tally of its requests. The images were closed with what was
+-- written to them, synced or not.
+pub record ServesExports {S D : Type 0} (w : Calls S D) (words : StackWords) (cache : ℕ) (x : Exchange) (tally : Tally) (outcome : Result Unit ServiceFault) (synced : Result Unit IoFault) : Type 0 where
   pub stack : StackRecord
   pub exports : List ExportRecord
   pub last : World
   pub between : S
   pub loaded : Loads (record w { new = between }) words cache stack
   pub offered : AreOffered stack exports
-  pub served : IsService exports (new_world stack) last old new outcome
+  pub served : ServesNoted x exports (new_world stack) last tally outcome
   pub back : GivesBack (record w { old = between }) words.bindings last.stack.leaves synced
 
 -- the service itself ended early, as by a failure of the writer
-pub record FailsToServeExports {S D : Type 0} (w : Calls S D) (words : StackWords) (cache : ℕ) (old new : Streams) (failed : Bool) (fault : CommandFault) : Type 0 where
+pub record FailsToServeExports {S D : Type 0} (w : Calls S D) (words : StackWords) (cache : ℕ) (x : Exchange) (failed : Bool) (fault : CommandFault) : Type 0 where
   pub service : ServiceFault
+  pub tally : Tally
   pub synced : Result Unit IoFault
-  pub served : ServesExports w words cache old new (Err service) synced
+  pub served : ServesExports w words cache x tally (Err service) synced
   pub is : fault ≡ Service service
   pub written : service ≡ service_fault.WriteFault → failed ≡ true
 
@@ -52,8 +54,9 @@ pub record FailsToOffer {S D : Type 0} (w : Calls S D) (words : StackWords) (cac
   pub is : fault ≡ NoMemory
   pub refused : IsOutOfMemory longest_name
 
--- The service ends early: nothing was served; or by its own fault; or all was served, and then an image isn't synced.
-abbrev pub IsExportsEnd : {S D : Type 0} → Calls S D → StackWords → ℕ → Streams → Streams → Bool → CommandFault → Type 0
-IsExportsEnd w words cache old new failed fault =
-    ((new ≡ old) × (IsStackEnd (FailsToLoadFile w words) fault ⊎ FailsToOffer w words cache fault))
-    ⊎ (FailsToServeExports w words cache old new failed fault ⊎ IsSyncEnd (ServesExports w words cache old new (Ok tt)) fault)
+-- The service ends early: nothing was served; or by its own fault; or all was served, and then an image isn't synced,
+-- or requests had faults.
+abbrev pub IsExportsEnd : {S D : Type 0} → Calls S D → StackWords → ℕ → Exchange → Bool → CommandFault → Type 0
+IsExportsEnd w words cache x failed fault =
+    (IsUnbegun x × (IsStackEnd (FailsToLoadFile w words) fault ⊎ FailsToOffer w words cache fault))
+    ⊎ (FailsToServeExports w words cache x failed fault ⊎ IsServedEnd (λ tally synced. ServesExports w words cache x tally (Ok tt) synced) fault)

@@ -1,6 +1,7 @@
 -- What the functions of the commands that read the input do: it is said of the opener, the reader and the writer before the
 -- call and after it.
-use Rattle.std.specs.Prelude.{ℕ, List, Ok, Option, map}
+use Rattle.std.specs.Prelude.{ℕ, Bool, List, Ok, Option, map}
+use Rattle.std.specs.Borrow.{MutBor}
 use Rattle.block_device.specs.Device.{Device}
 use Rattle.program_io.specs.Counted.{CountedRecord}
 use Rattle.program_io.specs.Streams.{Streams, streams}
@@ -16,11 +17,14 @@ use Rattle.command_line.specs.words.Nbd.{nbd_record}
 use Rattle.command_line.specs.words.Session.{session_record}
 use Rattle.command_line.specs.words.Store.{store_record}
 use Rattle.image_files.specs.Opener.{Calls, Opener, calls}
+use Rattle.partition_commands.specs.Warnings.{notes_of}
 use Rattle.stack_files.specs.NamedDevices.{DeviceWords}
+use Rattle.stack_commands.specs.declared.client.Client.{Client}
 use Rattle.stack_commands.specs.declared.fault.CommandFault.{CommandFault}
 use Rattle.stack_commands.specs.Invocations.{IsExportsWordsEnd, IsNbdWordsEnd, IsSessionWordsEnd, IsStoreCommandEnd, ServesDevices, ServesInputLines, ServesNamedDevice, StoresSectors}
 use Rattle.stack_commands.specs.ManyExports.{IsExportsEnd, ServesExports}
-use Rattle.stack_commands.specs.StackCommands.{IsClientEnd, IsServeEnd, ServesClient, ServesSession, device_on, on}
+use Rattle.stack_commands.specs.ServiceLog.{Exchange, exchange}
+use Rattle.stack_commands.specs.StackCommands.{IsClientEnd, IsServeEnd, ServesClient, ServesSession, ServesWell, device_on, on}
 
 abbrev served_device : ServedDevice → List Binding → DeviceWords
 served_device device bindings = device_on device.stack.now device.name.now device.cache (map binding_record bindings)
@@ -43,23 +47,11 @@ module _ {S D R T : Type 0} (relations : Opener S D) (state : D → Device) (rem
   abbrev pub EndsStore : StoreWords → CommandFault → Type 0
   EndsStore words = IsStoreCommandEnd served_calls (store_record words) served_before served_behind writer'.failed
 
-  abbrev pub DoesExports : ExportsWords → Type 0
-  DoesExports words = ServesDevices served_calls (exports_record words) served_before served_behind
-
-  abbrev pub EndsExports : ExportsWords → CommandFault → Type 0
-  EndsExports words = IsExportsWordsEnd served_calls (exports_record words) served_before served_behind writer'.failed
-
   abbrev pub DoesSession : SessionWords → Type 0
   DoesSession words = ServesInputLines served_calls (session_record words) served_before served_behind
 
   abbrev pub EndsSession : SessionWords → CommandFault → Type 0
   EndsSession words = IsSessionWordsEnd served_calls (session_record words) served_before served_behind writer'.failed
-
-  abbrev pub DoesNbd : NbdWords → Type 0
-  DoesNbd words = ServesNamedDevice served_calls (nbd_record words) served_before served_behind
-
-  abbrev pub EndsNbd : NbdWords → CommandFault → Type 0
-  EndsNbd words = IsNbdWordsEnd served_calls (nbd_record words) served_before served_behind writer'.failed
 
   -- the lines of the input
   abbrev pub ServesInput : ℕ → List Binding → Type 0
@@ -68,15 +60,50 @@ module _ {S D R T : Type 0} (relations : Opener S D) (state : D → Device) (rem
   abbrev pub EndsLines : ℕ → List Binding → CommandFault → Type 0
   EndsLines cache bindings = IsServeEnd served_calls cache (map binding_record bindings) served_before served_behind writer'.failed
 
-  -- a client
+-- ---- with a client, lent by who runs the command
+
+-- what was exchanged with a client, by what its references held before the call and hold after it
+abbrev pub exchanged : {R T E X : Type 0} → (R → Option (List ℕ)) → (T → Option (List ℕ)) → (E → Option (List ℕ)) → Client R T E
+    → MutBor (CountedRecord R) × (MutBor (CountedRecord T) × (MutBor (CountedRecord E) × X)) → Exchange
+exchanged remaining contents printed old new = exchange
+    (streams (remaining old.reader.now.inner) (contents old.writer.now.inner))
+    (streams (remaining new.0.now.inner) (contents new.1.0.now.inner))
+    old.quiet
+    (notes_of printed old.errors.now new.1.1.0.now)
+
+module _ {S D R T E X : Type 0} (relations : Opener S D) (state : D → Device) (remaining : R → Option (List ℕ)) (contents : T → Option (List ℕ)) (printed : E → Option (List ℕ))
+    (images images' : S) (old : Client R T E) (new : MutBor (CountedRecord R) × (MutBor (CountedRecord T) × (MutBor (CountedRecord E) × X))) where
+  abbrev client_calls : Calls S D
+  client_calls = calls relations state images images'
+
+  abbrev client_exchange : Exchange
+  client_exchange = exchanged remaining contents printed old new
+
+  abbrev client_failed : Bool
+  client_failed = new.1.0.now.failed
+
+  -- by the words of a command
+  abbrev pub DoesNbd : NbdWords → Type 0
+  DoesNbd words = ServesNamedDevice client_calls (nbd_record words) client_exchange
+
+  abbrev pub EndsNbd : NbdWords → CommandFault → Type 0
+  EndsNbd words = IsNbdWordsEnd client_calls (nbd_record words) client_exchange client_failed
+
+  abbrev pub DoesExports : ExportsWords → Type 0
+  DoesExports words = ServesDevices client_calls (exports_record words) client_exchange
+
+  abbrev pub EndsExports : ExportsWords → CommandFault → Type 0
+  EndsExports words = IsExportsWordsEnd client_calls (exports_record words) client_exchange client_failed
+
+  -- over a stack file
   abbrev pub ServesDevice : ServedDevice → List Binding → Type 0
-  ServesDevice device bindings = ServesClient served_calls (served_device device bindings) served_before served_behind (Ok tt) (Ok tt)
+  ServesDevice device bindings = ServesWell (λ tally. ServesClient client_calls (served_device device bindings) client_exchange tally (Ok tt) (Ok tt))
 
   abbrev pub EndsClient : ServedDevice → List Binding → CommandFault → Type 0
-  EndsClient device bindings = IsClientEnd served_calls (served_device device bindings) served_before served_behind writer'.failed
+  EndsClient device bindings = IsClientEnd client_calls (served_device device bindings) client_exchange client_failed
 
   abbrev pub ServesEach : ℕ → List ℕ → List Binding → Type 0
-  ServesEach cache stack bindings = ServesExports served_calls (on stack (map binding_record bindings)) cache served_before served_behind (Ok tt) (Ok tt)
+  ServesEach cache stack bindings = ServesWell (λ tally. ServesExports client_calls (on stack (map binding_record bindings)) cache client_exchange tally (Ok tt) (Ok tt))
 
   abbrev pub EndsAll : ℕ → List ℕ → List Binding → CommandFault → Type 0
-  EndsAll cache stack bindings = IsExportsEnd served_calls (on stack (map binding_record bindings)) cache served_before served_behind writer'.failed
+  EndsAll cache stack bindings = IsExportsEnd client_calls (on stack (map binding_record bindings)) cache client_exchange client_failed

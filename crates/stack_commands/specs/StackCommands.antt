@@ -1,5 +1,5 @@
 -- What the commands on stacks print if they succeed, and how they end early.
-use Rattle.std.specs.Prelude.{◌≡◌, ◌⊎◌, ℕ, Bool, true, false, List, [], ◌∷◌, length, Option, Some, None, Result, Ok, Err}
+use Rattle.std.specs.Prelude.{◌≡◌, ◌≢◌, ◌⊎◌, ℕ, Bool, true, false, List, [], ◌∷◌, length, Option, Some, None, Result, Ok, Err}
 use Rattle.std.specs.Io.KnownBytes.{Appends}
 use Rattle.image_files.specs.Opener.{Calls}
 use Rattle.stack_rules.specs.Records.{Configuration}
@@ -10,7 +10,7 @@ use Rattle.stack_meaning.specs.declared.fault.IoFault.{IoFault}
 use Rattle.nbd_protocol.specs.declared.fault.ServiceFault.{ServiceFault}
 use Rattle.nbd_protocol.specs.declared.fault.ServiceFault.TheVariants as service_fault
 use Rattle.nbd_protocol.specs.Exports.{ExportRecord, HasNoExport, IsExport}
-use Rattle.nbd_server.specs.Service.{IsService}
+use Rattle.nbd_server.specs.declared.tally.Tally.{Tally}
 use Rattle.request_queue.specs.declared.reply.Reply.{Reply}
 use Rattle.request_queue.specs.Requests.{RequestRecord}
 use Rattle.request_queue.specs.World.{World}
@@ -26,7 +26,7 @@ use Rattle.scan_commands.specs.DeviceLines.{load_text}
 use Rattle.allocation.specs.Refusal.{IsOutOfMemory}
 use Rattle.stack_session.specs.Texts.{reply_text, written_text}
 use Rattle.stack_commands.specs.declared.fault.CommandFault.{CommandFault}
-use Rattle.stack_commands.specs.declared.fault.CommandFault.TheVariants.{Io, Linux, NoMemory, Service, Session, Stack}
+use Rattle.stack_commands.specs.declared.fault.CommandFault.TheVariants.{Faults, Io, Linux, NoMemory, Service, Session, Stack}
 use Rattle.command_line.specs.Bindings.{BindingRecord}
 use Rattle.command_line.specs.declared.list_form.ListForm.{ListForm}
 use Rattle.command_line.specs.declared.list_form.ListForm.TheVariants.{Object}
@@ -38,6 +38,7 @@ use Rattle.stack_files.specs.NamedDevices.{DeviceWords, device_words}
 use Rattle.stack_files.specs.StacksOfTexts.{Configures, FailsToLoadFile, Loads}
 use Rattle.stack_files.specs.OpenStacks.{StackWords}
 use Rattle.stack_commands.specs.Endings.{IsReplyUnwritten}
+use Rattle.stack_commands.specs.ServiceLog.{Exchange, IsUnbegun, ServesNoted}
 use Rattle.stack_commands.specs.Uses.{IsRequestEnd, IsStackEnd}
 
 abbrev pub on : List ℕ → List BindingRecord → StackWords
@@ -138,9 +139,9 @@ IsServeEnd w cache bindings old new failed fault = ⊥
 
 -- ---- `nbd`
 
--- The service of a client, over the device of that name in the stack. The images were then closed, synced
--- or not.
-pub record ServesClient {S D : Type 0} (w : Calls S D) (words : DeviceWords) (old new : Streams) (outcome : Result Unit ServiceFault) (synced : Result Unit IoFault) : Type 0 where
+-- The service of a client, over the device of that name in the stack, and the tally of its requests. The images were then closed,
+-- synced or not.
+pub record ServesClient {S D : Type 0} (w : Calls S D) (words : DeviceWords) (x : Exchange) (tally : Tally) (outcome : Result Unit ServiceFault) (synced : Result Unit IoFault) : Type 0 where
   pub stack : StackRecord
   pub export : ExportRecord
   pub last : World
@@ -148,8 +149,21 @@ pub record ServesClient {S D : Type 0} (w : Calls S D) (words : DeviceWords) (ol
   pub loaded : Loads (record w { new = between }) words.words words.cache stack
   pub is_export : IsExport stack.config export
   pub named : export.name ≡ words.name
-  pub served : IsService (export ∷ []) (new_world stack) last old new outcome
+  pub served : ServesNoted x (export ∷ []) (new_world stack) last tally outcome
   pub back : GivesBack (record w { old = between }) words.words.bindings last.stack.leaves synced
+
+-- all was served and synced, and no request was answered with an input/output error
+abbrev pub ServesWell : (Tally → Type 0) → Type 0
+ServesWell Done = (tally : Tally) × (tally.faults ≡ 0) × Done tally
+
+-- all was served and synced, but requests were answered with an input/output error
+abbrev pub IsFaultsEnd : (Tally → Type 0) → CommandFault → Type 0
+IsFaultsEnd Done (Faults tally) = (tally.faults ≢ 0) × Done tally
+IsFaultsEnd Done fault = ⊥
+
+-- all was served, and an image wasn't synced or requests were answered with an input/output error
+abbrev pub IsServedEnd : (Tally → Result Unit IoFault → Type 0) → CommandFault → Type 0
+IsServedEnd Done fault = IsSyncEnd (λ synced. (tally : Tally) × Done tally synced) fault ⊎ IsFaultsEnd (λ tally. Done tally (Ok tt)) fault
 
 -- the stack has no device of that name that a client can be told of
 pub record HasNoDevice {S D : Type 0} (w : Calls S D) (words : DeviceWords) (fault : StackFault) : Type 0 where
@@ -163,16 +177,17 @@ abbrev pub FailsToExport : {S D : Type 0} → Calls S D → DeviceWords → Stac
 FailsToExport w words fault = FailsToLoadFile w words.words fault ⊎ HasNoDevice w words fault
 
 -- the service itself ended early, as by a failure of the writer
-pub record FailsToServeClient {S D : Type 0} (w : Calls S D) (words : DeviceWords) (old new : Streams) (failed : Bool) (fault : CommandFault) : Type 0 where
+pub record FailsToServeClient {S D : Type 0} (w : Calls S D) (words : DeviceWords) (x : Exchange) (failed : Bool) (fault : CommandFault) : Type 0 where
   pub service : ServiceFault
+  pub tally : Tally
   pub synced : Result Unit IoFault
-  pub served : ServesClient w words old new (Err service) synced
+  pub served : ServesClient w words x tally (Err service) synced
   pub is : fault ≡ Service service
   pub written : service ≡ service_fault.WriteFault → failed ≡ true
 
 -- The service of a client ends early: nothing was served; or by the service's own fault; or all was served, and then an
--- image isn't synced.
-abbrev pub IsClientEnd : {S D : Type 0} → Calls S D → DeviceWords → Streams → Streams → Bool → CommandFault → Type 0
-IsClientEnd w words old new failed fault =
-    ((new ≡ old) × IsStackEnd (FailsToExport w words) fault)
-    ⊎ (FailsToServeClient w words old new failed fault ⊎ IsSyncEnd (ServesClient w words old new (Ok tt)) fault)
+-- image isn't synced, or requests had faults.
+abbrev pub IsClientEnd : {S D : Type 0} → Calls S D → DeviceWords → Exchange → Bool → CommandFault → Type 0
+IsClientEnd w words x failed fault =
+    (IsUnbegun x × IsStackEnd (FailsToExport w words) fault)
+    ⊎ (FailsToServeClient w words x failed fault ⊎ IsServedEnd (λ tally synced. ServesClient w words x tally (Ok tt) synced) fault)

@@ -8,8 +8,9 @@ ghost use Rattle.stack_commands.specs.Endings.{ending_status, ending_text};
 use crate::ending_object::ending_object;
 use crate::fault::CommandFault;
 use crate::fault_texts::{
-    io_status, recovering_status, request_status, say_linux_refusal, say_recovering_fault,
-    say_request_fault, say_stack_fault, say_stream_fault, stream_status,
+    io_status, recovering_status, request_status, say_faults, say_linux_refusal,
+    say_recovering_fault, say_request_fault, say_service_fault, say_stack_fault, say_stream_fault,
+    stream_status,
 };
 use fec_commands::{fec_status, say_fec_fault};
 use io_fault_text::{say_io_fault, say_no_memory, say_usage};
@@ -117,11 +118,12 @@ fn status_of(fault: CommandFault<'_>) -> u8
             | ServiceFault::Flags
             | ServiceFault::NoSuchExport,
         ) => BROKEN_CLIENT,
+        CommandFault::Faults(_) => FAULT,
         _ => REFUSED,
     }
 }
 
-// Prints one line, or none if the session or the service of a client itself failed.
+// Prints one line, or none if the session itself failed, or the input or output of a client.
 fn say_fault<W: Write>(writer: &mut Counted<W>, fault: CommandFault<'_>) -> Result<(), WriteFault>
     ensures { Writes W.contents writer.old writer.new (ending_text fault.entry) result }
 {
@@ -139,6 +141,7 @@ fn say_fault<W: Write>(writer: &mut Counted<W>, fault: CommandFault<'_>) -> Resu
         CommandFault::Partitions(fault) => say_partitions_fault(writer, fault),
         CommandFault::Trees(fault) => say_tree_fault(writer, fault),
         CommandFault::Session(_) => Ok(()),
-        CommandFault::Service(_) => Ok(()),
+        CommandFault::Service(fault) => say_service_fault(writer, fault),
+        CommandFault::Faults(tally) => say_faults(writer, tally),
     }
 }

@@ -8,7 +8,7 @@ use allocation::OutOfMemory;
 use command_line::{Misuse, WordsFault};
 use fec_commands::FecFault;
 use linux_rules::{LinuxFault, LinuxRefusal};
-use nbd_server::ServiceFault;
+use nbd_server::{ServiceFault, Tally};
 use partition_commands::PartitionsFault;
 use program_io::WriteFault;
 use scan_commands::RecoveringFault;
@@ -50,6 +50,8 @@ pub enum CommandFault<'a> {
     Session(SessionFault),
     /// The service of a client ended early.
     Service(ServiceFault),
+    /// Requests of a client were answered with an input/output error.
+    Faults(Tally),
 }
 
 impl From<AllocError> for CommandFault<'_> {

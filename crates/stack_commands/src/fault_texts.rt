@@ -1,10 +1,11 @@
 //! The texts of the faults of stacks, of requests, of scans of devices, and of their bytes; and the statuses.
 ghost use Rattle.std.specs.Prelude.{◌≡◌};
 ghost use Rattle.program_io.specs.Counted.{Writes};
-ghost use Rattle.stack_commands.specs.FaultTexts.{config_text, io_status, linux_text, outside_text, recovering_status, recovering_text, request_status, request_text, stack_fault_text, stream_status, stream_text, too_small_text};
+ghost use Rattle.stack_commands.specs.FaultTexts.{config_text, faults_text, io_status, linux_text, outside_text, recovering_status, recovering_text, request_status, request_text, service_text, stack_fault_text, stream_status, stream_text, too_small_text};
 
 use io_fault_text::{say_io_fault, say_no_memory, say_path, say_refused, say_unopened};
 use linux_rules::LinuxRefusal;
+use nbd_server::{ServiceFault, Tally};
 use program_io::{Counted, WriteFault};
 use request_queue::SubmitFault;
 use scan_commands::{RecoveringFault, say_counts, say_pass_fault};
@@ -42,6 +43,39 @@ pub fn say_stack_fault<W: Write>(
         StackFault::Load(refusal) => say_refusal(writer, refusal),
         StackFault::NoSuchDevice => say_submit_fault(writer, SubmitFault::NoSuchDevice),
     }
+}
+
+/// Prints `client K NAME` if the client broke the protocol or disconnected in the middle of a message, else nothing.
+///
+/// # Errors
+///
+/// `WriteFault` if the writer failed.
+pub fn say_service_fault<W: Write>(
+    writer: &mut Counted<W>,
+    fault: ServiceFault,
+) -> Result<(), WriteFault>
+    ensures { Writes W.contents writer.old writer.new (service_text fault) result }
+{
+    match fault {
+        ServiceFault::Lost => writer.put(b"client 1 Lost\n"),
+        ServiceFault::Magic => writer.put(b"client 2 Magic\n"),
+        ServiceFault::Flags => writer.put(b"client 3 Flags\n"),
+        ServiceFault::NoSuchExport => writer.put(b"client 4 NoSuchExport\n"),
+        ServiceFault::ReadFault => Ok(()),
+        ServiceFault::WriteFault => Ok(()),
+    }
+}
+
+/// Prints `faults F requests R`: so many of so many requests of a client were answered with an input/output error.
+///
+/// # Errors
+///
+/// `WriteFault` if the writer failed.
+pub fn say_faults<W: Write>(writer: &mut Counted<W>, tally: Tally) -> Result<(), WriteFault>
+    ensures { Writes W.contents writer.old writer.new (faults_text tally) result }
+{
+    let Tally { requests, faults } = tally;
+    writer.print(format_args!("faults {faults} requests {requests}\n"))
 }
 
 /// Prints `refused K NAME device D line L`.

@@ -5,6 +5,7 @@ ghost use Rattle.stack_commands.specs.Contexts.{EndsPage, ShowsPage};
 ghost use Rattle.partition_commands.specs.Warnings.{notes_of};
 ghost use Rattle.stack_commands.specs.Lines.{DoesLine, EndsLine, NotesLine};
 
+use crate::client::Client;
 use crate::context::Context;
 use crate::copy::invoke_copy;
 use crate::diff::compare_images;
@@ -30,10 +31,7 @@ use partition_commands::invoke_partitions;
 use program_io::Counted;
 use std::alloc::Global;
 use std::io::{Read, Write};
-use verity_commands::{
-    invoke_dump, invoke_format, invoke_format_pinned, invoke_format_tree, invoke_table,
-    invoke_table_tree,
-};
+use verity_commands::{invoke_dump, invoke_format, invoke_table, invoke_table_tree};
 
 /// Runs the command of a command line. The line's options state an image's tree.
 ///
@@ -64,8 +62,24 @@ pub fn invoke<'a, I: Images, G: Generators + Progress + Watchers, S: Read, W: Wr
         Invocation::Read(words) => invoke_read(alloc, Context { images, writer }, words),
         Invocation::Write(words) => invoke_write(alloc, Context { images, writer }, words),
         Invocation::Session(words) => invoke_session(alloc, images, words, reader, writer),
-        Invocation::Nbd(words) => invoke_nbd(alloc, images, words, reader, writer),
-        Invocation::Exports(words) => invoke_exports(alloc, images, words, reader, writer),
+        Invocation::Nbd(words) => {
+            let client = Client {
+                reader,
+                writer,
+                errors,
+                quiet: options.quiet,
+            };
+            invoke_nbd(alloc, images, words, client)
+        }
+        Invocation::Exports(words) => {
+            let client = Client {
+                reader,
+                writer,
+                errors,
+                quiet: options.quiet,
+            };
+            invoke_exports(alloc, images, words, client)
+        }
         Invocation::Scan(words) => invoke_scan(
             alloc,
             Context { images, writer },
@@ -97,9 +111,6 @@ pub fn invoke<'a, I: Images, G: Generators + Progress + Watchers, S: Read, W: Wr
         Invocation::Repair(words) => {
             repair_image(alloc, Context { images, writer }, &words, &options)
         }
-        Invocation::FormatTree(words) => {
-            Ok(invoke_format_tree(alloc, images, generators, &words, &options, writer)?)
-        }
         Invocation::VerifyTree(words) => {
             check_tree(
                 alloc,
@@ -117,9 +128,6 @@ pub fn invoke<'a, I: Images, G: Generators + Progress + Watchers, S: Read, W: Wr
         }
         Invocation::VerifyFec(words) => {
             Ok(invoke_verify_fec(alloc, images, generators, &words, &options, writer)?)
-        }
-        Invocation::FormatPin(words) => {
-            Ok(invoke_format_pinned(alloc, images, generators, &words, &options, writer)?)
         }
         Invocation::Manual(command) => show_page(command, writer),
         Invocation::Version => Ok(print_version(writer)?),

@@ -1,6 +1,7 @@
 //! The commands of the program: words and a reader in, a written text and a status out.
 #![tactic(auto)]
 
+mod client;
 mod command_end;
 mod context;
 mod copy;
@@ -20,6 +21,7 @@ mod read;
 mod repair;
 mod scan;
 mod serve;
+mod service_log;
 mod streams;
 mod tree_verify;
 mod verify;

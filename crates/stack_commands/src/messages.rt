@@ -3,6 +3,7 @@ pub mod commands;
 pub mod images;
 pub mod partitions;
 pub mod scans;
+pub mod services;
 pub mod stacks;
 pub mod streams;
 pub mod trees;

@@ -1,14 +1,18 @@
 //! The command `nbd`: serves a device, or each device, of a stack to a client of the NBD protocol.
 ghost use Rattle.std.specs.Prelude.{OnOk, IfErr};
-ghost use Rattle.stack_commands.specs.Served.{DoesExports, DoesNbd, EndsAll, EndsClient, EndsExports, EndsNbd, ServesDevice, ServesEach};
+ghost use Rattle.nbd_protocol.specs.Exports.{AreExports, export_records};
+ghost use Rattle.nbd_protocol.specs.Streaming.{HasWritten, result_fault};
+ghost use Rattle.stack_commands.specs.Served.{DoesExports, DoesNbd, EndsAll, EndsClient, EndsExports, EndsNbd, ServesDevice, ServesEach, exchanged};
+ghost use Rattle.stack_commands.specs.ServiceLog.{ServesNoted};
 
+use crate::client::Client;
 use crate::fault::CommandFault;
-use block_device::BlockDev;
+use crate::service_log::{note_end, note_start};
+use block_device::{BlockDev, SyncDev};
 use command_line::{Binding, ExportsWords, NbdWords, ServedDevice};
 use image_files::Images;
 use nbd_protocol::{Export, exports_of, names_of};
-use nbd_server::serve;
-use program_io::Counted;
+use nbd_server::{ServiceFault, Tally, serve};
 use request_queue::Queue;
 use stack_files::{StackFault, StackFile, open_loaded, sync_and_close};
 use std::alloc::Global;
@@ -22,18 +26,18 @@ use std::io::{Read, Write};
 /// - `Stack` if a file can't be opened, or there is no stack or no such device.
 /// - `Service` if the service ended early.
 /// - `Io` if the images can't be synced.
-pub fn invoke_nbd<'a, I: Images, S: Read, W: Write>(
+/// - `Faults` if a request was answered with an input/output error.
+pub fn invoke_nbd<'a, I: Images, R: Read, W: Write, E: Write>(
     alloc: Global,
     images: &mut I,
     words: NbdWords<'a>,
-    reader: &mut Counted<S>,
-    writer: &mut Counted<W>,
+    client: Client<'_, R, W, E>,
 ) -> Result<(), CommandFault<'a>>
-    ensures ok { OnOk result (DoesNbd I.relations I.Dev.state S.remaining W.contents images.old images.new reader.old reader.new writer.old writer.new words.entry) }
-    ensures err { IfErr result (EndsNbd I.relations I.Dev.state S.remaining W.contents images.old images.new reader.old reader.new writer.old writer.new words.entry) }
+    ensures ok { OnOk result (DoesNbd I.relations I.Dev.state R.remaining W.contents E.contents images.old images.new client.entry client.exit words.entry) }
+    ensures err { IfErr result (EndsNbd I.relations I.Dev.state R.remaining W.contents E.contents images.old images.new client.entry client.exit words.entry) }
 {
     let NbdWords { device, bindings } = words;
-    serve_client(alloc, images, device, bindings.as_slice(), reader, writer)
+    serve_client(alloc, images, device, bindings.as_slice(), client)
 }
 
 /// `nbd --all [--cache N] STACK BINDING...`: serves each device of a stack file over the bindings, under its name. The
@@ -44,43 +48,34 @@ pub fn invoke_nbd<'a, I: Images, S: Read, W: Write>(
 /// - `Stack` if a file can't be opened, or there is no stack.
 /// - `Service` if the service ended early.
 /// - `Io` if the images can't be synced.
-pub fn invoke_exports<'a, I: Images, S: Read, W: Write>(
+/// - `Faults` if a request was answered with an input/output error.
+pub fn invoke_exports<'a, I: Images, R: Read, W: Write, E: Write>(
     alloc: Global,
     images: &mut I,
     words: ExportsWords<'a>,
-    reader: &mut Counted<S>,
-    writer: &mut Counted<W>,
+    client: Client<'_, R, W, E>,
 ) -> Result<(), CommandFault<'a>>
-    ensures ok { OnOk result (DoesExports I.relations I.Dev.state S.remaining W.contents images.old images.new reader.old reader.new writer.old writer.new words.entry) }
-    ensures err { IfErr result (EndsExports I.relations I.Dev.state S.remaining W.contents images.old images.new reader.old reader.new writer.old writer.new words.entry) }
+    ensures ok { OnOk result (DoesExports I.relations I.Dev.state R.remaining W.contents E.contents images.old images.new client.entry client.exit words.entry) }
+    ensures err { IfErr result (EndsExports I.relations I.Dev.state R.remaining W.contents E.contents images.old images.new client.entry client.exit words.entry) }
 {
     let ExportsWords {
         cache,
         stack,
         bindings,
     } = words;
-    serve_exports(
-        alloc,
-        images,
-        cache,
-        stack,
-        bindings.as_slice(),
-        reader,
-        writer,
-    )
+    serve_exports(alloc, images, cache, stack, bindings.as_slice(), client)
 }
 
 // Serves a device of a stack file. The images are synced and closed at the end.
-fn serve_client<'a, I: Images, R: Read, W: Write>(
+fn serve_client<'a, I: Images, R: Read, W: Write, E: Write>(
     alloc: Global,
     images: &mut I,
     device: ServedDevice<'a>,
     bindings: &[Binding<'a>],
-    reader: &mut Counted<R>,
-    writer: &mut Counted<W>,
+    client: Client<'_, R, W, E>,
 ) -> Result<(), CommandFault<'a>>
-    ensures ok { OnOk result (ServesDevice I.relations I.Dev.state R.remaining W.contents images.old images.new reader.old reader.new writer.old writer.new device.entry bindings.now) }
-    ensures err { IfErr result (EndsClient I.relations I.Dev.state R.remaining W.contents images.old images.new reader.old reader.new writer.old writer.new device.entry bindings.now) }
+    ensures ok { OnOk result (ServesDevice I.relations I.Dev.state R.remaining W.contents E.contents images.old images.new client.entry client.exit device.entry bindings.now) }
+    ensures err { IfErr result (EndsClient I.relations I.Dev.state R.remaining W.contents E.contents images.old images.new client.entry client.exit device.entry bindings.now) }
 {
     let file = StackFile {
         path: device.stack,
@@ -91,24 +86,28 @@ fn serve_client<'a, I: Images, R: Read, W: Write>(
     let Some(export) = Export::of(queue.stack().config(), device.name.as_bytes()) else {
         return Err(CommandFault::Stack(StackFault::NoSuchDevice));
     };
-    let outcome = serve(alloc, &mut queue, &[export], reader, writer);
+    let mut tally = Tally::none();
+    let outcome = serve_noted(alloc, &mut queue, &[export], client, &mut tally);
     let synced = sync_and_close(images, bindings, queue.into_stack());
     outcome?;
-    Ok(synced?)
+    synced?;
+    if tally.faults == 0 {
+        return Ok(());
+    }
+    Err(CommandFault::Faults(tally))
 }
 
 // Each device of a stack file, under its name.
-fn serve_exports<'a, I: Images, R: Read, W: Write>(
+fn serve_exports<'a, I: Images, R: Read, W: Write, E: Write>(
     alloc: Global,
     images: &mut I,
     cache: u32,
     stack: &'a str,
     bindings: &[Binding<'a>],
-    reader: &mut Counted<R>,
-    writer: &mut Counted<W>,
+    client: Client<'_, R, W, E>,
 ) -> Result<(), CommandFault<'a>>
-    ensures ok { OnOk result (ServesEach I.relations I.Dev.state R.remaining W.contents images.old images.new reader.old reader.new writer.old writer.new cache stack.now bindings.now) }
-    ensures err { IfErr result (EndsAll I.relations I.Dev.state R.remaining W.contents images.old images.new reader.old reader.new writer.old writer.new cache stack.now bindings.now) }
+    ensures ok { OnOk result (ServesEach I.relations I.Dev.state R.remaining W.contents E.contents images.old images.new client.entry client.exit cache stack.now bindings.now) }
+    ensures err { IfErr result (EndsAll I.relations I.Dev.state R.remaining W.contents E.contents images.old images.new client.entry client.exit cache stack.now bindings.now) }
 {
     let file = StackFile {
         path: stack,
@@ -121,8 +120,37 @@ fn serve_exports<'a, I: Images, R: Read, W: Write>(
     let listed = names.as_slice();
     let exports = exports_of(alloc, config, listed)?;
     let offered = exports.as_slice();
-    let outcome = serve(alloc, &mut queue, offered, reader, writer);
+    let mut tally = Tally::none();
+    let outcome = serve_noted(alloc, &mut queue, offered, client, &mut tally);
     let synced = sync_and_close(images, bindings, queue.into_stack());
     outcome?;
-    Ok(synced?)
+    synced?;
+    if tally.faults == 0 {
+        return Ok(());
+    }
+    Err(CommandFault::Faults(tally))
+}
+
+// Serves the exports. Among the errors a line for each of them is printed before, and one with the tally after.
+fn serve_noted<D: SyncDev, R: Read, W: Write, E: Write>(
+    alloc: Global,
+    queue: &mut Queue<D>,
+    exports: &[Export<'_>],
+    client: Client<'_, R, W, E>,
+    tally: &mut Tally,
+) -> Result<(), ServiceFault>
+    requires { AreExports queue.old.stack.config exports.now }
+    ensures served { ServesNoted (exchanged R.remaining W.contents E.contents client.entry client.exit) (export_records exports.now) queue.old queue.new tally.new result }
+    ensures writer { HasWritten client.entry.writer.now client.exit.1.0.now (result_fault result) }
+{
+    let Client {
+        reader,
+        writer,
+        errors,
+        quiet,
+    } = client;
+    note_start(errors, exports, quiet);
+    let outcome = serve(alloc, queue, exports, reader, writer, tally);
+    note_end(errors, *tally, quiet);
+    outcome
 }

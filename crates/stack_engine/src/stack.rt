@@ -70,23 +70,6 @@ impl<D: BlockDev> Stack<D> {
         Stack { config, backing }
     }
 
-    /// Returns the stack that `over` returns.
-    ///
-    /// # Errors
-    ///
-    /// None: the result is always `Ok`.
-    pub fn new(
-        alloc: Global,
-        config: Config,
-        devices: Vec<D>,
-        capacity: u32,
-    ) -> Result<Stack<D>, (Config, Vec<D>)>
-        requires { ServeLeaves config.leaves (map D.state devices.items) }
-        ensures { result ≡ Ok (stack_over config (map D.state devices.items) capacity) }
-    {
-        Ok(Stack::over(alloc, config, devices, capacity))
-    }
-
     /// Returns the configuration and the devices of its leaves, in order.
     pub fn into_parts(self) -> (Config, Vec<D>)
         ensures config { result.0 ≡ self.config }

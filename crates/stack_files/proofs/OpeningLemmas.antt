@@ -19,7 +19,8 @@ use Rattle.stack_meaning.specs.Leaves.{ServeLeaves}
 use Rattle.stack_files.specs.declared.opening_fault.OpeningFault.{OpeningFault}
 use Rattle.stack_files.specs.declared.opening_fault.OpeningFault.TheVariants.{NoMemory, Open, Outside, TooLong}
 use Rattle.stack_files.specs.declared.leaves.OpenLeaves.{OpenLeaves}
-use Rattle.stack_files.specs.Bindings.{OpensBacking, OpensEach, backings_of, device_part}
+use Rattle.image_files.specs.Places.{device_part}
+use Rattle.stack_files.specs.Bindings.{OpensBacking, OpensEach, backings_of}
 use Rattle.stack_files.specs.Openings.{IsAtBacking, IsBackingEnd, IsBindingEnd, RefusesBacking, RefusesBinding, RunsOut, backing_room, binding_room, bindings_room, part_ending}
 
 -- what holds of a fault holds of the result that hands it on

@@ -3,7 +3,6 @@ use Rattle.std.specs.Global.{Global}
 use Rattle.std.specs.Prelude.{◌≡◌, ℕ, Bool, true, List, [], ◌∷◌, ◌++◌, map, Vec}
 use Rattle.block_device.specs.Device.{Device, in_memory, zeros_image, ramp_image}
 use Rattle.command_line.specs.Bindings.{BackingRecord, BindingRecord, backing_record, binding_record, file, part, ramp, zeros}
-use Rattle.command_line.specs.PartBindings.{PartRecord}
 use Rattle.command_line.specs.declared.bindings.Backing.{Backing}
 use Rattle.command_line.specs.declared.bindings.Binding.{Binding}
 use Rattle.device_adapters.specs.declared.part.Part.{Part}
@@ -13,6 +12,7 @@ use Rattle.image_files.specs.declared.images.OpenImage.{OpenImage}
 use Rattle.image_files.specs.FileUses.{image_use, part_use}
 use Rattle.image_files.specs.Opener.{Calls, Opener, calls}
 use Rattle.image_files.specs.OpenParts.{OpensPart}
+use Rattle.image_files.specs.Places.{device_part}
 use Rattle.stack_rules.specs.Records.{LeafRecord}
 use Rattle.stack_meaning.specs.Leaves.{ServeLeaves}
 use Rattle.stack_files.specs.declared.leaves.OpenLeaves.{OpenLeaves}
@@ -23,10 +23,6 @@ pub record OpensBackingFile {S D : Type 0} (w : Calls S D) (files : List FileUse
   pub opened : OpensApart w files path writable image
   pub is : device ≡ image.device
   pub more : files' ≡ files ++ image_use writable image ∷ []
-
--- the part of a binding as a part of a device
-abbrev pub device_part : PartRecord → Part
-device_part at = record { first = at.first; count = at.count }
 
 -- that part of the image was opened, doesn't conflict with any open file, and is one of the open files now
 pub record OpensPartOf {S D : Type 0} (w : Calls S D) (files : List FileUse) (path : List ℕ) (writable : Bool) (at : Part) (device : D) (files' : List FileUse) : Type 0 where

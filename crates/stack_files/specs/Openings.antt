@@ -18,7 +18,8 @@ use Rattle.image_files.specs.Opener.{Calls, Opener, calls}
 use Rattle.image_files.specs.OpenParts.{RefusesPart}
 use Rattle.stack_files.specs.declared.opening_fault.OpeningFault.{OpeningFault}
 use Rattle.stack_files.specs.declared.opening_fault.OpeningFault.TheVariants.{NoMemory, Open, Outside, TooLong}
-use Rattle.stack_files.specs.Bindings.{OpensBacking, OpensEach, backings_of, device_part}
+use Rattle.image_files.specs.Places.{device_part}
+use Rattle.stack_files.specs.Bindings.{OpensBacking, OpensEach, backings_of}
 
 -- a part of a file can't be opened
 abbrev pub part_ending : UnopenedPart → OpeningFault

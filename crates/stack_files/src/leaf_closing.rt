@@ -1,10 +1,9 @@
 //! Closes what was opened.
 ghost use Rattle.stack_files.specs.Bindings.{ClosesAll, ClosesBy};
 
-use crate::part::device_part;
 use block_device::BlockDev;
 use command_line::{Backing, Binding};
-use image_files::Images;
+use image_files::{Images, device_part};
 
 // Closes the image of a binding. A device in memory has no path.
 fn close_backing<I: Images>(images: &mut I, backing: Backing<'_>, device: I::Dev)

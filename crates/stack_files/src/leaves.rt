@@ -6,11 +6,10 @@ ghost use Rattle.stack_files.specs.Bindings.{Backs, BindsAll, names_in};
 ghost use Rattle.stack_files.specs.Openings.{FailsToBack, FailsToBindAll};
 
 use crate::opening_fault::OpeningFault;
-use crate::part::device_part;
 use allocation::{OutOfMemory, copied, push};
 use block_device::{BlockDev, MemoryDev};
 use command_line::{Backing, Binding};
-use image_files::{FileUse, Images, open_apart, open_part};
+use image_files::{FileUse, Images, device_part, open_apart, open_part};
 use stack_config::Leaf;
 use std::alloc::Global;
 

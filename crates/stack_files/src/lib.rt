@@ -8,7 +8,6 @@ mod device;
 mod leaf_closing;
 mod leaves;
 mod opening_fault;
-mod part;
 mod source;
 mod stack;
 mod stack_fault;

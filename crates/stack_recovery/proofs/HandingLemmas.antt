@@ -1,9 +1,8 @@
 -- The calls on the output device, while sectors are left.
-use Rattle.std.proofs.Common.{◌≡◌, ℕ, false, Bool, List, [], ◌∷◌, ◌++◌, length, Option, Ok, refl, sym, ◌∙◌, subst}
+use Rattle.std.proofs.Common.{◌≡◌, ℕ, ◌-◌, false, Bool, List, [], ◌∷◌, ◌++◌, length, Option, Ok, refl, sym, ◌∙◌, subst}
 use Rattle.std.proofs.lemmas.List.{append-nil}
 use Rattle.block_device.specs.Call.{Call, Calls, Write}
 use Rattle.block_device.proofs.lemmas.CallLemmas.{calls-last}
-use Rattle.stack_rules.specs.Names.{mapped, size}
 use Rattle.stack_meaning.specs.declared.fault.IoFault.{IoFault}
 use Rattle.stack_engine.specs.Bytes.{EachBytes}
 use Rattle.stack_engine.specs.Stacks.{StackRecord}
@@ -11,12 +10,13 @@ use Rattle.rescue_map.specs.declared.map.Run.{Run}
 use Rattle.stack_recovery.specs.declared.fault.RecoveryFault.{RecoveryFault}
 use Rattle.stack_recovery.specs.declared.fault.RecoveryFault.TheVariants as recovery
 use Rattle.stack_recovery.specs.declared.piece_limit.PieceLimit.{PieceLimit}
+use Rattle.stack_recovery.specs.declared.recovery.Counts.{Counts}
 use Rattle.stack_recovery.specs.declared.tally.Tally.{Tally}
-use Rattle.stack_recovery.specs.Handing.{HandsOver, HandsOverPart, copy_calls}
+use Rattle.stack_recovery.specs.Handing.{HandsOverPart, HandsOverTo, copy_calls}
 use Rattle.stack_recovery.specs.Losses.{StopsInPiece}
-use Rattle.stack_recovery.specs.Recoveries.{Sides, parties}
+use Rattle.stack_recovery.specs.Recoveries.{Sides, counted_sectors, parties}
 use Rattle.stack_recovery.specs.Surveys.{all_states}
-use Rattle.stack_recovery.proofs.UnderwayLemmas.{IsUnderway}
+use Rattle.stack_recovery.proofs.UnderwayLemmas.{IsUnderway, counted-all}
 
 -- such a pass, whose writes are the calls on the output device
 pub record IsHanding {O : Type 0} (Did : O → Call → O → Type 0) (makes_map : Bool) (before : List Bool) (d : ℕ) (old new : Sides) (at : ℕ) (tally : Tally) (made : Option (List Run)) (limit : PieceLimit) (out out' : O) : Type 0 where
@@ -25,12 +25,12 @@ pub record IsHanding {O : Type 0} (Did : O → Call → O → Type 0) (makes_map
   pub did : Calls Did out calls out'
 
 module _ {O L : Type 0} (Did : O → Call → O → Type 0) (makes_map : Bool) (before : List Bool) (d : ℕ) (old now : Sides) (at : ℕ) (tally : Tally) (noted : Option (List Run)) (limit : PieceLimit) (out out' : O) (h : IsHanding Did makes_map before d old now at tally noted limit out out') (a b : L) where
-  -- all sectors are done
-  pub hands-over : at ≡ size old.stack.config (mapped d) → HandsOver Did before d (parties old.stack out a) noted (parties now.stack out' b)
-  hands-over all = record {
+  -- the pass ended here
+  pub hands-over : (counts : Counts) → counts ≡ record { read = at - tally.lost; lost = tally.lost } → HandsOverTo Did before d (counted_sectors counts) (parties old.stack out a) noted (parties now.stack out' b)
+  hands-over counts is = record {
     reads = h.under.reads;
     survey = h.under.survey;
-    whole = sym h.under.here ∙ all;
+    whole = sym h.under.here ∙ counted-all makes_map before d old now at tally noted limit h.calls h.under counts is;
     noted = h.under.noted;
     made = subst (λ (l : List Call). Calls Did out l out') h.under.written h.did;
   }

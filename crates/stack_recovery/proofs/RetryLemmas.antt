@@ -1,5 +1,5 @@
 -- What the passes between the first one and the last leave.
-use Rattle.std.proofs.Common.{◌≡◌, ◌⊎◌, ℕ, suc, ◌+◌, ◌≤◌, ◌<◌, Bool, true, IsTrue, List, [], ◌∷◌, length, Some, Ok, Err, Result, IfErr, inl, inr, refl, sym, ap, ◌∙◌, subst, arith}
+use Rattle.std.proofs.Common.{◌≡◌, ◌⊎◌, ℕ, suc, ◌+◌, ◌≤◌, ◌<◌, Bool, true, IsTrue, List, [], ◌∷◌, length, Option, Some, None, Ok, Err, Result, IfErr, inl, inr, refl, sym, ap, ◌∙◌, subst, arith}
 use Rattle.std.specs.List.{list_all}
 use Rattle.block_device.specs.Call.{Call}
 use Rattle.block_device.specs.Device.{Device, IsSameDevice}
@@ -8,14 +8,15 @@ use Rattle.stack_rules.specs.Records.{Configuration}
 use Rattle.stack_engine.specs.Stacks.{StackRecord}
 use Rattle.rescue_map.specs.declared.map.Run.{Run}
 use Rattle.rescue_map.specs.Maps.{marks}
-use Rattle.stack_recovery.specs.Handing.{HandsOver, HandsOverPart}
+use Rattle.stack_recovery.specs.Handing.{HandsOver, HandsOverPart, HandsOverTo}
 use Rattle.stack_recovery.specs.declared.fault.RecoveryFault.{RecoveryFault}
-use Rattle.stack_recovery.specs.Recoveries.{parties}
+use Rattle.stack_recovery.specs.declared.recovery.Counts.{Counts}
+use Rattle.stack_recovery.specs.Recoveries.{GoesOver, GoesOverTo, GoesOverUntil, Parties, Sides, counted_sectors, parties}
 use Rattle.stack_recovery.specs.Retries.{AfterPass, IsEnough, IsSilentHanding, IsSilentPass, ReadsAgain, Retried, Steps, after_pass, no_step, one_more}
 use Rattle.stack_recovery.specs.Surveys.{IsSurveyOver, PieceRead, all_states, states_of}
 use Rattle.stack_recovery.proofs.AheadLemmas.{length-noted}
 use Rattle.stack_recovery.proofs.CopyLemmas.{same-device}
-use Rattle.stack_recovery.proofs.SkimEndLemmas.{found-config}
+use Rattle.stack_recovery.proofs.SkimEndLemmas.{ends-whole, found-config}
 
 survey-config : (before : List Bool) (d first : ℕ) (w : StackRecord) (reads : List PieceRead) (w' : StackRecord) → IsSurveyOver before d first w reads w' → w'.config ≡ w.config
 survey-config before d first w [] w' s = ap (λ (t : StackRecord). t.config) s
@@ -51,11 +52,23 @@ steps-kept d first fits (one_more {n} {now} {next} before step) =
 pub again-kept : (t : Retried) (old new : AfterPass Device) → length (marks old.map) ≡ size old.stack.config (mapped t.d) → ReadsAgain t old new → AreKept t.d old new
 again-kept t old new fits p = steps-kept t.d old fits p.steps
 
+-- ---- a pass without a deadline
+
+pub counted-whole : (before : List Bool) (d : ℕ) (old : Sides) (counts : Counts) (made : Option (List Run)) (new : Sides) → GoesOverUntil None before d old counts made new → counted_sectors counts ≡ size old.stack.config (mapped d)
+counted-whole before d old counts made new p = ends-whole (counted_sectors counts) (size old.stack.config (mapped d)) p.ends
+
+pub goes-whole : (before : List Bool) (d : ℕ) (old : Sides) (counts : Counts) (made : Option (List Run)) (new : Sides) → GoesOverUntil None before d old counts made new → GoesOver before d old counts made new
+goes-whole before d old counts made new p = subst (λ (n : ℕ). GoesOverTo before d n old counts made new) (counted-whole before d old counts made new p) p.goes
+
+pub hands-whole : {O L : Type 0} (Did : O → Call → O → Type 0) (before : List Bool) (d n : ℕ) (old : Parties O L) (made : Option (List Run)) (new : Parties O L) → HandsOverTo Did before d n old made new → n ≡ size old.stack.config (mapped d) → HandsOver Did before d old made new
+hands-whole Did before d n old made new p whole = subst (λ (k : ℕ). HandsOverTo Did before d k old made new) whole p
+
 -- ---- calls
 
 -- whom a pass reports to doesn't matter for its calls
-pub silent-handing : {O L : Type 0} (Did : O → Call → O → Type 0) (d : ℕ) (old new : AfterPass O) (a b : L) → HandsOver Did (marks old.map) d (parties old.stack old.out a) (Some new.map) (parties new.stack new.out b) → IsSilentHanding Did d old new
-silent-handing Did d old new a b p = record { reads = p.reads; survey = p.survey; whole = p.whole; noted = p.noted; made = p.made }
+pub silent-handing : {O L : Type 0} (Did : O → Call → O → Type 0) (d n : ℕ) (old new : AfterPass O) (a b : L) → HandsOverTo Did (marks old.map) d n (parties old.stack old.out a) (Some new.map) (parties new.stack new.out b) → n ≡ size old.stack.config (mapped d)
+    → IsSilentHanding Did d old new
+silent-handing Did d n old new a b p whole = record { reads = p.reads; survey = p.survey; whole = p.whole ∙ whole; noted = p.noted; made = p.made }
 
 pub silent-part : {O L : Type 0} (Did : O → Call → O → Type 0) (d : ℕ) (old : AfterPass O) (stack : StackRecord) (out : O) (a b : L) (fault : RecoveryFault) → HandsOverPart Did (marks old.map) d (parties old.stack old.out a) (parties stack out b) fault
     → HandsOverPart Did (marks old.map) d (parties old.stack old.out (tt {0})) (parties stack out (tt {0})) fault

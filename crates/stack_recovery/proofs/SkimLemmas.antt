@@ -1,5 +1,5 @@
 -- The first pass, while sectors are left.
-use Rattle.std.proofs.Common.{◌≡◌, ◌⊎◌, ℕ, ◌+◌, ◌≤◌, ◌^◌, Bool, true, false, IsTrue, List, [], ◌∷◌, ◌++◌, length, replicate, Ok, Err, refl, sym, ap, ◌∙◌, subst, arith}
+use Rattle.std.proofs.Common.{◌≡◌, ◌⊎◌, ℕ, ◌+◌, ◌≤◌, ◌^◌, Bool, true, false, IsTrue, List, [], ◌∷◌, ◌++◌, length, replicate, Option, Ok, Err, refl, sym, ap, ◌∙◌, subst, arith}
 use Rattle.std.proofs.lemmas.List.{append-nil, length-append, length-replicate, replicate-append-replicate}
 use Rattle.allocation.specs.Refusal.{IsOutOfMemory}
 use Rattle.block_device.specs.Call.{Call, Calls, Write}
@@ -11,8 +11,10 @@ use Rattle.stack_engine.specs.Bytes.{EachBytes}
 use Rattle.stack_engine.specs.Stacks.{StackRecord}
 use Rattle.rescue_map.specs.declared.map.Run.{Run}
 use Rattle.rescue_map.specs.Maps.{marks}
+use Rattle.stack_recovery.specs.declared.deadline.Deadline.{Deadline}
 use Rattle.stack_recovery.specs.declared.fault.RecoveryFault.TheVariants as recovery
-use Rattle.stack_recovery.specs.FirstPasses.{FailsSkimOutput, HandsSkims, HandsSkimsPart, IsSkimBegun, IsSkimCopied, Skims, SkimsShort, Transfer, seen_transfer, transfer}
+use Rattle.stack_recovery.specs.Deadlines.{EndsAt}
+use Rattle.stack_recovery.specs.FirstPasses.{FailsSkimOutput, HandsSkimsPart, HandsSkimsUntil, IsSkimBegun, IsSkimCopied, SkimsShort, SkimsUntil, Transfer, seen_transfer, transfer}
 use Rattle.stack_recovery.specs.Handing.{calls_found}
 use Rattle.stack_recovery.specs.PassPieces.{IsNextPiece, pass_over}
 use Rattle.stack_recovery.specs.Recoveries.{FindsNoMemory}
@@ -165,23 +167,29 @@ module _ {O : Type 0} (state : O → Device) (Did : O → Call → O → Type 0)
     sure = sure;
   }
 
-  -- all sectors were read or left
-  pub skims-all : at ≡ size old.stack.config (mapped d) → (state now.out).failures ≡ (state old.out).failures → Skims by_map before d (seen_transfer state old) made (seen_transfer state now)
-  skims-all all unfailed = record {
-    skims = u.skims;
-    survey = u.survey;
-    whole = sym u.here ∙ all;
-    pieces = u.pieces;
-    copied = u.copied;
-    unfailed = unfailed;
-    noted = u.noted;
-  }
+  -- the pass ended here
+  pub skims-until : (deadline : Option Deadline) (sectors : ℕ) → EndsAt deadline at sectors → sectors ≡ size old.stack.config (mapped d) → (state now.out).failures ≡ (state old.out).failures
+      → SkimsUntil deadline by_map before d (seen_transfer state old) made (seen_transfer state now)
+  skims-until deadline sectors ends all unfailed =
+      let here : at ≡ length (marks made) = u.here ∙ sym (ap length u.noted) in
+      record {
+        reads = record {
+          skims = u.skims;
+          survey = u.survey;
+          whole = sym (ap length u.noted);
+          pieces = u.pieces;
+          copied = u.copied;
+          unfailed = unfailed;
+          noted = u.noted;
+        };
+        ends = subst (λ (n : ℕ). EndsAt deadline n (size old.stack.config (mapped d))) here (subst (λ (n : ℕ). EndsAt deadline at n) all ends);
+      }
 
-  pub hands-skims : at ≡ size old.stack.config (mapped d) → HandsSkims Did before d old (marks made) now
-  hands-skims all = record {
+  pub hands-skims : HandsSkimsUntil Did before d old now made
+  hands-skims = record {
     skims = u.skims;
     survey = u.survey;
-    whole = sym u.here ∙ all;
+    whole = sym (ap length u.noted);
     noted = u.noted;
     made = u.did;
   }

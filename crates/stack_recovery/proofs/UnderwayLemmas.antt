@@ -10,6 +10,7 @@ use Rattle.stack_engine.specs.Bytes.{EachBytes}
 use Rattle.stack_engine.specs.Stacks.{StackRecord}
 use Rattle.rescue_map.specs.declared.map.Run.{Run}
 use Rattle.rescue_map.specs.Maps.{marks}
+use Rattle.stack_recovery.specs.declared.deadline.Deadline.{Deadline}
 use Rattle.stack_recovery.specs.declared.fault.RecoveryFault.{RecoveryFault}
 use Rattle.stack_recovery.specs.declared.fault.RecoveryFault.TheVariants as recovery
 use Rattle.runs.specs.Runs.{run}
@@ -20,12 +21,13 @@ use Rattle.stack_recovery.specs.declared.piece_limit.PieceLimit.{PieceLimit}
 use Rattle.stack_recovery.specs.declared.tally.Tally.{Tally}
 use Rattle.stack_recovery.specs.Alike.{AreAlike}
 use Rattle.stack_recovery.specs.Copies.{IsCopied}
+use Rattle.stack_recovery.specs.Deadlines.{EndsAt}
 use Rattle.stack_recovery.specs.Handing.{calls_found, copy_calls}
 use Rattle.stack_recovery.specs.Listings.{Listed, Tells}
 use Rattle.stack_recovery.specs.Losses.{StopsInPiece}
 use Rattle.stack_recovery.specs.PassPieces.{ArePassPieces, IsNextPiece, IsPieceFound, limit_after, limit_from, pass_over}
 use Rattle.stack_recovery.specs.PieceLimits.{limit_after_bytes, limit_after_loss, limit_of_run, limit_up_to}
-use Rattle.stack_recovery.specs.Recoveries.{EndsEarly, FailsOutput, FindsNoMemory, GoesOver, IsBegunOver, AreMarksNoted, IsMapRefused, NotesMore, RunsShort, Sides, sides}
+use Rattle.stack_recovery.specs.Recoveries.{EndsEarly, FailsOutput, FindsNoMemory, GoesOverUntil, IsBegunOver, AreMarksNoted, IsMapRefused, NotesMore, RunsShort, Sides, counted_sectors, sides}
 use Rattle.stack_recovery.specs.Surveys.{AreMarked, IsPieceSurveyed, IsSurveyOver, PieceRead, SectorState, again, all_states, had, kept, lost, states_of}
 use Rattle.stack_recovery.specs.Texts.{lost_text}
 use Rattle.stack_recovery.proofs.AheadLemmas.{length-noted, noted-more}
@@ -244,17 +246,24 @@ module _ (makes_map : Bool) (before : List Bool) (d : ℕ) (old now : Sides) (at
         written = sym (append-nil calls) ∙ next-calls r;
       }
 
-  -- all sectors
-  pub underway-all : (printed : Listed) (sectors : ℕ) (counts : Counts) → at ≡ size old.stack.config (mapped d) → sectors ≡ at → Tells now.printed printed (lost_text (listed tally.last))
-      → counts ≡ record { read = sectors - tally.lost; lost = tally.lost } → now.out.failures ≡ old.out.failures → is_some noted ≡ makes_map → GoesOver before d old counts noted (sides now.stack now.out printed)
-  underway-all printed sectors counts end all told is unfailed same = record {
-    reads = u.reads;
-    survey = u.survey;
-    whole = sym u.here ∙ end;
-    pieces = subst (λ (m : Bool). ArePassPieces (pass_over old.stack.config d before m) u.reads) (sym same) u.pieces;
-    copied = u.copied;
-    unfailed = unfailed;
-    printed = rw (tallied-all is_same_fault is_same-equality (all_states u.reads) u.closed tally.last u.tallied) (runs-then old.printed now.printed printed u.closed (listed tally.last) u.printed told);
-    counted = is ∙ ap (λ (m : ℕ). record { read = m - tally.lost; lost = tally.lost }) (all ∙ u.here) ∙ ap (λ (m : ℕ). record { read = length (all_states u.reads) - m; lost = m }) u.lost;
-    noted = u.noted;
+  -- the sectors so far are those that are counted
+  pub counted-all : (counts : Counts) → counts ≡ record { read = at - tally.lost; lost = tally.lost } → at ≡ counted_sectors counts
+  counted-all counts is = let sum : at ≡ at - tally.lost + tally.lost = omega (arith, few) in sum ∙ sym (ap counted_sectors is)
+
+  -- the pass ended here
+  pub underway-until : (deadline : Option Deadline) (printed : Listed) (sectors : ℕ) (counts : Counts) → EndsAt deadline at sectors → sectors ≡ size old.stack.config (mapped d) → Tells now.printed printed (lost_text (listed tally.last))
+      → counts ≡ record { read = at - tally.lost; lost = tally.lost } → now.out.failures ≡ old.out.failures → is_some noted ≡ makes_map → GoesOverUntil deadline before d old counts noted (sides now.stack now.out printed)
+  underway-until deadline printed sectors counts ends all told is unfailed same = record {
+    goes = record {
+      reads = u.reads;
+      survey = u.survey;
+      whole = sym u.here ∙ counted-all counts is;
+      pieces = subst (λ (m : Bool). ArePassPieces (pass_over old.stack.config d before m) u.reads) (sym same) u.pieces;
+      copied = u.copied;
+      unfailed = unfailed;
+      printed = rw (tallied-all is_same_fault is_same-equality (all_states u.reads) u.closed tally.last u.tallied) (runs-then old.printed now.printed printed u.closed (listed tally.last) u.printed told);
+      counted = is ∙ ap (λ (m : ℕ). record { read = m - tally.lost; lost = tally.lost }) u.here ∙ ap (λ (m : ℕ). record { read = length (all_states u.reads) - m; lost = m }) u.lost;
+      noted = u.noted;
+    };
+    ends = subst (λ (n : ℕ). EndsAt deadline n (size old.stack.config (mapped d))) (counted-all counts is) (subst (λ (n : ℕ). EndsAt deadline at n) all ends);
   }

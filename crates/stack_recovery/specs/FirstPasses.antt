@@ -1,5 +1,5 @@
 -- The effects of the first pass over a mapped device.
-use Rattle.std.specs.Prelude.{◌≡◌, ◌⊎◌, ℕ, Bool, true, false, IsTrue, List, [], ◌∷◌, ◌++◌, length, replicate, Ok}
+use Rattle.std.specs.Prelude.{◌≡◌, ◌⊎◌, ℕ, Bool, true, false, IsTrue, List, [], ◌∷◌, ◌++◌, length, replicate, Option, Ok}
 use Rattle.allocation.specs.Refusal.{IsOutOfMemory}
 use Rattle.block_device.specs.Call.{Call, Calls}
 use Rattle.block_device.specs.Device.{Device, HasFailed, IsSameDevice, IsWritten}
@@ -9,8 +9,11 @@ use Rattle.stack_engine.specs.Bytes.{EachBytes}
 use Rattle.stack_engine.specs.Stacks.{StackRecord}
 use Rattle.rescue_map.specs.declared.map.Run.{Run}
 use Rattle.rescue_map.specs.Maps.{marks}
+use Rattle.stack_recovery.specs.declared.deadline.Deadline.{Deadline}
+use Rattle.stack_recovery.specs.declared.deadline.DevicePass.{DevicePass}
 use Rattle.stack_recovery.specs.declared.fault.RecoveryFault.{RecoveryFault}
 use Rattle.stack_recovery.specs.declared.fault.RecoveryFault.TheVariants.{NoMemory, Output}
+use Rattle.stack_recovery.specs.Deadlines.{EndsAt}
 use Rattle.stack_recovery.specs.Handing.{IsLastCall}
 use Rattle.stack_recovery.specs.PassPieces.{pass_over}
 use Rattle.stack_recovery.specs.Recoveries.{FindsNoMemory}
@@ -43,16 +46,25 @@ pub record IsSkimCopied (skims : List Skim) (old new : Device) : Type 0 where
   pub same : IsSameDevice old new
   pub image : IsTrue old.steady → new.image ≡ skim_image 0 skims old.image
 
--- The first pass over all sectors of device d, in whose map `made` the sectors are marked that were read, now or before. The
--- sectors that were read now were copied. If the marks aren't of several runs, pieces end only at the device's end.
-pub record Skims (by_map : Bool) (before : List Bool) (d : ℕ) (old : Transfer Device) (made : List Run) (new : Transfer Device) : Type 0 where
+-- The first pass over the sectors of device d before `end`, in whose map `made` the sectors are marked that were read, now or
+-- before. The sectors that were read now were copied. If the marks aren't of several runs, pieces end only at the device's end.
+pub record SkimsTo (by_map : Bool) (before : List Bool) (d end : ℕ) (old : Transfer Device) (made : List Run) (new : Transfer Device) : Type 0 where
   pub skims : List Skim
   pub survey : IsSkimOver before d 0 old.stack skims new.stack
-  pub whole : length (skim_marks skims) ≡ size old.stack.config (mapped d)
+  pub whole : length (skim_marks skims) ≡ end
   pub pieces : AreSkims (pass_over old.stack.config d before by_map) 0 least_skip skims
   pub copied : IsSkimCopied skims old.out new.out
   pub unfailed : new.out.failures ≡ old.out.failures
   pub noted : marks made ≡ skim_marks skims
+
+-- the first pass over all sectors
+abbrev pub Skims : Bool → List Bool → ℕ → Transfer Device → List Run → Transfer Device → Type 0
+Skims by_map before d old made new = SkimsTo by_map before d (size old.stack.config (mapped d)) old made new
+
+-- the first pass over the sectors of its map, which ended there
+pub record SkimsUntil (deadline : Option Deadline) (by_map : Bool) (before : List Bool) (d : ℕ) (old : Transfer Device) (made : List Run) (new : Transfer Device) : Type 0 where
+  pub reads : SkimsTo by_map before d (length (marks made)) old made new
+  pub ends : EndsAt deadline (length (marks made)) (size old.stack.config (mapped d))
 
 -- the first pieces of the pass were read
 pub record IsSkimBegun (by_map : Bool) (before : List Bool) (d : ℕ) (old : StackRecord) : Type 0 where
@@ -88,13 +100,20 @@ EndsSkim by_map before d old new Output = FailsSkimOutput by_map before d old ne
 
 -- ---- the calls on the output device
 
--- the calls of a whole pass, after which these sectors are marked as read
-pub record HandsSkims {O : Type 0} (Did : O → Call → O → Type 0) (before : List Bool) (d : ℕ) (old : Transfer O) (after : List Bool) (new : Transfer O) : Type 0 where
+-- the calls of a pass over the sectors before `end`, after which these sectors are marked as read
+pub record HandsSkimsTo {O : Type 0} (Did : O → Call → O → Type 0) (before : List Bool) (d end : ℕ) (old : Transfer O) (after : List Bool) (new : Transfer O) : Type 0 where
   pub skims : List Skim
   pub survey : IsSkimOver before d 0 old.stack skims new.stack
-  pub whole : length (skim_marks skims) ≡ size old.stack.config (mapped d)
+  pub whole : length (skim_marks skims) ≡ end
   pub noted : after ≡ skim_marks skims
   pub made : Calls Did old.out (skim_calls 0 skims) new.out
+
+-- those of a pass over all sectors, and of one that made this map
+abbrev pub HandsSkims : {O : Type 0} → (O → Call → O → Type 0) → List Bool → ℕ → Transfer O → List Bool → Transfer O → Type 0
+HandsSkims Did before d old after new = HandsSkimsTo Did before d (size old.stack.config (mapped d)) old after new
+
+abbrev pub HandsSkimsUntil : {O : Type 0} → (O → Call → O → Type 0) → List Bool → ℕ → Transfer O → Transfer O → List Run → Type 0
+HandsSkimsUntil Did before d old new made = HandsSkimsTo Did before d (length (marks made)) old (marks made) new
 
 -- the pass ended early; a write that failed is the last call
 pub record HandsSkimsPart {O : Type 0} (Did : O → Call → O → Type 0) (before : List Bool) (d : ℕ) (old new : Transfer O) (fault : RecoveryFault) : Type 0 where
@@ -107,8 +126,8 @@ pub record HandsSkimsPart {O : Type 0} (Did : O → Call → O → Type 0) (befo
 
 -- ---- in terms of the arguments of a call
 
-abbrev pub SkimsBy : {O : Type 0} → (O → Device) → Bool → List Bool → ℕ → Transfer O → Transfer O → List Run → Type 0
-SkimsBy state by_map before d old new made = Skims by_map before d (seen_transfer state old) made (seen_transfer state new)
+abbrev pub SkimsBy : {O : Type 0} → (O → Device) → DevicePass → Bool → List Bool → Transfer O → Transfer O → List Run → Type 0
+SkimsBy state pass by_map before old new made = SkimsUntil pass.deadline by_map before pass.device.0 (seen_transfer state old) made (seen_transfer state new)
 
 abbrev pub EndsSkimBy : {O : Type 0} → (O → Device) → Bool → List Bool → ℕ → Transfer O → Transfer O → RecoveryFault → Type 0
 EndsSkimBy state by_map before d old new fault = EndsSkim by_map before d (seen_transfer state old) (seen_transfer state new) fault

@@ -5,9 +5,11 @@ use Rattle.stack_rules.specs.Names.{mapped, size}
 use Rattle.stack_engine.specs.Bytes.{EachBytes}
 use Rattle.stack_engine.specs.Stacks.{StackRecord}
 use Rattle.rescue_map.specs.declared.map.Run.{Run}
+use Rattle.stack_recovery.specs.declared.deadline.DevicePass.{DevicePass}
 use Rattle.stack_recovery.specs.declared.fault.RecoveryFault.{RecoveryFault}
 use Rattle.stack_recovery.specs.declared.fault.RecoveryFault.TheVariants.{NoMemory, Output}
-use Rattle.stack_recovery.specs.Recoveries.{AreMarksNoted, Parties}
+use Rattle.stack_recovery.specs.Recoveries.{AreMarksNoted, Parties, counted_sectors}
+use Rattle.stack_recovery.specs.declared.recovery.Counts.{Counts}
 use Rattle.stack_recovery.specs.declared.rescued.Rescued.{Rescued}
 use Rattle.stack_recovery.specs.Surveys.{Finding, IsSurveyOver, PieceRead, again, all_states, had, kept, lost, states_of}
 
@@ -21,18 +23,25 @@ abbrev pub copy_calls : ℕ → List PieceRead → List Call
 copy_calls first [] = []
 copy_calls first (r ∷ more) = calls_found first r.found ++ copy_calls (first + length (states_of r)) more
 
--- All sectors of device d were read or are lost, and the calls on the output device are those of the pieces, in order. The map, if
--- one is made, is that of the pieces.
-pub record HandsOver {O L : Type 0} (Did : O → Call → O → Type 0) (marks : List Bool) (d : ℕ) (old : Parties O L) (after : Option (List Run)) (new : Parties O L) : Type 0 where
+-- All sectors of device d before `end` were read or are lost, and the calls on the output device are those of the pieces, in order.
+-- The map, if one is made, is that of the pieces.
+pub record HandsOverTo {O L : Type 0} (Did : O → Call → O → Type 0) (marks : List Bool) (d end : ℕ) (old : Parties O L) (after : Option (List Run)) (new : Parties O L) : Type 0 where
   pub reads : List PieceRead
   pub survey : IsSurveyOver marks d 0 old.stack reads new.stack
-  pub whole : length (all_states reads) ≡ size old.stack.config (mapped d)
+  pub whole : length (all_states reads) ≡ end
   pub noted : AreMarksNoted after (all_states reads)
   pub made : Calls Did old.out (copy_calls 0 reads) new.out
 
--- those of a recovery that returns its map
+-- those of a pass over all sectors, and of one over the sectors that are counted
+abbrev pub HandsOver : {O L : Type 0} → (O → Call → O → Type 0) → List Bool → ℕ → Parties O L → Option (List Run) → Parties O L → Type 0
+HandsOver Did marks d old after new = HandsOverTo Did marks d (size old.stack.config (mapped d)) old after new
+
+abbrev pub HandsOverUntil : {O L : Type 0} → (O → Call → O → Type 0) → DevicePass → List Bool → Parties O L → Option (List Run) → Parties O L → Counts → Type 0
+HandsOverUntil Did pass marks old after new counts = HandsOverTo Did marks pass.device.0 (counted_sectors counts) old after new
+
+-- those of a pass that returns its map
 abbrev pub RescueHands : {O L : Type 0} → (O → Call → O → Type 0) → List Bool → ℕ → Parties O L → Parties O L → Rescued → Type 0
-RescueHands Did marks d old new rescued = HandsOver Did marks d old (Some rescued.map) new
+RescueHands Did marks d old new rescued = HandsOverTo Did marks d (counted_sectors rescued.counts) old (Some rescued.map) new
 
 -- the calls after those of the pieces: none, or the failed write of the piece that was read last, from sector `at` on
 abbrev pub IsLastCall : ℕ → ℕ → StackRecord → StackRecord → RecoveryFault → List Call → Type 0

@@ -1,5 +1,6 @@
 pub mod Alike
 pub mod Copies
+pub mod Deadlines
 pub mod FirstPasses
 pub mod Handing
 pub mod Laws

@@ -1,5 +1,5 @@
 -- The effects of a recovery.
-use Rattle.std.specs.Prelude.{◌≡◌, ◌⊎◌, ℕ, ◌-◌, Bool, true, false, IsTrue, List, ◌++◌, length, map, Option, Some, None, is_some, Ok, Err}
+use Rattle.std.specs.Prelude.{◌≡◌, ◌⊎◌, ℕ, ◌+◌, ◌-◌, Bool, true, false, IsTrue, List, ◌++◌, length, map, Option, Some, None, is_some, Ok, Err}
 use Rattle.allocation.specs.Refusal.{IsOutOfMemory}
 use Rattle.block_device.specs.Device.{Device, HasFailed, IsWritten}
 use Rattle.stack_rules.specs.Names.{mapped, size}
@@ -10,6 +10,8 @@ use Rattle.stack_engine.specs.Bytes.{EachBytes}
 use Rattle.stack_engine.specs.Stacks.{StackRecord}
 use Rattle.rescue_map.specs.declared.map.Run.{Run}
 use Rattle.rescue_map.specs.Maps.{marks}
+use Rattle.stack_recovery.specs.declared.deadline.Deadline.{Deadline}
+use Rattle.stack_recovery.specs.declared.deadline.DevicePass.{DevicePass}
 use Rattle.stack_recovery.specs.declared.fault.RecoveryFault.{RecoveryFault}
 use Rattle.stack_recovery.specs.declared.fault.RecoveryFault.TheVariants.{NoMemory, Output}
 use Rattle.runs.specs.Runs.{runs_of}
@@ -17,6 +19,7 @@ use Rattle.stack_recovery.specs.LostRuns.{LostRun, is_same_fault, lost_in}
 use Rattle.stack_recovery.specs.declared.recovery.Counts.{Counts}
 use Rattle.stack_recovery.specs.declared.rescued.Rescued.{Rescued}
 use Rattle.stack_recovery.specs.Copies.{IsCopied}
+use Rattle.stack_recovery.specs.Deadlines.{EndsAt}
 use Rattle.stack_recovery.specs.Listings.{Listed, Tells}
 use Rattle.stack_recovery.specs.PassPieces.{ArePassPieces, pass_over}
 use Rattle.stack_recovery.specs.Surveys.{IsSurveyOver, PieceRead, SectorState, all_states}
@@ -107,12 +110,12 @@ abbrev pub AreMarksNoted : Option (List Run) → List SectorState → Type 0
 AreMarksNoted None states = Unit {0}
 AreMarksNoted (Some runs) states = marks runs ≡ map is_had states
 
--- Each sector of device d was read, now or before, or is lost. The sectors that were read now were copied, a line was printed for
--- each longest lost run, the counts are right, and a map is made of all sectors.
-pub record GoesOver (before : List Bool) (d : ℕ) (old : Sides) (counts : Counts) (made : Option (List Run)) (new : Sides) : Type 0 where
+-- Each sector of device d before `end` was read, now or before, or is lost. The sectors that were read now were copied, a line was
+-- printed for each longest lost run, the counts are right, and a map is made of these sectors.
+pub record GoesOverTo (before : List Bool) (d end : ℕ) (old : Sides) (counts : Counts) (made : Option (List Run)) (new : Sides) : Type 0 where
   pub reads : List PieceRead
   pub survey : IsSurveyOver before d 0 old.stack reads new.stack
-  pub whole : length (all_states reads) ≡ size old.stack.config (mapped d)
+  pub whole : length (all_states reads) ≡ end
   pub pieces : ArePassPieces (pass_over old.stack.config d before (is_some made)) reads
   pub copied : IsCopied reads old.out new.out
   pub unfailed : new.out.failures ≡ old.out.failures
@@ -120,19 +123,35 @@ pub record GoesOver (before : List Bool) (d : ℕ) (old : Sides) (counts : Count
   pub counted : counts ≡ record { read = length (all_states reads) - lost_in (all_states reads); lost = lost_in (all_states reads) }
   pub noted : AreMarksNoted made (all_states reads)
 
+-- such a pass over all sectors
+abbrev pub GoesOver : List Bool → ℕ → Sides → Counts → Option (List Run) → Sides → Type 0
+GoesOver before d old counts made new = GoesOverTo before d (size old.stack.config (mapped d)) old counts made new
+
+-- how many sectors are counted
+abbrev pub counted_sectors : Counts → ℕ
+counted_sectors counts = counts.read + counts.lost
+
+-- such a pass over the sectors that are counted, which ended there
+pub record GoesOverUntil (deadline : Option Deadline) (before : List Bool) (d : ℕ) (old : Sides) (counts : Counts) (made : Option (List Run)) (new : Sides) : Type 0 where
+  pub goes : GoesOverTo before d (counted_sectors counts) old counts made new
+  pub ends : EndsAt deadline (counted_sectors counts) (size old.stack.config (mapped d))
+
 -- the result has that map
 abbrev pub Rescues : List Bool → ℕ → Sides → Rescued → Sides → Type 0
 Rescues before d old rescued new = GoesOver before d old rescued.counts (Some rescued.map) new
 
+abbrev pub RescuesUntil : Option Deadline → List Bool → ℕ → Sides → Rescued → Sides → Type 0
+RescuesUntil deadline before d old rescued new = GoesOverUntil deadline before d old rescued.counts (Some rescued.map) new
+
 -- such a recovery, by the arguments before and after the call
-abbrev pub GoesOverBy : {O L : Type 0} → (O → Device) → (L → Listed) → List Bool → ℕ → Parties O L → Option (List Run) → Parties O L → Counts → Type 0
-GoesOverBy state told before d old made new counts = GoesOver before d (seen_sides state told old) counts made (seen_sides state told new)
+abbrev pub GoesOverBy : {O L : Type 0} → (O → Device) → (L → Listed) → DevicePass → List Bool → Parties O L → Option (List Run) → Parties O L → Counts → Type 0
+GoesOverBy state told pass before old made new counts = GoesOverUntil pass.deadline before pass.device.0 (seen_sides state told old) counts made (seen_sides state told new)
 
-abbrev pub EndsEarlyBy : {O L : Type 0} → (O → Device) → (L → Listed) → Bool → List Bool → ℕ → Parties O L → Parties O L → RecoveryFault → Type 0
-EndsEarlyBy state told makes_map before d old new fault = EndsEarly makes_map before d (seen_sides state told old) (seen_sides state told new) fault
+abbrev pub EndsEarlyBy : {O L : Type 0} → (O → Device) → (L → Listed) → Bool → DevicePass → List Bool → Parties O L → Parties O L → RecoveryFault → Type 0
+EndsEarlyBy state told makes_map pass before old new fault = EndsEarly makes_map before pass.device.0 (seen_sides state told old) (seen_sides state told new) fault
 
-abbrev pub RescuesBy : {O L : Type 0} → (O → Device) → (L → Listed) → List Bool → ℕ → Parties O L → Parties O L → Rescued → Type 0
-RescuesBy state told before d old new rescued = Rescues before d (seen_sides state told old) rescued (seen_sides state told new)
+abbrev pub RescuesBy : {O L : Type 0} → (O → Device) → (L → Listed) → DevicePass → List Bool → Parties O L → Parties O L → Rescued → Type 0
+RescuesBy state told pass before old new rescued = RescuesUntil pass.deadline before pass.device.0 (seen_sides state told old) rescued (seen_sides state told new)
 
 abbrev pub EndsRescue : {O L : Type 0} → (O → Device) → (L → Listed) → List Bool → ℕ → Parties O L → Parties O L → RecoveryFault → Type 0
 EndsRescue state told before d old new fault = IsRescueEnd before d (seen_sides state told old) (seen_sides state told new) fault

@@ -1,6 +1,7 @@
 //! Scans all sectors of a mapped device, and reports which of them can be read.
 #![tactic(auto)]
 
+mod deadline;
 mod discard;
 mod fault;
 pub mod laws;
@@ -16,6 +17,7 @@ mod skimming;
 mod skip;
 mod tally;
 
+pub use deadline::{Deadline, DevicePass};
 pub use discard::Discard;
 pub use fault::RecoveryFault;
 pub use listing::{KeptRuns, Listing, NoListing};

@@ -1,10 +1,11 @@
 //! Receivers of lost runs: a writer, or a list in memory.
-ghost use Rattle.std.specs.Prelude.{◌≡◌, [], false};
+ghost use Rattle.std.specs.Prelude.{◌≡◌, ◌≤◌, [], None};
+ghost use Rattle.allocation.specs.Asked.{refused_size};
 ghost use Rattle.stack_recovery.specs.Listings.{Listed, Tells};
 ghost use Rattle.stack_recovery.specs.Texts.{lost_run_text};
 
 use crate::lost_run::{LostRun, say_run};
-use allocation::push;
+use allocation::{OutOfMemory, push};
 use program_io::Counted;
 use std::alloc::Global;
 use std::io::Write;
@@ -31,37 +32,42 @@ impl<W: Write> Listing for Counted<W> {
     }
 }
 
-/// Runs in memory, and whether a run couldn't be kept because its allocation was refused.
+/// Runs in memory, and the allocation that failed if a run couldn't be kept: it is of room for one run.
 #[derive(Drop)]
 pub struct KeptRuns {
     pub runs: Vec<LostRun>,
-    pub refused: bool,
+    pub refused: Option<OutOfMemory>,
+    pub ghost few: { refused_size refused ≤ 1 },
 }
 
 impl KeptRuns {
     /// Returns an empty list.
     pub fn new(alloc: Global) -> KeptRuns
         ensures runs { result.runs.items ≡ [] }
-        ensures refused { result.refused ≡ false }
+        ensures refused { result.refused ≡ None }
     {
         KeptRuns {
             runs: Vec::new(alloc),
-            refused: false,
+            refused: None,
         }
     }
 }
 
 impl Listing for KeptRuns {
-    ghost use Rattle.std.specs.Prelude.{Some};
+    ghost use Rattle.std.specs.Prelude.{Some, is_some};
     ghost use Rattle.stack_recovery.specs.Listings.{listed};
     ghost use Rattle.stack_recovery.specs.Texts.{lost_text};
 
-    ghost told = { λ kept. listed (Some (lost_text kept.runs.items)) kept.refused };
+    ghost told = { λ kept. listed (Some (lost_text kept.runs.items)) (is_some kept.refused) };
 
     #[tactic(auto, using(crate::proofs::WritingLemmas::runs_text_last))]
     fn tell(&mut self, run: LostRun) {
-        if !self.refused && push(&mut self.runs, run).is_err() {
-            self.refused = true;
+        if self.refused.is_some() {
+            return;
+        }
+        match push(&mut self.runs, run) {
+            Ok(()) => {}
+            Err(refused) => self.refused = Some(refused),
         }
     }
 }

@@ -5,7 +5,7 @@ ghost use Rattle.stack_rules.specs.Names.{mapped, size};
 ghost use Rattle.std.specs.Option.{ForSome, is_some};
 ghost use Rattle.rescue_map.specs.Maps.{marks};
 ghost use Rattle.rescue_map.specs.Aheads.{marks_ahead};
-ghost use Rattle.stack_recovery.specs.Handing.{HandsOver, HandsOverPart};
+ghost use Rattle.stack_recovery.specs.Handing.{HandsOverPart, HandsOverUntil};
 ghost use Rattle.stack_recovery.specs.Losses.{ListsLost, NotesLost, StopsInPiece, TalliesLost};
 ghost use Rattle.stack_recovery.specs.Recoveries.{EndsEarlyBy, GoesOverBy, AreMarksNoted, parties};
 ghost use Rattle.stack_recovery.specs.Retries.{retried, retried_by};
@@ -13,6 +13,7 @@ ghost use Rattle.stack_recovery.specs.TwoPasses.{EndsRecovery, HandsPasses, Hand
 ghost use Rattle.runs.specs.Runs.{run};
 ghost use Rattle.runs.specs.Tallies.{EndsAt};
 
+use crate::deadline::{DevicePass, pass_end};
 use crate::fault::RecoveryFault;
 use crate::listing::Listing;
 use crate::lost_run::{LostRun, is_same};
@@ -104,42 +105,50 @@ pub fn recover_with<D: BlockDev, O: BlockDev, L: Listing, P: Progress>(
     ensures stopped { IfErr result (HandsPassesPart (DeviceDoes O.state O.does) (retried_by plan) (parties stack.old out.old listing.old) (parties stack.new out.new listing.new)) }
 {
     let d = plan.device;
+    let first = DevicePass {
+        device: d,
+        deadline: None,
+    };
     let ahead = Ahead::unread(stack.config().sectors(d));
-    let map = skim_ahead(alloc, stack, d, out, ahead, progress)?;
+    let map = skim_ahead(alloc, stack, first, out, ahead, progress)?;
     let left = read_again(alloc, stack, plan, out, map, progress)?;
-    let rescued = rescue(alloc, stack, d, out, &left, listing, progress)?;
+    let last = DevicePass {
+        device: d,
+        deadline: None,
+    };
+    let rescued = rescue(alloc, stack, last, out, &left, listing, progress)?;
     Ok(rescued.counts)
 }
 
 /// Recovers a device. Sectors that were read before, by the marks ahead, aren't read again. The map, if one is made, is empty
-/// at first.
+/// at first. At its deadline the pass ends; the counts and the map are of the sectors up to there.
 pub(crate) fn go_over<D: BlockDev, O: BlockDev, L: Listing, P: Progress>(
     stack: &mut Stack<D>,
-    d: DevId,
+    pass: DevicePass,
     out: &mut O,
     ahead: Ahead<'_>,
     noted: &mut Option<Map>,
     listing: &mut L,
     progress: &mut P,
 ) -> Result<Counts, RecoveryFault>
-    requires device { d.0 < length stack.old.config.devices }
-    requires fits { length (marks_ahead ahead) ≡ size stack.old.config (mapped d.0) }
-    requires room { size stack.old.config (mapped d.0) ≤ (O.state out.old).size }
+    requires device { pass.device.0 < length stack.old.config.devices }
+    requires fits { length (marks_ahead ahead) ≡ size stack.old.config (mapped pass.device.0) }
+    requires room { size stack.old.config (mapped pass.device.0) ≤ (O.state out.old).size }
     requires allowed { IsTrue (O.state out.old).may_write }
     requires begun { AreMarksNoted noted.old [] }
     requires single { is_some noted.old ≡ false → ahead.rest.now ≡ [] }
-    ensures ok { IfOk result (GoesOverBy O.state L.told (marks_ahead ahead.entry) d.0 (parties stack.old out.old listing.old) noted.new (parties stack.new out.new listing.new)) }
-    ensures err { IfErr result (EndsEarlyBy O.state L.told (is_some noted.old) (marks_ahead ahead.entry) d.0 (parties stack.old out.old listing.old) (parties stack.new out.new listing.new)) }
+    ensures ok { IfOk result (GoesOverBy O.state L.told pass (marks_ahead ahead.entry) (parties stack.old out.old listing.old) noted.new (parties stack.new out.new listing.new)) }
+    ensures err { IfErr result (EndsEarlyBy O.state L.told (is_some noted.old) pass (marks_ahead ahead.entry) (parties stack.old out.old listing.old) (parties stack.new out.new listing.new)) }
     ensures noted { OnOk result (is_some noted.new ≡ is_some noted.old) }
-    ensures handed { OnOk result (HandsOver (DeviceDoes O.state O.does) (marks_ahead ahead.entry) d.0 (parties stack.old out.old listing.old) noted.new (parties stack.new out.new listing.new)) }
-    ensures stopped { IfErr result (HandsOverPart (DeviceDoes O.state O.does) (marks_ahead ahead.entry) d.0 (parties stack.old out.old listing.old) (parties stack.new out.new listing.new)) }
+    ensures handed { IfOk result (HandsOverUntil (DeviceDoes O.state O.does) pass (marks_ahead ahead.entry) (parties stack.old out.old listing.old) noted.new (parties stack.new out.new listing.new)) }
+    ensures stopped { IfErr result (HandsOverPart (DeviceDoes O.state O.does) (marks_ahead ahead.entry) pass.device.0 (parties stack.old out.old listing.old) (parties stack.new out.new listing.new)) }
 {
     // The call provides the bound on a device's sectors.
     let _fits = out.sectors();
     let mut room = [0u8; ROOM];
     go_over_by(
         stack,
-        d,
+        pass,
         out,
         ahead,
         noted,
@@ -152,7 +161,7 @@ pub(crate) fn go_over<D: BlockDev, O: BlockDev, L: Listing, P: Progress>(
 /// Recovers a device through the buffer `room`.
 fn go_over_by<D: BlockDev, O: BlockDev, L: Listing, P: Progress>(
     stack: &mut Stack<D>,
-    d: DevId,
+    pass: DevicePass,
     out: &mut O,
     mut ahead: Ahead<'_>,
     noted: &mut Option<Map>,
@@ -160,25 +169,26 @@ fn go_over_by<D: BlockDev, O: BlockDev, L: Listing, P: Progress>(
     progress: &mut P,
     room: &mut [u8],
 ) -> Result<Counts, RecoveryFault>
-    requires device { d.0 < length stack.old.config.devices }
-    requires fits { length (marks_ahead ahead) ≡ size stack.old.config (mapped d.0) }
-    requires room { size stack.old.config (mapped d.0) ≤ (O.state out.old).size }
+    requires device { pass.device.0 < length stack.old.config.devices }
+    requires fits { length (marks_ahead ahead) ≡ size stack.old.config (mapped pass.device.0) }
+    requires room { size stack.old.config (mapped pass.device.0) ≤ (O.state out.old).size }
     requires allowed { IsTrue (O.state out.old).may_write }
     requires begun { AreMarksNoted noted.old [] }
     requires single { is_some noted.old ≡ false → ahead.rest.now ≡ [] }
     requires buffer { length room.old ≡ 65536 }
-    requires few { size stack.old.config (mapped d.0) ≤ 2 ^ 54 }
-    ensures ok { IfOk result (GoesOverBy O.state L.told (marks_ahead ahead.entry) d.0 (parties stack.old out.old listing.old) noted.new (parties stack.new out.new listing.new)) }
-    ensures err { IfErr result (EndsEarlyBy O.state L.told (is_some noted.old) (marks_ahead ahead.entry) d.0 (parties stack.old out.old listing.old) (parties stack.new out.new listing.new)) }
+    requires few { size stack.old.config (mapped pass.device.0) ≤ 2 ^ 54 }
+    ensures ok { IfOk result (GoesOverBy O.state L.told pass (marks_ahead ahead.entry) (parties stack.old out.old listing.old) noted.new (parties stack.new out.new listing.new)) }
+    ensures err { IfErr result (EndsEarlyBy O.state L.told (is_some noted.old) pass (marks_ahead ahead.entry) (parties stack.old out.old listing.old) (parties stack.new out.new listing.new)) }
     ensures noted { OnOk result (is_some noted.new ≡ is_some noted.old) }
-    ensures handed { OnOk result (HandsOver (DeviceDoes O.state O.does) (marks_ahead ahead.entry) d.0 (parties stack.old out.old listing.old) noted.new (parties stack.new out.new listing.new)) }
-    ensures stopped { IfErr result (HandsOverPart (DeviceDoes O.state O.does) (marks_ahead ahead.entry) d.0 (parties stack.old out.old listing.old) (parties stack.new out.new listing.new)) }
+    ensures handed { IfOk result (HandsOverUntil (DeviceDoes O.state O.does) pass (marks_ahead ahead.entry) (parties stack.old out.old listing.old) noted.new (parties stack.new out.new listing.new)) }
+    ensures stopped { IfErr result (HandsOverPart (DeviceDoes O.state O.does) (marks_ahead ahead.entry) pass.device.0 (parties stack.old out.old listing.old) (parties stack.new out.new listing.new)) }
 {
+    let d = pass.device;
     let sectors = stack.config().sectors(d);
     let mut tally = Tally::new();
     let mut piece_limit = PieceLimit::of_run(0);
     let mut at = 0;
-    'pieces: while at < sectors {
+    'pieces: while at < pass_end(pass.deadline, at, sectors, false, progress) {
         let run = ahead.next_run();
         if run.had {
             note(noted, run.count, true)?;
@@ -212,8 +222,7 @@ fn go_over_by<D: BlockDev, O: BlockDev, L: Listing, P: Progress>(
             }
         }
     }
-    tally.close(listing);
-    Ok(tally.counts(sectors))
+    Ok(tally.finish(listing, at))
 }
 
 // Handles a piece whose read failed: returns whether its sectors are lost. If not, they are read again one by one.

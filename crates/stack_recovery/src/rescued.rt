@@ -6,13 +6,13 @@ ghost use Rattle.rescue_map.specs.Maps.{marks};
 ghost use Rattle.stack_recovery.specs.Handing.{HandsOverPart, RescueHands};
 ghost use Rattle.stack_recovery.specs.Recoveries.{EndsRescue, RescuesBy, parties};
 
+use crate::deadline::DevicePass;
 use crate::fault::RecoveryFault;
 use crate::listing::Listing;
 use crate::recovery::{Counts, go_over};
 use block_device::BlockDev;
 use device_adapters::Progress;
 use rescue_map::{Ahead, Map};
-use stack_config::DevId;
 use stack_engine::Stack;
 use std::alloc::Global;
 
@@ -23,7 +23,8 @@ pub struct Rescued {
     pub map: Map,
 }
 
-/// Recovers a device as `recover` does, but neither reads nor writes the sectors that the map marks as read before.
+/// Recovers a device as the last pass of `recover` does, but neither reads nor writes the sectors that the map marks as read
+/// before. At its deadline the pass ends. The counts and the map are then of the sectors up to there.
 ///
 /// # Errors
 ///
@@ -32,24 +33,24 @@ pub struct Rescued {
 pub fn rescue<D: BlockDev, O: BlockDev, L: Listing, P: Progress>(
     alloc: Global,
     stack: &mut Stack<D>,
-    d: DevId,
+    pass: DevicePass,
     out: &mut O,
     map: &Map,
     listing: &mut L,
     progress: &mut P,
 ) -> Result<Rescued, RecoveryFault>
-    requires device { d.0 < length stack.old.config.devices }
-    requires fits { length (marks map.now) ≡ size stack.old.config (mapped d.0) }
-    requires room { size stack.old.config (mapped d.0) ≤ (O.state out.old).size }
+    requires device { pass.device.0 < length stack.old.config.devices }
+    requires fits { length (marks map.now) ≡ size stack.old.config (mapped pass.device.0) }
+    requires room { size stack.old.config (mapped pass.device.0) ≤ (O.state out.old).size }
     requires allowed { IsTrue (O.state out.old).may_write }
-    ensures ok { IfOk result (RescuesBy O.state L.told (marks map.now) d.0 (parties stack.old out.old listing.old) (parties stack.new out.new listing.new)) }
-    ensures err { IfErr result (EndsRescue O.state L.told (marks map.now) d.0 (parties stack.old out.old listing.old) (parties stack.new out.new listing.new)) }
-    ensures handed { IfOk result (RescueHands (DeviceDoes O.state O.does) (marks map.now) d.0 (parties stack.old out.old listing.old) (parties stack.new out.new listing.new)) }
-    ensures stopped { IfErr result (HandsOverPart (DeviceDoes O.state O.does) (marks map.now) d.0 (parties stack.old out.old listing.old) (parties stack.new out.new listing.new)) }
+    ensures ok { IfOk result (RescuesBy O.state L.told pass (marks map.now) (parties stack.old out.old listing.old) (parties stack.new out.new listing.new)) }
+    ensures err { IfErr result (EndsRescue O.state L.told (marks map.now) pass.device.0 (parties stack.old out.old listing.old) (parties stack.new out.new listing.new)) }
+    ensures handed { IfOk result (RescueHands (DeviceDoes O.state O.does) (marks map.now) pass.device.0 (parties stack.old out.old listing.old) (parties stack.new out.new listing.new)) }
+    ensures stopped { IfErr result (HandsOverPart (DeviceDoes O.state O.does) (marks map.now) pass.device.0 (parties stack.old out.old listing.old) (parties stack.new out.new listing.new)) }
 {
     let mut noted = Some(Map::new(alloc));
     let ahead = Ahead::of_map(map);
-    let counts = go_over(stack, d, out, ahead, &mut noted, listing, progress)?;
+    let counts = go_over(stack, pass, out, ahead, &mut noted, listing, progress)?;
     match noted {
         Some(map) => Ok(Rescued { counts, map }),
         None => Err(RecoveryFault::NoMemory),

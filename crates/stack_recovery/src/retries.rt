@@ -5,6 +5,7 @@ ghost use Rattle.stack_rules.specs.Names.{mapped, size};
 ghost use Rattle.rescue_map.specs.Maps.{marks};
 ghost use Rattle.stack_recovery.specs.Retries.{EndsReadingAgainBy, HandsAgainBy, HandsAgainPart, ReadsAgainBy, after_pass, retried_by};
 
+use crate::deadline::DevicePass;
 use crate::fault::RecoveryFault;
 use crate::listing::NoListing;
 use crate::recovery::RecoveryPlan;
@@ -43,8 +44,11 @@ pub(crate) fn read_again<D: BlockDev, O: BlockDev, P: Progress>(
     let mut left = map;
     let mut passes = 0;
     'passes: while passes < plan.retries && !is_had(&left) {
-        let d = plan.device;
-        let rescued = rescue(alloc, stack, d, out, &left, &mut NoListing, progress)?;
+        let pass = DevicePass {
+            device: plan.device,
+            deadline: None,
+        };
+        let rescued = rescue(alloc, stack, pass, out, &left, &mut NoListing, progress)?;
         left = rescued.map;
         passes += 1;
     }

@@ -4,9 +4,10 @@ ghost use Rattle.block_device.specs.Call.{DeviceDoes};
 ghost use Rattle.stack_rules.specs.Names.{mapped, size};
 ghost use Rattle.rescue_map.specs.Aheads.{marks_ahead};
 ghost use Rattle.rescue_map.specs.Maps.{marks};
-ghost use Rattle.stack_recovery.specs.FirstPasses.{EndsSkimBy, HandsSkims, HandsSkimsPart, SkimsBy, has_more, transfer};
+ghost use Rattle.stack_recovery.specs.FirstPasses.{EndsSkimBy, HandsSkimsPart, HandsSkimsUntil, SkimsBy, has_more, transfer};
 ghost use Rattle.stack_recovery.specs.declared.fault.RecoveryFault.TheVariants as recovery_fault;
 
+use crate::deadline::{DevicePass, pass_end};
 use crate::fault::RecoveryFault;
 use crate::lost_run::is_same;
 use crate::notes::mark;
@@ -17,7 +18,6 @@ use crate::skip::{LEAST_SKIP, longer_skip, most_skip};
 use block_device::BlockDev;
 use device_adapters::Progress;
 use rescue_map::{Ahead, Map};
-use stack_config::DevId;
 use stack_engine::{IoFault, Stack};
 use std::alloc::Global;
 
@@ -30,6 +30,8 @@ use std::alloc::Global;
 /// at most 1 GiB. After a piece that can be read it begins with 128 sectors again. A skip ends before the next sector that was
 /// read before. Nothing is lost by this pass: `rescue` reads what it left.
 ///
+/// At its deadline the pass ends, but not after a failed read. Its map then has only the sectors up to there.
+///
 /// # Errors
 ///
 /// - `NoMemory` if an allocation was refused.
@@ -37,77 +39,78 @@ use std::alloc::Global;
 pub fn skim<D: BlockDev, O: BlockDev, P: Progress>(
     alloc: Global,
     stack: &mut Stack<D>,
-    d: DevId,
+    pass: DevicePass,
     out: &mut O,
     map: &Map,
     progress: &mut P,
 ) -> Result<Map, RecoveryFault>
-    requires device { d.0 < length stack.old.config.devices }
-    requires fits { length (marks map.now) ≡ size stack.old.config (mapped d.0) }
-    requires room { size stack.old.config (mapped d.0) ≤ (O.state out.old).size }
+    requires device { pass.device.0 < length stack.old.config.devices }
+    requires fits { length (marks map.now) ≡ size stack.old.config (mapped pass.device.0) }
+    requires room { size stack.old.config (mapped pass.device.0) ≤ (O.state out.old).size }
     requires allowed { IsTrue (O.state out.old).may_write }
-    ensures ok { IfOk result (SkimsBy O.state true (marks map.now) d.0 (transfer stack.old out.old) (transfer stack.new out.new)) }
-    ensures err { IfErr result (EndsSkimBy O.state true (marks map.now) d.0 (transfer stack.old out.old) (transfer stack.new out.new)) }
-    ensures handed { IfOk result (λ made. HandsSkims (DeviceDoes O.state O.does) (marks map.now) d.0 (transfer stack.old out.old) (marks made) (transfer stack.new out.new)) }
-    ensures stopped { IfErr result (HandsSkimsPart (DeviceDoes O.state O.does) (marks map.now) d.0 (transfer stack.old out.old) (transfer stack.new out.new)) }
+    ensures ok { IfOk result (SkimsBy O.state pass true (marks map.now) (transfer stack.old out.old) (transfer stack.new out.new)) }
+    ensures err { IfErr result (EndsSkimBy O.state true (marks map.now) pass.device.0 (transfer stack.old out.old) (transfer stack.new out.new)) }
+    ensures handed { IfOk result (HandsSkimsUntil (DeviceDoes O.state O.does) (marks map.now) pass.device.0 (transfer stack.old out.old) (transfer stack.new out.new)) }
+    ensures stopped { IfErr result (HandsSkimsPart (DeviceDoes O.state O.does) (marks map.now) pass.device.0 (transfer stack.old out.old) (transfer stack.new out.new)) }
 {
-    skim_ahead(alloc, stack, d, out, Ahead::of_map(map), progress)
+    skim_ahead(alloc, stack, pass, out, Ahead::of_map(map), progress)
 }
 
 /// Runs the first pass by the marks ahead.
 pub(crate) fn skim_ahead<D: BlockDev, O: BlockDev, P: Progress>(
     alloc: Global,
     stack: &mut Stack<D>,
-    d: DevId,
+    pass: DevicePass,
     out: &mut O,
     ahead: Ahead<'_>,
     progress: &mut P,
 ) -> Result<Map, RecoveryFault>
-    requires device { d.0 < length stack.old.config.devices }
-    requires fits { length (marks_ahead ahead) ≡ size stack.old.config (mapped d.0) }
-    requires room { size stack.old.config (mapped d.0) ≤ (O.state out.old).size }
+    requires device { pass.device.0 < length stack.old.config.devices }
+    requires fits { length (marks_ahead ahead) ≡ size stack.old.config (mapped pass.device.0) }
+    requires room { size stack.old.config (mapped pass.device.0) ≤ (O.state out.old).size }
     requires allowed { IsTrue (O.state out.old).may_write }
-    ensures ok { IfOk result (SkimsBy O.state (has_more ahead.entry.rest.now) (marks_ahead ahead.entry) d.0 (transfer stack.old out.old) (transfer stack.new out.new)) }
-    ensures err { IfErr result (EndsSkimBy O.state (has_more ahead.entry.rest.now) (marks_ahead ahead.entry) d.0 (transfer stack.old out.old) (transfer stack.new out.new)) }
-    ensures handed { IfOk result (λ made. HandsSkims (DeviceDoes O.state O.does) (marks_ahead ahead.entry) d.0 (transfer stack.old out.old) (marks made) (transfer stack.new out.new)) }
-    ensures stopped { IfErr result (HandsSkimsPart (DeviceDoes O.state O.does) (marks_ahead ahead.entry) d.0 (transfer stack.old out.old) (transfer stack.new out.new)) }
+    ensures ok { IfOk result (SkimsBy O.state pass (has_more ahead.entry.rest.now) (marks_ahead ahead.entry) (transfer stack.old out.old) (transfer stack.new out.new)) }
+    ensures err { IfErr result (EndsSkimBy O.state (has_more ahead.entry.rest.now) (marks_ahead ahead.entry) pass.device.0 (transfer stack.old out.old) (transfer stack.new out.new)) }
+    ensures handed { IfOk result (HandsSkimsUntil (DeviceDoes O.state O.does) (marks_ahead ahead.entry) pass.device.0 (transfer stack.old out.old) (transfer stack.new out.new)) }
+    ensures stopped { IfErr result (HandsSkimsPart (DeviceDoes O.state O.does) (marks_ahead ahead.entry) pass.device.0 (transfer stack.old out.old) (transfer stack.new out.new)) }
 {
     // The call provides the bound on a device's sectors.
     let _fits = out.sectors();
     let mut map = Map::new(alloc);
     let mut room = [0u8; ROOM];
     let bytes = room.as_mut_slice();
-    skim_by(stack, d, out, ahead, &mut map, progress, bytes)?;
+    skim_by(stack, pass, out, ahead, &mut map, progress, bytes)?;
     Ok(map)
 }
 
 /// Runs the first pass through the buffer `room`.
 fn skim_by<D: BlockDev, O: BlockDev, P: Progress>(
     stack: &mut Stack<D>,
-    d: DevId,
+    pass: DevicePass,
     out: &mut O,
     mut ahead: Ahead<'_>,
     map: &mut Map,
     progress: &mut P,
     room: &mut [u8],
 ) -> Result<(), RecoveryFault>
-    requires device { d.0 < length stack.old.config.devices }
-    requires fits { length (marks_ahead ahead) ≡ size stack.old.config (mapped d.0) }
-    requires room { size stack.old.config (mapped d.0) ≤ (O.state out.old).size }
+    requires device { pass.device.0 < length stack.old.config.devices }
+    requires fits { length (marks_ahead ahead) ≡ size stack.old.config (mapped pass.device.0) }
+    requires room { size stack.old.config (mapped pass.device.0) ≤ (O.state out.old).size }
     requires allowed { IsTrue (O.state out.old).may_write }
     requires begun { map.old ≡ [] }
     requires buffer { length room.old ≡ 65536 }
-    requires few { size stack.old.config (mapped d.0) ≤ 2 ^ 54 }
-    ensures ok { OnOk result (SkimsBy O.state (has_more ahead.entry.rest.now) (marks_ahead ahead.entry) d.0 (transfer stack.old out.old) (transfer stack.new out.new) map.new) }
-    ensures err { IfErr result (EndsSkimBy O.state (has_more ahead.entry.rest.now) (marks_ahead ahead.entry) d.0 (transfer stack.old out.old) (transfer stack.new out.new)) }
-    ensures handed { OnOk result (HandsSkims (DeviceDoes O.state O.does) (marks_ahead ahead.entry) d.0 (transfer stack.old out.old) (marks map.new) (transfer stack.new out.new)) }
-    ensures stopped { IfErr result (HandsSkimsPart (DeviceDoes O.state O.does) (marks_ahead ahead.entry) d.0 (transfer stack.old out.old) (transfer stack.new out.new)) }
+    requires few { size stack.old.config (mapped pass.device.0) ≤ 2 ^ 54 }
+    ensures ok { OnOk result (SkimsBy O.state pass (has_more ahead.entry.rest.now) (marks_ahead ahead.entry) (transfer stack.old out.old) (transfer stack.new out.new) map.new) }
+    ensures err { IfErr result (EndsSkimBy O.state (has_more ahead.entry.rest.now) (marks_ahead ahead.entry) pass.device.0 (transfer stack.old out.old) (transfer stack.new out.new)) }
+    ensures handed { OnOk result (HandsSkimsUntil (DeviceDoes O.state O.does) (marks_ahead ahead.entry) pass.device.0 (transfer stack.old out.old) (transfer stack.new out.new) map.new) }
+    ensures stopped { IfErr result (HandsSkimsPart (DeviceDoes O.state O.does) (marks_ahead ahead.entry) pass.device.0 (transfer stack.old out.old) (transfer stack.new out.new)) }
 {
-    let sectors = stack.config().sectors(d);
+    let sectors = stack.config().sectors(pass.device);
     let most = most_skip(sectors);
     let mut skip = LEAST_SKIP;
+    let mut failing = false;
     let mut at = 0;
-    'pieces: while at < sectors {
+    'pieces: while at < pass_end(pass.deadline, at, sectors, failing, progress) {
         let run = ahead.next_run();
         if run.had {
             mark(map, run.count, true)?;
@@ -115,16 +118,17 @@ fn skim_by<D: BlockDev, O: BlockDev, P: Progress>(
             at += run.count;
         } else {
             tell(progress, at, sectors);
-            let piece = piece_at(stack.config(), d, at, at + run.count, MOST_PIECE);
+            let piece = piece_at(stack.config(), pass.device, at, at + run.count, MOST_PIECE);
             let count = u64::from(piece.count);
             let bytes = &mut room[..piece.count as usize * 512];
-            match stack.read_bytes(d, at, bytes) {
+            match stack.read_bytes(pass.device, at, bytes) {
                 Ok(()) => {
                     mark(map, count, true)?;
                     out.write(at, bytes)?;
                     ahead.pass(count);
                     at += count;
                     skip = LEAST_SKIP;
+                    failing = false;
                 }
                 Err(fault) => {
                     check_memory(fault)?;
@@ -133,6 +137,7 @@ fn skim_by<D: BlockDev, O: BlockDev, P: Progress>(
                     ahead.pass(left);
                     at += left;
                     skip = longer_skip(skip, most);
+                    failing = true;
                 }
             }
         }

@@ -40,17 +40,6 @@ impl Tally {
         }
     }
 
-    /// Returns the counts for a device of so many sectors.
-    pub(crate) fn counts(self, sectors: u64) -> Counts
-        requires { self.lost ≤ sectors }
-        ensures { result ≡ record { read = sectors - self.lost; lost = self.lost } }
-    {
-        Counts {
-            read: sectors - self.lost,
-            lost: self.lost,
-        }
-    }
-
     /// Reports the open run, and closes it.
     #[tactic(auto, using(crate::proofs::WritingLemmas::tells_nothing))]
     pub(crate) fn close<L: Listing>(&mut self, listing: &mut L)
@@ -82,5 +71,18 @@ impl Tally {
             }
         }
         self.lost += run.count;
+    }
+
+    /// Reports the open run, and returns the counts of the `sectors` sectors so far.
+    pub(crate) fn finish<L: Listing>(&mut self, listing: &mut L, sectors: u64) -> Counts
+        requires { self.old.lost ≤ sectors }
+        ensures text { Tells (L.told listing.old) (L.told listing.new) (lost_text (listed self.old.last)) }
+        ensures value { result ≡ record { read = sectors - self.old.lost; lost = self.old.lost } }
+    {
+        self.close(listing);
+        Counts {
+            read: sectors - self.lost,
+            lost: self.lost,
+        }
     }
 }

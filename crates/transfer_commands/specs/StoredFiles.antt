@@ -68,20 +68,21 @@ abbrev pub IsWholeEnd : Bool → ℕ → ℕ → StackRecord → Device → Stac
 IsWholeEnd true d first old source new source' fault = (fault ≡ record { written = 0; cause = Length }) × (new ≡ old) × (source' ≡ source)
 IsWholeEnd false d first old source new source' fault = IsStoredEnd d first old source new source' fault
 
--- not all sectors were stored, and the images were closed
 abbrev pub IsFileFault : (StoreFault → Type 0) → StreamFault → Type 0
 IsFileFault Ends (Store fault) = Ends fault
 IsFileFault Ends fault = ⊥
 
+-- Not all sectors were stored, and the images were closed. What the calls left of SOURCE is a device of the opener's type, so that a
+-- failure of it isn't made up.
 pub record FailsToStoreFile {S D : Type 0} (w : Calls S D) (words : FileWords) (old new : Option (List ℕ)) (fault : StreamFault) : Type 0 where
   pub at : DevicePlace
   pub image : OpenImage D
   pub part : Bool
   pub left : StackRecord
-  pub source : Device
+  pub source : D
   pub between : S
   pub found : FindsTarget (record w { new = between }) words at image part
-  pub fails : IsFileFault (IsWholeEnd part at.d words.first at.stack (w.state image.device) left source) fault
+  pub fails : IsFileFault (IsWholeEnd part at.d words.first at.stack (w.state image.device) left (w.state source)) fault
   pub quiet : new ≡ old
   pub back : IsGivenBack (record w { old = between }) words.words.words.bindings left.leaves
 

@@ -23,7 +23,8 @@ use Rattle.tree_difference.specs.declared.trees.TreePair.{TreePair}
 use Rattle.tree_difference.specs.declared.walk.Walk.{Walk}
 use Rattle.tree_difference.specs.Causes.{IsWalkCause}
 use Rattle.tree_difference.specs.Comparisons.{AreStatesSeen, Compares, ReadsDiffering, difference_world}
-use Rattle.tree_difference.specs.Differences.{AreShapes, CanCompare, CanCompareTrees, HaveTrees, IsAligned, IsComparisonCause, IsDifferenceCause, IsWalkOf, sectors_before, trees_in, trees_of}
+use Rattle.tree_difference.specs.Differences.{AreShapes, CanCompare, HaveTrees, IsAligned, IsComparisonCause, IsDifferenceCause, IsWalkOf, sectors_before, trees_in, trees_of}
+use Rattle.tree_difference.specs.Refusals.{CanCompareTrees}
 use Rattle.tree_difference.specs.RootBlocks.{root_sectors}
 use Rattle.tree_difference.specs.Likeness.{unlike}
 use Rattle.tree_difference.specs.Trees.{Trees, AreComparable, IsStoredAs, common_levels}
@@ -54,7 +55,7 @@ alike-of pair none =
     }
 
 -- both trees lie on the devices
-pub have-trees : (pair : TreePair) (w : Walk) (d d' e e' : Device) → IsWalkOf (trees_of pair) w → CanCompareTrees pair d e → AreShapes (trees_of pair) → d'.size ≡ d.size → e'.size ≡ e.size → HaveTrees w d' e'
+pub have-trees : (pair : TreePair) (w : Walk) (d d' e e' : Device) → IsWalkOf (trees_of pair) w → CanCompareTrees pair d.size e.size → AreShapes (trees_of pair) → d'.size ≡ d.size → e'.size ≡ e.size → HaveTrees w d' e'
 have-trees pair w d d' e e' of can valid ds es =
     let first_shape : w.first.shape ≡ pair.first.shape = ap (λ (x : Trees). x.first) of.trees in
     let second_shape : w.second.shape ≡ pair.second.shape = ap (λ (x : Trees). x.second) of.trees in

@@ -2,6 +2,7 @@ pub mod AlongLemmas
 pub mod DifferenceLemmas
 pub mod EndLemmas
 pub mod ErrLemmas
+pub mod RefusalLemmas
 pub mod RootLemmas
 pub mod LawLemmas
 pub mod ReportLemmas

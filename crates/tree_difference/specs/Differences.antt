@@ -4,7 +4,7 @@ use Rattle.allocation.specs.Refusal.{IsOutOfMemory}
 use Rattle.block_device.specs.Device.{Device, HasFailed}
 use Rattle.tree_shape.specs.Shape.{ShapeRecord, IsShape, levels}
 use Rattle.verity_format.specs.Image.{tree_sectors}
-use Rattle.verity_format.specs.declared.verifying.VerifyFault.TheVariants.{Device as DeviceFailed}
+use Rattle.verity_format.specs.declared.verifying.VerifyFault.TheVariants.{Device as DeviceFailed, TooSmall}
 use Rattle.tree_path.specs.Path.{largest_block}
 use Rattle.tree_path.specs.Steps.{IsDown, steps}
 use Rattle.runs.specs.declared.kind.Kind.TheVariants.{Removed, Added}
@@ -15,15 +15,15 @@ use Rattle.runs.specs.Limits.{limited_lines}
 use Rattle.runs.specs.Runs.{run}
 use Rattle.tree_difference.specs.declared.difference.Totals.{Totals}
 use Rattle.tree_difference.specs.declared.fault.DifferenceFault.{DifferenceFault}
-use Rattle.tree_difference.specs.declared.fault.DifferenceFault.TheVariants.{Image, Hash, NoMemory, Write}
+use Rattle.tree_difference.specs.declared.fault.DifferenceFault.TheVariants.{Image, Unlike, Hash, NoMemory, Write}
 use Rattle.tree_difference.specs.declared.fault.Which.TheVariants.{First, Second}
 use Rattle.tree_difference.specs.declared.trees.TreePair.{TreePair}
 use Rattle.tree_difference.specs.declared.walk.Walk.{Walk}
 use Rattle.tree_difference.specs.Causes.{IsBadBlock, IsWalkCause}
 use Rattle.tree_difference.specs.Comparisons.{Compares, ReadsDiffering, DifferenceWorld, IsReported, difference_world}
+use Rattle.tree_difference.specs.Refusals.{CanCompareTrees, IsPairRefused}
 use Rattle.tree_difference.specs.Rests.{last_runs}
 use Rattle.tree_difference.specs.RootBlocks.{IsRootRead, root_sectors}
-use Rattle.tree_difference.specs.Likeness.{unlike}
 use Rattle.tree_difference.specs.Trees.{Trees, AreComparable, common_blocks, common_levels}
 use Rattle.tree_difference.specs.Walks.{IsOn, WalkSides, walk_sides}
 
@@ -37,12 +37,6 @@ trees_of pair = record {
   first_root = pair.roots.first;
   second_root = pair.roots.second;
 }
-
--- the trees can be compared, and fit on the devices
-pub record CanCompareTrees (pair : TreePair) (first second : Device) : Type 0 where
-  pub alike : unlike pair.first pair.second ≡ None
-  pub first_fits : tree_sectors pair.first.shape ≤ first.size
-  pub second_fits : tree_sectors pair.second.shape ≤ second.size
 
 -- both shapes are valid
 abbrev pub AreShapes : Trees → Type 0
@@ -105,15 +99,23 @@ IsComparisonCause w first second first' second' failed fault = IsWalkCause w fir
 abbrev pub sectors_before : ShapeRecord → Trees → ℕ
 sectors_before s t = root_sectors s + (levels s - common_levels t) * (s.hash_block / 512)
 
--- both root hash blocks were read, and the trees compared
+-- the trees can be compared; both root hash blocks were read, and the trees compared
 pub record IsDifference (w : DifferenceWorld) (pair : TreePair) (most : Option ℕ) (totals : Totals) : Type 0 where
+  pub can : CanCompareTrees pair w.first.size w.second.size
   pub first_root : IsRootRead pair.first.shape pair.first.salt pair.roots.first w.first
   pub second_root : IsRootRead pair.second.shape pair.second.salt pair.roots.second w.second
   pub compares : Compares (trees_of pair) w most totals
   pub reads : ReadsDiffering (trees_of pair) w (sectors_before pair.first.shape (trees_of pair)) (sectors_before pair.second.shape (trees_of pair))
 
+-- the trees can't be compared, and neither device was accessed
+abbrev pub RefusesPair : DifferenceWorld → TreePair → DifferenceFault → Type 0
+RefusesPair w pair fault = IsPairRefused pair w.first.size w.second.size fault × (w.first' ≡ w.first) × (w.second' ≡ w.second)
+
 -- why two trees weren't compared to the end
 abbrev pub IsDifferenceCause : DifferenceWorld → TreePair → Bool → DifferenceFault → Type 0
+IsDifferenceCause w pair failed (Image First TooSmall) = RefusesPair w pair (Image First TooSmall)
+IsDifferenceCause w pair failed (Image Second TooSmall) = RefusesPair w pair (Image Second TooSmall)
+IsDifferenceCause w pair failed (Unlike field) = RefusesPair w pair (Unlike field)
 IsDifferenceCause w pair failed (Image First DeviceFailed) = HasFailed w.first w.first'
 IsDifferenceCause w pair failed (Image Second DeviceFailed) = HasFailed w.second w.second'
 IsDifferenceCause w pair failed (Hash First level number) = IsBadBlock pair.first.shape pair.first.salt pair.roots.first w.first level number

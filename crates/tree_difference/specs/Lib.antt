@@ -1,5 +1,6 @@
 pub mod Trees
 pub mod Likeness
+pub mod Refusals
 pub mod Rests
 pub mod Walks
 pub mod Causes

@@ -6,12 +6,12 @@ ghost use Rattle.runs.specs.Listings.{Tells};
 ghost use Rattle.runs.specs.Tallies.{EndsAt};
 ghost use Rattle.tree_difference.specs.Causes.{EndsWalk, IsFirstBlock};
 ghost use Rattle.tree_difference.specs.Comparisons.{IsReported};
-ghost use Rattle.tree_difference.specs.Differences.{Aligns, AreShapes, CanCompare, CanCompareTrees, EndsDifference, HaveTrees, IsDifference, IsDifferenceCause, IsWalkOf, ReadsPairs, ReportsRuns, ComparesBlocks, last_lines, rest_run, seen_world, totals_in, trees_of};
+ghost use Rattle.tree_difference.specs.Differences.{Aligns, AreShapes, CanCompare, EndsDifference, HaveTrees, IsDifference, IsDifferenceCause, IsWalkOf, ReadsPairs, ReportsRuns, ComparesBlocks, last_lines, rest_run, seen_world, totals_in, trees_of};
 
 use crate::fault::{DifferenceFault, Which};
 use crate::reading::read_down;
 use crate::root_block::check_root_block;
-use crate::trees::TreePair;
+use crate::trees::{TreePair, check_pair};
 use crate::walk::Walk;
 use allocation::OutOfMemory;
 use block_device::BlockDev;
@@ -38,7 +38,8 @@ pub struct Totals {
 ///
 /// # Errors
 ///
-/// - `Image` if a device failed.
+/// - `Image` with `TooSmall` if a tree doesn't fit on its device, or `Unlike` if the trees are incomparable; nothing was read.
+/// - `Image` with `Device` if a device failed.
 /// - `Hash` if a hash block fails verification.
 /// - `NoMemory` if an allocation was refused.
 /// - `Write` if a line can't be reported.
@@ -50,11 +51,13 @@ pub fn compare_trees<D: BlockDev, E: BlockDev, L: Listing>(
     most: Option<u64>,
     listing: &mut L,
 ) -> Result<Totals, DifferenceFault>
-    requires { CanCompareTrees pair.now (D.state first.old) (E.state second.old) }
     ensures ok { IfOk result (IsDifference (seen_world D.state E.state L.told first.old second.old first.new second.new listing.old listing.new) pair.now most) }
     ensures err { IfErr result (IsDifferenceCause (seen_world D.state E.state L.told first.old second.old first.new second.new listing.old listing.new) pair.now (L.failed listing.new)) }
     ensures before { IfErr result (IsReported (trees_of pair.now) (seen_world D.state E.state L.told first.old second.old first.new second.new listing.old listing.new) most) }
 {
+    let one = first.sectors();
+    let two = second.sectors();
+    check_pair(pair, one, two)?;
     check_root_block(alloc, first, Which::First, &pair.first, pair.roots.first)?;
     check_root_block(
         alloc,

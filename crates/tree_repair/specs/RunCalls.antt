@@ -17,7 +17,7 @@ pub record BlockVisit : Type 0 where
 abbrev pub block_visit : ℕ → ℕ → PathRecord → Bool → BlockVisit
 block_visit height index path done = record { height = height; index = index; path = path; done = done }
 
--- The calls of a visit to a block of the tree. Hash blocks that were read and verified lead from the root to the block's
+-- The calls of a visit to a block of the tree. Verified hash blocks lead from the root to the block's
 -- digest. Each write is of the whole block, at its offset, of bytes with this digest.
 pub record VisitsBlock {D H : Type 0} (asks : D → Call → D → Type 0) (does : H → Call → H → Type 0) (j : Job) (v : BlockVisit) (old new : ImageRecord D H) : Type 0 where
   pub inside : v.index < j.tree.shape.blocks

@@ -1,5 +1,9 @@
 -- The second tree checked, and both compared.
-use Rattle.std.proofs.Common.{inl, inr, ℕ, Bool, false, List, Option}
+use Rattle.std.proofs.Common.{◌≡◌, ◌≤◌, inl, inr, ℕ, Bool, true, false, List, Option}
+use Rattle.std.specs.Prelude.{is_some}
+use Rattle.allocation.specs.declared.out_of_memory.OutOfMemory.{OutOfMemory}
+use Rattle.allocation.specs.Asked.{refused_size}
+use Rattle.allocation.proofs.lemmas.AskedLemmas.{asked-refused}
 use Rattle.block_device.specs.Device.{Device}
 use Rattle.verity_format.specs.declared.verifying.VerifyFault.TheVariants as verify
 use Rattle.tree_difference.specs.declared.fault.DifferenceFault.{DifferenceFault}
@@ -34,22 +38,27 @@ unfailed w pair most failed fault check compare (inl h) = inl (check w.second w.
 unfailed w pair most failed fault check compare (inr e) =
     inr (record { whole = e.whole; middle = e.middle; between = e.between; checks = e.checks; cause = compare (record w { second = e.middle; printed = e.between }) e.cause; before = e.before })
 
-pub kept_check : (d e d' e' : Device) (old new : Option (List ℕ)) (pair : TreePair) (most : Option ℕ) (failed : Bool) (fault : DifferenceFault) → IsCheckedCause (difference_world d e d' e' old new) pair most failed fault → IsKeptCheckCause d e d' e' pair most (unkept_difference fault)
-kept_check d e d' e' old new pair most failed (difference.Image First (verify.Super f)) h = (old, (new, unfailed (difference_world d e d' e' old new) pair most failed (difference.Image First (verify.Super f)) (λ a a' c. c) (λ v c. c) h))
-kept_check d e d' e' old new pair most failed (difference.Image First verify.TooSmall) h = (old, (new, unfailed (difference_world d e d' e' old new) pair most failed (difference.Image First verify.TooSmall) (λ a a' c. c) (λ v c. c) h))
-kept_check d e d' e' old new pair most failed (difference.Image First verify.Device) h = (old, (new, unfailed (difference_world d e d' e' old new) pair most failed (difference.Image First verify.Device) (λ a a' c. c) (λ v c. c) h))
-kept_check d e d' e' old new pair most failed (difference.Image First verify.NoMemory) h = (old, (new, unfailed (difference_world d e d' e' old new) pair most failed (difference.Image First verify.NoMemory) (λ a a' c. c) (λ v c. c) h))
-kept_check d e d' e' old new pair most failed (difference.Image Second (verify.Super f)) h = (old, (new, unfailed (difference_world d e d' e' old new) pair most failed (difference.Image Second (verify.Super f)) (λ a a' c. c) (λ v c. c) h))
-kept_check d e d' e' old new pair most failed (difference.Image Second verify.TooSmall) h = (old, (new, unfailed (difference_world d e d' e' old new) pair most failed (difference.Image Second verify.TooSmall) (λ a a' c. c) (λ v c. c) h))
-kept_check d e d' e' old new pair most failed (difference.Image Second verify.Device) h = (old, (new, unfailed (difference_world d e d' e' old new) pair most failed (difference.Image Second verify.Device) (λ a a' c. c) (λ v c. c) h))
-kept_check d e d' e' old new pair most failed (difference.Image Second verify.NoMemory) h = (old, (new, unfailed (difference_world d e d' e' old new) pair most failed (difference.Image Second verify.NoMemory) (λ a a' c. c) (λ v c. c) h))
-kept_check d e d' e' old new pair most failed (difference.Unaligned which) h = (old, (new, unfailed (difference_world d e d' e' old new) pair most failed (difference.Unaligned which) (λ a a' c. c) (λ v c. c) h))
-kept_check d e d' e' old new pair most failed (difference.Unpinned which mismatch) h = (old, (new, unfailed (difference_world d e d' e' old new) pair most failed (difference.Unpinned which mismatch) (λ a a' c. c) (λ v c. c) h))
-kept_check d e d' e' old new pair most failed (difference.Unlike field) h = (old, (new, unfailed (difference_world d e d' e' old new) pair most failed (difference.Unlike field) (λ a a' c. c) (λ v c. c) h))
-kept_check d e d' e' old new pair most failed (difference.Hash First level n) h = (old, (new, unfailed (difference_world d e d' e' old new) pair most failed (difference.Hash First level n) (λ a a' c. c) (λ v c. c) h))
-kept_check d e d' e' old new pair most failed (difference.Hash Second level n) h = (old, (new, unfailed (difference_world d e d' e' old new) pair most failed (difference.Hash Second level n) (λ a a' c. c) (λ v c. c) h))
-kept_check d e d' e' old new pair most failed difference.NoMemory h = tt
-kept_check d e d' e' old new pair most failed difference.Write h = tt
+-- a line that isn't received, in the check or in the comparison
+written_check : (d e d' e' : Device) (old new : Option (List ℕ)) (pair : TreePair) (most : Option ℕ) (failed : Bool) → IsCheckedCause (difference_world d e d' e' old new) pair most failed difference.Write → failed ≡ true
+written_check d e d' e' old new pair most failed (inl h) = h
+written_check d e d' e' old new pair most failed (inr ends) = ends.cause
+
+pub kept_check : (d e d' e' : Device) (old new : Option (List ℕ)) (pair : TreePair) (most : Option ℕ) (refused : Option OutOfMemory) → refused_size refused ≤ 1 → (fault : DifferenceFault) → IsCheckedCause (difference_world d e d' e' old new) pair most (is_some refused) fault → IsKeptCheckCause d e d' e' pair most (unkept_difference fault)
+kept_check d e d' e' old new pair most refused few (difference.Image First (verify.Super f)) h = (old, (new, unfailed (difference_world d e d' e' old new) pair most (is_some refused) (difference.Image First (verify.Super f)) (λ a a' c. c) (λ v c. c) h))
+kept_check d e d' e' old new pair most refused few (difference.Image First verify.TooSmall) h = (old, (new, unfailed (difference_world d e d' e' old new) pair most (is_some refused) (difference.Image First verify.TooSmall) (λ a a' c. c) (λ v c. c) h))
+kept_check d e d' e' old new pair most refused few (difference.Image First verify.Device) h = (old, (new, unfailed (difference_world d e d' e' old new) pair most (is_some refused) (difference.Image First verify.Device) (λ a a' c. c) (λ v c. c) h))
+kept_check d e d' e' old new pair most refused few (difference.Image First verify.NoMemory) h = (old, (new, unfailed (difference_world d e d' e' old new) pair most (is_some refused) (difference.Image First verify.NoMemory) (λ a a' c. c) (λ v c. c) h))
+kept_check d e d' e' old new pair most refused few (difference.Image Second (verify.Super f)) h = (old, (new, unfailed (difference_world d e d' e' old new) pair most (is_some refused) (difference.Image Second (verify.Super f)) (λ a a' c. c) (λ v c. c) h))
+kept_check d e d' e' old new pair most refused few (difference.Image Second verify.TooSmall) h = (old, (new, unfailed (difference_world d e d' e' old new) pair most (is_some refused) (difference.Image Second verify.TooSmall) (λ a a' c. c) (λ v c. c) h))
+kept_check d e d' e' old new pair most refused few (difference.Image Second verify.Device) h = (old, (new, unfailed (difference_world d e d' e' old new) pair most (is_some refused) (difference.Image Second verify.Device) (λ a a' c. c) (λ v c. c) h))
+kept_check d e d' e' old new pair most refused few (difference.Image Second verify.NoMemory) h = (old, (new, unfailed (difference_world d e d' e' old new) pair most (is_some refused) (difference.Image Second verify.NoMemory) (λ a a' c. c) (λ v c. c) h))
+kept_check d e d' e' old new pair most refused few (difference.Unaligned which) h = (old, (new, unfailed (difference_world d e d' e' old new) pair most (is_some refused) (difference.Unaligned which) (λ a a' c. c) (λ v c. c) h))
+kept_check d e d' e' old new pair most refused few (difference.Unpinned which mismatch) h = (old, (new, unfailed (difference_world d e d' e' old new) pair most (is_some refused) (difference.Unpinned which mismatch) (λ a a' c. c) (λ v c. c) h))
+kept_check d e d' e' old new pair most refused few (difference.Unlike field) h = (old, (new, unfailed (difference_world d e d' e' old new) pair most (is_some refused) (difference.Unlike field) (λ a a' c. c) (λ v c. c) h))
+kept_check d e d' e' old new pair most refused few (difference.Hash First level n) h = (old, (new, unfailed (difference_world d e d' e' old new) pair most (is_some refused) (difference.Hash First level n) (λ a a' c. c) (λ v c. c) h))
+kept_check d e d' e' old new pair most refused few (difference.Hash Second level n) h = (old, (new, unfailed (difference_world d e d' e' old new) pair most (is_some refused) (difference.Hash Second level n) (λ a a' c. c) (λ v c. c) h))
+kept_check d e d' e' old new pair most refused few difference.NoMemory h = inl (old, (new, unfailed (difference_world d e d' e' old new) pair most (is_some refused) difference.NoMemory (λ a a' c. c) (λ v c. c) h))
+kept_check d e d' e' old new pair most refused few difference.Write h = inr (asked-refused refused 1 few (written_check d e d' e' old new pair most (is_some refused) h))
 
 -- how a comparison ends of which all was printed
 pub found-end : (json : Bool) (w : DifferenceWorld) (pair : TreePair) (most : Option ℕ) (failed : Bool) (found : CheckedTotals) → SaysChecked json w pair most found → (fault : TreeFault) → IsFoundEnd found fault → IsCheckedEnd json w pair most failed fault

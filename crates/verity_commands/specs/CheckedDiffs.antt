@@ -1,11 +1,13 @@
 -- What `diff --all` prints, and how it ends.
-use Rattle.std.specs.Prelude.{◌≡◌, ◌⊎◌, ℕ, Bool, true, false, List, [], Option, Some}
+use Rattle.std.specs.Prelude.{◌≡◌, ◌⊎◌, ℕ, ◌≤◌, Bool, true, false, List, [], Option, Some}
 use Rattle.std.specs.Io.KnownBytes.{Appends}
+use Rattle.allocation.specs.Refusal.{IsOutOfMemory}
 use Rattle.block_device.specs.Device.{Device}
 use Rattle.program_io.specs.Counted.{CountedRecord}
 use Rattle.program_io.specs.JsonLines.{json_line}
 use Rattle.verity_format.specs.declared.verifying.VerifyFault.{VerifyFault}
 use Rattle.verity_format.specs.declared.verifying.VerifyFault.TheVariants as verify
+use Rattle.verity_format.specs.Image.{tree_sectors}
 use Rattle.runs.specs.declared.line.Line.{Line}
 use Rattle.runs.specs.declared.listing.KeptLines.{KeptLines}
 use Rattle.runs.specs.Lines.{lines_text}
@@ -72,10 +74,14 @@ abbrev pub check_fault : SurveyFault → DifferenceFault
 check_fault (survey_fault.Image fault) = second_fault fault
 check_fault survey_fault.Write = difference_fault.Write
 
--- why a comparison with checks ends early, if lines are kept in memory
+-- why a comparison with checks ends early, whatever was printed
+abbrev pub IsSilentCause : Device → Device → Device → Device → TreePair → Option ℕ → DifferenceFault → Type 0
+IsSilentCause first second first' second' pair most fault = (old : Option (List ℕ)) × ((new : Option (List ℕ)) × IsCheckedCause (difference_world first second first' second' old new) pair most false fault)
+
+-- why it does if lines are kept in memory: room for one line may have been refused
 abbrev pub IsKeptCheckCause : Device → Device → Device → Device → TreePair → Option ℕ → DifferenceFault → Type 0
-IsKeptCheckCause first second first' second' pair most difference_fault.NoMemory = Unit {0}
-IsKeptCheckCause first second first' second' pair most fault = (old : Option (List ℕ)) × ((new : Option (List ℕ)) × IsCheckedCause (difference_world first second first' second' old new) pair most false fault)
+IsKeptCheckCause first second first' second' pair most difference_fault.NoMemory = IsSilentCause first second first' second' pair most difference_fault.NoMemory ⊎ IsOutOfMemory 1
+IsKeptCheckCause first second first' second' pair most fault = IsSilentCause first second first' second' pair most fault
 
 -- ---- what is printed
 
@@ -109,9 +115,16 @@ IsFoundEnd found fault = ⊥
 abbrev pub SaysSuch : Bool → DifferenceWorld → TreePair → Option ℕ → (CheckedTotals → Type 0) → Type 0
 SaysSuch json w pair most P = (found : CheckedTotals) × (SaysChecked json w pair most found × P found)
 
+-- both were done, and then memory ran out for the JSON values
+pub record LacksCheckedObject (w : DifferenceWorld) (pair : TreePair) (most : Option ℕ) (fault : DifferenceFault) : Type 0 where
+  pub found : CheckedTotals
+  pub lines : List Line
+  pub difference : IsCheckedDifference (record w { printed = Some []; printed' = Some (lines_text lines) }) pair most found
+  pub is : fault ≡ difference_fault.NoMemory
+
 -- the lines before a fault, or nothing of an object
 abbrev pub IsUnchecked : Bool → DifferenceWorld → TreePair → Option ℕ → Bool → DifferenceFault → Type 0
-IsUnchecked true w pair most failed fault = IsKeptCheckCause w.first w.second w.first' w.second' pair most fault × (w.printed' ≡ w.printed)
+IsUnchecked true w pair most failed fault = (IsKeptCheckCause w.first w.second w.first' w.second' pair most fault ⊎ LacksCheckedObject w pair most fault) × (w.printed' ≡ w.printed)
 IsUnchecked false w pair most failed fault = IsCheckedCause w pair most failed fault
 
 -- why that isn't known, or a line can't be written
@@ -127,6 +140,10 @@ IsCheckedEnd json w pair most failed Differs = SaysSuch json w pair most (λ fou
 IsCheckedEnd json w pair most failed fault = IsSayingEnd json w pair most failed fault
 
 -- ---- as a call sees them, as in `Diffs`
+
+-- the second tree fits on its device
+abbrev pub FitsSecond : {D : Type 0} → (D → Device) → TwoHashes D → TreePair → Type 0
+FitsSecond state two pair = tree_sectors pair.second.shape ≤ (state two.second.device).size
 
 -- why the check of an image's tree ended early
 abbrev pub FailsToCheckDevice : {H : Type 0} → (H → Device) → H → H → Bool → DifferenceFault → Type 0

@@ -1,6 +1,7 @@
 -- What `diff` prints, and how it ends.
-use Rattle.std.specs.Prelude.{◌≡◌, ◌==◌, ◌&&◌, ℕ, Bool, true, false, List, [], ◌++◌, codes, decimal, Option, Some, None}
+use Rattle.std.specs.Prelude.{◌≡◌, ◌⊎◌, ◌==◌, ◌&&◌, ℕ, Bool, true, false, List, [], ◌++◌, codes, decimal, Option, Some, None}
 use Rattle.std.specs.Io.KnownBytes.{Appends}
+use Rattle.allocation.specs.Refusal.{IsOutOfMemory}
 use Rattle.block_device.specs.Device.{Device}
 use Rattle.program_io.specs.Counted.{CountedRecord}
 use Rattle.program_io.specs.JsonLines.{json_line}
@@ -12,7 +13,7 @@ use Rattle.tree_difference.specs.declared.fault.DifferenceFault.TheVariants as d
 use Rattle.tree_difference.specs.declared.difference.Totals.{Totals}
 use Rattle.tree_difference.specs.declared.trees.TreePair.{TreePair}
 use Rattle.tree_difference.specs.Comparisons.{DifferenceWorld, IsReported, difference_world}
-use Rattle.tree_difference.specs.Differences.{CanCompareTrees, IsDifference, IsDifferenceCause, trees_of}
+use Rattle.tree_difference.specs.Differences.{IsDifference, IsDifferenceCause, trees_of}
 use Rattle.verity_commands.specs.declared.tree_fault.TreeFault.{TreeFault}
 use Rattle.verity_commands.specs.declared.tree_fault.TreeFault.TheVariants.{Trees, Differs, Write}
 use Rattle.verity_commands.specs.declared.paths.TwoHashes.{TwoHashes}
@@ -57,14 +58,22 @@ unkept_difference (difference_fault.Unpinned which mismatch) = difference_fault.
 unkept_difference (difference_fault.Unlike field) = difference_fault.Unlike field
 unkept_difference (difference_fault.Hash which level number) = difference_fault.Hash which level number
 
--- why two images aren't compared, where lines are kept in memory
+-- why two images aren't compared, where lines are kept in memory: room for one line may have been refused
 abbrev pub IsTreesCause : Device → Device → Device → Device → TreePair → DifferenceFault → Type 0
-IsTreesCause first second first' second' pair difference_fault.NoMemory = Unit {0}
+IsTreesCause first second first' second' pair difference_fault.NoMemory = IsDifferenceCause (difference_world first second first' second' None None) pair false difference_fault.NoMemory ⊎ IsOutOfMemory 1
 IsTreesCause first second first' second' pair fault = IsDifferenceCause (difference_world first second first' second' None None) pair false fault
 
--- why the trees aren't compared; with `--json` nothing was printed before, else the lines of what was compared before
+-- the trees were compared, and then memory ran out for the JSON values
+pub record LacksDiffObject (w : DifferenceWorld) (pair : TreePair) (most : Option ℕ) (fault : DifferenceFault) : Type 0 where
+  pub totals : Totals
+  pub lines : List Line
+  pub difference : IsDifference (record w { printed = Some []; printed' = Some (lines_text lines) }) pair most totals
+  pub is : fault ≡ difference_fault.NoMemory
+
+-- why the trees aren't compared, or no object made; with `--json` nothing was printed before, else the lines of what was compared
+-- before
 abbrev pub IsUncompared : Bool → DifferenceWorld → TreePair → Option ℕ → Bool → DifferenceFault → Type 0
-IsUncompared true w pair most failed fault = IsTreesCause w.first w.second w.first' w.second' pair fault × (w.printed' ≡ w.printed)
+IsUncompared true w pair most failed fault = (IsTreesCause w.first w.second w.first' w.second' pair fault ⊎ LacksDiffObject w pair most fault) × (w.printed' ≡ w.printed)
 IsUncompared false w pair most failed fault = IsDifferenceCause w pair failed fault × IsReported (trees_of pair) w most fault
 
 -- they differ, or why they aren't compared, or a line can't be written
@@ -75,10 +84,6 @@ IsDiffEnd json w pair most failed Write = failed ≡ true
 IsDiffEnd json w pair most failed fault = ⊥
 
 -- ---- as a call sees them: what a proof sees of devices or a writer, and these before and after
-
--- the trees of two images can be compared, and fit on the devices
-abbrev pub CanCompareTwo : {D : Type 0} → (D → Device) → TwoHashes D → TreePair → Type 0
-CanCompareTwo state two pair = CanCompareTrees pair (state two.first.device) (state two.second.device)
 
 -- the devices of two images before and after, and what was printed
 abbrev pub two_devices : {D : Type 0} → (D → Device) → TwoHashes D → TwoHashes D → Option (List ℕ) → Option (List ℕ) → DifferenceWorld

@@ -1,5 +1,5 @@
 -- `format --grow`: HASH is created if there is none, and made as long as needed if it had fewer sectors.
-use Rattle.std.specs.Prelude.{◌≡◌, ◌⊎◌, ℕ, List, Ok, Err}
+use Rattle.std.specs.Prelude.{◌≡◌, ◌⊎◌, ℕ, List}
 use Rattle.image_commands.specs.declared.fault.ImageFault.{ImageFault}
 use Rattle.image_commands.specs.declared.fault.ImageFault.TheVariants.{Open}
 use Rattle.command_line.specs.declared.image_options.ImageOptions.{ImageOptions}
@@ -7,26 +7,23 @@ use Rattle.image_commands.specs.Drawing.{Drawing}
 use Rattle.image_commands.specs.Places.{TwoPlaces}
 use Rattle.image_commands.specs.Preparing.{IsPrepared}
 use Rattle.image_files.specs.Opener.{Calls}
+use Rattle.image_files.specs.OpenPlaces.{FailsToGrowPlace, GrowsPlace}
 
--- the file under that path has at least so many sectors from then on
-abbrev pub GrowsFile : {S D : Type 0} → Calls S D → List ℕ → ℕ → Type 0
-GrowsFile w path sectors = w.relations.grows w.old path sectors (Ok tt) w.new
-
--- or it couldn't be made so long
+-- the file that an argument names couldn't be made so long
 abbrev pub IsUngrown : {S D : Type 0} → Calls S D → List ℕ → ℕ → ImageFault → Type 0
-IsUngrown w path sectors (Open file) = (file.path.now ≡ path) × w.relations.grows w.old path sectors (Err file.fault) w.new
+IsUngrown w path sectors (Open file) = FailsToGrowPlace w path sectors file
 IsUngrown w path sectors fault = ⊥
 
 -- HASH was created if there was none, and had enough sectors
 pub record FormatsAtOnce {S D T G : Type 0} (w : Calls S D) (d : Drawing T G) (hash_path : List ℕ) (Formats : Calls S D → Drawing T G → Type 0) : Type 0 where
   pub between : S
-  pub made : GrowsFile (record w { new = between }) hash_path 0
+  pub made : GrowsPlace (record w { new = between }) hash_path 0
   pub formats : Formats (record w { old = between }) d
 
 -- it was made so, and had too few
 pub record IsTriedInVain {S D T G : Type 0} (w : Calls S D) (d : Drawing T G) (hash_path : List ℕ) (IsTooSmall : Calls S D → Drawing T G → ℕ → Type 0) (needed : ℕ) : Type 0 where
   pub between : S
-  pub made : GrowsFile (record w { new = between }) hash_path 0
+  pub made : GrowsPlace (record w { new = between }) hash_path 0
   pub too_small : IsTooSmall (record w { old = between }) d needed
 
 -- so it was given as many as are needed, and then formatted
@@ -36,7 +33,7 @@ pub record FormatsGrown {S D T G : Type 0} (w : Calls S D) (d : Drawing T G) (ha
   pub room : S
   pub needed : ℕ
   pub vain : IsTriedInVain (record w { new = tried }) (record d { new = drawn }) hash_path IsTooSmall needed
-  pub grown : GrowsFile (record w { old = tried; new = room }) hash_path needed
+  pub grown : GrowsPlace (record w { old = tried; new = room }) hash_path needed
   pub formats : Formats (record w { old = room }) (record d { old = drawn })
 
 abbrev pub FormatsGrowing : {S D T G : Type 0} → Calls S D → Drawing T G → List ℕ → (Calls S D → Drawing T G → ℕ → Type 0) → (Calls S D → Drawing T G → Type 0) → Type 0

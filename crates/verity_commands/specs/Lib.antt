@@ -1,8 +1,8 @@
 pub mod Endings
 pub mod Growing
 pub mod Placed
-pub mod Pinned
 pub mod Places
+pub mod Formatting
 pub mod Texts
 pub mod Trees
 pub mod SoughtTrees

@@ -7,12 +7,13 @@ use Rattle.image_files.specs.Opener.{Calls}
 use Rattle.image_commands.specs.Places.{behind}
 use Rattle.tree_difference.specs.declared.trees.TreePair.{TreePair}
 use Rattle.tree_difference.specs.Comparisons.{DifferenceWorld}
+use Rattle.verity_commands.specs.declared.paths.PlacedHashes.{PlacedHashes}
 use Rattle.verity_commands.specs.declared.paths.TwoHashes.{TwoHashes}
 use Rattle.verity_commands.specs.declared.tree_fault.TreeFault.{TreeFault}
 use Rattle.verity_commands.specs.declared.tree_fault.TreeFault.TheVariants.{Open}
 use Rattle.verity_commands.specs.declared.tree_pair.SoughtTrees.{SoughtTrees}
 use Rattle.verity_commands.specs.declared.tree_pair.TreeStarts.{TreeStarts}
-use Rattle.verity_commands.specs.Openings.{BothPaths, BothPlaces, ClosesBoth, FailsToOpenBoth, OpensBoth}
+use Rattle.verity_commands.specs.Openings.{BothPaths, BothPlaces, ClosesBoth, FailsToOpenBoth, OpensBoth, both_at, hashes_of}
 use Rattle.verity_commands.specs.TreePairs.{AreTreesFound, AreTreesMissing}
 
 -- ---- of two devices
@@ -48,16 +49,16 @@ pub record OfPlaced {D : Type 0} (state : D → Device) (two two' : TwoHashes D)
 
 -- ---- of files
 
--- both files were opened, this holds of the hash images in them, and then both files were closed
+-- both images were opened, this holds of the hash images in them, and then both were closed where they were opened
 pub record OfHashes {S D : Type 0} (w : Calls S D) (places : BothPlaces) (P : Device → Device → Device → Device → Type 0) : Type 0 where
   pub between : S
-  pub two : TwoHashes D
+  pub two : PlacedHashes D
   pub two' : TwoHashes D
   pub opened : OpensBoth (record w { new = between }) places.paths two
-  pub holds : OfPlaced w.state two two' places.starts P
-  pub closed : ClosesBoth (record w { old = between }) places.paths two'
+  pub holds : OfPlaced w.state (hashes_of two) two' places.starts P
+  pub closed : ClosesBoth (record w { old = between }) (both_at two) two'
 
--- one of the files isn't opened
+-- one of them isn't opened
 abbrev pub AreUnopened : {S D : Type 0} → Calls S D → BothPaths → TreeFault → Type 0
 AreUnopened w paths (Open file) = FailsToOpenBoth w paths file
 AreUnopened w paths fault = ⊥

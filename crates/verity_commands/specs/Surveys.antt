@@ -1,6 +1,7 @@
 -- What `verify --all` prints, and how it ends.
 use Rattle.std.specs.Prelude.{◌≡◌, ◌⊎◌, ℕ, ◌==◌, ◌&&◌, Bool, true, false, List, [], ◌++◌, codes, decimal, Option, Some}
 use Rattle.std.specs.Io.KnownBytes.{Appends}
+use Rattle.allocation.specs.Refusal.{IsOutOfMemory}
 use Rattle.block_device.specs.Device.{Device}
 use Rattle.program_io.specs.Counted.{CountedRecord}
 use Rattle.image_pin.specs.declared.finding.NoTree.{NoTree}
@@ -86,21 +87,28 @@ abbrev pub unkept_survey : SurveyFault → SurveyFault
 unkept_survey survey_fault.Write = Image verify.NoMemory
 unkept_survey (Image fault) = Image fault
 
--- why an image isn't scanned, if lines are kept in memory
+-- why an image isn't scanned, if lines are kept in memory: room for one line may have been refused
 abbrev pub IsKeptCause : ShapeRecord → Device → Device → Device → Device → SurveyFault → Type 0
-IsKeptCause shape data_dev hash_dev data_dev' hash_dev' (Image verify.NoMemory) = Unit {0}
+IsKeptCause shape data_dev hash_dev data_dev' hash_dev' (Image verify.NoMemory) = IsSurveyCause shape data_dev hash_dev data_dev' hash_dev' false (Image verify.NoMemory) ⊎ IsOutOfMemory 1
 IsKeptCause shape data_dev hash_dev data_dev' hash_dev' fault = IsSurveyCause shape data_dev hash_dev data_dev' hash_dev' false fault
 
--- why an image isn't scanned; nothing was printed before if lines are kept in memory
-abbrev pub IsUnseen : ReportForm → ShapeRecord → Pass → Bool → SurveyFault → Type 0
-IsUnseen Object shape w failed fault = IsKeptCause shape w.data_dev w.hash_dev w.data_dev' w.hash_dev' fault × (w.printed' ≡ w.printed)
-IsUnseen Chart shape w failed fault = IsKeptCause shape w.data_dev w.hash_dev w.data_dev' w.hash_dev' fault × (w.printed' ≡ w.printed)
-IsUnseen Lines shape w failed fault = IsSurveyCause shape w.data_dev w.hash_dev w.data_dev' w.hash_dev' failed fault
+-- the image was scanned, and then memory ran out for the JSON values
+pub record LacksSurveyObject (tree : VerityTree) (w : Pass) (root : List ℕ) (fault : SurveyFault) : Type 0 where
+  pub found : Found
+  pub lines : List Line
+  pub survey : IsSurvey tree (record w { printed = Some []; printed' = Some (lines_text lines) }) root found
+  pub is : fault ≡ Image verify.NoMemory
+
+-- why an image isn't scanned, or no object made; nothing was printed before if lines are kept in memory
+abbrev pub IsUnseen : ReportForm → VerityTree → Pass → List ℕ → Bool → SurveyFault → Type 0
+IsUnseen Object tree w root failed fault = (IsKeptCause tree.shape w.data_dev w.hash_dev w.data_dev' w.hash_dev' fault ⊎ LacksSurveyObject tree w root fault) × (w.printed' ≡ w.printed)
+IsUnseen Chart tree w root failed fault = IsKeptCause tree.shape w.data_dev w.hash_dev w.data_dev' w.hash_dev' fault × (w.printed' ≡ w.printed)
+IsUnseen Lines tree w root failed fault = IsSurveyCause tree.shape w.data_dev w.hash_dev w.data_dev' w.hash_dev' failed fault
 
 -- a part of the image isn't good, or why the image isn't scanned, or a line can't be written
 abbrev pub IsSurveyEnd : ReportForm → VerityTree → Pass → List ℕ → Bool → TreeFault → Type 0
 IsSurveyEnd form tree w root failed Damaged = SaysFound form tree w root false
-IsSurveyEnd form tree w root failed (Survey fault) = IsUnseen form tree.shape w failed fault
+IsSurveyEnd form tree w root failed (Survey fault) = IsUnseen form tree w root failed fault
 IsSurveyEnd form tree w root failed Write = failed ≡ true
 IsSurveyEnd form tree w root failed fault = ⊥
 

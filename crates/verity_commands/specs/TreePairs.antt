@@ -4,7 +4,7 @@ use Rattle.block_device.specs.Device.{Device}
 use Rattle.image_commands.specs.declared.tree_source.NoSource.{NoSource}
 use Rattle.image_commands.specs.declared.tree_source.NoSource.TheVariants.{Shape, Stored}
 use Rattle.image_commands.specs.declared.tree_source.TreeSource.{TreeSource}
-use Rattle.image_commands.specs.TreeSources.{IsNoTreeOf, IsTreeOf, may_seek}
+use Rattle.image_commands.specs.TreeSources.{IsNoTreeOf, IsSourceRefused, IsTreeOf, may_seek}
 use Rattle.image_pin.specs.declared.finding.NoTree.TheVariants as no_tree
 use Rattle.tree_difference.specs.declared.fault.DifferenceFault.TheVariants.{Image, Unaligned, Unlike, Unpinned}
 use Rattle.tree_difference.specs.declared.fault.Unlike.{Unlike as Field}
@@ -52,12 +52,9 @@ pub record IsTreeCut (device device' : Device) (first : ℕ) (source : TreeSourc
   pub past : device.size < tree_sectors tree.shape
   pub is : fault ≡ Trees (Image which TooSmall)
 
--- there is no tree of that source
-abbrev pub IsSourceRefused : Device → Device → ℕ → TreeSource → Which → TreeFault → Type 0
-IsSourceRefused device device' first source which fault = (cause : NoSource) × IsNoTreeOf source 0 device first device' cause × (fault ≡ pair_fault which cause)
-
+-- there is no tree of that source, or it doesn't fit
 abbrev pub IsTreeMissing : Device → Device → ℕ → TreeSource → Which → TreeFault → Type 0
-IsTreeMissing device device' first source which fault = IsSourceRefused device device' first source which fault ⊎ IsTreeCut device device' first source which fault
+IsTreeMissing device device' first source which fault = IsSourceRefused (pair_fault which) (IsNoTreeOf source 0 device first device') fault ⊎ IsTreeCut device device' first source which fault
 
 -- ---- both images
 

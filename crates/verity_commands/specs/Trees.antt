@@ -5,95 +5,35 @@ use Rattle.block_device.specs.Device.{Device}
 use Rattle.program_io.specs.Counted.{CountedRecord}
 use Rattle.command_line.specs.declared.image_options.ImageOptions.{ImageOptions}
 use Rattle.command_line.specs.declared.option_words.OptionWords.{OptionWords}
-use Rattle.command_line.specs.declared.words.tree_format.TreeFormatWords.{TreeFormatWords}
 use Rattle.command_line.specs.declared.words.tree_table.TreeTableWords.{TreeTableWords}
 use Rattle.command_line.specs.declared.words.tree_verify.TreeVerifyWords.{TreeVerifyWords}
 use Rattle.command_line.specs.declared.values.RootOrPin.{RootOrPin}
 use Rattle.command_line.specs.declared.values.RootWord.{RootWord}
 use Rattle.command_line.specs.Values.{RootOrPinRecord, RootRecord, pin_file, root_or_pin_record, root_record, root_word}
 use Rattle.command_line.specs.FormatOptions.{AreSaid, OptionTexts, option_texts, text_of}
-use Rattle.command_line.specs.words.TreeFormat.{TreeFormatRecord, tree_format_record}
 use Rattle.command_line.specs.words.TreeTable.{TreeTableRecord, tree_table_record}
 use Rattle.command_line.specs.words.TreeVerify.{TreeVerifyRecord, tree_verify_record}
 use Rattle.image_commands.specs.declared.fault.ImageFault.{ImageFault}
-use Rattle.image_commands.specs.declared.fault.ImageFault.TheVariants.{Format}
 use Rattle.image_commands.specs.declared.table.LineWords.{LineWords}
 use Rattle.image_commands.specs.declared.tree_source.SoughtTree.{SoughtTree}
 use Rattle.image_commands.specs.declared.tree_source.TreeSource.TheVariants.{Options}
-use Rattle.image_commands.specs.declared.watching.WatchedPlaces.{WatchedPlaces}
-use Rattle.image_commands.specs.Drawing.{Drawing}
-use Rattle.image_commands.specs.TreeFormats.{IsFormatTreeEnd as IsTreeFormatEnd, PrintsTree}
-use Rattle.image_commands.specs.TreeImages.{IsTreeLineEnd, IsTreeMatchesEnd, PrintsTreeLine, PrintsTreeMatches, tree_room}
-use Rattle.image_commands.specs.Places.{TwoPlaces, two_places}
-use Rattle.image_commands.specs.Preparing.{IsPreparingEnd}
-use Rattle.image_commands.specs.TreePlaces.{given_options, unnamed}
+use Rattle.image_commands.specs.TreeImages.{IsTreeLineEnd, PrintsTreeLine, tree_room}
+use Rattle.image_commands.specs.TreePlaces.{given_options}
 use Rattle.image_commands.specs.TreeSources.{stored_source}
+use Rattle.image_commands.specs.Verifying.{IsMatchesEnd, PrintsMatches}
 use Rattle.image_files.specs.Opener.{Calls, Opener, calls}
 use Rattle.image_pin.specs.declared.trusted.TrustedRoot.{TrustedRoot}
 use Rattle.verity_format.specs.declared.formatting.FormatOptions.{FormatOptions}
 use Rattle.verity_commands.specs.declared.verity_fault.VerityFault.{VerityFault}
 use Rattle.verity_commands.specs.declared.verity_fault.VerityFault.TheVariants.{Usage}
-use Rattle.verity_commands.specs.Endings.{IsImageEnd, IsTreeUnsaid, IsUnsaid, IsVerityQuiet}
-use Rattle.verity_commands.specs.Growing.{FormatsGrowing, IsGrowingEnd, PreparesFirst}
+use Rattle.verity_commands.specs.Endings.{IsImageEnd, IsTreeUnsaid, IsVerityQuiet}
 use Rattle.verity_commands.specs.Places.{IsRootEnd, IsTrustedEnd, TellsRoot, TellsTrusted, image_places}
-use Rattle.verity_format.specs.declared.formatting.FormatFault.TheVariants.{HashTooSmall}
 
 -- the values of the options, whose salt is given
 pub record SaysTree (texts : OptionTexts) (given : FormatOptions) : Type 0 where
   pub options : ImageOptions
   pub said : AreSaid texts options
   pub is : given_options options ≡ Some given
-
--- HASH has too few sectors for the tree, which needs so many from the beginning of HASH on
-abbrev pub IsTooSmallForTree : {S D T G : Type 0} → ImageOptions → TwoPlaces → Calls S D → Drawing T G → ℕ → Type 0
-IsTooSmallForTree options places w drawing needed = (failed : Bool) × IsTreeFormatEnd w drawing options places failed (Format (HashTooSmall needed))
-
--- what was made and printed once HASH had the sectors that are needed
-abbrev pub GrowsTree : {S D T G : Type 0} → TwoPlaces → Option (List ℕ) → Option (List ℕ) → Calls S D → Drawing T G → ImageOptions → Type 0
-GrowsTree places old new w drawing options = FormatsGrowing w drawing places.paths.hash_path (IsTooSmallForTree options places) (λ w' d'. PrintsTree w' d' options places old new)
-
-abbrev pub IsGrownTreeEnd : {S D T G : Type 0} → TwoPlaces → Bool → ImageFault → Calls S D → Drawing T G → ImageOptions → Type 0
-IsGrownTreeEnd places failed fault w drawing options = IsGrowingEnd w drawing places.paths.hash_path (IsTooSmallForTree options places) (λ w' d' f. IsTreeFormatEnd w' d' options places failed f) fault
-
--- with `--grow`, and without
-abbrev pub MakesTreeAt : {S D T G : Type 0} → Bool → Calls S D → Drawing T G → ImageOptions → TwoPlaces → Option (List ℕ) → Option (List ℕ) → Type 0
-MakesTreeAt true w drawing options places old new = PreparesFirst w drawing (unnamed options) places (GrowsTree places old new)
-MakesTreeAt false w drawing options places old new = PrintsTree w drawing options places old new
-
-abbrev pub IsMakingEnd : {S D T G : Type 0} → Bool → Calls S D → Drawing T G → ImageOptions → TwoPlaces → Bool → ImageFault → Type 0
-IsMakingEnd true w drawing options places failed fault = IsPreparingEnd w drawing (unnamed options) places fault ⊎ PreparesFirst w drawing (unnamed options) places (IsGrownTreeEnd places failed fault)
-IsMakingEnd false w drawing options places failed fault = IsTreeFormatEnd w drawing options places failed fault
-
-abbrev pub FormatsSaidTree : {S D T G : Type 0} → OptionTexts → Calls S D → Drawing T G → TreeFormatRecord → Option (List ℕ) → Option (List ℕ) → Type 0
-FormatsSaidTree texts w drawing f old new =
-    (options : ImageOptions) × AreSaid texts options × MakesTreeAt f.grow w drawing options (image_places f.data_path f.hash_path f.hash_offset) old new
-
-abbrev pub IsSaidFormatTreeEnd : {S D T G : Type 0} → OptionTexts → Calls S D → Drawing T G → TreeFormatRecord → Option (List ℕ) → Option (List ℕ) → Bool → VerityFault → Type 0
-IsSaidFormatTreeEnd texts w drawing f old new failed fault =
-    ((IsUnsaid texts fault × (w.new ≡ w.old))
-    ⊎ ((options : ImageOptions) × AreSaid texts options × IsImageEnd (IsMakingEnd f.grow w drawing options (image_places f.data_path f.hash_path f.hash_offset) failed) fault))
-    × IsVerityQuiet fault old new
-
--- `verify`: the root was told, and then the images compared
-pub record VerifiesSaidTree {S D : Type 0} (texts : OptionTexts) (w : Calls S D) (v : TreeVerifyRecord) (old new : Option (List ℕ)) : Type 0 where
-  pub given : FormatOptions
-  pub between : S
-  pub found : List ℕ
-  pub said : SaysTree texts given
-  pub told : TellsRoot (record w { new = between }) v.root found
-  pub matches : PrintsTreeMatches (record w { old = between }) (image_places v.data_path v.hash_path v.hash_offset) given found old new
-
-pub record EndsVerifiedTree {S D : Type 0} (texts : OptionTexts) (w : Calls S D) (v : TreeVerifyRecord) (failed : Bool) (fault : ImageFault) : Type 0 where
-  pub given : FormatOptions
-  pub between : S
-  pub found : List ℕ
-  pub said : SaysTree texts given
-  pub told : TellsRoot (record w { new = between }) v.root found
-  pub ends : IsTreeMatchesEnd (record w { old = between }) (image_places v.data_path v.hash_path v.hash_offset) given found failed fault
-
-abbrev pub IsVerifyTreeEnd : {S D : Type 0} → OptionTexts → Calls S D → TreeVerifyRecord → Option (List ℕ) → Option (List ℕ) → Bool → VerityFault → Type 0
-IsVerifyTreeEnd texts w v old new failed fault =
-    ((IsTreeUnsaid texts fault × (w.new ≡ w.old)) ⊎ IsImageEnd (λ f. IsRootEnd w v.root f ⊎ EndsVerifiedTree texts w v failed f) fault) × IsVerityQuiet fault old new
 
 -- the tree that options state was told, and its root
 pub record TellsTree {S D : Type 0} (texts : OptionTexts) (w : Calls S D) (root : RootRecord) (sought : SoughtTree) : Type 0 where
@@ -104,6 +44,22 @@ pub record TellsTree {S D : Type 0} (texts : OptionTexts) (w : Calls S D) (root 
 
 abbrev pub IsTreeUntold : {S D : Type 0} → OptionTexts → Calls S D → RootRecord → VerityFault → Type 0
 IsTreeUntold texts w root fault = (IsTreeUnsaid texts fault × (w.new ≡ w.old)) ⊎ IsImageEnd (IsRootEnd w root) fault
+
+-- `verify`: the tree was told, and then the images compared
+pub record VerifiesSaidTree {S D : Type 0} (texts : OptionTexts) (w : Calls S D) (v : TreeVerifyRecord) (old new : Option (List ℕ)) : Type 0 where
+  pub between : S
+  pub found : SoughtTree
+  pub told : TellsTree texts (record w { new = between }) v.root found
+  pub matches : PrintsMatches (record w { old = between }) (image_places v.data_path v.hash_path v.hash_offset) found old new
+
+pub record EndsVerifiedTree {S D : Type 0} (texts : OptionTexts) (w : Calls S D) (v : TreeVerifyRecord) (failed : Bool) (fault : ImageFault) : Type 0 where
+  pub between : S
+  pub found : SoughtTree
+  pub told : TellsTree texts (record w { new = between }) v.root found
+  pub ends : IsMatchesEnd (record w { old = between }) (image_places v.data_path v.hash_path v.hash_offset) found failed fault
+
+abbrev pub IsVerifyTreeEnd : {S D : Type 0} → OptionTexts → Calls S D → TreeVerifyRecord → Option (List ℕ) → Option (List ℕ) → Bool → VerityFault → Type 0
+IsVerifyTreeEnd texts w v old new failed fault = (IsTreeUntold texts w v.root fault ⊎ IsImageEnd (EndsVerifiedTree texts w v failed) fault) × IsVerityQuiet fault old new
 
 -- the superblock's tree was told, with the values of the pin, if there is one, and its root
 pub record TellsStored {S D : Type 0} (w : Calls S D) (root : RootOrPinRecord) (sought : SoughtTree) : Type 0 where
@@ -150,22 +106,6 @@ IsTableTreeEnd texts w t old new failed fault =
     ((IsTreeUnsaid texts fault × (w.new ≡ w.old)) ⊎ IsImageEnd (λ f. IsRootEnd w t.root f ⊎ EndsTreeEntry texts w t failed f) fault) × IsVerityQuiet fault old new
 
 -- ---- as a call sees them, as in `Placed`
-
-abbrev pub MakesGrownTree : {S D T G W : Type 0} → Opener S D → (D → Device) → S → S → Drawing T G → (W → Option (List ℕ)) → CountedRecord W → CountedRecord W → ImageOptions → WatchedPlaces → Type 0
-MakesGrownTree relations state images images' d contents writer writer' options watched =
-    GrowsTree (two_places watched.places) (contents writer.inner) (contents writer'.inner) (calls relations state images images') d options
-
-abbrev pub FailsGrownTree : {S D T G W : Type 0} → Opener S D → (D → Device) → S → S → Drawing T G → CountedRecord W → ImageOptions → WatchedPlaces → ImageFault → Type 0
-FailsGrownTree relations state images images' d writer' options watched fault =
-    IsGrownTreeEnd (two_places watched.places) writer'.failed fault (calls relations state images images') d options
-
-abbrev pub FormatsTreeByWords : {S D T G W : Type 0} → Opener S D → (D → Device) → S → S → Drawing T G → (W → Option (List ℕ)) → CountedRecord W → CountedRecord W → OptionWords → TreeFormatWords → Type 0
-FormatsTreeByWords relations state images images' d contents writer writer' options words =
-    FormatsSaidTree (option_texts options) (calls relations state images images') d (tree_format_record words) (contents writer.inner) (contents writer'.inner)
-
-abbrev pub FailsToFormatTree : {S D T G W : Type 0} → Opener S D → (D → Device) → S → S → Drawing T G → (W → Option (List ℕ)) → CountedRecord W → CountedRecord W → OptionWords → TreeFormatWords → VerityFault → Type 0
-FailsToFormatTree relations state images images' d contents writer writer' options words =
-    IsSaidFormatTreeEnd (option_texts options) (calls relations state images images') d (tree_format_record words) (contents writer.inner) (contents writer'.inner) writer'.failed
 
 abbrev pub VerifiesTreeByWords : {S D W : Type 0} → Opener S D → (D → Device) → S → S → (W → Option (List ℕ)) → CountedRecord W → CountedRecord W → OptionWords → TreeVerifyWords → Type 0
 VerifiesTreeByWords relations state images images' contents writer writer' options words =

@@ -1,12 +1,11 @@
 //! Which hash blocks of the second image are invalid, and which data blocks of two images differ: `diff --all`.
 ghost use Rattle.std.specs.Prelude.{◌≡◌, ◌≤◌, false, OnOk, IfErr, IfOk};
 ghost use Rattle.verity_format.specs.Image.{tree_sectors};
-ghost use Rattle.tree_difference.specs.Differences.{CanCompareTrees, seen_world};
+ghost use Rattle.tree_difference.specs.Differences.{seen_world};
 ghost use Rattle.tree_survey.specs.Failing.{IsReadOver};
 ghost use Rattle.tree_survey.specs.Hashes.{TellsTree};
 ghost use Rattle.tree_survey.specs.Passes.{tree_under};
-ghost use Rattle.verity_commands.specs.CheckedDiffs.{FailsCheck, FailsToCheckDevice, FailsToSay, FindsWhole, IsCheckedCause, IsCheckedDifference, IsFoundEnd, IsWholeAndSame, SaysFound, check_fault, second_fault};
-ghost use Rattle.verity_commands.specs.Diffs.{CanCompareTwo};
+ghost use Rattle.verity_commands.specs.CheckedDiffs.{FailsCheck, FailsToCheckDevice, FailsToSay, FindsWhole, FitsSecond, IsCheckedCause, IsCheckedDifference, IsFoundEnd, IsWholeAndSame, SaysFound, check_fault, second_fault};
 
 use crate::checked_object::say_object;
 use crate::diff::{DiffForm, is_unchanged, say_totals};
@@ -42,7 +41,7 @@ pub(crate) fn check<'a, D: BlockDev, W: Write>(
     form: DiffForm,
     writer: &mut Counted<W>,
 ) -> Result<(), TreeFault<'a>>
-    requires { CanCompareTwo D.state two.old pair.now }
+    requires { FitsSecond D.state two.old pair.now }
     ensures ok { OnOk result (FindsWhole D.state two.old two.new W.contents writer.old writer.new pair.now form) }
     ensures err { IfErr result (FailsCheck D.state two.old two.new W.contents writer.old writer.new pair.now form) }
 {
@@ -58,7 +57,7 @@ fn say_checked<'a, D: BlockDev, W: Write>(
     form: DiffForm,
     writer: &mut Counted<W>,
 ) -> Result<CheckedTotals, TreeFault<'a>>
-    requires { CanCompareTwo D.state two.old pair.now }
+    requires { FitsSecond D.state two.old pair.now }
     ensures ok { IfOk result (SaysFound form.json D.state two.old two.new W.contents writer.old writer.new pair.now form.most) }
     ensures err { IfErr result (FailsToSay form.json D.state two.old two.new W.contents writer.old writer.new pair.now form.most) }
 {
@@ -76,7 +75,7 @@ fn say_lines<'a, D: BlockDev, W: Write>(
     most: Option<u64>,
     writer: &mut Counted<W>,
 ) -> Result<CheckedTotals, TreeFault<'a>>
-    requires { CanCompareTwo D.state two.old pair.now }
+    requires { FitsSecond D.state two.old pair.now }
     ensures ok { IfOk result (SaysFound false D.state two.old two.new W.contents writer.old writer.new pair.now most) }
     ensures err { IfErr result (FailsToSay false D.state two.old two.new W.contents writer.old writer.new pair.now most) }
 {
@@ -96,7 +95,7 @@ pub(crate) fn compare_checked<D: BlockDev, E: BlockDev, L: Listing>(
     most: Option<u64>,
     listing: &mut L,
 ) -> Result<CheckedTotals, DifferenceFault>
-    requires { CanCompareTrees pair.now (D.state first.old) (E.state second.old) }
+    requires { tree_sectors pair.now.second.shape ≤ (E.state second.old).size }
     ensures ok { IfOk result (IsCheckedDifference (seen_world D.state E.state L.told first.old second.old first.new second.new listing.old listing.new) pair.now most) }
     ensures err { IfErr result (IsCheckedCause (seen_world D.state E.state L.told first.old second.old first.new second.new listing.old listing.new) pair.now most (L.failed listing.new)) }
 {

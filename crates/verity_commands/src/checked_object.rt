@@ -4,8 +4,7 @@ ghost use Rattle.std.specs.Prelude.{◌≡◌, true, string_bytes, IfOk, IfErr};
 ghost use Rattle.program_io.specs.JsonLines.{json_line};
 ghost use Rattle.serde_json.specs.View.{view};
 ghost use Rattle.tree_difference.specs.declared.fault.DifferenceFault.TheVariants as difference_fault;
-ghost use Rattle.verity_commands.specs.CheckedDiffs.{FailsToKeepCheck, FailsToSay, IsCheckedDifference, SaysFound, kept_world};
-ghost use Rattle.verity_commands.specs.Diffs.{CanCompareTwo};
+ghost use Rattle.verity_commands.specs.CheckedDiffs.{FailsToKeepCheck, FailsToSay, FitsSecond, IsCheckedDifference, SaysFound, kept_world};
 ghost use Rattle.verity_commands.specs.Objects.{checked_json};
 
 use crate::checked_diff::{CheckedTotals, compare_checked};
@@ -28,7 +27,7 @@ pub(crate) fn say_object<'a, D: BlockDev, W: Write>(
     most: Option<u64>,
     writer: &mut Counted<W>,
 ) -> Result<CheckedTotals, TreeFault<'a>>
-    requires { CanCompareTwo D.state two.old pair.now }
+    requires { FitsSecond D.state two.old pair.now }
     ensures ok { IfOk result (SaysFound true D.state two.old two.new W.contents writer.old writer.new pair.now most) }
     ensures err { IfErr result (FailsToSay true D.state two.old two.new W.contents writer.old writer.new pair.now most) }
 {
@@ -48,7 +47,7 @@ fn keep_checked<D: BlockDev>(
     most: Option<u64>,
     kept: &mut KeptLines,
 ) -> Result<CheckedTotals, DifferenceFault>
-    requires { CanCompareTwo D.state two.old pair.now }
+    requires { FitsSecond D.state two.old pair.now }
     ensures ok { IfOk result (IsCheckedDifference (kept_world D.state two.old two.new kept.old kept.new) pair.now most) }
     ensures err { IfErr result (FailsToKeepCheck D.state two.old two.new pair.now most) }
 {

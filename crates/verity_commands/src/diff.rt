@@ -1,7 +1,7 @@
 //! Which data blocks of two images differ, by their hash trees, as lines and totals.
 ghost use Rattle.std.specs.Prelude.{◌≡◌, true, false, OnOk, IfErr};
 ghost use Rattle.program_io.specs.Counted.{Writes};
-ghost use Rattle.verity_commands.specs.Diffs.{CanCompareTwo, FailsDiff, FindsSame, is_unchanged, difference_totals};
+ghost use Rattle.verity_commands.specs.Diffs.{FailsDiff, FindsSame, is_unchanged, difference_totals};
 
 use crate::diff_object::diff_object;
 use crate::paths::TwoHashes;
@@ -33,7 +33,6 @@ pub(crate) fn diff<'a, D: BlockDev, W: Write>(
     form: DiffForm,
     writer: &mut Counted<W>,
 ) -> Result<(), TreeFault<'a>>
-    requires { CanCompareTwo D.state two.old pair.now }
     ensures ok { OnOk result (FindsSame form.json D.state two.old two.new W.contents writer.old writer.new pair.now form.most) }
     ensures err { IfErr result (FailsDiff form.json D.state two.old two.new W.contents writer.old writer.new pair.now form.most) }
 {
@@ -51,7 +50,6 @@ fn diff_lines<'a, D: BlockDev, W: Write>(
     most: Option<u64>,
     writer: &mut Counted<W>,
 ) -> Result<(), TreeFault<'a>>
-    requires { CanCompareTwo D.state two.old pair.now }
     ensures ok { OnOk result (FindsSame false D.state two.old two.new W.contents writer.old writer.new pair.now most) }
     ensures err { IfErr result (FailsDiff false D.state two.old two.new W.contents writer.old writer.new pair.now most) }
 {

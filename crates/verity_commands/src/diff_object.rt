@@ -4,7 +4,7 @@ ghost use Rattle.program_io.specs.JsonLines.{json_line};
 ghost use Rattle.serde_json.specs.View.{view};
 ghost use Rattle.tree_difference.specs.declared.fault.DifferenceFault.TheVariants as difference_fault;
 ghost use Rattle.tree_difference.specs.Differences.{IsDifference};
-ghost use Rattle.verity_commands.specs.Diffs.{CanCompareTwo, FailsDiff, FailsToListDiff, FindsSame, listed_diff, unkept_difference};
+ghost use Rattle.verity_commands.specs.Diffs.{FailsDiff, FailsToListDiff, FindsSame, listed_diff, unkept_difference};
 ghost use Rattle.verity_commands.specs.Objects.{difference_json};
 
 use crate::diff::is_unchanged;
@@ -26,7 +26,6 @@ pub(crate) fn diff_object<'a, D: BlockDev, W: Write>(
     most: Option<u64>,
     writer: &mut Counted<W>,
 ) -> Result<(), TreeFault<'a>>
-    requires { CanCompareTwo D.state two.old pair.now }
     ensures ok { OnOk result (FindsSame true D.state two.old two.new W.contents writer.old writer.new pair.now most) }
     ensures err { IfErr result (FailsDiff true D.state two.old two.new W.contents writer.old writer.new pair.now most) }
 {
@@ -41,7 +40,6 @@ pub(crate) fn diff_object<'a, D: BlockDev, W: Write>(
 }
 
 // If a line isn't kept, memory ran out.
-#[tactic(auto, using(crate::proofs::KeptLemmas::trees_cause))]
 fn keep_difference<D: BlockDev>(
     alloc: Global,
     two: &mut TwoHashes<D>,
@@ -49,7 +47,6 @@ fn keep_difference<D: BlockDev>(
     most: Option<u64>,
     kept: &mut KeptLines,
 ) -> Result<Totals, DifferenceFault>
-    requires { CanCompareTwo D.state two.old pair.now }
     ensures ok { IfOk result (IsDifference (listed_diff D.state two.old two.new kept.old kept.new) pair.now most) }
     ensures err { IfErr result (FailsToListDiff D.state two.old two.new pair.now) }
 {

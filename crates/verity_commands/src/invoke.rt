@@ -10,7 +10,7 @@ use crate::tree_fault::TreeFault;
 use crate::tree_pair::SoughtTrees;
 use command_line::{DiffWords, VerifyWords};
 use device_adapters::Watchers;
-use image_commands::{HashPlace, SoughtTree, TreeSource};
+use image_commands::{HashPlace, stored_source};
 use image_files::Images;
 use image_pin::TrustedRoot;
 use program_io::Counted;
@@ -42,10 +42,7 @@ pub fn invoke_survey<'a, I: Images, S: Watchers, W: Write>(
         form: words.form,
         progress: words.progress,
     };
-    let sought = SoughtTree {
-        source: TreeSource::Superblock(trusted.pin),
-        root: trusted.root,
-    };
+    let sought = stored_source(trusted);
     survey_images(alloc, images, watchers, order, &sought, writer)
 }
 

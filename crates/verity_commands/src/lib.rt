@@ -5,10 +5,10 @@ mod checked_diff;
 mod checked_object;
 mod diff;
 mod diff_object;
+mod formatting;
 mod growing;
 mod invoke;
 mod paths;
-mod pinned;
 mod placed;
 mod placed_diff;
 mod places;
@@ -26,10 +26,10 @@ mod verity_fault;
 
 pub use checked_diff::CheckedTotals;
 pub use diff::DiffForm;
+pub use formatting::{invoke_format, make_image, places_of, print_made};
 pub use invoke::{invoke_diff, invoke_survey};
 pub use paths::HashPlaces;
-pub use pinned::invoke_format_pinned;
-pub use placed::{invoke_dump, invoke_format, invoke_table, invoke_verify};
+pub use placed::{invoke_dump, invoke_table, invoke_verify};
 pub use placed_diff::diff_images;
 pub use places::{sector_at, trusted_in};
 pub use sought_trees::both_sought_in;
@@ -40,7 +40,6 @@ pub use tree_fault::TreeFault;
 pub use tree_fault_text::{say_tree_fault, tree_status};
 pub use tree_pair::{SoughtTrees, TreeStarts};
 pub use trees::{
-    invoke_format_tree, invoke_table_tree, invoke_tree_survey, invoke_verify_tree, sought_in,
-    sought_tree_in,
+    invoke_table_tree, invoke_tree_survey, invoke_verify_tree, sought_in, sought_tree_in,
 };
 pub use verity_fault::VerityFault;

@@ -1,11 +1,13 @@
 //! The command `diff` on the files of two hash images.
 ghost use Rattle.std.specs.Prelude.{OnOk, IfErr};
 ghost use Rattle.verity_commands.specs.DiffImages.{DiffsBehind, DiffsDevices, DiffsImages, FailsBehind, FailsDevices, FailsToDiff, FailsToFind, FindsNoDifference};
-ghost use Rattle.verity_commands.specs.Diffs.{CanCompareTwo};
+ghost use Rattle.verity_commands.specs.CheckedDiffs.{FitsSecond};
 
 use crate::checked_diff::check;
 use crate::diff::{DiffForm, diff};
-use crate::paths::{HashPlaces, TwoHashes, close_both, open_both, place_both, whole_files};
+use crate::paths::{
+    BothAt, HashPlaces, TwoHashes, close_both, hashes_of, open_both, place_both, whole_files,
+};
 use crate::tree_fault::TreeFault;
 use crate::tree_pair::{SoughtTrees, TreeStarts, find_trees, misplaced};
 use block_device::BlockDev;
@@ -47,9 +49,14 @@ pub fn diff_images<'a, I: Images, W: Write>(
         Some(which) => return Err(TreeFault::Trees(DifferenceFault::Unaligned(which))),
         None => {}
     }
-    let opened = open_both(images, places)?;
-    let (two, ended) = diff_behind(alloc, opened, &starts, sought, form, writer);
-    close_both(images, places, two);
+    let opened = open_both(alloc, images, places)?;
+    let at = BothAt {
+        first: opened.first.place,
+        second: opened.second.place,
+    };
+    let two = hashes_of(opened);
+    let (two, ended) = diff_behind(alloc, two, &starts, sought, form, writer);
+    close_both(images, at, two);
     ended
 }
 
@@ -96,7 +103,7 @@ fn find_difference<'a, D: BlockDev, W: Write>(
     form: DiffForm,
     writer: &mut Counted<W>,
 ) -> Result<(), TreeFault<'a>>
-    requires { CanCompareTwo D.state two.old pair.now }
+    requires { FitsSecond D.state two.old pair.now }
     ensures ok { OnOk result (FindsNoDifference form.all D.state two.old two.new W.contents writer.old writer.new pair.now form) }
     ensures err { IfErr result (FailsToFind form.all D.state two.old two.new W.contents writer.old writer.new pair.now form) }
 {

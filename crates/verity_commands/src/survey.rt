@@ -23,8 +23,8 @@ use tree_shape::Digest;
 use tree_survey::{Survey, Totals, survey_image};
 use verity_format::VerityTree;
 
-/// What is scanned: the paths of a data image and of its hash image, and the sector of 512 bytes of the hash image's
-/// file where the hash image begins. What was found is reported in that form, and it may be shown how much of the data
+/// What is scanned: the arguments that name a data image and its hash image, and the sector of 512 bytes of what the latter
+/// names where the hash image begins. What was found is reported in that form, and it may be shown how much of the data
 /// was read.
 #[derive(Clone, Copy, Debug, PartialEq, Eq)]
 pub struct SurveyOrder<'a> {
@@ -38,7 +38,7 @@ pub struct SurveyOrder<'a> {
 /// `verify --all [--json | --chart] [--progress] [--hash-offset BYTES] DATA HASH ROOT`, also with `--no-superblock`: prints a line
 /// for each longest run of data blocks that aren't good, one for each hash block that isn't, and the totals; with `--chart` a map
 /// of the data blocks before the totals, and all of it at the end; with `--json` one JSON object of all of them. If both are one
-/// file, the data are what lies before the hash image.
+/// image, the data are what lies before the hash image.
 ///
 /// # Errors
 ///
@@ -67,7 +67,7 @@ pub fn survey_images<'a, I: Images, S: Watchers, W: Write>(
     if !may_seek(&sought.source, first) {
         return Err(TreeFault::Unaligned);
     }
-    let two = open_two(images, ImagePaths { data, hash }, false)?;
+    let two = open_two(alloc, images, ImagePaths { data, hash }, false)?;
     let end = data_end(&two, first);
     let all = bytes_to_read(&sought.source, bytes_before(&two.data.device, end));
     let devices = watch(two, watchers, progress, all);

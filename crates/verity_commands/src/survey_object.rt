@@ -46,7 +46,6 @@ pub(crate) fn survey_object<'a, D: BlockDev, H: BlockDev, W: Write>(
 }
 
 // If a line isn't kept, memory ran out.
-#[tactic(auto, using(crate::proofs::KeptLemmas::kept_cause))]
 pub(crate) fn keep_survey<D: BlockDev, H: BlockDev>(
     alloc: Global,
     image: &mut ImagePair<D, H>,
@@ -57,8 +56,7 @@ pub(crate) fn keep_survey<D: BlockDev, H: BlockDev>(
     ensures ok { IfOk result (IsSurvey tree.now (listed_survey (surveyed D.state H.state image.old) (surveyed D.state H.state image.new) kept.old kept.new) root.now) }
     ensures err { IfErr result (FailsToListSurvey tree.now (surveyed D.state H.state image.old) (surveyed D.state H.state image.new)) }
 {
-    let found = survey_image(alloc, &mut image.data, &mut image.hash, tree, root, kept);
-    match found {
+    match survey_image(alloc, &mut image.data, &mut image.hash, tree, root, kept) {
         Ok(found) => Ok(found),
         Err(fault) => Err(unkept(fault)),
     }

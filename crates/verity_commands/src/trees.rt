@@ -1,23 +1,19 @@
 //! The commands on trees without a superblock.
 ghost use Rattle.std.specs.Prelude.{OnOk, IfErr, IfOk};
 ghost use Rattle.command_line.specs.FormatOptions.{option_texts};
-ghost use Rattle.image_commands.specs.Drawing.{drawing};
 ghost use Rattle.verity_commands.specs.Endings.{IsTreeUnsaid};
 ghost use Rattle.verity_commands.specs.Invocations.{FailsTreeSurvey, SurveysTreeByWords};
-ghost use Rattle.verity_commands.specs.Trees.{FailsToFormatTree, FailsToPrintTree, FailsToVerifySaidTree, FailsToSeek, FailsToSeekEither, FailsToSeekStated, FailsToSeekStored, FormatsTreeByWords, PrintsTreeByWords, SaysTree, SeeksEither, SeeksStated, SeeksStored, SeeksTree, VerifiesTreeByWords};
+ghost use Rattle.verity_commands.specs.Trees.{FailsToPrintTree, FailsToVerifySaidTree, FailsToSeek, FailsToSeekEither, FailsToSeekStated, FailsToSeekStored, PrintsTreeByWords, SaysTree, SeeksEither, SeeksStated, SeeksStored, SeeksTree, VerifiesTreeByWords};
 
-use crate::growing::format_tree_growing;
 use crate::places::{root_in, sector_at, trusted_in};
 use crate::survey::{SurveyOrder, survey_images};
 use crate::tree_fault::TreeFault;
 use crate::verity_fault::VerityFault;
-use command_line::{
-    OptionWords, RootOrPin, RootWord, TreeFormatWords, TreeTableWords, TreeVerifyWords, options_of,
-};
+use command_line::{OptionWords, RootOrPin, RootWord, TreeTableWords, TreeVerifyWords, options_of};
 use device_adapters::Watchers;
 use image_commands::{
-    ExpectedTree, Generators, ImagePlaces, LineWords, SoughtTree, TreeSource, WatchedPlaces,
-    format_tree, given_options, prepare_image, print_tree_line, unnamed, verify_tree,
+    ImagePlaces, LineWords, SoughtTree, TreeSource, WatchedPlaces, given_options, print_tree_line,
+    stored_source, verify_images,
 };
 use image_files::Images;
 use image_pin::TrustedRoot;
@@ -28,46 +24,12 @@ use verity_format::FormatOptions;
 
 const SECTOR: u64 = 512;
 
-/// `format --no-superblock [--grow] [--progress] [OPTION..] DATA HASH`
-///
-/// # Errors
-///
-/// - `Usage` if an option has no valid value.
-/// - `Image` with a fault of `format_tree`, with `--grow` also of `prepare_image` or `format_tree_growing`.
-/// - `Image` with `NoMemory` if memory for the salt was refused.
-pub fn invoke_format_tree<'a, I: Images, G: Generators + Watchers, W: Write>(
-    alloc: Global,
-    images: &mut I,
-    generators: &mut G,
-    words: &TreeFormatWords<'a>,
-    options: &OptionWords<'a>,
-    writer: &mut Counted<W>,
-) -> Result<(), VerityFault<'a>>
-    ensures ok { OnOk result (FormatsTreeByWords I.relations I.Dev.state images.old images.new (drawing G.gives G.Generator.stream generators.old generators.new) W.contents writer.old writer.new options.now words.now) }
-    ensures err { IfErr result (FailsToFormatTree I.relations I.Dev.state images.old images.new (drawing G.gives G.Generator.stream generators.old generators.new) W.contents writer.old writer.new options.now words.now) }
-{
-    let options = options_of(alloc, options)?;
-    let hash_first = sector_at(words.hash_offset);
-    let places = ImagePlaces {
-        data: words.data_path,
-        hash: words.hash_path,
-        hash_first,
-    };
-    let progress = words.progress;
-    let watched = WatchedPlaces { places, progress };
-    if words.grow {
-        let said = prepare_image(images, generators, unnamed(options), places)?;
-        return Ok(format_tree_growing(alloc, images, generators, &said, &watched, writer)?);
-    }
-    Ok(format_tree(alloc, images, generators, options, watched, writer)?)
-}
-
 /// `verify --no-superblock [--progress] [OPTION..] DATA HASH [ROOT]`
 ///
 /// # Errors
 ///
 /// - `Usage` if an option has no valid value, or no salt is given.
-/// - `Image` with a fault of `read_root` or `verify_tree`.
+/// - `Image` with a fault of `read_root` or `verify_images`.
 /// - `Image` with `NoMemory` if memory for the salt was refused.
 pub fn invoke_verify_tree<'a, I: Images, S: Watchers, W: Write>(
     alloc: Global,
@@ -80,9 +42,7 @@ pub fn invoke_verify_tree<'a, I: Images, S: Watchers, W: Write>(
     ensures ok { OnOk result (VerifiesTreeByWords I.relations I.Dev.state images.old images.new W.contents writer.old writer.new options.now words.now) }
     ensures err { IfErr result (FailsToVerifySaidTree I.relations I.Dev.state images.old images.new W.contents writer.old writer.new options.now words.now) }
 {
-    let options = tree_options(alloc, options)?;
-    let root = root_in(images, &words.root)?;
-    let expected = ExpectedTree { options, root };
+    let sought = sought_in(alloc, images, &words.root, options)?;
     let hash_first = sector_at(words.hash_offset);
     let places = ImagePlaces {
         data: words.data_path,
@@ -91,7 +51,7 @@ pub fn invoke_verify_tree<'a, I: Images, S: Watchers, W: Write>(
     };
     let progress = words.progress;
     let watched = WatchedPlaces { places, progress };
-    Ok(verify_tree(alloc, images, watchers, watched, &expected, writer)?)
+    Ok(verify_images(alloc, images, watchers, watched, &sought, writer)?)
 }
 
 /// `verify --no-superblock --all [--json | --chart] [--progress] [--hash-offset BYTES] DATA HASH ROOT`, of the tree that is sought.
@@ -208,8 +168,8 @@ fn stated_in<'a, I: Images>(
     }
 }
 
-// The tree that the superblock holds, with the values of the pin, if there is one.
-fn stored_in<'a, I: Images>(
+/// The tree that the superblock holds, with the values of the pin, if there is one.
+pub(crate) fn stored_in<'a, I: Images>(
     images: &mut I,
     root: &RootOrPin<'a>,
 ) -> Result<SoughtTree, VerityFault<'a>>
@@ -217,10 +177,7 @@ fn stored_in<'a, I: Images>(
     ensures err { IfErr result (FailsToSeekStored I.relations I.Dev.state images.old images.new root.now) }
 {
     match trusted_in(images, root) {
-        Ok(trusted) => Ok(SoughtTree {
-            source: TreeSource::Superblock(trusted.pin),
-            root: trusted.root,
-        }),
+        Ok(trusted) => Ok(stored_source(&trusted)),
         Err(fault) => Err(VerityFault::Image(fault)),
     }
 }

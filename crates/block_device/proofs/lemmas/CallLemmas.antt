@@ -1,10 +1,8 @@
 -- What follows from a list of calls.
-use Rattle.std.proofs.Common.{◌≡◌, ◌∙◌, ℕ, ◌+◌, ◌-◌, ◌^◌, ◌≤◌, inl, inr, true, false, IsTrue, List, [], ◌∷◌, ◌++◌, refl, sym, ap, subst, arith}
-use Rattle.std.proofs.Math.Logic.{⊎_elim}
-use Rattle.std.proofs.Math.Nat.{eq-or-lt_of_le}
-use Rattle.block_device.specs.Call.{Call, Calls, DeviceDoes, IsCall, Read, Sync, Write}
-use Rattle.block_device.specs.CallList.{AllReads, AllSucceeded, DeviceCalls, all_read, all_written, has_succeeded, image_after, is_read, sectors_read, sectors_written}
-use Rattle.block_device.specs.Device.{CountersFit, Device, HasFailed, IsSameDevice, capped, failures_after}
+use Rattle.std.proofs.Common.{◌≡◌, ℕ, ◌+◌, ◌≤◌, List, [], ◌∷◌, ◌++◌, refl, subst, arith}
+use Rattle.block_device.specs.Call.{Call, Calls, DeviceDoes}
+use Rattle.block_device.specs.CallList.{DeviceCalls, all_read, all_written, sectors_read, sectors_written}
+use Rattle.block_device.specs.Device.{Device}
 
 -- one more call
 pub calls-last : {D : Type 0} (does : D → Call → D → Type 0) (a b c : D) (calls : List Call) (call : Call) → Calls does a calls b → does b call c → Calls does a (calls ++ call ∷ []) c
@@ -38,90 +36,3 @@ calls-more state does r w r' w' m n a b c h last reads writes = record {
   writes_few = omega (arith, all_written-append h.calls last.calls, h.writes_few, last.writes_few, writes);
   made = calls-append (DeviceDoes state does) a b c h.calls last.calls h.made last.made;
 }
-
-steady-call : (old new : Device) (call : Call) → IsCall old call new → new.steady ≡ old.steady
-steady-call old new (Read first bytes ok) h = h.moved.same.steady
-steady-call old new (Write first bytes ok) h = h.moved.same.steady
-steady-call old new (Sync true) h = ap (λ (d : Device). d.steady) (h.done refl)
-steady-call old new (Sync false) h = ap (λ (d : Device). d.steady) (h.not_done refl).moved
-
-image-call : (old new : Device) (call : Call) → IsCall old call new → IsTrue (has_succeeded call) → IsTrue old.steady → (more : List Call) → image_after new.image more ≡ image_after old.image (call ∷ more)
-image-call old new (Read first bytes ok) h ended steady more = ap (λ i. image_after i more) (h.moved.image steady)
-image-call old new (Write first bytes ok) h ended steady more = ap (λ i. image_after i more) (h.image ended steady)
-image-call old new (Sync ok) h ended steady more = ap (λ (d : Device). image_after d.image more) (h.done ended)
-
--- the image of a steady device, after calls that all succeeded
-pub image-follows : {D : Type 0} (state : D → Device) (does : D → Call → D → Type 0) (a b : D) (calls : List Call) → Calls (DeviceDoes state does) a calls b
-    → AllSucceeded calls → IsTrue (state a).steady → (state b).image ≡ image_after (state a).image calls
-image-follows state does a b [] same ended steady = ap (λ d. (state d).image) same
-image-follows state does a b (call ∷ more) h ended steady =
-    image-follows state does h.0 b more h.2 ended.1 (subst IsTrue (sym (steady-call (state a) (state h.0) call h.1.0)) steady)
-    ∙ image-call (state a) (state h.0) call h.1.0 ended.0 steady more
-
-reads-call : (old new : Device) (call : Call) → IsCall old call new → old.reads ≤ 2 ^ 64 - 1 → new.reads ≡ capped (old.reads + sectors_read call)
-reads-call old new (Read first bytes ok) h fits = h.moved.reads
-reads-call old new (Write first bytes ok) h fits = h.moved.reads ∙ omega (arith, fits)
-reads-call old new (Sync true) h fits = ap (λ (d : Device). d.reads) (h.done refl) ∙ omega (arith, fits)
-reads-call old new (Sync false) h fits = ap (λ (d : Device). d.reads) (h.not_done refl).moved ∙ omega (arith, fits)
-
-reads-from : {D : Type 0} (state : D → Device) (does : D → Call → D → Type 0) (a b : D) (calls : List Call) → Calls (DeviceDoes state does) a calls b
-    → (state a).reads ≤ 2 ^ 64 - 1 → (state b).reads ≡ capped ((state a).reads + all_read calls)
-reads-from state does a b [] same fits = ap (λ d. (state d).reads) same ∙ omega (arith, fits)
-reads-from state does a b (call ∷ more) h fits =
-    let one = reads-call (state a) (state h.0) call h.1.0 fits in
-    let rest = reads-from state does h.0 b more h.2 (omega (arith, one)) in
-    omega (arith, one, rest)
-
--- the counters: what the calls asked for, added up
-pub reads-follow : {D : Type 0} (state : D → Device) (does : D → Call → D → Type 0) (a b : D) (calls : List Call) → Calls (DeviceDoes state does) a calls b
-    → CountersFit (state a) → (state b).reads ≡ capped ((state a).reads + all_read calls)
-reads-follow state does a b calls h fits = reads-from state does a b calls h fits.reads
-
-writes-call : (old new : Device) (call : Call) → IsCall old call new → old.writes ≤ 2 ^ 64 - 1 → new.writes ≡ capped (old.writes + sectors_written call)
-writes-call old new (Read first bytes ok) h fits = h.moved.writes ∙ omega (arith, fits)
-writes-call old new (Write first bytes ok) h fits = h.moved.writes
-writes-call old new (Sync true) h fits = ap (λ (d : Device). d.writes) (h.done refl) ∙ omega (arith, fits)
-writes-call old new (Sync false) h fits = ap (λ (d : Device). d.writes) (h.not_done refl).moved ∙ omega (arith, fits)
-
-writes-from : {D : Type 0} (state : D → Device) (does : D → Call → D → Type 0) (a b : D) (calls : List Call) → Calls (DeviceDoes state does) a calls b
-    → (state a).writes ≤ 2 ^ 64 - 1 → (state b).writes ≡ capped ((state a).writes + all_written calls)
-writes-from state does a b [] same fits = ap (λ d. (state d).writes) same ∙ omega (arith, fits)
-writes-from state does a b (call ∷ more) h fits =
-    let one = writes-call (state a) (state h.0) call h.1.0 fits in
-    let rest = writes-from state does h.0 b more h.2 (omega (arith, one)) in
-    omega (arith, one, rest)
-
-pub writes-follow : {D : Type 0} (state : D → Device) (does : D → Call → D → Type 0) (a b : D) (calls : List Call) → Calls (DeviceDoes state does) a calls b
-    → CountersFit (state a) → (state b).writes ≡ capped ((state a).writes + all_written calls)
-writes-follow state does a b calls h fits = writes-from state does a b calls h fits.writes
-
--- what a read leaves as it is, whether it succeeds or not
-only-read : (old new : Device) (call : Call) → IsCall old call new → IsTrue (is_read call) → IsSameDevice old new × (new.writes ≡ old.writes) × (IsTrue old.steady → new.image ≡ old.image)
-only-read old new (Read first bytes ok) h read = (h.moved.same, h.moved.writes, h.moved.image)
-only-read old new (Write first bytes ok) h read = cc
-only-read old new (Sync ok) h read = cc
-
-pub only-reads-follow : {D : Type 0} (state : D → Device) (does : D → Call → D → Type 0) (a b : D) (calls : List Call) → Calls (DeviceDoes state does) a calls b
-    → AllReads calls → IsSameDevice (state a) (state b) × ((state b).writes ≡ (state a).writes) × (IsTrue (state a).steady → (state b).image ≡ (state a).image)
-only-reads-follow state does a b [] same reads = rw same (record { size = refl; may_write = refl; steady = refl; never_fails = λ h. h }, refl, λ _. refl)
-only-reads-follow state does a b (call ∷ more) h reads =
-    let one = only-read (state a) (state h.0) call h.1.0 reads.0 in
-    let rest = only-reads-follow state does h.0 b more h.2 reads.1 in (
-      record {
-        size = rest.0.size ∙ one.0.size;
-        may_write = rest.0.may_write ∙ one.0.may_write;
-        steady = rest.0.steady ∙ one.0.steady;
-        never_fails = λ sure. rest.0.never_fails (one.0.never_fails sure);
-      },
-      rest.1 ∙ one.1,
-      λ steady. rest.2 (subst IsTrue (sym one.0.steady) steady) ∙ one.2 steady,
-    )
-
-has-failed : (old new : Device) → CountersFit old → new.failures ≡ capped (old.failures + 1) → HasFailed old new
-has-failed old new fits counted = ⊎_elim (λ full. inr full) (λ more. inl (omega (arith, more, counted))) (eq-or-lt_of_le fits.failures)
-
--- a failed call counts its failure, or the counter is at its end
-pub failed-call : (old new : Device) (call : Call) → CountersFit old → IsCall old call new → has_succeeded call ≡ false → HasFailed old new
-failed-call old new (Read first bytes ok) fits h failed = has-failed old new fits (h.moved.failures ∙ ap (failures_after old) failed)
-failed-call old new (Write first bytes ok) fits h failed = has-failed old new fits (h.moved.failures ∙ ap (failures_after old) failed)
-failed-call old new (Sync ok) fits h failed = (h.not_done failed).failed

@@ -7,11 +7,10 @@ ghost use Rattle.command_line.specs.words.FecFormat.{fec_format_said};
 use crate::fault::WordsFault;
 use crate::fec_file::{FecFile, fec_file_of};
 use crate::invocation::Invocation;
-use crate::misuse::{Cause, refuse_if};
 use crate::option_words::OptionWords;
 use crate::words::format::{FormatWords, format_words};
 
-/// A verity image with a superblock is made, and the parity over it.
+/// A verity image is made as without parity, and the parity over it.
 #[derive(Drop)]
 pub struct FecFormatWords<'a> {
     pub format: FormatWords<'a>,
@@ -22,7 +21,7 @@ pub struct FecFormatWords<'a> {
 ///
 /// # Errors
 ///
-/// `Usage` if `--fec`, DATA or HASH is missing, an argument is surplus, or `--fec-roots` or `--hash-offset` is invalid.
+/// `Usage` if `--fec` is missing, `--fec-roots` is invalid, or `format_words` refuses the arguments.
 #[tactic(auto, unfolding(crate::specs::words::FecFormat::fec_format_said))]
 pub fn fec_format_of<'a>(
     options: &OptionWords<'a>,
@@ -30,7 +29,6 @@ pub fn fec_format_of<'a>(
 ) -> Result<Invocation<'a>, WordsFault<'a>>
     ensures { ReadsAs format_fec (fec_format_said (option_texts options.now) (texts_of words.now)) result }
 {
-    refuse_if(options.no_superblock, "--no-superblock", Cause::WithFec)?;
     let fec = fec_file_of(options.fec, options.fec_roots)?;
     let format = format_words(options, words)?;
     Ok(Invocation::FormatFec(FecFormatWords { format, fec }))

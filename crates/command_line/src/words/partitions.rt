@@ -1,4 +1,4 @@
-//! `partitions [--sector-size 512|4096] [--json | --stack | --root ROOT | --pin FILE] IMAGE`
+//! `partitions [--sector-size 512|4096] [--json | --stack | --root ROOT | --pin FILE] [--writable] IMAGE`
 ghost use Rattle.command_line.specs.Invocations.{partitions};
 ghost use Rattle.command_line.specs.Reading.{ReadsAs};
 ghost use Rattle.command_line.specs.FormatOptions.{option_texts, texts_of};
@@ -6,24 +6,27 @@ ghost use Rattle.command_line.specs.words.Partitions.{partitions_said};
 
 use crate::fault::WordsFault;
 use crate::invocation::Invocation;
-use crate::option_words::OptionWords;
+use crate::misuse::{Cause, refuse_if};
+use crate::option_words::{OptionWords, is_writable_table};
 use crate::positional::{no_more, positional};
 use crate::values::{PartitionForm, form_of, sector_size_of};
 
-/// The partitions of an image are printed.
+/// The partitions of an image are printed; of a stack, with `writable`, the devices over data partitions are writable.
 #[derive(Drop)]
 pub struct PartitionsWords<'a> {
     pub image: &'a str,
     pub sector_size: u32,
     pub form: PartitionForm<'a>,
+    pub writable: bool,
 }
 
-/// Returns `partitions` with its arguments, `[--sector-size 512|4096] [--json | --stack | --root ROOT | --pin FILE] IMAGE`. The
-/// sector size is in bytes.
+/// Returns `partitions` with its arguments, `[--sector-size 512|4096] [--json | --stack | --root ROOT | --pin FILE] [--writable]
+/// IMAGE`. The sector size is in bytes.
 ///
 /// # Errors
 ///
-/// `Usage` if IMAGE is missing, an argument is surplus, the value of an option is invalid, or two forms are given.
+/// `Usage` if IMAGE is missing, an argument is surplus, the value of an option is invalid, `--writable` is given and no stack is
+/// printed, or two forms are given.
 #[tactic(auto, unfolding(crate::specs::words::Partitions::partitions_said))]
 pub fn partitions_of<'a>(
     options: &OptionWords<'a>,
@@ -34,11 +37,14 @@ pub fn partitions_of<'a>(
     let (image, words) = positional("IMAGE", words)?;
     no_more(words)?;
     let sector_size = sector_size_of(options.sector_size)?;
+    let is_table = is_writable_table(options);
+    refuse_if(is_table, "--writable", Cause::WithoutStack)?;
     match form_of(options.pin, options.root, options.stack, options.json) {
         Ok(form) => Ok(Invocation::Partitions(PartitionsWords {
             image,
             sector_size,
             form,
+            writable: options.writable,
         })),
         Err(misuse) => Err(WordsFault::Usage(misuse)),
     }

@@ -12,7 +12,7 @@ pub fn open_message(fault: OpenFault) -> Option<&'static str>
 {
     match fault {
         OpenFault::NotFound => Some(
-            "there is no such file: check the path; in a service it has to be absolute",
+            "there is no such file, or no such part of it: check the path; in a service it has to be absolute",
         ),
         OpenFault::NotAllowed => Some(
             "the file may not be opened so: check its permissions; a file bound with 'ro:' is only read",

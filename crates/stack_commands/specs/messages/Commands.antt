@@ -7,6 +7,7 @@ use Rattle.manual_pages.specs.messages.Linux.{linux_message}
 use Rattle.stack_commands.specs.messages.Images.{fec_message, verity_message}
 use Rattle.stack_commands.specs.messages.Partitions.{partitions_message}
 use Rattle.stack_commands.specs.messages.Scans.{recovering_message}
+use Rattle.stack_commands.specs.messages.Services.{faults_message, service_message}
 use Rattle.stack_commands.specs.messages.Stacks.{request_message, stack_message}
 use Rattle.stack_commands.specs.messages.Streams.{stream_message}
 use Rattle.stack_commands.specs.messages.Trees.{tree_message}
@@ -26,4 +27,5 @@ ending_message (command.Fec fault) = fec_message fault
 ending_message (command.Partitions fault) = partitions_message fault
 ending_message (command.Trees fault) = tree_message fault
 ending_message (command.Session fault) = None
-ending_message (command.Service fault) = None
+ending_message (command.Service fault) = service_message fault
+ending_message (command.Faults tally) = Some faults_message

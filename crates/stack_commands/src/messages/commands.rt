@@ -7,6 +7,7 @@ use crate::fault::CommandFault;
 use crate::messages::images::{fec_message, verity_message};
 use crate::messages::partitions::partitions_message;
 use crate::messages::scans::recovering_message;
+use crate::messages::services::service_message;
 use crate::messages::stacks::{request_message, stack_message};
 use crate::messages::streams::stream_message;
 use crate::messages::trees::tree_message;
@@ -31,6 +32,9 @@ pub fn ending_message(fault: CommandFault<'_>) -> Option<&'static str>
         CommandFault::Partitions(fault) => partitions_message(fault),
         CommandFault::Trees(fault) => tree_message(fault),
         CommandFault::Session(_) => None,
-        CommandFault::Service(_) => None,
+        CommandFault::Service(fault) => service_message(fault),
+        CommandFault::Faults(_) => Some(
+            "requests of the client failed: 'scan' on the same stack prints the sectors",
+        ),
     }
 }

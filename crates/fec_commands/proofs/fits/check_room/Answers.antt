@@ -11,7 +11,7 @@ pub returns-in-None-clause-ok : goal.returns-in-None-clause-ok
 returns-in-None-clause-ok g c =
     let data_dev = g.D.BlockDev.state c.args.data_dev in
     let a = windowed-same _ data_dev _ (part_before data_dev c.args.extent.end) (ap g.D.BlockDev.state c.before-before.ensures.inner) c.before-before.ensures.part in
-    inl (subst (λ (n : ℕ). HasNone c.args.options.now n) (c.sectors.ensures.size ∙ ap (λ (d : Device). d.size) a) c.in-None.ensures.none)
+    inl (subst (λ (n : ℕ). HasNone c.args.wanted.now n) (c.sectors.ensures.size ∙ ap (λ (d : Device). d.size) a) c.in-None.ensures.none)
 
 pub returns-then-sectors-needed-clause-err : goal.returns-then-sectors-needed-clause-err
 returns-then-sectors-needed-clause-err g c =
@@ -24,8 +24,8 @@ returns-then-sectors-needed-clause-err g c =
     let roots = c.args.extent.roots in
     let needed = c.in-Some.needed in
     record {
-      needs = subst (λ (n : ℕ). IsNeeded c.args.options.now n (behind hash_dev c.args.extent.first).size roots needed) data_size
-          (subst (λ (n : ℕ). IsNeeded c.args.options.now c.sectors.result n roots needed) hash_size c.in-Some.ensures.some);
+      needs = subst (λ (n : ℕ). IsNeeded c.args.wanted.now n (behind hash_dev c.args.extent.first).size roots needed) data_size
+          (subst (λ (n : ℕ). IsNeeded c.args.wanted.now c.sectors.result n roots needed) hash_size c.in-Some.ensures.some);
       short = omega arith;
     }
 
@@ -37,12 +37,12 @@ returns-clause-ok g c =
     let b = windowed-same _ hash_dev _ (part_behind hash_dev c.args.extent.first) (ap g.H.BlockDev.state c.behind-behind.ensures.inner) c.behind-behind.ensures.part in
     let data_size = c.sectors.ensures.size ∙ ap (λ (d : Device). d.size) a in
     let hash_size = c.sectors-2.ensures.size ∙ ap (λ (d : Device). d.size) b in
-    let options = c.args.options.now in
+    let wanted = c.args.wanted.now in
     let roots = c.args.extent.roots in
     let first = c.in-Some.needed in
-    let needs : IsNeeded options (before data_dev c.args.extent.end).size (behind hash_dev c.args.extent.first).size roots first =
-    subst (λ (n : ℕ). IsNeeded options n (behind hash_dev c.args.extent.first).size roots first) data_size
-    (subst (λ (n : ℕ). IsNeeded options c.sectors.result n roots first) hash_size c.in-Some.ensures.some) in
+    let needs : IsNeeded wanted (before data_dev c.args.extent.end).size (behind hash_dev c.args.extent.first).size roots first =
+    subst (λ (n : ℕ). IsNeeded wanted n (behind hash_dev c.args.extent.first).size roots first) data_size
+    (subst (λ (n : ℕ). IsNeeded wanted c.sectors.result n roots first) hash_size c.in-Some.ensures.some) in
     inr (λ needed is.
-    let same = takes-one (said_shape options (before data_dev c.args.extent.end).size) (behind hash_dev c.args.extent.first).size roots first needed needs is in
+    let same = takes-one (said_shape wanted (before data_dev c.args.extent.end).size) (behind hash_dev c.args.extent.first).size roots first needed needs is in
     omega (arith, same, c.sectors-3.ensures.size, c.if-sectors-needed.false))

@@ -20,7 +20,7 @@ returns-in_err-check_room-clause-err g c =
       three = three;
       opened = c.in_ok-three.ensures.ok;
       cause = cause;
-      short = subst (λ (end : ℕ). IsShortByOptions c.args.options.now (state three.«data».device) (state three.hash.device) (state three.parity.device) (record { end = end; first = c.args.places.now.hash_first; roots = c.args.fec.now.roots }) cause) c.data_end.ensures c.in_err-check_room.ensures.err;
+      short = subst (λ (end : ℕ). IsShortByOptions c.args.wanted.now (state three.«data».device) (state three.hash.device) (state three.parity.device) (record { end = end; first = c.args.places.now.hash_first; roots = c.args.fec.now.roots }) cause) c.data_end.ensures c.in_err-check_room.ensures.err;
       is = refl;
     }))
 
@@ -31,5 +31,5 @@ returns-clause-ok g c =
     record {
       three = three;
       opened = c.in_ok-three.ensures.ok;
-      enough = subst (λ (end : ℕ). FitsByOptions c.args.options.now (state three.«data».device) (state three.hash.device) (state three.parity.device) (record { end = end; first = c.args.places.now.hash_first; roots = c.args.fec.now.roots })) c.data_end.ensures c.in_ok-check_room.ensures.ok;
+      enough = subst (λ (end : ℕ). FitsByOptions c.args.wanted.now (state three.«data».device) (state three.hash.device) (state three.parity.device) (record { end = end; first = c.args.places.now.hash_first; roots = c.args.fec.now.roots })) c.data_end.ensures c.in_ok-check_room.ensures.ok;
     }

@@ -9,7 +9,7 @@ returns-then-sectors-needed-clause-err g c =
     record {
       parity = c.in-Some.parity;
       there = c.in-Some.is;
-      fixed = sym c.is_block_device.ensures ∙ c.if-not-is_block_device.false;
-      needs = subst (λ (v : FoundSectors). IsNeededGrown c.args.options.now v c.args.roots needed) c.found_sectors-sectors.ensures.value c.in-Some-needed_grown.ensures.some;
+      fixed = sym c.has_own_size.ensures ∙ c.if-not-has_own_size.false;
+      needs = subst (λ (v : FoundSectors). IsNeededGrown c.args.wanted.now v c.args.roots needed) c.found_sectors-sectors.ensures.value c.in-Some-needed_grown.ensures.some;
       short = omega (arith, c.sectors.ensures.size, c.if-sectors-needed.true);
     }

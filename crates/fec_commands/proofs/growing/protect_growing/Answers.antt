@@ -6,21 +6,21 @@ use Rattle.fec_commands.specs.FecFaults.{unopened}
 use Rattle.fec_commands.proofs.EndingLemmas.{at-fault, err-from}
 use Rattle.fec_commands.proofs.growing.protect_growing.Goals as goal
 
-pub returns-in_err-make_room-clause-err : goal.returns-in_err-make_room-clause-err
-returns-in_err-make_room-clause-err g c =
-    err-from c.from_residual.result _ (unopened c.in_err-make_room.field-0.0) c.from_residual.ensures.1
-    (inl (record { file = c.in_err-make_room.field-0.0; unmade = c.in_err-make_room.ensures.err; is = refl }))
+pub returns-in_err-grow_place-clause-err : goal.returns-in_err-grow_place-clause-err
+returns-in_err-grow_place-clause-err g c =
+    err-from c.from_residual.result _ (unopened c.in_err-grow_place.field-0.0) c.from_residual.ensures.1
+    (inl (record { file = c.in_err-grow_place.field-0.0; unmade = c.in_err-grow_place.ensures.err; is = refl }))
 
-pub returns-in_err-make_room-2-clause-err : goal.returns-in_err-make_room-2-clause-err
-returns-in_err-make_room-2-clause-err g c =
+pub returns-in_err-grow_place-2-clause-err : goal.returns-in_err-grow_place-2-clause-err
+returns-in_err-grow_place-2-clause-err g c =
     let needed = c.in-Some.sectors in
     let vain = at-fault c.protect_image-tried.result _ (Parity (TooSmall needed)) c.in-Some.ensures c.protect_image-tried.ensures.err in
-    err-from c.from_residual-in_err-make_room-2.result _ (unopened c.in_err-make_room-2.field-0.0) c.from_residual-in_err-make_room-2.ensures.1
+    err-from c.from_residual-in_err-grow_place-2.result _ (unopened c.in_err-grow_place-2.field-0.0) c.from_residual-in_err-grow_place-2.ensures.1
     (inr (inl (record {
       tried = c.protect_image-tried.new.images;
       needed = needed;
-      vain = record { between = c.make_room.new.images; made = c.in_ok-make_room.ensures.ok; follows = vain };
-      ungrown = record { file = c.in_err-make_room-2.field-0.0; unmade = c.in_err-make_room-2.ensures.err; is = refl };
+      vain = record { between = c.grow_place.new.images; made = c.in_ok-grow_place.ensures.ok; follows = vain };
+      ungrown = record { file = c.in_err-grow_place-2.field-0.0; unmade = c.in_err-grow_place-2.ensures.err; is = refl };
     })))
 
 pub returns-clause-ok : goal.returns-clause-ok
@@ -30,10 +30,10 @@ returns-clause-ok g c =
     on_ok_weaker c.protect_image.result
     (λ done. inr (record {
       tried = c.protect_image-tried.new.images;
-      room = c.make_room-2.new.images;
+      room = c.grow_place-2.new.images;
       needed = needed;
-      vain = record { between = c.make_room.new.images; made = c.in_ok-make_room.ensures.ok; follows = vain };
-      grown = c.in_ok-make_room-2.ensures.ok;
+      vain = record { between = c.grow_place.new.images; made = c.in_ok-grow_place.ensures.ok; follows = vain };
+      grown = c.in_ok-grow_place-2.ensures.ok;
       follows = done;
     }))
     c.protect_image.ensures.ok
@@ -45,10 +45,10 @@ returns-clause-err g c =
     IfErr-weaker c.protect_image.result _ _
     (λ fault ends. inr (inr (inr (record {
       tried = c.protect_image-tried.new.images;
-      room = c.make_room-2.new.images;
+      room = c.grow_place-2.new.images;
       needed = needed;
-      vain = record { between = c.make_room.new.images; made = c.in_ok-make_room.ensures.ok; follows = vain };
-      grown = c.in_ok-make_room-2.ensures.ok;
+      vain = record { between = c.grow_place.new.images; made = c.in_ok-grow_place.ensures.ok; follows = vain };
+      grown = c.in_ok-grow_place-2.ensures.ok;
       follows = ends;
     }))))
     c.protect_image.ensures.err

@@ -1,8 +1,7 @@
-use Rattle.std.proofs.Common.{None, ap, inl, inr, refl, subst}
+use Rattle.std.proofs.Common.{ap, inl, inr, refl, subst}
 use Rattle.block_device.specs.Device.{Device}
 use Rattle.device_adapters.specs.Parts.{part_before, part_behind}
 use Rattle.device_adapters.specs.Windows.{windowed}
-use Rattle.image_commands.specs.declared.tree_source.TreeSource.TheVariants.{Superblock}
 use Rattle.image_commands.specs.Places.{IsPartState}
 use Rattle.fec_commands.specs.declared.fault.FecFault.TheVariants.{Parity}
 use Rattle.fec_commands.specs.Protecting.{IsSealed, IsSealingEnd}
@@ -21,7 +20,7 @@ returns-in_err-laid-clause-err g c =
     let b = windowed-same _ hash_dev _ (part_behind hash_dev c.args.extent.first) (ap g.H.BlockDev.state c.behind-behind.ensures.inner) c.behind-behind.ensures.part in
     let fault = c.in_err-laid.field-0.0 in
     err-from c.from_residual.result _ fault c.from_residual.ensures.1
-    (inl (record { read_dev = read_dev; left = (read.inner, (read.part, refl)); ends = layout_end-as _ _ _ _ read_dev c.args.extent.first (Superblock None) fault a b c.in_err-laid.ensures.err; same = refl }))
+    (inl (record { read_dev = read_dev; left = (read.inner, (read.part, refl)); ends = layout_end-as _ _ _ _ read_dev c.args.extent.first c.args.source.now fault a b c.in_err-laid.ensures.err; same = refl }))
 
 pub write_synced-requires : goal.write_synced-requires
 write_synced-requires g c = c.in_ok-laid.ensures.ok.laid_on
@@ -44,7 +43,7 @@ returns-in_err-write_synced-clause-err g c =
       read_dev = read_dev;
       left = (read.inner, (read.part, refl));
       cause = cause;
-      lays = lays-as _ _ _ _ read_dev c.args.extent.first (Superblock None) c.args.extent.roots l a b c.in_ok-laid.ensures.ok;
+      lays = lays-as _ _ _ _ read_dev c.args.extent.first c.args.source.now c.args.extent.roots l a b c.in_ok-laid.ensures.ok;
       ends = subst (λ (v : Device). IsSealingEnd (IsPartState g.D.BlockDev.state) (IsPartState g.H.BlockDev.state) l.layout v read_dev old new cause) a
           (sealing_end-left c.in_err-write_synced.ensures.err (λ device left. (left.0.inner, (left.0.part, left.1))) (λ device left. (left.0.inner, (left.0.part, left.1))));
       is = refl;
@@ -65,7 +64,7 @@ returns-clause-ok g c =
       laid = l;
       read_dev = read_dev;
       left = (read.inner, (read.part, refl));
-      lays = lays-as _ _ _ _ read_dev c.args.extent.first (Superblock None) c.args.extent.roots l a b c.in_ok-laid.ensures.ok;
+      lays = lays-as _ _ _ _ read_dev c.args.extent.first c.args.source.now c.args.extent.roots l a b c.in_ok-laid.ensures.ok;
       sealed = subst (λ (v : Device). IsSealed (IsPartState g.D.BlockDev.state) (IsPartState g.H.BlockDev.state) l.layout v read_dev old new) a
           (sealed-left c.in_ok-write_synced.ensures.ok (λ device left. (left.0.inner, (left.0.part, left.1))) (λ device left. (left.0.inner, (left.0.part, left.1))));
     }

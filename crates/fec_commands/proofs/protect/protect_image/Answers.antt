@@ -21,7 +21,7 @@ returns-in_err-protect_behind-clause-err g c =
       three = three;
       parity_dev' = new;
       opened = c.in_ok-three.ensures.ok;
-      ends = subst (λ (end : ℕ). IsParityEnd (IsPartState state) (IsPartState state) (state three.«data».device) (state three.hash.device) (state three.parity.device) (record { end = end; first = c.args.places.now.hash_first; roots = c.args.fec.now.roots }) (state new) fault) c.data_end.ensures c.in_err-protect_behind.ensures.err;
+      ends = subst (λ (end : ℕ). IsParityEnd (IsPartState state) (IsPartState state) (state three.«data».device) (state three.hash.device) (state three.parity.device) (record { end = end; first = c.args.places.now.hash_first; roots = c.args.fec.now.roots }) c.args.source.now (state new) fault) c.data_end.ensures c.in_err-protect_behind.ensures.err;
     }))
 
 pub returns-clause-ok : goal.returns-clause-ok
@@ -34,6 +34,6 @@ returns-clause-ok g c =
       three = three;
       closed_dev = new;
       opened = c.in_ok-three.ensures.ok;
-      protects = subst (λ (end : ℕ). ProtectsBehind (IsPartState state) (IsPartState state) (state three.«data».device) (state three.hash.device) (state three.parity.device) (record { end = end; first = c.args.places.now.hash_first; roots = c.args.fec.now.roots }) (state new)) c.data_end.ensures c.in_ok-protect_behind.ensures.ok;
-      closed = c.close.ensures;
+      protects = subst (λ (end : ℕ). ProtectsBehind (IsPartState state) (IsPartState state) (state three.«data».device) (state three.hash.device) (state three.parity.device) (record { end = end; first = c.args.places.now.hash_first; roots = c.args.fec.now.roots }) c.args.source.now (state new)) c.data_end.ensures c.in_ok-protect_behind.ensures.ok;
+      closed = c.close_place.ensures;
     }

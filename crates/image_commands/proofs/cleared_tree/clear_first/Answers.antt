@@ -11,3 +11,8 @@ pub returns-clause-err : goal.returns-clause-err
 returns-clause-err g c =
     let some : 0 < c.args.sectors = omega arith in
     on_err_weaker c.clear_superblock.result (λ ends. record { some = some; uncleared = ends }) c.clear_superblock.ensures.err
+
+pub returns-clause-handed : goal.returns-clause-handed
+returns-clause-handed g c =
+    let some : 0 < c.args.sectors = omega arith in
+    inr (some, c.clear_superblock.ensures.handed)

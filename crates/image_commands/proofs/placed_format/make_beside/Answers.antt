@@ -22,7 +22,7 @@ returns-clause-ok g c =
     (λ image made. record {
       data_dev' = windowed (g.D.BlockDev.state made_data.inner) made_data.part;
       left = (made_data.inner, (made_data.part, refl));
-      made = made-as c.args.options _ _ _ _ _ _ _ image a b e made;
+      made = made-as c.args.options _ _ _ _ _ _ _ image a b e made (λ device left. (left.0.inner, (left.0.part, left.1)));
       kept = subst (λ (p : Part). StandOutside after p (outside_of hash_dev.image part)) kept.place kept;
     })
     c.make-made.ensures.ok
@@ -43,7 +43,7 @@ returns-clause-err g c =
     (λ fault ends. record {
       data_dev' = windowed (g.D.BlockDev.state made_data.inner) made_data.part;
       left = (made_data.inner, (made_data.part, refl));
-      ends = end-as c.args.options _ _ _ _ _ _ _ fault a b e ends;
+      ends = end-as c.args.options _ _ _ _ _ _ _ fault a b e ends (λ device left. (left.0.inner, (left.0.part, left.1)));
       kept = subst (λ (p : Part). StandOutside after p (outside_of hash_dev.image part)) kept.place kept;
     })
     c.make-made.ensures.err

@@ -25,7 +25,7 @@ returns-in-Err-clause-err g c =
     let after : Device = state c.make_behind-hash_dev.result.0 in
     let placing : Device → Device → ℕ → Placing = λ data_dev hash_dev end. record { data_dev = data_dev; hash_dev = hash_dev; hash_dev' = after; end = end; first = c.args.watched.places.hash_first } in
     let was : Placing = placing (state watched.result.0.inner) (state watched.result.1) c.data_end-end.result in
-    let Ends : FormatFault → Type 0 = IsPlacedEnd (IsPartState state) c.in_ok-options.options was in
+    let Ends : FormatFault → Type 0 = IsPlacedEnd (IsPartState state) (IsPartState state) c.in_ok-options.options was in
     let ends : Ends cause = subst (λ (r : Result MadeImage FormatFault). IfErr r Ends) c.in-Err.is
     (IfErr-weaker c.make_behind-hash_dev.result.1 _ Ends (end-inner watched.result.0 (λ w. w.inner) state c.in_ok-options.options was) c.make_behind-hash_dev.ensures.err) in
     inr (inr (inr (inl (record {
@@ -35,7 +35,7 @@ returns-in-Err-clause-err g c =
       cause = cause;
       opened = c.in_ok-two.ensures.ok;
       are_given = c.in_ok-options.ensures.ok;
-      ends = subst₃ (λ (d h : Device) (end : ℕ). IsPlacedEnd (IsPartState state) c.in_ok-options.options (placing d h end) cause) (ap state watched.ensures.data) (ap state watched.ensures.hash) c.data_end-end.ensures ends;
+      ends = subst₃ (λ (d h : Device) (end : ℕ). IsPlacedEnd (IsPartState state) (IsPartState state) c.in_ok-options.options (placing d h end) cause) (ap state watched.ensures.data) (ap state watched.ensures.hash) c.data_end-end.ensures ends;
       is = ap Format c.format_fault_from.ensures;
     }))))
 
@@ -47,7 +47,7 @@ returns-in-Ok-clause-ok g c =
     let after : Device = state c.make_behind-hash_dev.result.0 in
     let placing : Device → Device → ℕ → Placing = λ data_dev hash_dev end. record { data_dev = data_dev; hash_dev = hash_dev; hash_dev' = after; end = end; first = c.args.watched.places.hash_first } in
     let was : Placing = placing (state watched.result.0.inner) (state watched.result.1) c.data_end-end.result in
-    let Made : MadeImage → Type 0 = IsMadePlaced (IsPartState state) c.in_ok-options.options was in
+    let Made : MadeImage → Type 0 = IsMadePlaced (IsPartState state) (IsPartState state) c.in_ok-options.options was in
     let made : Made image = subst (λ (r : Result MadeImage FormatFault). IfOk r Made) c.in-Ok.is
     (IfOk-weaker c.make_behind-hash_dev.result.1 _ Made (made-inner watched.result.0 (λ w. w.inner) state c.in_ok-options.options was) c.make_behind-hash_dev.ensures.ok) in record {
       given = c.in_ok-options.options;
@@ -58,8 +58,8 @@ returns-in-Ok-clause-ok g c =
       opened = c.in_ok-two.ensures.ok;
       apart = sym c.overlaps.ensures ∙ c.if-overlaps.false;
       are_given = c.in_ok-options.ensures.ok;
-      made = subst₃ (λ (d h : Device) (end : ℕ). IsMadePlaced (IsPartState state) c.in_ok-options.options (placing d h end) image) (ap state watched.ensures.data) (ap state watched.ensures.hash) c.data_end-end.ensures made;
-      closed = c.close.ensures;
+      made = subst₃ (λ (d h : Device) (end : ℕ). IsMadePlaced (IsPartState state) (IsPartState state) c.in_ok-options.options (placing d h end) image) (ap state watched.ensures.data) (ap state watched.ensures.hash) c.data_end-end.ensures made;
+      closed = c.close_place.ensures;
     }
 
 pub returns-then-overlaps-clause-err : goal.returns-then-overlaps-clause-err

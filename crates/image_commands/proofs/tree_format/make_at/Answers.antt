@@ -22,7 +22,7 @@ returns-in-Ok-clause-ok g c =
     let same : part_dev ≡ data_dev = windowed-same _ whole _ (part_before whole c.args.bounds.end) (ap g.D.BlockDev.state c.before-before.ensures.inner) c.before-before.ensures.part in
     let params : c.in-Ok.params ≡ tree_with c.args.options data_dev = c.in-Ok.ensures.ok.0 ∙ ap (superblock_with c.args.options) (c.sectors.ensures.size ∙ ap (λ (d : Device). d.size) same) in
     IfOk-weaker c.make_behind.result.1 _ _
-    (λ made m. subst (λ (s : SuperRecord). IsTreeMade (IsPartState g.D.BlockDev.state) s data_dev hash_dev c.args.bounds.first hash_dev' made) params (subst (λ (d : Device). IsTreeMade (IsPartState g.D.BlockDev.state) c.in-Ok.params d hash_dev c.args.bounds.first hash_dev' made) same (made-left m (λ device left. (left.0.inner, (left.0.part, left.1))))))
+    (λ made m. subst (λ (s : SuperRecord). IsTreeMade (IsPartState g.D.BlockDev.state) (IsPartState g.H.BlockDev.state) s data_dev hash_dev c.args.bounds.first hash_dev' made) params (subst (λ (d : Device). IsTreeMade (IsPartState g.D.BlockDev.state) (IsPartState g.H.BlockDev.state) c.in-Ok.params d hash_dev c.args.bounds.first hash_dev' made) same (made-left m (λ device left. (left.0.inner, (left.0.part, left.1))))))
     c.make_behind.ensures.ok
 
 pub returns-in-Ok-clause-err : goal.returns-in-Ok-clause-err
@@ -35,8 +35,8 @@ returns-in-Ok-clause-err g c =
     let same : part_dev ≡ data_dev = windowed-same _ whole _ (part_before whole c.args.bounds.end) (ap g.D.BlockDev.state c.before-before.ensures.inner) c.before-before.ensures.part in
     let params : c.in-Ok.params ≡ tree_with c.args.options data_dev = c.in-Ok.ensures.ok.0 ∙ ap (superblock_with c.args.options) (c.sectors.ensures.size ∙ ap (λ (d : Device). d.size) same) in
     IfErr-weaker c.make_behind.result.1 _ _
-    (λ fault ends. inr (subst (λ (s : SuperRecord). IsPlacedTreeCause (IsPartState g.D.BlockDev.state) s data_dev hash_dev c.args.bounds.first hash_dev' fault × IsTreeKept s hash_dev c.args.bounds.first hash_dev') params
-    (subst (λ (d : Device). IsPlacedTreeCause (IsPartState g.D.BlockDev.state) c.in-Ok.params d hash_dev c.args.bounds.first hash_dev' fault × IsTreeKept c.in-Ok.params hash_dev c.args.bounds.first hash_dev') same
+    (λ fault ends. inr (subst (λ (s : SuperRecord). IsPlacedTreeCause (IsPartState g.D.BlockDev.state) (IsPartState g.H.BlockDev.state) s data_dev hash_dev c.args.bounds.first hash_dev' fault × IsTreeKept s hash_dev c.args.bounds.first hash_dev') params
+    (subst (λ (d : Device). IsPlacedTreeCause (IsPartState g.D.BlockDev.state) (IsPartState g.H.BlockDev.state) c.in-Ok.params d hash_dev c.args.bounds.first hash_dev' fault × IsTreeKept c.in-Ok.params hash_dev c.args.bounds.first hash_dev') same
     ((ends.0.0, ((ends.0.1.0.0.inner, (ends.0.1.0.0.part, ends.0.1.0.1)), ends.0.1.1)), ends.1))))
     c.make_behind.ensures.err
 

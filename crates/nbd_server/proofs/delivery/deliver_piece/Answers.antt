@@ -14,16 +14,20 @@ at-at-requires g c = rest-left c.args.queue.now.stack.config (export_record c.ar
 pub read_piece-requires : goal.read_piece-requires
 read_piece-requires g c =
     let w = c.args.queue.now in
-    piece-bytes (export_record c.args.export.now) c.args.delivery c.args.piece.progress w w c.args.piece.size c.at-at.result c.at-at.ensures c.requires.piece.next.bytes w.stack.config c.requires.bytes
+    let bytes = piece-bytes (export_record c.args.export.now) c.args.delivery c.args.piece.progress w w c.args.piece.size c.at-at.result c.at-at.ensures c.requires.piece.next.bytes w.stack.config c.requires.bytes in
+    record { bytes = bytes; few = c.requires.piece.next.bytes.few }
 
 -- ---- it was read
+
+pub part-content-requires : goal.part-content-requires
+part-content-requires g c = omega (arith, c.requires.piece.next.bytes.few)
 
 pub say_piece-requires-clause-rest : goal.say_piece-requires-clause-rest
 say_piece-requires-clause-rest g c = rest-left c.args.queue.now.stack.config (export_record c.args.export.now) c.args.delivery c.args.piece.progress c.requires.bytes (omega (arith, c.requires.piece.next.bytes.inside))
 
 pub say_piece-requires-clause-piece : goal.say_piece-requires-clause-piece
 say_piece-requires-clause-piece g c =
-    let size = part-size c.read_piece.new.room.bytes.items (c.at-at.result % 512) c.args.piece.size c.in-Ok.ensures.inside in
+    let size = part-size c.read_piece.new.room.bytes (c.at-at.result % 512) c.args.piece.size c.read_piece.ensures.inside in
     let held : length c.part-content.result.now ≡ c.args.piece.size = ap (λ (l : List ℕ). length l) c.part-content.ensures ∙ size in
     subst (λ (n : ℕ). AreNextBytes c.args.delivery c.args.piece.progress n) (sym held) c.requires.piece.next.bytes
 
@@ -31,8 +35,8 @@ pub returns-in_err-say_piece-in-Ok-clause-err : goal.returns-in_err-say_piece-in
 returns-in_err-say_piece-in-Ok-clause-err g c =
     let old = g.W.Write.contents c.args.writer.now.inner in
     let new = g.W.Write.contents c.say_piece.new.writer.inner in
-    let items = c.read_piece.new.room.bytes.items in
-    let size = part-size items (c.at-at.result % 512) c.args.piece.size c.in-Ok.ensures.inside in
+    let items = c.read_piece.new.room.bytes in
+    let size = part-size items (c.at-at.result % 512) c.args.piece.size c.read_piece.ensures.inside in
     let p = err_from_is_err_and c.from_residual.result c.from_residual.ensures.1 in
     rw p.1 (sent-stuck (export_record c.args.export.now) c.args.delivery c.args.piece.progress c.args.queue.now c.read_piece.new.queue c.args.piece.size c.at-at.result c.at-at.ensures c.requires.piece old new
     (take c.args.piece.size (drop (c.at-at.result % 512) items)) (omega (arith, size, c.requires.piece.next.bytes.some)) c.in-Ok.ensures.ok)
@@ -52,7 +56,7 @@ returns-in_ok-say_piece-in-Ok-clause-ok g c =
     let old = g.W.Write.contents c.args.writer.now.inner in
     let new = g.W.Write.contents c.say_piece.new.writer.inner in
     let content = c.part-content.result.now in
-    let held : length content ≡ size = ap (λ (l : List ℕ). length l) c.part-content.ensures ∙ part-size c.read_piece.new.room.bytes.items (at % 512) size c.in-Ok.ensures.inside in
+    let held : length content ≡ size = ap (λ (l : List ℕ). length l) c.part-content.ensures ∙ part-size c.read_piece.new.room.bytes (at % 512) size c.read_piece.ensures.inside in
     let reads : ReadsExport e w at size (Ok content) w' = subst (λ (l : List ℕ). ReadsExport e w at size (Ok l) w') (sym c.part-content.ensures) c.in-Ok.ensures.ok in
     piece-sent e c.args.delivery c.args.piece.progress w w' size at c.at-at.ensures c.requires.piece old new (length content) held content reads c.in_ok-say_piece-in-Ok.ensures.ok
 
@@ -91,7 +95,8 @@ returns-in_ok-say_error_at-in-Err-clause-ok g c =
     let at = c.at-at.result in
     let size = c.args.piece.size in
     let few : touched at size ≤ 1 = omega (arith, c.touched.ensures, c.if-touched-gt1.false) in
-    (error_at_chunk c.args.delivery.cookie at c.in-Err.error, piece-lost (export_record c.args.export.now) c.args.delivery c.args.piece.progress c.args.queue.now c.read_piece.new.queue size at c.at-at.ensures c.requires.piece old new c.in-Err.error c.in-Err.ensures.err few, c.in_ok-say_error_at-in-Err.ensures.ok)
+    let lost = piece-lost (export_record c.args.export.now) c.args.delivery c.args.piece.progress c.args.queue.now c.read_piece.new.queue size at c.at-at.ensures c.requires.piece old new c.in-Err.error c.in-Err.ensures.err few in
+    (error_at_chunk c.args.delivery.cookie at c.in-Err.error, lost.0, lost.1, c.in_ok-say_error_at-in-Err.ensures.ok)
 
 pub returns-in_ok-say_error_at-in-Err-clause-kept : goal.returns-in_ok-say_error_at-in-Err-clause-kept
 returns-in_ok-say_error_at-in-Err-clause-kept g c = c.in_ok-say_error_at-in-Err.ensures.kept

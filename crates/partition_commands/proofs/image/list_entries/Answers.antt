@@ -34,7 +34,7 @@ returns-clause-err g c =
     let table = c.in_ok-table.table in
     let ended = rw (c.sectors-sectors.ensures.size, c.deref-2.ensures.value) at c.say_stack.ensures.err in
     IfErr-weaker c.say_stack.result _ _
-    (λ fault ends. say-entries old new c.args.size table c.say_stack.new.writer.failed fault (λ refused. record { table = table; found = c.in_ok-table.ensures.ok.found; within = rw c.deref.ensures.value at (sym c.are_within.ensures ∙ c.if-not-are_within.false); unloadable = refused }) ends) ended
+    (λ fault ends. say-entries old new c.args.plan.now table c.say_stack.new.writer.failed fault (λ refused. record { table = table; found = c.in_ok-table.ensures.ok.found; within = rw c.deref.ensures.value at (sym c.are_within.ensures ∙ c.if-not-are_within.false); unloadable = refused }) ends) ended
 
 pub returns-in_err-table-clause-noted : goal.returns-in_err-table-clause-noted
 returns-in_err-table-clause-noted g c =

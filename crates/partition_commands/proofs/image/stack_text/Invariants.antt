@@ -5,4 +5,4 @@ use Rattle.partition_commands.proofs.image.stack_text.Given as goal
 
 -- the entries so far were appended
 abbrev pub invariant-loop-partition : goal.invariant-loop-partition
-invariant-loop-partition l = l.text.items ≡ flat_map (partition_entry l.size l.partitions) (take l.partition-index l.partitions)
+invariant-loop-partition l = l.text.items ≡ flat_map (partition_entry l.writable l.size l.partitions) (take l.partition-index l.partitions)

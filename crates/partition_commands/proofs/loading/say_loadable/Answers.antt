@@ -8,7 +8,7 @@ use Rattle.partition_commands.proofs.loading.say_loadable.Goals as goal
 pub returns-in-Err-clause-err : goal.returns-in-Err-clause-err
 returns-in-Err-clause-err g c =
     let fails = rw c.in_ok-leaves.ensures.ok at c.in-Err.ensures.err in
-    rw c.load_end.ensures (load-end c.args.sectors c.args.text.now c.args.writer.now.failed c.in-Err.fault fails)
+    rw c.load_end.ensures (load-end c.args.writable c.args.sectors c.args.text.now c.args.writer.now.failed c.in-Err.fault fails)
 
 pub returns-clause-ok : goal.returns-clause-ok
 returns-clause-ok g c =

@@ -5,7 +5,7 @@ use Rattle.partition_commands.specs.declared.fault.PartitionsFault.TheVariants.{
 use Rattle.partition_commands.specs.declared.refusal.PartitionRefusal.TheVariants.{Table}
 use Rattle.partition_commands.specs.RootCommands.{FindsPair}
 use Rattle.partition_commands.specs.Roots.{image_partitions}
-use Rattle.partition_commands.proofs.EndingLemmas.{err-from, say-root}
+use Rattle.partition_commands.proofs.EndingLemmas.{err-from, less-room, say-root}
 use Rattle.partition_commands.proofs.NoteLemmas.{on_err-any}
 use Rattle.partition_commands.proofs.root_stack.print_root_stack.Goals as goal
 
@@ -35,50 +35,79 @@ returns-in_err-superblock-clause-err g c =
         found = c.in_ok-table.ensures.ok.found;
         both = c.in_ok-both.both;
         both_is = ap (λ (ps : List Partition). image_partitions ps c.args.trusted.now.root) (sym c.deref.ensures.value) ∙ sym c.in_ok-both.ensures;
+        signed_device = c.find_signature-signed.new.device;
+        read = c.find_signature-signed.ensures.read;
         ends = c.in_err-superblock.ensures.err.1;
       },
     )))
 
 pub returns-in_err-text-clause-err : goal.returns-in_err-text-clause-err
 returns-in_err-text-clause-err g c =
-    let pair : FindsPair (g.D.BlockDev.state c.args.device) c.args.size c.args.trusted.now = record {
+    let pair : FindsPair (g.D.BlockDev.state c.args.device) c.args.plan.now.size c.args.trusted.now = record {
       table = c.in_ok-table.table;
       read_device = g.D.BlockDev.state c.find_noted.new.device;
       found = c.in_ok-table.ensures.ok.found;
       both = c.in_ok-both.both;
       both_is = ap (λ (ps : List Partition). image_partitions ps c.args.trusted.now.root) (sym c.deref.ensures.value) ∙ sym c.in_ok-both.ensures;
       super = c.in_ok-superblock.superblock;
+      signed_device = g.D.BlockDev.state c.find_signature-signed.new.device;
+      signed = c.find_signature-signed.result;
+      sought = rw c.deref-2.ensures.value at c.find_signature-signed.ensures;
       fitting = c.in_ok-superblock.ensures.ok;
     } in
     err-from c.from_residual-in_err-text.result _ NoMemory (rw c.in_err-text.ensures.err.0 at c.from_residual-in_err-text.ensures.1) (record { pair = pair; refused = c.in_err-text.ensures.err.1 })
 
-pub returns-clause-ok : goal.returns-clause-ok
-returns-clause-ok g c =
-    let pair : FindsPair (g.D.BlockDev.state c.args.device) c.args.size c.args.trusted.now = record {
+pub returns-in_err-push_signature-clause-err : goal.returns-in_err-push_signature-clause-err
+returns-in_err-push_signature-clause-err g c =
+    let pair : FindsPair (g.D.BlockDev.state c.args.device) c.args.plan.now.size c.args.trusted.now = record {
       table = c.in_ok-table.table;
       read_device = g.D.BlockDev.state c.find_noted.new.device;
       found = c.in_ok-table.ensures.ok.found;
       both = c.in_ok-both.both;
       both_is = ap (λ (ps : List Partition). image_partitions ps c.args.trusted.now.root) (sym c.deref.ensures.value) ∙ sym c.in_ok-both.ensures;
       super = c.in_ok-superblock.superblock;
+      signed_device = g.D.BlockDev.state c.find_signature-signed.new.device;
+      signed = c.find_signature-signed.result;
+      sought = rw c.deref-2.ensures.value at c.find_signature-signed.ensures;
       fitting = c.in_ok-superblock.ensures.ok;
     } in
-    let said = rw (c.sectors-sectors.ensures.size, c.deref-2.ensures.value, c.in_ok-text.ensures.ok) at c.say_loadable.ensures.ok in
+    let refused = c.in_err-push_signature.field-0.0 in
+    err-from c.from_residual-in_err-push_signature.result _ NoMemory c.from_residual-in_err-push_signature.ensures.1
+    (record { pair = pair; refused = (refused.asked, less-room c.in_ok-superblock.superblock c.args.trusted.now.root refused c.in_err-push_signature.ensures.err, refused.refused) })
+
+pub returns-clause-ok : goal.returns-clause-ok
+returns-clause-ok g c =
+    let pair : FindsPair (g.D.BlockDev.state c.args.device) c.args.plan.now.size c.args.trusted.now = record {
+      table = c.in_ok-table.table;
+      read_device = g.D.BlockDev.state c.find_noted.new.device;
+      found = c.in_ok-table.ensures.ok.found;
+      both = c.in_ok-both.both;
+      both_is = ap (λ (ps : List Partition). image_partitions ps c.args.trusted.now.root) (sym c.deref.ensures.value) ∙ sym c.in_ok-both.ensures;
+      super = c.in_ok-superblock.superblock;
+      signed_device = g.D.BlockDev.state c.find_signature-signed.new.device;
+      signed = c.find_signature-signed.result;
+      sought = rw c.deref-2.ensures.value at c.find_signature-signed.ensures;
+      fitting = c.in_ok-superblock.ensures.ok;
+    } in
+    let said = rw (c.sectors-sectors.ensures.size, c.deref-3.ensures.value, c.in_ok-push_signature.ensures.ok, c.in_ok-text.ensures.ok) at c.say_loadable.ensures.ok in
     on_ok_weaker c.say_loadable.result (λ both. record { pair = pair; loads = both.0; printed = both.1; noted = c.in_ok-table.ensures.ok.noted }) said
 
 pub returns-clause-err : goal.returns-clause-err
 returns-clause-err g c =
-    let pair : FindsPair (g.D.BlockDev.state c.args.device) c.args.size c.args.trusted.now = record {
+    let pair : FindsPair (g.D.BlockDev.state c.args.device) c.args.plan.now.size c.args.trusted.now = record {
       table = c.in_ok-table.table;
       read_device = g.D.BlockDev.state c.find_noted.new.device;
       found = c.in_ok-table.ensures.ok.found;
       both = c.in_ok-both.both;
       both_is = ap (λ (ps : List Partition). image_partitions ps c.args.trusted.now.root) (sym c.deref.ensures.value) ∙ sym c.in_ok-both.ensures;
       super = c.in_ok-superblock.superblock;
+      signed_device = g.D.BlockDev.state c.find_signature-signed.new.device;
+      signed = c.find_signature-signed.result;
+      sought = rw c.deref-2.ensures.value at c.find_signature-signed.ensures;
       fitting = c.in_ok-superblock.ensures.ok;
     } in
-    let ended = rw (c.sectors-sectors.ensures.size, c.deref-2.ensures.value, c.in_ok-text.ensures.ok) at c.say_loadable.ensures.err in
-    IfErr-weaker c.say_loadable.result _ _ (say-root g.D.BlockDev.state c.args.device c.args.size c.args.trusted.now pair c.say_loadable.new.writer.failed) ended
+    let ended = rw (c.sectors-sectors.ensures.size, c.deref-3.ensures.value, c.in_ok-push_signature.ensures.ok, c.in_ok-text.ensures.ok) at c.say_loadable.ensures.err in
+    IfErr-weaker c.say_loadable.result _ _ (say-root g.D.BlockDev.state c.args.device c.args.plan.now c.args.trusted.now pair c.say_loadable.new.writer.failed) ended
 
 pub returns-in_err-table-clause-noted : goal.returns-in_err-table-clause-noted
 returns-in_err-table-clause-noted g c =
@@ -92,6 +121,9 @@ returns-in_err-superblock-clause-noted g c = on_err-any c.from_residual-in_err-s
 
 pub returns-in_err-text-clause-noted : goal.returns-in_err-text-clause-noted
 returns-in_err-text-clause-noted g c = on_err-any c.from_residual-in_err-text.result _ (λ fault. inr (g.D.BlockDev.state c.find_noted.new.device, c.in_ok-table.table, c.in_ok-table.ensures.ok))
+
+pub returns-in_err-push_signature-clause-noted : goal.returns-in_err-push_signature-clause-noted
+returns-in_err-push_signature-clause-noted g c = on_err-any c.from_residual-in_err-push_signature.result _ (λ fault. inr (g.D.BlockDev.state c.find_noted.new.device, c.in_ok-table.table, c.in_ok-table.ensures.ok))
 
 pub returns-clause-noted : goal.returns-clause-noted
 returns-clause-noted g c = on_err-any c.say_loadable.result _ (λ fault. inr (g.D.BlockDev.state c.find_noted.new.device, c.in_ok-table.table, c.in_ok-table.ensures.ok))
@@ -107,3 +139,6 @@ returns-in_err-superblock-clause-quiet g c = on_err-any c.from_residual-in_err-s
 
 pub returns-in_err-text-clause-quiet : goal.returns-in_err-text-clause-quiet
 returns-in_err-text-clause-quiet g c = on_err-any c.from_residual-in_err-text.result _ (λ fault. inr refl)
+
+pub returns-in_err-push_signature-clause-quiet : goal.returns-in_err-push_signature-clause-quiet
+returns-in_err-push_signature-clause-quiet g c = on_err-any c.from_residual-in_err-push_signature.result _ (λ fault. inr refl)

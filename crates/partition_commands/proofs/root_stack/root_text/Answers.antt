@@ -1,8 +1,8 @@
-use Rattle.std.proofs.Common.{ℕ, [], codes, ap, length, refl, arith, ◌∙◌}
+use Rattle.std.proofs.Common.{ℕ, [], false, codes, ap, length, refl, arith, ◌∙◌}
 use Rattle.stack_rules.proofs.lemmas.PassingLemmas.{out_of_memory-more}
 use Rattle.verity_format.specs.Line.{line_room}
 use Rattle.partition_commands.specs.declared.fault.PartitionsFault.TheVariants.{NoMemory}
-use Rattle.partition_commands.specs.Parts.{part_of}
+use Rattle.image_files.specs.Partitions.{part_of}
 use Rattle.partition_commands.specs.RootStacks.{root_entry, root_room, root_stack_text}
 use Rattle.partition_commands.specs.Stacks.{entry_text, linear_line}
 use Rattle.partition_commands.proofs.EndingLemmas.{err-from, exit_room}
@@ -29,5 +29,5 @@ returns-clause-ok c =
     let first = rw (c.new-text.ensures.items, c.part_of.ensures) at c.in_ok-push_linear_entry.ensures.ok in
     let second = rw c.part_of-2.ensures at c.in_ok-push_linear_entry-2.ensures.ok in
     let third = rw (c.deref.ensures.value ∙ c.in_ok-line.ensures.ok) at c.in_ok-push_root.ensures.ok in
-    append-three [] _ _ _ (entry_text (codes "data") (linear_line (part_of size both.data))) (entry_text (codes "hash") (linear_line (part_of size both.verity)))
+    append-three [] _ _ _ (entry_text c.args.writable (codes "data") (linear_line (part_of size both.data))) (entry_text false (codes "hash") (linear_line (part_of size both.verity)))
     (root_entry c.args.superblock.now c.args.root.now) first second third

@@ -14,4 +14,4 @@ pub go_on-requires-clause-allowed : goal.go_on-requires-clause-allowed
 go_on-requires-clause-allowed g c = allowed-then c.args.plan.now _ c.args.image.now.world c.repair_image.new.image.world _ _ c.in-Err.fault c.in-Err.ensures.err c.requires.allowed
 
 pub returns-in-Err-clause-err : goal.returns-in-Err-clause-err
-returns-in-Err-clause-err g c = cut-then c.repair_image.new.writer c.args.plan.now None c.args.image.now.world c.repair_image.new.image.world c.go_on.new.image.world _ _ c.in-Err.fault c.go_on.result c.in-Err.ensures.told c.in-Err.ensures.err c.go_on.ensures
+returns-in-Err-clause-err g c = cut-then c.repair_image.new.writer c.args.plan.now None None c.args.image.now.world c.repair_image.new.image.world c.go_on.new.image.world _ _ c.in-Err.fault c.go_on.result tt c.in-Err.ensures.told c.in-Err.ensures.err c.go_on.ensures

@@ -3,7 +3,7 @@ use Rattle.repair_commands.proofs.EndingLemmas.{err-from}
 use Rattle.repair_commands.proofs.parity.open_parity.Goals as goal
 
 pub returns-clause-ok : goal.returns-clause-ok
-returns-clause-ok g c = record { id = c.in_ok-image.image.id; opened = rw (c.part_use.ensures, c.part_use-2.ensures) at c.in_ok-image.ensures.ok; roots_are = refl }
+returns-clause-ok g c = record { image = c.in_ok-image.image; opened = rw (c.part_use.ensures, c.part_use-2.ensures) at c.in_ok-image.ensures.ok; device_is = refl; roots_are = refl }
 
 pub returns-in_err-image-clause-err : goal.returns-in_err-image-clause-err
 returns-in_err-image-clause-err g c =

@@ -9,6 +9,6 @@ filled-requires c = omega (arith, c.requires.map, ap (λ l. length (marks l)) c.
 pub splice-requires : goal.splice-requires
 splice-requires c = record {
   around = ap length c.in_ok-all.ensures ∙ length-replicate {A = Bool} c.args.sectors true;
-  within = c.requires.map;
+  within = omega (arith, c.requires.map, c.requires.inside);
   inside = c.requires.inside;
 }

@@ -8,7 +8,7 @@ use Rattle.stack_recovery.specs.Recoveries.{sides}
 use Rattle.scan_commands.specs.MapFiles.{map_path_of}
 use Rattle.scan_commands.specs.Turns.{begins, goes_on, passes}
 use Rattle.scan_commands.proofs.TurnLemmas.{ends-as, err-from, turn-config, turn-out, whole-as}
-use Rattle.scan_commands.proofs.turns.read_in_turns.Goals.{then-is_had, else-is_had+in_ok-map}
+use Rattle.scan_commands.proofs.turns.read_in_turns.Goals.{then-is_had, else-is_had+in_ok-ended}
 use Rattle.scan_commands.proofs.turns.read_in_turns.Goals as goal
 
 pub turns-init : goal.turns-init
@@ -31,12 +31,12 @@ returns-in_err-wanted-clause-err g c =
     (ends-as g.I.Images.relations.replaces (map_path_of c.args.kept.file) c.args.kept.phase c.args.d.0 c.sectors-sectors.result _ _ _ c.turns.images
     (sides c.turns.stack (g.O.BlockDev.state c.turns.out) (g.L.Listing.told c.turns.listing)) NoMemory u.all u.turns (refl, refl, out_of_memory-more 1 largest_allocation (omega arith) c.in_err-wanted.ensures.err, inl refl))
 
-pub returns-in_err-map-clause-err : goal.returns-in_err-map-clause-err
-returns-in_err-map-clause-err g c =
+pub returns-in_err-ended-clause-err : goal.returns-in_err-ended-clause-err
+returns-in_err-ended-clause-err g c =
     let u = c.turns.invariant in
-    err-from c.from_residual-in_err-map.result _ c.in_err-map.field-0.0 c.from_residual-in_err-map.ensures.1
+    err-from c.from_residual-in_err-ended.result _ c.in_err-ended.field-0.0 c.from_residual-in_err-ended.ensures.1
     (ends-as g.I.Images.relations.replaces (map_path_of c.args.kept.file) c.args.kept.phase c.args.d.0 c.sectors-sectors.result _ _ _ c.take_turn.new.images
-    (sides c.take_turn.new.stack (g.O.BlockDev.state c.take_turn.new.out) (g.L.Listing.told c.take_turn.new.listing)) c.in_err-map.field-0.0 u.all u.turns c.in_err-map.ensures.err)
+    (sides c.take_turn.new.stack (g.O.BlockDev.state c.take_turn.new.out) (g.L.Listing.told c.take_turn.new.listing)) c.in_err-ended.field-0.0 u.all u.turns c.in_err-ended.ensures.err)
 
 pub turns-preserved : goal.turns-preserved
 turns-preserved g c =
@@ -65,17 +65,23 @@ turns-preserved g c =
         size = u.size;
         allowed = u.allowed;
       })
-      | else-is_had+in_ok-map w ↦ let t = w.in_ok-map.ensures.ok in
+      | else-is_had+in_ok-ended w ↦ let t = w.in_ok-ended.ensures.ok in
           rw (w.images-is, w.stack-is, w.out-is, w.listing-is, w.map-is, w.at-is) (record {
             turns = goes_on u.turns t;
-            map = w.in_ok-map.ensures.sectors;
-            within = more;
+            map = w.in_ok-ended.ensures.sectors;
+            within = omega (arith, t.here, t.next.inside);
             all = u.all;
             config = turn-config _ _ _ _ t ∙ u.config;
             size = (turn-out _ _ _ _ t).0 ∙ u.size;
             allowed = (turn-out _ _ _ _ t).1 u.allowed;
           })
     ]
+
+pub turns-smaller : goal.turns-smaller
+turns-smaller g c = elim c.if-is_had.branch [
+  | then-is_had w ↦ rw w.at-is (omega (arith, c.min-count.ensures, c.turns-test.true, c.turn_len.ensures.some))
+  | else-is_had+in_ok-ended w ↦ rw w.at-is (omega (arith, w.in_ok-ended.ensures.ok.some, c.turns-test.true))
+]
 
 pub returns-clause-ok : goal.returns-clause-ok
 returns-clause-ok g c =

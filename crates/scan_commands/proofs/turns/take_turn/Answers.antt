@@ -1,4 +1,4 @@
-use Rattle.std.proofs.Common.{arith, ◌∙◌, ◌+◌, inr, ℕ, Bool, List, Option, Ok, refl, ap, subst}
+use Rattle.std.proofs.Common.{arith, ◌∙◌, ◌+◌, min, inr, ℕ, Bool, List, Option, Ok, refl, ap, subst}
 use Rattle.std.proofs.lemmas.Bool.{false≢true}
 use Rattle.block_device.specs.Device.{Device}
 use Rattle.rescue_map.specs.MapText.{map_text}
@@ -11,6 +11,18 @@ use Rattle.scan_commands.specs.Turns.{ReadsSectors, kept, progressed}
 use Rattle.scan_commands.proofs.TurnLemmas.{err-from, failed-behind, reads-out, reads-unfailed, stops-reading, stops-unwritten}
 use Rattle.scan_commands.proofs.turns.take_turn.Goals as goal
 
+pub read_turn-requires-clause-some : goal.read_turn-requires-clause-some
+read_turn-requires-clause-some g c = omega (arith, c.requires.next.some, c.requires.next.inside, c.requires.all)
+
+pub overflow_sub-count : goal.overflow_sub-count
+overflow_sub-count g c = omega (arith, c.min-at.ensures, c.sectors_of.ensures, c.in_ok-read.ensures.ok.some)
+
+pub splice-requires-clause-within : goal.splice-requires-clause-within
+splice-requires-clause-within g c = omega (arith, c.min-at.ensures, c.sectors_of.ensures, c.in_ok-read.ensures.ok.some)
+
+pub splice-requires-clause-inside : goal.splice-requires-clause-inside
+splice-requires-clause-inside g c = omega (arith, c.min-at.ensures, c.sectors_of.ensures, c.in_ok-read.ensures.ok.some, c.requires.next.inside)
+
 pub returns-in_err-read-clause-err : goal.returns-in_err-read-clause-err
 returns-in_err-read-clause-err g c =
     let k = kept g.I.Images.relations.replaces (map_path_of c.args.turn.file) c.args.d.0 c.args.turn.sectors in
@@ -19,7 +31,7 @@ returns-in_err-read-clause-err g c =
 
 pub returns-in_err-sync-clause-err : goal.returns-in_err-sync-clause-err
 returns-in_err-sync-clause-err g c =
-    let r = c.in_ok-read.ensures.ok in
+    let r = c.in_ok-read.ensures.ok.reads in
     let old : Sides = sides c.args.stack.now (g.O.BlockDev.state c.args.out.now) (g.L.Listing.told c.args.listing.now) in
     let left : Sides = sides c.read_turn.new.stack (g.O.BlockDev.state c.read_turn.new.out) (g.L.Listing.told c.read_turn.new.listing) in
     err-from c.from_residual-in_err-sync.result _ Output c.from_residual-in_err-sync.ensures.1 (
@@ -47,7 +59,7 @@ returns-in_err-map-clause-err g c =
     let left : Sides = sides c.read_turn.new.stack (g.O.BlockDev.state c.read_turn.new.out) (g.L.Listing.told c.read_turn.new.listing) in
     err-from c.from_residual-in_err-map.result _ NoMemory c.from_residual-in_err-map.ensures.1 (
       refl,
-      ap (λ (o : Device). o.failures) c.in_ok-sync.ensures.ok ∙ reads-unfailed c.args.turn.phase _ c.args.d.0 old _ left c.in_ok-read.ensures.ok,
+      ap (λ (o : Device). o.failures) c.in_ok-sync.ensures.ok ∙ reads-unfailed c.args.turn.phase _ c.args.d.0 old _ left c.in_ok-read.ensures.ok.reads,
       out_of_memory-more 1 largest_allocation (omega arith) c.in_err-map.ensures.err,
       inr (inr (record {
         span = c.args.turn.span;
@@ -55,7 +67,7 @@ returns-in_err-map-clause-err g c =
         next = c.requires.next;
         left = left;
         made = c.in_ok-read.read;
-        reads = subst (λ (l : List Bool). ReadsSectors c.args.turn.phase l c.args.d.0 old c.in_ok-read.read left) c.requires.wanted c.in_ok-read.ensures.ok;
+        reads = subst (λ (l : List Bool). ReadsSectors c.args.turn.phase l c.args.d.0 old c.in_ok-read.read left) c.requires.wanted c.in_ok-read.ensures.ok.reads;
         on_medium = ap (λ (o : Device). sides c.read_turn.new.stack o (g.L.Listing.told c.read_turn.new.listing)) c.in_ok-sync.ensures.ok;
       })),
     )
@@ -68,14 +80,14 @@ returns-in_err-write_map-clause-err g c =
     let now = progressed c.args.images.now old c.args.turn.map.now c.args.turn.span.first in
     err-from c.from_residual-in_err-write_map.result _ c.in_err-write_map.field-0.0 c.from_residual-in_err-write_map.ensures.1
     (stops-unwritten k c.args.turn.phase now (map_text c.args.turn.file.kind c.tried_before-tried.result c.in_ok-map.map) c.write_map.new.images (sides c.read_turn.new.stack (g.O.BlockDev.state c.sync.new.self) (g.L.Listing.told c.read_turn.new.listing)) c.in_err-write_map.field-0.0
-    (ap (λ (o : Device). o.failures) c.in_ok-sync.ensures.ok ∙ reads-unfailed c.args.turn.phase _ c.args.d.0 old _ left c.in_ok-read.ensures.ok)
+    (ap (λ (o : Device). o.failures) c.in_ok-sync.ensures.ok ∙ reads-unfailed c.args.turn.phase _ c.args.d.0 old _ left c.in_ok-read.ensures.ok.reads)
     (record {
       span = c.args.turn.span;
       end = c.args.turn.span.first + c.args.turn.span.count;
       next = c.requires.next;
       left = left;
       made = c.in_ok-read.read;
-      reads = subst (λ (l : List Bool). ReadsSectors c.args.turn.phase l c.args.d.0 old c.in_ok-read.read left) c.requires.wanted c.in_ok-read.ensures.ok;
+      reads = subst (λ (l : List Bool). ReadsSectors c.args.turn.phase l c.args.d.0 old c.in_ok-read.read left) c.requires.wanted c.in_ok-read.ensures.ok.reads;
       on_medium = ap (λ (o : Device). sides c.read_turn.new.stack o (g.L.Listing.told c.read_turn.new.listing)) c.in_ok-sync.ensures.ok;
     })
     c.in_err-write_map.ensures.err)
@@ -86,11 +98,14 @@ returns-clause-ok g c =
     let left : Sides = sides c.read_turn.new.stack (g.O.BlockDev.state c.read_turn.new.out) (g.L.Listing.told c.read_turn.new.listing) in
     record {
       span = c.args.turn.span;
+      end = c.args.turn.span.first + c.args.turn.span.count;
       next = c.requires.next;
       left = left;
       made = c.in_ok-read.read;
-      reads = subst (λ (l : List Bool). ReadsSectors c.args.turn.phase l c.args.d.0 old c.in_ok-read.read left) c.requires.wanted c.in_ok-read.ensures.ok;
+      reads = subst (λ (l : List Bool). ReadsSectors c.args.turn.phase l c.args.d.0 old c.in_ok-read.read left) c.requires.wanted c.in_ok-read.ensures.ok.reads;
       on_medium = ap (λ (o : Device). sides c.read_turn.new.stack o (g.L.Listing.told c.read_turn.new.listing)) c.in_ok-sync.ensures.ok;
+      some = omega (arith, c.min-at.ensures, c.sectors_of.ensures, c.in_ok-read.ensures.ok.some, c.requires.next.some);
+      here = c.min-at.ensures ∙ ap (min (c.args.turn.span.first + c.args.turn.span.count)) c.sectors_of.ensures;
       map = c.in_ok-map.ensures.marks;
       written = subst (λ (t : Option ℕ). g.I.Images.relations.replaces c.args.images.now c.args.turn.file.path.now (map_text c.args.turn.file.kind t c.in_ok-map.map) (Ok tt) c.write_map.new.images) c.tried_before-tried.ensures c.in_ok-write_map.ensures.ok;
     }

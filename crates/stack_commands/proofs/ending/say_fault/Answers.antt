@@ -5,6 +5,3 @@ use Rattle.stack_commands.proofs.ending.say_fault.Goals as goal
 -- nothing is written
 pub returns-in-Session : goal.returns-in-Session
 returns-in-Session g c = rw c.in-Session.is (record { ok = Appends-nil (g.W.Write.contents c.args.writer.now.inner); kept = refl; failed = tt })
-
-pub returns-in-Service : goal.returns-in-Service
-returns-in-Service g c = rw c.in-Service.is (record { ok = Appends-nil (g.W.Write.contents c.args.writer.now.inner); kept = refl; failed = tt })

@@ -12,14 +12,14 @@ use Rattle.stack_commands.proofs.nbd.serve_client.Goals as goal
 
 pub returns-in_err-stack-clause-err : goal.returns-in_err-stack-clause-err
 returns-in_err-stack-clause-err g c =
-    err-from c.from_residual.result _ (Stack c.in_err-stack.field-0.0) c.from_residual.ensures.1 (inl (refl, inl c.in_err-stack.ensures.err))
+    err-from c.from_residual.result _ (Stack c.in_err-stack.field-0.0) c.from_residual.ensures.1 (inl ((refl, refl), inl c.in_err-stack.ensures.err))
 
 pub returns-in_default-clause-err : goal.returns-in_default-clause-err
 returns-in_default-clause-err g c =
     let at = c.config.ensures.value ∙ ap (λ (v : StackRecord). v.config) c.stack.ensures ∙ ap (λ (w : World). w.stack.config) c.new-queue.ensures.value in
     let none = subst (λ (n : List ℕ). HasNoExport c.config.result.now n) c.as_bytes.ensures.value c.in_default.ensures.none in
     inl (
-      refl,
+      (refl, refl),
       inr (record {
         stack = c.in_ok-stack.stack;
         loaded = c.in_ok-stack.ensures.ok;
@@ -36,9 +36,10 @@ returns-in_err-outcome-clause-err g c =
     err-from c.from_residual-in_err-outcome.result _ (Service c.in_err-outcome.field-0.0) c.from_residual-in_err-outcome.ensures.1
     (inr (inl (record {
       service = c.in_err-outcome.field-0.0;
+      tally = c.serve_noted-outcome.new.tally;
       synced = c.sync_and_close-synced.result;
-      served = client-served _ c.open_loaded.new.images _ c.in_ok-stack.stack c.new-queue.result c.serve-outcome.new.queue e _ _ _ _
-          c.in_ok-stack.ensures.ok c.new-queue.ensures.value (subst (λ (x : Configuration). IsExport x e) at c.in-Some.ensures.some.0) named c.in_err-outcome.ensures.service (rw c.into_stack.ensures at c.sync_and_close-synced.ensures);
+      served = client-served _ c.open_loaded.new.images _ c.in_ok-stack.stack c.new-queue.result c.serve_noted-outcome.new.queue e _ c.serve_noted-outcome.new.tally _ _
+          c.in_ok-stack.ensures.ok c.new-queue.ensures.value (subst (λ (x : Configuration). IsExport x e) at c.in-Some.ensures.some.0) named c.in_err-outcome.ensures.served (rw c.into_stack.ensures at c.sync_and_close-synced.ensures);
       is = refl;
       written = λ is. c.in_err-outcome.ensures.writer.failed (ap Some is);
     })))
@@ -49,21 +50,36 @@ returns-in_err-synced-clause-err g c =
     let at = c.config.ensures.value ∙ ap (λ (v : StackRecord). v.config) c.stack.ensures in
     let named = ap (λ (b : Bor (List ℕ)). b.now) c.in-Some.ensures.some.1 ∙ c.as_bytes.ensures.value in
     err-from c.from_residual-in_err-synced.result _ (Io c.in_err-synced.field-0.0) c.from_residual-in_err-synced.ensures.1
-    (inr (inr (
-    client-served _ c.open_loaded.new.images _ c.in_ok-stack.stack c.new-queue.result c.serve-outcome.new.queue e _ _ _ _
-    c.in_ok-stack.ensures.ok c.new-queue.ensures.value (subst (λ (x : Configuration). IsExport x e) at c.in-Some.ensures.some.0) named c.in_ok-outcome.ensures.service (rw c.into_stack.ensures at c.in_err-synced.ensures)
-    )))
+    (inr (inr (inl (
+      c.serve_noted-outcome.new.tally,
+      client-served _ c.open_loaded.new.images _ c.in_ok-stack.stack c.new-queue.result c.serve_noted-outcome.new.queue e _ c.serve_noted-outcome.new.tally _ _
+          c.in_ok-stack.ensures.ok c.new-queue.ensures.value (subst (λ (x : Configuration). IsExport x e) at c.in-Some.ensures.some.0) named c.in_ok-outcome.ensures.served (rw c.into_stack.ensures at c.in_err-synced.ensures),
+    ))))
 
-pub returns-clause-ok : goal.returns-clause-ok
-returns-clause-ok g c =
+pub returns-then-tally-eq0-clause-ok : goal.returns-then-tally-eq0-clause-ok
+returns-then-tally-eq0-clause-ok g c =
+    let e = export_record c.in-Some.export in
+    let at = c.config.ensures.value ∙ ap (λ (v : StackRecord). v.config) c.stack.ensures in
+    let named = ap (λ (b : Bor (List ℕ)). b.now) c.in-Some.ensures.some.1 ∙ c.as_bytes.ensures.value in (
+      c.serve_noted-outcome.new.tally,
+      c.if-tally-eq0.true,
+      client-served _ c.open_loaded.new.images _ c.in_ok-stack.stack c.new-queue.result c.serve_noted-outcome.new.queue e _ c.serve_noted-outcome.new.tally _ _
+          c.in_ok-stack.ensures.ok c.new-queue.ensures.value (subst (λ (x : Configuration). IsExport x e) at c.in-Some.ensures.some.0) named c.in_ok-outcome.ensures.served (rw c.into_stack.ensures at c.in_ok-synced.ensures),
+    )
+
+pub returns-clause-err : goal.returns-clause-err
+returns-clause-err g c =
     let e = export_record c.in-Some.export in
     let at = c.config.ensures.value ∙ ap (λ (v : StackRecord). v.config) c.stack.ensures in
     let named = ap (λ (b : Bor (List ℕ)). b.now) c.in-Some.ensures.some.1 ∙ c.as_bytes.ensures.value in
-    client-served _ c.open_loaded.new.images _ c.in_ok-stack.stack c.new-queue.result c.serve-outcome.new.queue e _ _ _ _
-    c.in_ok-stack.ensures.ok c.new-queue.ensures.value (subst (λ (x : Configuration). IsExport x e) at c.in-Some.ensures.some.0) named c.in_ok-outcome.ensures.service (rw c.into_stack.ensures at c.in_ok-synced.ensures)
+    inr (inr (inr (
+      c.if-tally-eq0.false,
+      client-served _ c.open_loaded.new.images _ c.in_ok-stack.stack c.new-queue.result c.serve_noted-outcome.new.queue e _ c.serve_noted-outcome.new.tally _ _
+          c.in_ok-stack.ensures.ok c.new-queue.ensures.value (subst (λ (x : Configuration). IsExport x e) at c.in-Some.ensures.some.0) named c.in_ok-outcome.ensures.served (rw c.into_stack.ensures at c.in_ok-synced.ensures),
+    )))
 
-pub serve-outcome-requires : goal.serve-outcome-requires
-serve-outcome-requires g c =
+pub serve_noted-outcome-requires : goal.serve_noted-outcome-requires
+serve_noted-outcome-requires g c =
     let e = export_record c.in-Some.export in
     let at = c.config.ensures.value ∙ ap (λ (v : StackRecord). v.config) c.stack.ensures in
     only-export _ c.in-Some.export (subst (λ (x : Configuration). IsExport x e) at c.in-Some.ensures.some.0)

@@ -14,21 +14,21 @@ use Rattle.stack_commands.proofs.nbd.serve_exports.Goals as goal
 
 pub returns-in_err-stack-clause-err : goal.returns-in_err-stack-clause-err
 returns-in_err-stack-clause-err g c =
-    err-from c.from_residual.result _ (Stack c.in_err-stack.field-0.0) c.from_residual.ensures.1 (inl (refl, inl c.in_err-stack.ensures.err))
+    err-from c.from_residual.result _ (Stack c.in_err-stack.field-0.0) c.from_residual.ensures.1 (inl ((refl, refl), inl c.in_err-stack.ensures.err))
 
 pub returns-in_err-names-clause-err : goal.returns-in_err-names-clause-err
 returns-in_err-names-clause-err g c =
     err-from c.from_residual-in_err-names.result _ NoMemory c.from_residual-in_err-names.ensures.1
-    (inl (refl, inr (record { stack = c.in_ok-stack.stack; loaded = c.in_ok-stack.ensures.ok; is = refl; refused = c.in_err-names.ensures.err })))
+    (inl ((refl, refl), inr (record { stack = c.in_ok-stack.stack; loaded = c.in_ok-stack.ensures.ok; is = refl; refused = c.in_err-names.ensures.err })))
 
 pub returns-in_err-exports-clause-err : goal.returns-in_err-exports-clause-err
 returns-in_err-exports-clause-err g c =
     let refused = c.in_err-exports.ensures.err in
     err-from c.from_residual-in_err-exports.result _ NoMemory c.from_residual-in_err-exports.ensures.1
-    (inl (refl, inr (record { stack = c.in_ok-stack.stack; loaded = c.in_ok-stack.ensures.ok; is = refl; refused = (refused.0, omega (arith, refused.1), refused.2) })))
+    (inl ((refl, refl), inr (record { stack = c.in_ok-stack.stack; loaded = c.in_ok-stack.ensures.ok; is = refl; refused = (refused.0, omega (arith, refused.1), refused.2) })))
 
-pub serve-outcome-requires : goal.serve-outcome-requires
-serve-outcome-requires g c =
+pub serve_noted-outcome-requires : goal.serve_noted-outcome-requires
+serve_noted-outcome-requires g c =
     let at = c.config-config.ensures.value ∙ ap (λ (v : StackRecord). v.config) c.stack.ensures in
     let names = map (λ (n : Vec ℕ Global). n.items) c.as_slice-listed.result.now in
     let held = subst (λ (l : List Export). Offers c.config-config.result.now names (export_records l)) (sym c.as_slice-offered.ensures.value) c.in_ok-exports.ensures.ok in
@@ -47,9 +47,10 @@ returns-in_err-outcome-clause-err g c =
     err-from c.from_residual-in_err-outcome.result _ (Service c.in_err-outcome.field-0.0) c.from_residual-in_err-outcome.ensures.1
     (inr (inl (record {
       service = c.in_err-outcome.field-0.0;
+      tally = c.serve_noted-outcome.new.tally;
       synced = c.sync_and_close-synced.result;
-      served = exports-served _ c.open_loaded.new.images _ _ c.in_ok-stack.stack c.new-queue.result c.serve-outcome.new.queue names es _ _ _ _
-          c.in_ok-stack.ensures.ok c.new-queue.ensures.value named offered c.in_err-outcome.ensures.service (rw c.into_stack.ensures at c.sync_and_close-synced.ensures);
+      served = exports-served _ c.open_loaded.new.images _ _ c.in_ok-stack.stack c.new-queue.result c.serve_noted-outcome.new.queue names es _ c.serve_noted-outcome.new.tally _ _
+          c.in_ok-stack.ensures.ok c.new-queue.ensures.value named offered c.in_err-outcome.ensures.served (rw c.into_stack.ensures at c.sync_and_close-synced.ensures);
       is = refl;
       written = λ is. c.in_err-outcome.ensures.writer.failed (ap Some is);
     })))
@@ -64,13 +65,29 @@ returns-in_err-synced-clause-err g c =
     let held = subst (λ (l : List Export). Offers c.config-config.result.now names (export_records l)) (sym c.as_slice-offered.ensures.value) c.in_ok-exports.ensures.ok in
     let offered = subst (λ (x : Configuration). Offers x names es) at held in
     err-from c.from_residual-in_err-synced.result _ (Io c.in_err-synced.field-0.0) c.from_residual-in_err-synced.ensures.1
-    (inr (inr (
-    exports-served _ c.open_loaded.new.images _ _ c.in_ok-stack.stack c.new-queue.result c.serve-outcome.new.queue names es _ _ _ _
-    c.in_ok-stack.ensures.ok c.new-queue.ensures.value named offered c.in_ok-outcome.ensures.service (rw c.into_stack.ensures at c.in_err-synced.ensures)
-    )))
+    (inr (inr (inl (
+      c.serve_noted-outcome.new.tally,
+      exports-served _ c.open_loaded.new.images _ _ c.in_ok-stack.stack c.new-queue.result c.serve_noted-outcome.new.queue names es _ c.serve_noted-outcome.new.tally _ _
+          c.in_ok-stack.ensures.ok c.new-queue.ensures.value named offered c.in_ok-outcome.ensures.served (rw c.into_stack.ensures at c.in_err-synced.ensures),
+    ))))
 
-pub returns-clause-ok : goal.returns-clause-ok
-returns-clause-ok g c =
+pub returns-then-tally-eq0-clause-ok : goal.returns-then-tally-eq0-clause-ok
+returns-then-tally-eq0-clause-ok g c =
+    let at = c.config-config.ensures.value ∙ ap (λ (v : StackRecord). v.config) c.stack.ensures in
+    let names = map (λ (n : Vec ℕ Global). n.items) c.as_slice-listed.result.now in
+    let es = export_records c.as_slice-offered.result.now in
+    let said = subst (λ (l : List (Vec ℕ Global)). AreNames c.config-config.result.now.devices (map (λ n. n.items) l)) (sym c.as_slice-listed.ensures.value) c.in_ok-names.ensures.ok in
+    let named = subst (λ (x : Configuration). AreNames x.devices names) at said in
+    let held = subst (λ (l : List Export). Offers c.config-config.result.now names (export_records l)) (sym c.as_slice-offered.ensures.value) c.in_ok-exports.ensures.ok in
+    let offered = subst (λ (x : Configuration). Offers x names es) at held in (
+      c.serve_noted-outcome.new.tally,
+      c.if-tally-eq0.true,
+      exports-served _ c.open_loaded.new.images _ _ c.in_ok-stack.stack c.new-queue.result c.serve_noted-outcome.new.queue names es _ c.serve_noted-outcome.new.tally _ _
+          c.in_ok-stack.ensures.ok c.new-queue.ensures.value named offered c.in_ok-outcome.ensures.served (rw c.into_stack.ensures at c.in_ok-synced.ensures),
+    )
+
+pub returns-clause-err : goal.returns-clause-err
+returns-clause-err g c =
     let at = c.config-config.ensures.value ∙ ap (λ (v : StackRecord). v.config) c.stack.ensures in
     let names = map (λ (n : Vec ℕ Global). n.items) c.as_slice-listed.result.now in
     let es = export_records c.as_slice-offered.result.now in
@@ -78,5 +95,8 @@ returns-clause-ok g c =
     let named = subst (λ (x : Configuration). AreNames x.devices names) at said in
     let held = subst (λ (l : List Export). Offers c.config-config.result.now names (export_records l)) (sym c.as_slice-offered.ensures.value) c.in_ok-exports.ensures.ok in
     let offered = subst (λ (x : Configuration). Offers x names es) at held in
-    exports-served _ c.open_loaded.new.images _ _ c.in_ok-stack.stack c.new-queue.result c.serve-outcome.new.queue names es _ _ _ _
-    c.in_ok-stack.ensures.ok c.new-queue.ensures.value named offered c.in_ok-outcome.ensures.service (rw c.into_stack.ensures at c.in_ok-synced.ensures)
+    inr (inr (inr (
+      c.if-tally-eq0.false,
+      exports-served _ c.open_loaded.new.images _ _ c.in_ok-stack.stack c.new-queue.result c.serve_noted-outcome.new.queue names es _ c.serve_noted-outcome.new.tally _ _
+          c.in_ok-stack.ensures.ok c.new-queue.ensures.value named offered c.in_ok-outcome.ensures.served (rw c.into_stack.ensures at c.in_ok-synced.ensures),
+    )))

@@ -13,6 +13,7 @@ returns-then-output_is_data g c = inr (record {
   notes = record { old = g.E.Write.contents c.args.errors.now.inner; new = g.E.Write.contents c.run.new.errors.inner; failed = c.run.new.errors.failed };
   begun = refl;
   fails = c.in-Err.ensures.err;
+  read = refl;
   kept = λ is. is;
   noted = λ failed. c.end.ensures.failed (c.explain.ensures.failed failed);
   told_so = told-elsewhere _ c.in-Err.ended _ _ _ _ (sym c.output_is_data.ensures ∙ c.if-output_is_data.true)
@@ -28,6 +29,7 @@ returns-else-output_is_data g c = inr (record {
   notes = record { old = g.E.Write.contents c.args.errors.now.inner; new = g.E.Write.contents c.run.new.errors.inner; failed = c.run.new.errors.failed };
   begun = refl;
   fails = c.in-Err.ensures.err;
+  read = refl;
   kept = c.report_end.ensures.failed;
   noted = λ failed. c.report_end.ensures.errors_failed (c.explain.ensures.failed failed);
   told_so = told-here _ c.in-Err.ended _ _ _ _ (sym c.output_is_data.ensures ∙ c.if-output_is_data.false) c.report_end.ensures.told (record {

@@ -2,7 +2,7 @@ use Rattle.std.proofs.Common.{◌++◌, [], ◌∷◌, arith, refl, inl, inr}
 use Rattle.image_files.specs.FileUses.{image_use, part_use}
 use Rattle.stack_files.specs.declared.opening_fault.OpeningFault.TheVariants.{NoMemory}
 use Rattle.command_line.specs.PartBindings.{part_record}
-use Rattle.stack_files.specs.Bindings.{device_part}
+use Rattle.image_files.specs.Places.{device_part}
 use Rattle.stack_files.specs.Openings.{part_ending}
 use Rattle.stack_files.proofs.OpeningLemmas.{err-from, part-refused}
 use Rattle.stack_files.proofs.leaves.open_backing.Goals as goal

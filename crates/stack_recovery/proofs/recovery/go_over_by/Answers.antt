@@ -24,10 +24,10 @@ use Rattle.stack_recovery.specs.PieceLimits.{limit_after_bytes, limit_up_to}
 use Rattle.stack_recovery.specs.Pieces.{EndsAligned}
 use Rattle.stack_recovery.specs.Recoveries.{EndsEarly, Sides, sides}
 use Rattle.stack_recovery.specs.Surveys.{AreMarked}
-use Rattle.stack_recovery.proofs.AheadLemmas.{ahead-inside, ahead-next, first-run, marked-next, notes-some}
+use Rattle.stack_recovery.proofs.AheadLemmas.{ahead-inside, ahead-next, ahead-some, first-run, marked-next, notes-some}
 use Rattle.stack_recovery.proofs.HandingLemmas.{hands-failed, hands-in-piece, hands-over, hands-part}
 use Rattle.stack_recovery.proofs.PieceLemmas.{next-piece}
-use Rattle.stack_recovery.proofs.UnderwayLemmas.{IsUnderway, ends-in-piece, fails-output, few, note-room, runs-short, underway-again, underway-all, underway-had, underway-kept, underway-lost, underway-none}
+use Rattle.stack_recovery.proofs.UnderwayLemmas.{IsUnderway, ends-in-piece, fails-output, few, note-room, runs-short, underway-again, underway-had, underway-kept, underway-lost, underway-none, underway-until}
 use Rattle.stack_recovery.proofs.WritingLemmas.{err-from}
 use Rattle.stack_recovery.proofs.recovery.go_over_by.Goals as goal
 
@@ -35,12 +35,12 @@ pub pieces-init : goal.pieces-init
 pieces-init g c =
     let old : Sides = sides c.args.stack.now (g.O.BlockDev.state c.args.out.now) (g.L.Listing.told c.args.listing.now) in
     let before : List Bool = marks_ahead c.args.ahead in
-    let all = c.sectors-sectors.ensures ∙ ap (λ (x : Configuration). size x (mapped c.args.d.0)) c.config.ensures.value in
+    let all = c.sectors-sectors.ensures ∙ ap (λ (x : Configuration). size x (mapped c.args.pass.device.0)) c.config.ensures.value in
     record {
       so_far = record {
         calls = [];
-        under = subst (λ (t : Tally). IsUnderway (is_some c.args.noted.now) before c.args.d.0 old old 0 t c.args.noted.now c.of_run-piece_limit.result []) (sym c.new-tally.ensures)
-            (underway-none (is_some c.args.noted.now) before c.args.d.0 old c.args.noted.now c.of_run-piece_limit.result c.requires.begun c.of_run-piece_limit.ensures.value);
+        under = subst (λ (t : Tally). IsUnderway (is_some c.args.noted.now) before c.args.pass.device.0 old old 0 t c.args.noted.now c.of_run-piece_limit.result []) (sym c.new-tally.ensures)
+            (underway-none (is_some c.args.noted.now) before c.args.pass.device.0 old c.args.noted.now c.of_run-piece_limit.result c.requires.begun c.of_run-piece_limit.ensures.value);
         did = refl;
       };
       ahead = refl;
@@ -53,6 +53,10 @@ pieces-init g c =
       noted = refl;
       single = c.requires.single;
     }
+
+pub next_run-run-requires : goal.next_run-run-requires
+next_run-run-requires g c =
+    ahead-some _ c.pieces.at c.sectors-sectors.result _ (c.requires.fits ∙ sym c.pieces.invariant.all) c.pieces.invariant.ahead (omega (arith, c.pieces-test.true, c.pass_end.ensures.few))
 
 pub note-requires-clause-room : goal.note-requires-clause-room
 note-requires-clause-room g c =
@@ -68,7 +72,7 @@ returns-in_err-note-clause-err g c =
     let new : Sides = sides c.pieces.stack (g.O.BlockDev.state c.pieces.out) (g.L.Listing.told c.pieces.listing) in
     let makes_map : Bool = is_some c.args.noted.now in
     err-from c.from_residual.result _ _ c.from_residual.ensures.1
-    (subst (EndsEarly makes_map (marks_ahead c.args.ahead) c.args.d.0 old new) (sym c.in_err-note.ensures.err.0)
+    (subst (EndsEarly makes_map (marks_ahead c.args.ahead) c.args.pass.device.0 old new) (sym c.in_err-note.ensures.err.0)
     (runs-short _ _ _ _ _ _ _ _ _ _ u.so_far.under c.pieces.stack u.unfailed (inr (sym u.noted ∙ c.in_err-note.ensures.made, c.in_err-note.ensures.err.1))))
 
 pub overflow_add-at : goal.overflow_add-at
@@ -124,7 +128,7 @@ piece_at-piece-requires-clause-inside g c =
     let count : ℕ = c.next_run-run.result.count in
     let first = first-run c.pieces.ahead c.next_run-run.new.self c.next_run-run.result c.next_run-run.ensures.same c.next_run-run.ensures.first in
     let inside = ahead-inside (marks_ahead c.args.ahead) c.pieces.at c.sectors-sectors.result count c.next_run-run.result.had _ _ (c.requires.fits ∙ sym u.all) u.ahead first u.within in
-    subst (λ (x : Configuration). c.pieces.at + count ≤ size x (mapped c.args.d.0)) (sym (c.config-else-run.ensures.value ∙ u.config)) (subst (λ (m : ℕ). c.pieces.at + count ≤ m) u.all inside)
+    subst (λ (x : Configuration). c.pieces.at + count ≤ size x (mapped c.args.pass.device.0)) (sym (c.config-else-run.ensures.value ∙ u.config)) (subst (λ (m : ℕ). c.pieces.at + count ≤ m) u.all inside)
 
 pub read_bytes-requires-clause-inside : goal.read_bytes-requires-clause-inside
 read_bytes-requires-clause-inside g c =
@@ -135,7 +139,7 @@ read_bytes-requires-clause-inside g c =
     let inside = ahead-inside (marks_ahead c.args.ahead) c.pieces.at c.sectors-sectors.result count c.next_run-run.result.had _ _ (c.requires.fits ∙ sym u.all) u.ahead first u.within in
     let wide : length (take (n * 512) c.pieces.room) ≡ n * 512 = length-take-le (n * 512) c.pieces.room (omega (arith, c.requires.buffer, c.pieces.auto.room, c.piece_at-piece.ensures.few)) in
     let within : c.pieces.at + length (take (n * 512) c.pieces.room) / 512 ≤ c.sectors-sectors.result = omega (arith, wide, inside, c.piece_at-piece.ensures.inside) in
-    subst (λ (x : Configuration). c.pieces.at + length (take (n * 512) c.pieces.room) / 512 ≤ size x (mapped c.args.d.0)) (sym u.config) (subst (λ (m : ℕ). c.pieces.at + length (take (n * 512) c.pieces.room) / 512 ≤ m) u.all within)
+    subst (λ (x : Configuration). c.pieces.at + length (take (n * 512) c.pieces.room) / 512 ≤ size x (mapped c.args.pass.device.0)) (sym u.config) (subst (λ (m : ℕ). c.pieces.at + length (take (n * 512) c.pieces.room) / 512 ≤ m) u.all within)
 
 pub note-requires-in-Ok-clause-room : goal.note-requires-in-Ok-clause-room
 note-requires-in-Ok-clause-room g c =
@@ -151,7 +155,7 @@ returns-in_err-note-in-Ok-clause-err g c =
     let new : Sides = sides c.read_bytes.new.self (g.O.BlockDev.state c.pieces.out) (g.L.Listing.told c.pieces.listing) in
     let makes_map : Bool = is_some c.args.noted.now in
     err-from c.from_residual-in_err-note-in-Ok.result _ _ c.from_residual-in_err-note-in-Ok.ensures.1
-    (subst (EndsEarly makes_map (marks_ahead c.args.ahead) c.args.d.0 old new) (sym c.in_err-note-in-Ok.ensures.err.0)
+    (subst (EndsEarly makes_map (marks_ahead c.args.ahead) c.args.pass.device.0 old new) (sym c.in_err-note-in-Ok.ensures.err.0)
     (runs-short _ _ _ _ _ _ _ _ _ _ u.so_far.under c.read_bytes.new.self u.unfailed (inr (sym u.noted ∙ c.in_err-note-in-Ok.ensures.made, c.in_err-note-in-Ok.ensures.err.1))))
 
 pub write-requires-clause-range : goal.write-requires-clause-range
@@ -162,7 +166,7 @@ write-requires-clause-range g c =
     let inside = ahead-inside (marks_ahead c.args.ahead) c.pieces.at c.sectors-sectors.result c.next_run-run.result.count c.next_run-run.result.had _ _ (c.requires.fits ∙ sym u.all) u.ahead first u.within in
     let wide : length (take (n * 512) c.pieces.room) ≡ n * 512 = length-take-le (n * 512) c.pieces.room (omega (arith, c.requires.buffer, c.pieces.auto.room, c.piece_at-piece.ensures.few)) in
     let number : length (take (n * 512) c.pieces.room) / 512 ≡ n = omega (arith, wide) in
-    let piece = subst (λ (m : ℕ). EachBytes c.pieces.stack c.args.d.0 c.pieces.at m (Ok c.read_bytes.new.out) c.read_bytes.new.self) number (record { any = c.in-Ok.ensures.any; steady = c.in-Ok.ensures.steady }) in
+    let piece = subst (λ (m : ℕ). EachBytes c.pieces.stack c.args.pass.device.0 c.pieces.at m (Ok c.read_bytes.new.out) c.read_bytes.new.self) number (record { any = c.in-Ok.ensures.any; steady = c.in-Ok.ensures.steady }) in
     let len : length c.read_bytes.new.out ≡ 512 * n = piece.any.may.read.run.len in
     record {
       some = omega (arith, len, c.piece_at-piece.ensures.some);
@@ -177,7 +181,7 @@ returns-in_err-write-in-Ok-clause-err g c =
     let wide : length (take (n * 512) c.pieces.room) ≡ n * 512 = length-take-le (n * 512) c.pieces.room (omega (arith, c.requires.buffer, c.pieces.auto.room, c.piece_at-piece.ensures.few)) in
     let number : length (take (n * 512) c.pieces.room) / 512 ≡ n = omega (arith, wide) in
     let bytes : List ℕ = c.read_bytes.new.out in
-    let piece = subst (λ (m : ℕ). EachBytes c.pieces.stack c.args.d.0 c.pieces.at m (Ok bytes) c.read_bytes.new.self) number (record { any = c.in-Ok.ensures.any; steady = c.in-Ok.ensures.steady }) in
+    let piece = subst (λ (m : ℕ). EachBytes c.pieces.stack c.args.pass.device.0 c.pieces.at m (Ok bytes) c.read_bytes.new.self) number (record { any = c.in-Ok.ensures.any; steady = c.in-Ok.ensures.steady }) in
     let len : length bytes ≡ 512 * n = piece.any.may.read.run.len in
     let count : length bytes / 512 ≡ n = omega (arith, len) in
     err-from c.from_residual-in_err-write-in-Ok.result _ Output c.from_residual-in_err-write-in-Ok.ensures.1
@@ -198,7 +202,7 @@ pieces-preserved-in-Ok g c =
     let wide : length (take (n * 512) c.pieces.room) ≡ n * 512 = length-take-le (n * 512) c.pieces.room (omega (arith, c.requires.buffer, c.pieces.auto.room, c.piece_at-piece.ensures.few)) in
     let number : length (take (n * 512) c.pieces.room) / 512 ≡ n = omega (arith, wide) in
     let bytes : List ℕ = c.read_bytes.new.out in
-    let piece = subst (λ (m : ℕ). EachBytes c.pieces.stack c.args.d.0 c.pieces.at m (Ok bytes) c.read_bytes.new.self) number (record { any = c.in-Ok.ensures.any; steady = c.in-Ok.ensures.steady }) in
+    let piece = subst (λ (m : ℕ). EachBytes c.pieces.stack c.args.pass.device.0 c.pieces.at m (Ok bytes) c.read_bytes.new.self) number (record { any = c.in-Ok.ensures.any; steady = c.in-Ok.ensures.steady }) in
     let len : length bytes ≡ 512 * n = piece.any.may.read.run.len in
     let old : Sides = sides c.args.stack.now (g.O.BlockDev.state c.args.out.now) (g.L.Listing.told c.args.listing.now) in
     let new : Sides = sides c.read_bytes.new.self (g.O.BlockDev.state c.write.new.self) (g.L.Listing.told c.close-in-Ok.new.listing) in
@@ -206,15 +210,15 @@ pieces-preserved-in-Ok g c =
     let k : ℕ = length bytes / 512 in
     let count : length bytes / 512 ≡ n = omega (arith, len) in
     let same : c.from-count.result ≡ n = c.from-count.ensures in
-    let next : IsNextPiece (pass_over c.args.stack.now.config c.args.d.0 before (is_some c.args.noted.now)) c.pieces.at c.pieces.piece_limit.most n =
-    next-piece c.args.stack.now.config c.args.d.0 before (is_some c.args.noted.now) c.pieces.at here.count c.sectors-sectors.result c.pieces.piece_limit.most n (marks c.next_run-run.new.self.rest.now)
+    let next : IsNextPiece (pass_over c.args.stack.now.config c.args.pass.device.0 before (is_some c.args.noted.now)) c.pieces.at c.pieces.piece_limit.most n =
+    next-piece c.args.stack.now.config c.args.pass.device.0 before (is_some c.args.noted.now) c.pieces.at here.count c.sectors-sectors.result c.pieces.piece_limit.most n (marks c.next_run-run.new.self.rest.now)
     (u.ahead ∙ subst (λ (h : Bool). marks_ahead c.pieces.ahead ≡ replicate here.count h ++ marks c.next_run-run.new.self.rest.now) c.if-run.false first) (c.requires.fits ∙ sym u.all) u.within
     inside u.all (λ none. ap marks (c.next_run-run.ensures.single (u.single none)))
-    (subst (λ (x : Configuration). EndsAligned x c.args.d.0 c.pieces.at (c.pieces.at + here.count) c.pieces.piece_limit.most n) (c.config-else-run.ensures.value ∙ u.config) c.piece_at-piece.ensures.ends) in
+    (subst (λ (x : Configuration). EndsAligned x c.args.pass.device.0 c.pieces.at (c.pieces.at + here.count) c.pieces.piece_limit.most n) (c.config-else-run.ensures.value ∙ u.config) c.piece_at-piece.ensures.ends) in
     record {
       so_far = record {
         calls = u.so_far.calls ++ Write c.pieces.at bytes true ∷ [];
-        under = subst (λ (m : ℕ). IsUnderway (is_some c.args.noted.now) before c.args.d.0 old new (c.pieces.at + m) c.close-in-Ok.new.self c.note-in-Ok.new.noted c.after_bytes-piece_limit.result (u.so_far.calls ++ Write c.pieces.at bytes true ∷ [])) (sym same)
+        under = subst (λ (m : ℕ). IsUnderway (is_some c.args.noted.now) before c.args.pass.device.0 old new (c.pieces.at + m) c.close-in-Ok.new.self c.note-in-Ok.new.noted c.after_bytes-piece_limit.result (u.so_far.calls ++ Write c.pieces.at bytes true ∷ [])) (sym same)
             (underway-had _ _ _ _ _ _ _ _ _ _ u.so_far.under n bytes c.read_bytes.new.self k _ (g.O.BlockDev.state c.write.new.self) (g.L.Listing.told c.close-in-Ok.new.listing) c.close-in-Ok.new.self c.note-in-Ok.new.noted
             c.after_bytes-piece_limit.result next (c.after_bytes-piece_limit.ensures.value ∙ ap (λ (m : ℕ). limit_after_bytes c.pieces.piece_limit n (c.pieces.at + m)) same)
             c.piece_at-piece.ensures.some piece marked (rw same at c.in_ok-note-in-Ok.ensures.ok) count c.in_ok-write-in-Ok.ensures.moved
@@ -255,7 +259,7 @@ returns-in_err-lose_piece-in-Err-clause-err g c =
     (ends-in-piece _ _ _ _ _ _ _ _ _ _ u.so_far.under g.L.Listing.told c.read_bytes.new.self c.in-Err.fault c.pieces.listing c.lose_piece.new.listing c.in_err-lose_piece-in-Err.field-0.0 refl u.unfailed u.noted
     (λ is. record {
       count = count;
-      answered = subst (λ (f : IoFault). EachBytes c.pieces.stack c.args.d.0 c.pieces.at count (Err f) c.read_bytes.new.self) is (record { any = c.in-Err.ensures.any; steady = c.in-Err.ensures.steady });
+      answered = subst (λ (f : IoFault). EachBytes c.pieces.stack c.args.pass.device.0 c.pieces.at count (Err f) c.read_bytes.new.self) is (record { any = c.in-Err.ensures.any; steady = c.in-Err.ensures.steady });
       met = c.in-Err.ensures.memory (ap Err is);
     })
     c.in_err-lose_piece-in-Err.ensures.err)
@@ -271,26 +275,26 @@ pieces-preserved-then-branch g c =
     let marked : AreMarked before c.pieces.at n false = subst (AreMarked before c.pieces.at n) c.if-run.false (marked-next before c.pieces.at n here.count here.had _ (omega (arith, c.piece_at-piece.ensures.inside)) (u.ahead ∙ first)) in
     let wide : length (take (n * 512) c.pieces.room) ≡ n * 512 = length-take-le (n * 512) c.pieces.room (omega (arith, c.requires.buffer, c.pieces.auto.room, c.piece_at-piece.ensures.few)) in
     let number : length (take (n * 512) c.pieces.room) / 512 ≡ n = omega (arith, wide) in
-    let piece = subst (λ (m : ℕ). EachBytes c.pieces.stack c.args.d.0 c.pieces.at m (Err c.in-Err.fault) c.read_bytes.new.self) number (record { any = c.in-Err.ensures.any; steady = c.in-Err.ensures.steady }) in
+    let piece = subst (λ (m : ℕ). EachBytes c.pieces.stack c.args.pass.device.0 c.pieces.at m (Err c.in-Err.fault) c.read_bytes.new.self) number (record { any = c.in-Err.ensures.any; steady = c.in-Err.ensures.steady }) in
     let grown : LostRun = run c.pieces.at n c.in-Err.fault in
     let call = c.in_ok-lose_piece-in-Err in
     let is : call.field-0 ≡ true = c.if-branch.true in
-    let alike : AreAlike c.pieces.stack.config c.args.d.0 c.pieces.at n = subst (λ (x : Configuration). AreAlike x c.args.d.0 c.pieces.at n) c.config-else-run.ensures.value (c.piece_at-piece.ensures.alike (sym call.ensures.alike ∙ is)) in
+    let alike : AreAlike c.pieces.stack.config c.args.pass.device.0 c.pieces.at n = subst (λ (x : Configuration). AreAlike x c.args.pass.device.0 c.pieces.at n) c.config-else-run.ensures.value (c.piece_at-piece.ensures.alike (sym call.ensures.alike ∙ is)) in
     let noting = subst (NotesLost n c.pieces.noted c.lose_piece.new.noted) is call.ensures.noted in
     let tally = subst (TalliesLost grown c.pieces.tally c.lose_piece.new.tally) is call.ensures.tallied in
     let told = subst (ListsLost g.L.Listing.told grown c.pieces.tally c.pieces.listing c.lose_piece.new.listing) is call.ensures.told in
     let old : Sides = sides c.args.stack.now (g.O.BlockDev.state c.args.out.now) (g.L.Listing.told c.args.listing.now) in
     let new : Sides = sides c.read_bytes.new.self (g.O.BlockDev.state c.pieces.out) (g.L.Listing.told c.lose_piece.new.listing) in
     let same : c.from-count.result ≡ n = c.from-count.ensures in
-    let next : IsNextPiece (pass_over c.args.stack.now.config c.args.d.0 before (is_some c.args.noted.now)) c.pieces.at c.pieces.piece_limit.most n =
-    next-piece c.args.stack.now.config c.args.d.0 before (is_some c.args.noted.now) c.pieces.at here.count c.sectors-sectors.result c.pieces.piece_limit.most n (marks c.next_run-run.new.self.rest.now)
+    let next : IsNextPiece (pass_over c.args.stack.now.config c.args.pass.device.0 before (is_some c.args.noted.now)) c.pieces.at c.pieces.piece_limit.most n =
+    next-piece c.args.stack.now.config c.args.pass.device.0 before (is_some c.args.noted.now) c.pieces.at here.count c.sectors-sectors.result c.pieces.piece_limit.most n (marks c.next_run-run.new.self.rest.now)
     (u.ahead ∙ subst (λ (h : Bool). marks_ahead c.pieces.ahead ≡ replicate here.count h ++ marks c.next_run-run.new.self.rest.now) c.if-run.false first) (c.requires.fits ∙ sym u.all) u.within
     inside u.all (λ none. ap marks (c.next_run-run.ensures.single (u.single none)))
-    (subst (λ (x : Configuration). EndsAligned x c.args.d.0 c.pieces.at (c.pieces.at + here.count) c.pieces.piece_limit.most n) (c.config-else-run.ensures.value ∙ u.config) c.piece_at-piece.ensures.ends) in
+    (subst (λ (x : Configuration). EndsAligned x c.args.pass.device.0 c.pieces.at (c.pieces.at + here.count) c.pieces.piece_limit.most n) (c.config-else-run.ensures.value ∙ u.config) c.piece_at-piece.ensures.ends) in
     record {
       so_far = record {
         calls = u.so_far.calls;
-        under = subst (λ (m : ℕ). IsUnderway (is_some c.args.noted.now) before c.args.d.0 old new (c.pieces.at + m) c.lose_piece.new.tally c.lose_piece.new.noted c.after_loss-piece_limit.result u.so_far.calls) (sym same)
+        under = subst (λ (m : ℕ). IsUnderway (is_some c.args.noted.now) before c.args.pass.device.0 old new (c.pieces.at + m) c.lose_piece.new.tally c.lose_piece.new.noted c.after_loss-piece_limit.result u.so_far.calls) (sym same)
             (underway-lost _ _ _ _ _ _ _ _ _ _ u.so_far.under n c.in-Err.fault c.read_bytes.new.self (g.L.Listing.told c.lose_piece.new.listing) c.lose_piece.new.tally c.lose_piece.new.noted
             c.after_loss-piece_limit.result next c.after_loss-piece_limit.ensures.value
             c.piece_at-piece.ensures.some piece marked noting alike call.ensures.kind told tally);
@@ -317,13 +321,13 @@ pieces-preserved g c =
     let marked : AreMarked before c.pieces.at n false = subst (AreMarked before c.pieces.at n) c.if-run.false (marked-next before c.pieces.at n here.count here.had _ (omega (arith, c.piece_at-piece.ensures.inside)) (u.ahead ∙ first)) in
     let wide : length (take (n * 512) c.pieces.room) ≡ n * 512 = length-take-le (n * 512) c.pieces.room (omega (arith, c.requires.buffer, c.pieces.auto.room, c.piece_at-piece.ensures.few)) in
     let number : length (take (n * 512) c.pieces.room) / 512 ≡ n = omega (arith, wide) in
-    let piece = subst (λ (m : ℕ). EachBytes c.pieces.stack c.args.d.0 c.pieces.at m (Err c.in-Err.fault) c.read_bytes.new.self) number (record { any = c.in-Err.ensures.any; steady = c.in-Err.ensures.steady }) in
+    let piece = subst (λ (m : ℕ). EachBytes c.pieces.stack c.args.pass.device.0 c.pieces.at m (Err c.in-Err.fault) c.read_bytes.new.self) number (record { any = c.in-Err.ensures.any; steady = c.in-Err.ensures.steady }) in
     let inside = ahead-inside before c.pieces.at c.sectors-sectors.result here.count here.had _ _ (c.requires.fits ∙ sym u.all) u.ahead first u.within in
-    let next : IsNextPiece (pass_over c.args.stack.now.config c.args.d.0 before (is_some c.args.noted.now)) c.pieces.at c.pieces.piece_limit.most n =
-    next-piece c.args.stack.now.config c.args.d.0 before (is_some c.args.noted.now) c.pieces.at here.count c.sectors-sectors.result c.pieces.piece_limit.most n (marks c.next_run-run.new.self.rest.now)
+    let next : IsNextPiece (pass_over c.args.stack.now.config c.args.pass.device.0 before (is_some c.args.noted.now)) c.pieces.at c.pieces.piece_limit.most n =
+    next-piece c.args.stack.now.config c.args.pass.device.0 before (is_some c.args.noted.now) c.pieces.at here.count c.sectors-sectors.result c.pieces.piece_limit.most n (marks c.next_run-run.new.self.rest.now)
     (u.ahead ∙ subst (λ (h : Bool). marks_ahead c.pieces.ahead ≡ replicate here.count h ++ marks c.next_run-run.new.self.rest.now) c.if-run.false first) (c.requires.fits ∙ sym u.all) u.within
     inside u.all (λ none. ap marks (c.next_run-run.ensures.single (u.single none)))
-    (subst (λ (x : Configuration). EndsAligned x c.args.d.0 c.pieces.at (c.pieces.at + here.count) c.pieces.piece_limit.most n) (c.config-else-run.ensures.value ∙ u.config) c.piece_at-piece.ensures.ends) in
+    (subst (λ (x : Configuration). EndsAligned x c.args.pass.device.0 c.pieces.at (c.pieces.at + here.count) c.pieces.piece_limit.most n) (c.config-else-run.ensures.value ∙ u.config) c.piece_at-piece.ensures.ends) in
     let call = c.in_ok-lose_piece-in-Err in
     let isnt : call.field-0 ≡ false = c.if-branch.false in
     let noted = subst (NotesLost n c.pieces.noted c.lose_piece.new.noted) isnt call.ensures.noted in
@@ -347,21 +351,17 @@ pieces-preserved g c =
       single = λ none. c.next_run-run.ensures.single (u.single none);
     }
 
-pub counts-requires : goal.counts-requires
-counts-requires g c = omega (arith, few _ _ _ _ _ _ _ _ _ _ c.pieces.invariant.so_far.under, c.pieces.invariant.within, c.close-2.ensures.lost)
+pub finish-requires : goal.finish-requires
+finish-requires g c = few _ _ _ _ _ _ _ _ _ _ c.pieces.invariant.so_far.under
 
 pub returns-clause-ok : goal.returns-clause-ok
 returns-clause-ok g c =
     let u = c.pieces.invariant in
-    let all : c.sectors-sectors.result ≡ c.pieces.at = omega (arith, u.within, c.pieces-test.false) in
-    underway-all _ _ _ _ _ _ _ _ _ _ u.so_far.under (g.L.Listing.told c.close-2.new.listing) c.sectors-sectors.result _ (sym all ∙ u.all) all
-    c.close-2.ensures.text (c.counts.ensures ∙ ap (λ m. record { read = c.sectors-sectors.result - m; lost = m }) c.close-2.ensures.lost) u.unfailed u.noted
+    underway-until _ _ _ _ _ _ _ _ _ _ u.so_far.under c.args.pass.deadline (g.L.Listing.told c.finish.new.listing) c.sectors-sectors.result c.finish.result (c.pass_end.ensures.ends c.pieces-test.false) u.all
+    c.finish.ensures.text c.finish.ensures.value u.unfailed u.noted
 
 pub returns-clause-handed : goal.returns-clause-handed
-returns-clause-handed g c =
-    let u = c.pieces.invariant in
-    let all : c.sectors-sectors.result ≡ c.pieces.at = omega (arith, u.within, c.pieces-test.false) in
-    hands-over _ _ _ _ _ _ _ _ _ _ _ _ u.so_far c.args.listing.now c.close-2.new.listing (sym all ∙ u.all)
+returns-clause-handed g c = hands-over _ _ _ _ _ _ _ _ _ _ _ _ c.pieces.invariant.so_far c.args.listing.now c.finish.new.listing c.finish.result c.finish.ensures.value
 
 pub returns-in_err-note-clause-stopped : goal.returns-in_err-note-clause-stopped
 returns-in_err-note-clause-stopped g c =
@@ -379,7 +379,7 @@ returns-in_err-write-in-Ok-clause-stopped g c =
     let wide : length (take (n * 512) c.pieces.room) ≡ n * 512 = length-take-le (n * 512) c.pieces.room (omega (arith, c.requires.buffer, c.pieces.auto.room, c.piece_at-piece.ensures.few)) in
     let number : length (take (n * 512) c.pieces.room) / 512 ≡ n = omega (arith, wide) in
     let bytes : List ℕ = c.read_bytes.new.out in
-    let piece = subst (λ (m : ℕ). EachBytes c.pieces.stack c.args.d.0 c.pieces.at m (Ok bytes) c.read_bytes.new.self) number (record { any = c.in-Ok.ensures.any; steady = c.in-Ok.ensures.steady }) in
+    let piece = subst (λ (m : ℕ). EachBytes c.pieces.stack c.args.pass.device.0 c.pieces.at m (Ok bytes) c.read_bytes.new.self) number (record { any = c.in-Ok.ensures.any; steady = c.in-Ok.ensures.steady }) in
     err-from c.from_residual-in_err-write-in-Ok.result _ Output c.from_residual-in_err-write-in-Ok.ensures.1
     (hands-failed _ _ _ _ _ _ _ _ _ _ _ _ c.pieces.invariant.so_far c.args.listing.now c.pieces.listing c.read_bytes.new.self c.write.new.self n bytes piece c.in_err-write-in-Ok.ensures.call)
 

@@ -10,11 +10,11 @@ use Rattle.stack_recovery.proofs.recovery.go_over_by.Given as goal
 -- the sectors before this one are had or lost
 abbrev pub invariant-pieces : goal.invariant-pieces
 invariant-pieces g l = record {
-  so_far : IsHanding (DeviceDoes g.O.BlockDev.state g.O.BlockDev.does) (is_some l.fn.noted) (marks_ahead l.fn.ahead) l.fn.d.0 (sides l.fn.stack (g.O.BlockDev.state l.fn.out) (g.L.Listing.told l.fn.listing)) (sides l.stack (g.O.BlockDev.state l.out) (g.L.Listing.told l.listing)) l.at l.tally l.noted l.piece_limit l.fn.out l.out;
+  so_far : IsHanding (DeviceDoes g.O.BlockDev.state g.O.BlockDev.does) (is_some l.fn.noted) (marks_ahead l.fn.ahead) l.fn.pass.device.0 (sides l.fn.stack (g.O.BlockDev.state l.fn.out) (g.L.Listing.told l.fn.listing)) (sides l.stack (g.O.BlockDev.state l.out) (g.L.Listing.told l.listing)) l.at l.tally l.noted l.piece_limit l.fn.out l.out;
   ahead : drop l.at (marks_ahead l.fn.ahead) ≡ marks_ahead l.ahead;
   config : l.stack.config ≡ l.fn.stack.config;
   within : l.at ≤ l.sectors;
-  all : l.sectors ≡ size l.fn.stack.config (mapped l.d.0);
+  all : l.sectors ≡ size l.fn.stack.config (mapped l.fn.pass.device.0);
   few : l.sectors ≤ 2 ^ 54;
   piece_limit : IsPieceLimit l.piece_limit.most;
   unfailed : (g.O.BlockDev.state l.out).failures ≡ (g.O.BlockDev.state l.fn.out).failures;

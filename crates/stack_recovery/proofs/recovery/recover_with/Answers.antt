@@ -8,7 +8,7 @@ use Rattle.stack_rules.specs.Names.{mapped, size}
 use Rattle.stack_rules.specs.Records.{Configuration}
 use Rattle.stack_recovery.specs.FirstPasses.{Transfer, transfer}
 use Rattle.stack_recovery.specs.Retries.{after_pass, retried_by}
-use Rattle.stack_recovery.proofs.RetryLemmas.{again-kept}
+use Rattle.stack_recovery.proofs.RetryLemmas.{again-kept, counted-whole, goes-whole, hands-whole}
 use Rattle.stack_recovery.proofs.SkimEndLemmas.{ends-unread, hands-unread, part-unread, skims-config, skims-sectors, skims-unread}
 use Rattle.stack_recovery.proofs.WritingLemmas.{err-from}
 use Rattle.stack_recovery.proofs.recovery.recover_with.Goals as goal
@@ -31,10 +31,10 @@ pub read_again-requires-clause-room : goal.read_again-requires-clause-room
 read_again-requires-clause-room g c =
     let p = c.in_ok-map.ensures.ok in
     subst (λ (x : Configuration). size x (mapped c.args.plan.device.0) ≤ (g.O.BlockDev.state c.skim_ahead.new.out).size) (sym (skims-config _ _ _ _ _ _ p))
-    (subst (λ (m : ℕ). size c.args.stack.now.config (mapped c.args.plan.device.0) ≤ m) (sym p.copied.same.size) c.requires.room)
+    (subst (λ (m : ℕ). size c.args.stack.now.config (mapped c.args.plan.device.0) ≤ m) (sym p.reads.copied.same.size) c.requires.room)
 
 pub read_again-requires-clause-allowed : goal.read_again-requires-clause-allowed
-read_again-requires-clause-allowed g c = subst IsTrue (sym c.in_ok-map.ensures.ok.copied.same.may_write) c.requires.allowed
+read_again-requires-clause-allowed g c = subst IsTrue (sym c.in_ok-map.ensures.ok.reads.copied.same.may_write) c.requires.allowed
 
 pub rescue-requires-clause-device : goal.rescue-requires-clause-device
 rescue-requires-clause-device g c =
@@ -55,14 +55,14 @@ rescue-requires-clause-room g c =
     let kept = again-kept (retried_by c.args.plan) (after_pass c.skim_ahead.new.stack (g.O.BlockDev.state c.skim_ahead.new.out) c.in_ok-map.map) _
     (skims-sectors _ _ _ _ _ _ p ∙ ap (λ (x : Configuration). size x (mapped c.args.plan.device.0)) (sym (skims-config _ _ _ _ _ _ p))) c.in_ok-left.ensures.ok in
     subst (λ (x : Configuration). size x (mapped c.args.plan.device.0) ≤ (g.O.BlockDev.state c.read_again.new.out).size) (sym (kept.config ∙ skims-config _ _ _ _ _ _ p))
-    (subst (λ (m : ℕ). size c.args.stack.now.config (mapped c.args.plan.device.0) ≤ m) (sym (kept.same.size ∙ p.copied.same.size)) c.requires.room)
+    (subst (λ (m : ℕ). size c.args.stack.now.config (mapped c.args.plan.device.0) ≤ m) (sym (kept.same.size ∙ p.reads.copied.same.size)) c.requires.room)
 
 pub rescue-requires-clause-allowed : goal.rescue-requires-clause-allowed
 rescue-requires-clause-allowed g c =
     let p = c.in_ok-map.ensures.ok in
     let kept = again-kept (retried_by c.args.plan) (after_pass c.skim_ahead.new.stack (g.O.BlockDev.state c.skim_ahead.new.out) c.in_ok-map.map) _
     (skims-sectors _ _ _ _ _ _ p ∙ ap (λ (x : Configuration). size x (mapped c.args.plan.device.0)) (sym (skims-config _ _ _ _ _ _ p))) c.in_ok-left.ensures.ok in
-    subst IsTrue (sym (kept.same.may_write ∙ p.copied.same.may_write)) c.requires.allowed
+    subst IsTrue (sym (kept.same.may_write ∙ p.reads.copied.same.may_write)) c.requires.allowed
 
 pub returns-in_err-map-clause-err : goal.returns-in_err-map-clause-err
 returns-in_err-map-clause-err g c =
@@ -101,7 +101,7 @@ returns-in_err-left-clause-stopped g c =
     (inr (record {
       between = between;
       map = c.in_ok-map.map;
-      first = hands-unread Did (marks_ahead c.unread-ahead.result) c.sectors.result c.args.plan.device.0 (transfer c.args.stack.now c.args.out.now) (marks c.in_ok-map.map) between c.unread-ahead.ensures.marks all c.in_ok-map.ensures.handed;
+      first = hands-unread Did (marks_ahead c.unread-ahead.result) c.sectors.result c.args.plan.device.0 (transfer c.args.stack.now c.args.out.now) c.in_ok-map.map between c.unread-ahead.ensures.marks all (skims-sectors _ _ _ _ _ _ c.in_ok-map.ensures.ok) c.in_ok-map.ensures.handed;
       later = inl c.in_err-left.ensures.stopped;
     }))
 
@@ -127,7 +127,7 @@ returns-in_err-rescued-clause-stopped g c =
     (inr (record {
       between = between;
       map = c.in_ok-map.map;
-      first = hands-unread Did (marks_ahead c.unread-ahead.result) c.sectors.result c.args.plan.device.0 (transfer c.args.stack.now c.args.out.now) (marks c.in_ok-map.map) between c.unread-ahead.ensures.marks all c.in_ok-map.ensures.handed;
+      first = hands-unread Did (marks_ahead c.unread-ahead.result) c.sectors.result c.args.plan.device.0 (transfer c.args.stack.now c.args.out.now) c.in_ok-map.map between c.unread-ahead.ensures.marks all (skims-sectors _ _ _ _ _ _ c.in_ok-map.ensures.ok) c.in_ok-map.ensures.handed;
       later = inr (after_pass c.read_again.new.stack c.read_again.new.out c.in_ok-left.left, c.in_ok-left.ensures.handed, c.in_err-rescued.ensures.stopped);
     }))
 
@@ -143,7 +143,7 @@ returns-clause-ok g c =
       rescued = c.in_ok-rescued.rescued;
       skims = skims-unread c.unread-ahead.result c.sectors.result c.args.plan.device.0 old c.in_ok-map.map between c.unread-ahead.ensures.marks c.unread-ahead.ensures.single all c.in_ok-map.ensures.ok;
       retries = c.in_ok-left.ensures.ok;
-      rescues = c.in_ok-rescued.ensures.ok;
+      rescues = goes-whole _ _ _ _ _ _ c.in_ok-rescued.ensures.ok;
       counted = refl;
     }
 
@@ -157,7 +157,7 @@ returns-clause-handed g c =
       map = c.in_ok-map.map;
       left = after_pass c.read_again.new.stack c.read_again.new.out c.in_ok-left.left;
       made = c.in_ok-rescued.rescued.map;
-      first = hands-unread Did (marks_ahead c.unread-ahead.result) c.sectors.result c.args.plan.device.0 (transfer c.args.stack.now c.args.out.now) (marks c.in_ok-map.map) between c.unread-ahead.ensures.marks all c.in_ok-map.ensures.handed;
+      first = hands-unread Did (marks_ahead c.unread-ahead.result) c.sectors.result c.args.plan.device.0 (transfer c.args.stack.now c.args.out.now) c.in_ok-map.map between c.unread-ahead.ensures.marks all (skims-sectors _ _ _ _ _ _ c.in_ok-map.ensures.ok) c.in_ok-map.ensures.handed;
       again = c.in_ok-left.ensures.handed;
-      last = c.in_ok-rescued.ensures.handed;
+      last = hands-whole Did _ _ _ _ _ _ c.in_ok-rescued.ensures.handed (counted-whole _ _ _ _ _ _ c.in_ok-rescued.ensures.ok);
     }

@@ -5,7 +5,7 @@ use Rattle.rescue_map.specs.Maps.{marks}
 use Rattle.stack_rules.specs.Names.{mapped, size}
 use Rattle.stack_rules.specs.Records.{Configuration}
 use Rattle.stack_recovery.specs.Retries.{AfterPass, IsSilentHanding, IsSilentPass, after_pass, no_step}
-use Rattle.stack_recovery.proofs.RetryLemmas.{silent-handing, silent-part, steps-kept}
+use Rattle.stack_recovery.proofs.RetryLemmas.{counted-whole, goes-whole, silent-handing, silent-part, steps-kept}
 use Rattle.stack_recovery.proofs.lemmas.StepLemmas.{more-steps}
 use Rattle.stack_recovery.proofs.WritingLemmas.{err-from}
 use Rattle.stack_recovery.proofs.retries.read_again.Goals as goal
@@ -42,8 +42,8 @@ passes-preserved g c =
     let seen = after_pass c.passes.stack (g.O.BlockDev.state c.passes.out) c.passes.left in
     let seen_next = after_pass c.rescue.new.stack (g.O.BlockDev.state c.rescue.new.out) c.in_ok-rescued.rescued.map in
     record {
-      steps = more-steps (λ (n : ℕ). IsSilentPass d) _ c.passes.passes _ seen seen_next (omega arith) c.passes.invariant.steps (_, _, c.in_ok-rescued.rescued.counts, c.in_ok-rescued.ensures.ok);
-      handed = more-steps (λ (n : ℕ). IsSilentHanding Did d) _ c.passes.passes _ now next (omega arith) c.passes.invariant.handed (silent-handing Did d now next _ _ c.in_ok-rescued.ensures.handed);
+      steps = more-steps (λ (n : ℕ). IsSilentPass d) _ c.passes.passes _ seen seen_next (omega arith) c.passes.invariant.steps (_, _, c.in_ok-rescued.rescued.counts, goes-whole _ _ _ _ _ _ c.in_ok-rescued.ensures.ok);
+      handed = more-steps (λ (n : ℕ). IsSilentHanding Did d) _ c.passes.passes _ now next (omega arith) c.passes.invariant.handed (silent-handing Did d _ now next _ _ c.in_ok-rescued.ensures.handed (counted-whole _ _ _ _ _ _ c.in_ok-rescued.ensures.ok));
       few = omega (arith, c.passes-test.true);
     }
 

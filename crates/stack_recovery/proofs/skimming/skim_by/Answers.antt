@@ -18,19 +18,19 @@ use Rattle.stack_recovery.specs.Pieces.{EndsAligned}
 use Rattle.stack_recovery.specs.Skims.{IsSkimFound}
 use Rattle.stack_recovery.specs.Skips.{least_skip, longer_skip, most_skip}
 use Rattle.stack_recovery.specs.Surveys.{AreMarked, again}
-use Rattle.stack_recovery.proofs.AheadLemmas.{ahead-inside, ahead-next, first-run, marked-next}
+use Rattle.stack_recovery.proofs.AheadLemmas.{ahead-inside, ahead-next, ahead-some, first-run, marked-next}
 use Rattle.stack_recovery.proofs.PieceLemmas.{next-piece, skipped-piece}
-use Rattle.stack_recovery.proofs.SkimLemmas.{IsSkimming, fails-skim, hands-short, hands-skims, hands-unwritten, skim-room, skimming-had, skimming-kept, skimming-none, skimming-skipped, skims-all, skims-short}
+use Rattle.stack_recovery.proofs.SkimLemmas.{IsSkimming, fails-skim, hands-short, hands-skims, hands-unwritten, skim-room, skimming-had, skimming-kept, skimming-none, skimming-skipped, skims-short, skims-until}
 use Rattle.stack_recovery.proofs.SkimPieceLemmas.{no-more}
 use Rattle.stack_recovery.proofs.WritingLemmas.{err-from}
 use Rattle.stack_recovery.proofs.skimming.skim_by.Goals as goal
 
 pub pieces-init : goal.pieces-init
 pieces-init g c =
-    let all = c.sectors-sectors.ensures ∙ ap (λ (x : Configuration). size x (mapped c.args.d.0)) c.config.ensures.value in
+    let all = c.sectors-sectors.ensures ∙ ap (λ (x : Configuration). size x (mapped c.args.pass.device.0)) c.config.ensures.value in
     record {
-      so_far = subst (λ (m : List Run). IsSkimming g.O.BlockDev.state (DeviceDoes g.O.BlockDev.state g.O.BlockDev.does) (has_more c.args.ahead.rest.now) (marks_ahead c.args.ahead) c.args.d.0 (transfer c.args.stack.now c.args.out.now) (transfer c.args.stack.now c.args.out.now) 0 m least_skip) (sym c.requires.begun)
-          (skimming-none g.O.BlockDev.state (DeviceDoes g.O.BlockDev.state g.O.BlockDev.does) (has_more c.args.ahead.rest.now) (marks_ahead c.args.ahead) c.args.d.0 (transfer c.args.stack.now c.args.out.now));
+      so_far = subst (λ (m : List Run). IsSkimming g.O.BlockDev.state (DeviceDoes g.O.BlockDev.state g.O.BlockDev.does) (has_more c.args.ahead.rest.now) (marks_ahead c.args.ahead) c.args.pass.device.0 (transfer c.args.stack.now c.args.out.now) (transfer c.args.stack.now c.args.out.now) 0 m least_skip) (sym c.requires.begun)
+          (skimming-none g.O.BlockDev.state (DeviceDoes g.O.BlockDev.state g.O.BlockDev.does) (has_more c.args.ahead.rest.now) (marks_ahead c.args.ahead) c.args.pass.device.0 (transfer c.args.stack.now c.args.out.now));
       ahead = refl;
       config = refl;
       within = omega arith;
@@ -40,6 +40,11 @@ pieces-init g c =
       unfailed = refl;
       single = no-more c.args.ahead.rest.now;
     }
+
+pub next_run-run-requires : goal.next_run-run-requires
+next_run-run-requires g c =
+    let u = c.pieces.invariant in
+    ahead-some (marks_ahead c.args.ahead) c.pieces.at c.sectors-sectors.result (marks_ahead c.pieces.ahead) (c.requires.fits ∙ sym u.all) u.ahead (omega (arith, c.pieces-test.true, c.pass_end.ensures.few))
 
 pub mark-requires-clause-room : goal.mark-requires-clause-room
 mark-requires-clause-room g c =
@@ -99,7 +104,7 @@ piece_at-piece-requires-clause-inside g c =
     let count : ℕ = c.next_run-run.result.count in
     let first = first-run c.pieces.ahead c.next_run-run.new.self c.next_run-run.result c.next_run-run.ensures.same c.next_run-run.ensures.first in
     let inside = ahead-inside (marks_ahead c.args.ahead) c.pieces.at c.sectors-sectors.result count c.next_run-run.result.had _ _ (c.requires.fits ∙ sym u.all) u.ahead first u.within in
-    subst (λ (x : Configuration). c.pieces.at + count ≤ size x (mapped c.args.d.0)) (sym (c.config-else-run.ensures.value ∙ u.config)) (subst (λ (m : ℕ). c.pieces.at + count ≤ m) u.all inside)
+    subst (λ (x : Configuration). c.pieces.at + count ≤ size x (mapped c.args.pass.device.0)) (sym (c.config-else-run.ensures.value ∙ u.config)) (subst (λ (m : ℕ). c.pieces.at + count ≤ m) u.all inside)
 
 pub read_bytes-requires-clause-inside : goal.read_bytes-requires-clause-inside
 read_bytes-requires-clause-inside g c =
@@ -110,7 +115,7 @@ read_bytes-requires-clause-inside g c =
     let inside = ahead-inside (marks_ahead c.args.ahead) c.pieces.at c.sectors-sectors.result count c.next_run-run.result.had _ _ (c.requires.fits ∙ sym u.all) u.ahead first u.within in
     let wide : length (take (n * 512) c.pieces.room) ≡ n * 512 = length-take-le (n * 512) c.pieces.room (omega (arith, c.requires.buffer, c.pieces.auto.room, c.piece_at-piece.ensures.few)) in
     let within : c.pieces.at + length (take (n * 512) c.pieces.room) / 512 ≤ c.sectors-sectors.result = omega (arith, wide, inside, c.piece_at-piece.ensures.inside) in
-    subst (λ (x : Configuration). c.pieces.at + length (take (n * 512) c.pieces.room) / 512 ≤ size x (mapped c.args.d.0)) (sym u.config) (subst (λ (m : ℕ). c.pieces.at + length (take (n * 512) c.pieces.room) / 512 ≤ m) u.all within)
+    subst (λ (x : Configuration). c.pieces.at + length (take (n * 512) c.pieces.room) / 512 ≤ size x (mapped c.args.pass.device.0)) (sym u.config) (subst (λ (m : ℕ). c.pieces.at + length (take (n * 512) c.pieces.room) / 512 ≤ m) u.all within)
 
 pub mark-requires-in-Ok-clause-room : goal.mark-requires-in-Ok-clause-room
 mark-requires-in-Ok-clause-room g c =
@@ -138,7 +143,7 @@ write-requires-clause-range g c =
     let inside = ahead-inside (marks_ahead c.args.ahead) c.pieces.at c.sectors-sectors.result c.next_run-run.result.count c.next_run-run.result.had _ _ (c.requires.fits ∙ sym u.all) u.ahead first u.within in
     let wide : length (take (n * 512) c.pieces.room) ≡ n * 512 = length-take-le (n * 512) c.pieces.room (omega (arith, c.requires.buffer, c.pieces.auto.room, c.piece_at-piece.ensures.few)) in
     let number : length (take (n * 512) c.pieces.room) / 512 ≡ n = omega (arith, wide) in
-    let piece = subst (λ (m : ℕ). EachBytes c.pieces.stack c.args.d.0 c.pieces.at m (Ok c.read_bytes.new.out) c.read_bytes.new.self) number (record { any = c.in-Ok.ensures.any; steady = c.in-Ok.ensures.steady }) in
+    let piece = subst (λ (m : ℕ). EachBytes c.pieces.stack c.args.pass.device.0 c.pieces.at m (Ok c.read_bytes.new.out) c.read_bytes.new.self) number (record { any = c.in-Ok.ensures.any; steady = c.in-Ok.ensures.steady }) in
     let len : length c.read_bytes.new.out ≡ 512 * n = piece.any.may.read.run.len in
     record {
       some = omega (arith, len, c.piece_at-piece.ensures.some);
@@ -153,7 +158,7 @@ returns-in_err-write-in-Ok-clause-err g c =
     let wide : length (take (n * 512) c.pieces.room) ≡ n * 512 = length-take-le (n * 512) c.pieces.room (omega (arith, c.requires.buffer, c.pieces.auto.room, c.piece_at-piece.ensures.few)) in
     let number : length (take (n * 512) c.pieces.room) / 512 ≡ n = omega (arith, wide) in
     let bytes : List ℕ = c.read_bytes.new.out in
-    let piece = subst (λ (m : ℕ). EachBytes c.pieces.stack c.args.d.0 c.pieces.at m (Ok bytes) c.read_bytes.new.self) number (record { any = c.in-Ok.ensures.any; steady = c.in-Ok.ensures.steady }) in
+    let piece = subst (λ (m : ℕ). EachBytes c.pieces.stack c.args.pass.device.0 c.pieces.at m (Ok bytes) c.read_bytes.new.self) number (record { any = c.in-Ok.ensures.any; steady = c.in-Ok.ensures.steady }) in
     let len : length bytes ≡ 512 * n = piece.any.may.read.run.len in
     let count : length bytes / 512 ≡ n = omega (arith, len) in
     err-from c.from_residual-in_err-write-in-Ok.result _ Output c.from_residual-in_err-write-in-Ok.ensures.1
@@ -168,7 +173,7 @@ returns-in_err-write-in-Ok-clause-stopped g c =
     let wide : length (take (n * 512) c.pieces.room) ≡ n * 512 = length-take-le (n * 512) c.pieces.room (omega (arith, c.requires.buffer, c.pieces.auto.room, c.piece_at-piece.ensures.few)) in
     let number : length (take (n * 512) c.pieces.room) / 512 ≡ n = omega (arith, wide) in
     let bytes : List ℕ = c.read_bytes.new.out in
-    let piece = subst (λ (m : ℕ). EachBytes c.pieces.stack c.args.d.0 c.pieces.at m (Ok bytes) c.read_bytes.new.self) number (record { any = c.in-Ok.ensures.any; steady = c.in-Ok.ensures.steady }) in
+    let piece = subst (λ (m : ℕ). EachBytes c.pieces.stack c.args.pass.device.0 c.pieces.at m (Ok bytes) c.read_bytes.new.self) number (record { any = c.in-Ok.ensures.any; steady = c.in-Ok.ensures.steady }) in
     err-from c.from_residual-in_err-write-in-Ok.result _ Output c.from_residual-in_err-write-in-Ok.ensures.1
     (hands-unwritten _ _ _ _ _ _ _ _ _ _ c.pieces.invariant.so_far c.read_bytes.new.self c.write.new.self n bytes piece c.in_err-write-in-Ok.ensures.call)
 
@@ -185,18 +190,18 @@ pieces-preserved-in-Ok g c =
     let wide : length (take (n * 512) c.pieces.room) ≡ n * 512 = length-take-le (n * 512) c.pieces.room (omega (arith, c.requires.buffer, c.pieces.auto.room, c.piece_at-piece.ensures.few)) in
     let number : length (take (n * 512) c.pieces.room) / 512 ≡ n = omega (arith, wide) in
     let bytes : List ℕ = c.read_bytes.new.out in
-    let piece = subst (λ (m : ℕ). EachBytes c.pieces.stack c.args.d.0 c.pieces.at m (Ok bytes) c.read_bytes.new.self) number (record { any = c.in-Ok.ensures.any; steady = c.in-Ok.ensures.steady }) in
+    let piece = subst (λ (m : ℕ). EachBytes c.pieces.stack c.args.pass.device.0 c.pieces.at m (Ok bytes) c.read_bytes.new.self) number (record { any = c.in-Ok.ensures.any; steady = c.in-Ok.ensures.steady }) in
     let len : length bytes ≡ 512 * n = piece.any.may.read.run.len in
     let k : ℕ = length bytes / 512 in
     let count : length bytes / 512 ≡ n = omega (arith, len) in
     let same : c.from-count.result ≡ n = c.from-count.ensures in
-    let next : IsNextPiece (pass_over c.args.stack.now.config c.args.d.0 before by_map) c.pieces.at 128 n =
-    next-piece c.args.stack.now.config c.args.d.0 before by_map c.pieces.at here.count c.sectors-sectors.result 128 n (marks c.next_run-run.new.self.rest.now)
+    let next : IsNextPiece (pass_over c.args.stack.now.config c.args.pass.device.0 before by_map) c.pieces.at 128 n =
+    next-piece c.args.stack.now.config c.args.pass.device.0 before by_map c.pieces.at here.count c.sectors-sectors.result 128 n (marks c.next_run-run.new.self.rest.now)
     (u.ahead ∙ subst (λ (h : Bool). marks_ahead c.pieces.ahead ≡ replicate here.count h ++ marks c.next_run-run.new.self.rest.now) c.if-run.false first) (c.requires.fits ∙ sym u.all) u.within
     inside u.all (λ none. ap marks (c.next_run-run.ensures.single (u.single none)))
-    (subst (λ (x : Configuration). EndsAligned x c.args.d.0 c.pieces.at (c.pieces.at + here.count) 128 n) (c.config-else-run.ensures.value ∙ u.config) c.piece_at-piece.ensures.ends) in
+    (subst (λ (x : Configuration). EndsAligned x c.args.pass.device.0 c.pieces.at (c.pieces.at + here.count) 128 n) (c.config-else-run.ensures.value ∙ u.config) c.piece_at-piece.ensures.ends) in
     record {
-      so_far = subst (λ (m : ℕ). IsSkimming g.O.BlockDev.state (DeviceDoes g.O.BlockDev.state g.O.BlockDev.does) by_map before c.args.d.0 (transfer c.args.stack.now c.args.out.now) (transfer c.read_bytes.new.self c.write.new.self) (c.pieces.at + m) c.mark-in-Ok.new.map least_skip) (sym same)
+      so_far = subst (λ (m : ℕ). IsSkimming g.O.BlockDev.state (DeviceDoes g.O.BlockDev.state g.O.BlockDev.does) by_map before c.args.pass.device.0 (transfer c.args.stack.now c.args.out.now) (transfer c.read_bytes.new.self c.write.new.self) (c.pieces.at + m) c.mark-in-Ok.new.map least_skip) (sym same)
           (skimming-had _ _ _ _ _ _ _ _ _ _ u.so_far n bytes c.read_bytes.new.self k _ c.write.new.self c.mark-in-Ok.new.map next piece marked (rw same at c.in_ok-mark-in-Ok.ensures.ok) count
           c.in_ok-write-in-Ok.ensures.moved c.in_ok-write-in-Ok.ensures.image c.in_ok-write-in-Ok.ensures.call);
       ahead = ahead-next before c.pieces.at c.from-count.result _ _ _ (u.ahead ∙ sym c.next_run-run.ensures.same) c.pass-in-Ok.ensures.marks;
@@ -217,7 +222,7 @@ returns-in_err-check_memory-in-Err-clause-err g c =
     err-from c.from_residual-in_err-check_memory-in-Err.result _ NoMemory (subst (λ (e : RecoveryFault). IsErrAnd c.from_residual-in_err-check_memory-in-Err.result (λ f. f ≡ e)) c.in_err-check_memory-in-Err.ensures.err c.from_residual-in_err-check_memory-in-Err.ensures.1)
     (skims-short _ _ _ _ _ _ _ _ _ _ u.so_far c.read_bytes.new.self u.unfailed (inl (record {
       count = count;
-      answered = subst (λ (f : IoFault). EachBytes c.pieces.stack c.args.d.0 c.pieces.at count (Err f) c.read_bytes.new.self) is (record { any = c.in-Err.ensures.any; steady = c.in-Err.ensures.steady });
+      answered = subst (λ (f : IoFault). EachBytes c.pieces.stack c.args.pass.device.0 c.pieces.at count (Err f) c.read_bytes.new.self) is (record { any = c.in-Err.ensures.any; steady = c.in-Err.ensures.steady });
       met = c.in-Err.ensures.memory (ap Err is);
     })))
 
@@ -256,17 +261,17 @@ pieces-preserved g c =
     let marked : AreMarked before c.pieces.at n false = subst (AreMarked before c.pieces.at n) c.if-run.false (marked-next before c.pieces.at n here.count here.had _ (omega (arith, c.piece_at-piece.ensures.inside)) (u.ahead ∙ first)) in
     let wide : length (take (n * 512) c.pieces.room) ≡ n * 512 = length-take-le (n * 512) c.pieces.room (omega (arith, c.requires.buffer, c.pieces.auto.room, c.piece_at-piece.ensures.few)) in
     let number : length (take (n * 512) c.pieces.room) / 512 ≡ n = omega (arith, wide) in
-    let piece = subst (λ (m : ℕ). EachBytes c.pieces.stack c.args.d.0 c.pieces.at m (Err c.in-Err.fault) c.read_bytes.new.self) number (record { any = c.in-Err.ensures.any; steady = c.in-Err.ensures.steady }) in
+    let piece = subst (λ (m : ℕ). EachBytes c.pieces.stack c.args.pass.device.0 c.pieces.at m (Err c.in-Err.fault) c.read_bytes.new.self) number (record { any = c.in-Err.ensures.any; steady = c.in-Err.ensures.steady }) in
     let same : c.from-count.result ≡ n = c.from-count.ensures in
     let skip : ℕ = c.min.result in
     let skipped : skip ≡ min c.pieces.skip (here.count - n) = c.min.ensures ∙ ap (λ (m : ℕ). min c.pieces.skip (here.count - m)) same in
-    let found : IsSkimFound (pass_over c.args.stack.now.config c.args.d.0 before by_map) c.pieces.at c.pieces.skip n (again c.in-Err.fault) skip =
-    skipped-piece c.args.stack.now.config c.args.d.0 before by_map c.pieces.at here.count c.sectors-sectors.result n c.pieces.skip skip c.in-Err.fault (marks c.next_run-run.new.self.rest.now) c.in_ok-check_memory-in-Err.ensures.ok
+    let found : IsSkimFound (pass_over c.args.stack.now.config c.args.pass.device.0 before by_map) c.pieces.at c.pieces.skip n (again c.in-Err.fault) skip =
+    skipped-piece c.args.stack.now.config c.args.pass.device.0 before by_map c.pieces.at here.count c.sectors-sectors.result n c.pieces.skip skip c.in-Err.fault (marks c.next_run-run.new.self.rest.now) c.in_ok-check_memory-in-Err.ensures.ok
     (u.ahead ∙ subst (λ (h : Bool). marks_ahead c.pieces.ahead ≡ replicate here.count h ++ marks c.next_run-run.new.self.rest.now) c.if-run.false first) (c.requires.fits ∙ sym u.all) u.within
     inside u.all (λ none. ap marks (c.next_run-run.ensures.single (u.single none)))
-    (subst (λ (x : Configuration). EndsAligned x c.args.d.0 c.pieces.at (c.pieces.at + here.count) 128 n) (c.config-else-run.ensures.value ∙ u.config) c.piece_at-piece.ensures.ends) skipped in
-    let most : c.most_skip-most.result ≡ most_skip (size c.args.stack.now.config (mapped c.args.d.0)) = c.most_skip-most.ensures.value ∙ ap most_skip u.all in
-    let longer : c.longer_skip-skip.result ≡ longer_skip (most_skip (size c.args.stack.now.config (mapped c.args.d.0))) c.pieces.skip = c.longer_skip-skip.ensures ∙ ap (λ (m : ℕ). longer_skip m c.pieces.skip) most in
+    (subst (λ (x : Configuration). EndsAligned x c.args.pass.device.0 c.pieces.at (c.pieces.at + here.count) 128 n) (c.config-else-run.ensures.value ∙ u.config) c.piece_at-piece.ensures.ends) skipped in
+    let most : c.most_skip-most.result ≡ most_skip (size c.args.stack.now.config (mapped c.args.pass.device.0)) = c.most_skip-most.ensures.value ∙ ap most_skip u.all in
+    let longer : c.longer_skip-skip.result ≡ longer_skip (most_skip (size c.args.stack.now.config (mapped c.args.pass.device.0))) c.pieces.skip = c.longer_skip-skip.ensures ∙ ap (λ (m : ℕ). longer_skip m c.pieces.skip) most in
     record {
       so_far = rw (same, longer) (skimming-skipped _ _ _ _ _ _ _ _ _ _ u.so_far n skip c.in-Err.fault c.read_bytes.new.self c.mark-in-Err.new.map found piece marked (rw same at c.in_ok-mark-in-Err.ensures.ok));
       ahead = ahead-next before c.pieces.at (c.from-count.result + skip) _ _ _ (u.ahead ∙ sym c.next_run-run.ensures.same) c.pass-in-Err.ensures.marks;
@@ -282,11 +287,7 @@ pieces-preserved g c =
 pub returns-clause-ok : goal.returns-clause-ok
 returns-clause-ok g c =
     let u = c.pieces.invariant in
-    let all : c.sectors-sectors.result ≡ c.pieces.at = omega (arith, u.within, c.pieces-test.false) in
-    skims-all _ _ _ _ _ _ _ _ _ _ u.so_far (sym all ∙ u.all) u.unfailed
+    skims-until _ _ _ _ _ _ _ _ _ _ u.so_far c.args.pass.deadline c.sectors-sectors.result (c.pass_end.ensures.ends c.pieces-test.false) u.all u.unfailed
 
 pub returns-clause-handed : goal.returns-clause-handed
-returns-clause-handed g c =
-    let u = c.pieces.invariant in
-    let all : c.sectors-sectors.result ≡ c.pieces.at = omega (arith, u.within, c.pieces-test.false) in
-    hands-skims _ _ _ _ _ _ _ _ _ _ u.so_far (sym all ∙ u.all)
+returns-clause-handed g c = hands-skims _ _ _ _ _ _ _ _ _ _ c.pieces.invariant.so_far

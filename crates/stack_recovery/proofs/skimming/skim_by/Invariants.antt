@@ -9,11 +9,11 @@ use Rattle.stack_recovery.proofs.skimming.skim_by.Given as goal
 -- the sectors before this one were read or left
 abbrev pub invariant-pieces : goal.invariant-pieces
 invariant-pieces g l = record {
-  so_far : IsSkimming g.O.BlockDev.state (DeviceDoes g.O.BlockDev.state g.O.BlockDev.does) (has_more l.fn.ahead.rest.now) (marks_ahead l.fn.ahead) l.fn.d.0 (transfer l.fn.stack l.fn.out) (transfer l.stack l.out) l.at l.map l.skip;
+  so_far : IsSkimming g.O.BlockDev.state (DeviceDoes g.O.BlockDev.state g.O.BlockDev.does) (has_more l.fn.ahead.rest.now) (marks_ahead l.fn.ahead) l.fn.pass.device.0 (transfer l.fn.stack l.fn.out) (transfer l.stack l.out) l.at l.map l.skip;
   ahead : drop l.at (marks_ahead l.fn.ahead) ≡ marks_ahead l.ahead;
   config : l.stack.config ≡ l.fn.stack.config;
   within : l.at ≤ l.sectors;
-  all : l.sectors ≡ size l.fn.stack.config (mapped l.fn.d.0);
+  all : l.sectors ≡ size l.fn.stack.config (mapped l.fn.pass.device.0);
   few : l.sectors ≤ 2 ^ 54;
   short : l.skip ≤ 2 ^ 21;
   unfailed : (g.O.BlockDev.state l.out).failures ≡ (g.O.BlockDev.state l.fn.out).failures;

@@ -1,13 +1,6 @@
-use Rattle.std.proofs.Common.{arith, inl, inr}
+use Rattle.std.proofs.Common.{inl, inr}
 use Rattle.verity_commands.proofs.OpeningLemmas.{err-from}
 use Rattle.verity_commands.proofs.checked_diff.compare_checked.Goals as goal
-
-pub compare_trees-requires : goal.compare_trees-requires
-compare_trees-requires g c = record {
-  alike = c.requires.alike;
-  first_fits = c.requires.first_fits;
-  second_fits = omega (arith, c.requires.second_fits, c.check_second.ensures.over.read.same.size);
-}
 
 pub returns-in_err-whole_tree-clause-err : goal.returns-in_err-whole_tree-clause-err
 returns-in_err-whole_tree-clause-err g c =

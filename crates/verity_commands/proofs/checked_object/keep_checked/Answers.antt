@@ -10,4 +10,4 @@ returns-in-Err-clause-err g c =
     let two = c.args.two.now in
     let compared = c.compare_checked.new in
     subst (λ (fault : DifferenceFault). IsKeptCheckCause (state two.first.device) (state two.second.device) (state compared.first) (state compared.second) c.args.pair.now c.args.most fault)
-    (sym c.unkept.ensures) (kept_check _ _ _ _ _ _ c.args.pair.now c.args.most _ c.in-Err.fault c.in-Err.ensures.err)
+    (sym c.unkept.ensures) (kept_check _ _ _ _ _ _ c.args.pair.now c.args.most compared.listing.refused compared.listing.few c.in-Err.fault c.in-Err.ensures.err)

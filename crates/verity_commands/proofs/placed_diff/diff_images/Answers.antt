@@ -19,7 +19,7 @@ returns-clause-ok g c = on_ok_weaker c.diff_behind-two.result.1 (λ done. (
     two = c.in_ok-opened.opened;
     two' = c.diff_behind-two.result.0;
     opened = c.in_ok-opened.ensures.ok;
-    holds = done;
+    holds = rw c.hashes_of-two.ensures at done;
     closed = c.close_both.ensures;
   },
 )) c.diff_behind-two.ensures.ok
@@ -32,7 +32,7 @@ returns-clause-err g c = IfErr-weaker c.diff_behind-two.result.1 _ _ (λ fault e
     two = c.in_ok-opened.opened;
     two' = c.diff_behind-two.result.0;
     opened = c.in_ok-opened.ensures.ok;
-    holds = ends;
+    holds = rw c.hashes_of-two.ensures at ends;
     closed = c.close_both.ensures;
   }),
 )) c.diff_behind-two.ensures.err

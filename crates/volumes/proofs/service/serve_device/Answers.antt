@@ -25,6 +25,7 @@ returns-clause-some g c =
       export = e;
       named = ap (λ (b : Bor (List ℕ)). b.now) c.in-Some.ensures.some.1;
       is = subst (λ (x : Configuration). IsExport x e) at c.in-Some.ensures.some.0;
+      tally = c.serve.new.tally;
       service = c.serve.ensures.service;
       reads = c.serve.ensures.reader;
       writes = c.serve.ensures.writer;

@@ -11,17 +11,17 @@ use Rattle.image_files.proofs.FileLemmas.{locks_at_most, made}
 use Rattle.image_files.proofs.file_images.FileImagesImages.grow.Goals as goal
 
 -- a file that was made, or was there, and then has so many sectors
-grows : {C F : Type 0} (r : FileRelations C F) (old new : C) (path : List ℕ) (n : ℕ) (result : Result (Unit {0}) OpenFault) (file : File) → Makes r old path new
-    → Opened path true file → OnOk result (IsLongEnough file (n * 512)) → Grows r old path n result new
-grows r old new path n (Ok done) file is opened long = inr (record { makes = is; file = file; opened = opened; long = long })
-grows r old new path n (Err fault) file is opened long = inr (inl is)
+grows : {C F : Type 0} (r : FileRelations C F) (old new : C) (path : List ℕ) (n : ℕ) (result : Result (Unit {0}) OpenFault) (file left : File) → Makes r old path new
+    → Opened path true file → OnOk result (IsLongEnough file (n * 512) left) → Grows r old path n result new
+grows r old new path n (Ok done) file left is opened long = inr (record { makes = is; file = file; left = left; opened = opened; long = long })
+grows r old new path n (Err fault) file left is opened long = inr (inl is)
 
 pub returns : goal.returns
 returns g c = (
   made _ _ _,
   locks_at_most true (file_id c.in_ok-file.file) c.args.self.now.locks.files.items c.open_file.new.locks.files.items c.in_ok-file.ensures.locked.0,
-  grows g.C.FileCalls.relations c.args.self.now.texts.calls c.make_file.new.calls c.args.path.now c.args.sectors c.lengthen.result (file_of c.in_ok-file.file)
-      c.in_ok-make_file.ensures.ok c.in_ok-file.ensures.locked.1 c.lengthen.ensures,
+  grows g.C.FileCalls.relations c.args.self.now.texts.calls c.make_file.new.calls c.args.path.now c.args.sectors c.lengthen.result (file_of c.in_ok-file.file) (file_of c.lengthen.new.self)
+      c.in_ok-make_file.ensures.ok c.in_ok-file.ensures.locked.1 c.lengthen.ensures.long,
 )
 
 -- a file that wasn't made

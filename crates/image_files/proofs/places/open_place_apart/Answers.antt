@@ -1,0 +1,17 @@
+use Rattle.std.proofs.Common.{ap, inl, inr, refl, sym, ◌∙◌}
+use Rattle.image_files.specs.FileUses.{has_clash}
+use Rattle.image_files.proofs.PlaceLemmas.{err-from}
+use Rattle.image_files.proofs.places.open_place_apart.Goals as goal
+
+pub returns-in_err-image-clause-err : goal.returns-in_err-image-clause-err
+returns-in_err-image-clause-err g c =
+    err-from c.from_residual.result _ c.in_err-image.field-0.0 c.from_residual.ensures.1 (inl c.in_err-image.ensures.err)
+
+pub returns-then-has_clash-clause-err : goal.returns-then-has_clash-clause-err
+returns-then-has_clash-clause-err g c =
+    let clash = sym (c.has_clash.ensures ∙ ap (has_clash c.args.files.now) c.place_use.ensures) ∙ c.if-has_clash.true in
+    inr (record { image = c.in_ok-image.image; opened = c.in_ok-image.ensures.ok; clash = clash; is = (refl, refl) })
+
+pub returns-clause-ok : goal.returns-clause-ok
+returns-clause-ok g c =
+    record { opened = c.in_ok-image.ensures.ok; apart = sym (c.has_clash.ensures ∙ ap (has_clash c.args.files.now) c.place_use.ensures) ∙ c.if-has_clash.false }

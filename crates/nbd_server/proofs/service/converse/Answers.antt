@@ -1,0 +1,114 @@
+use Rattle.std.proofs.Common.{arith}
+use Rattle.std.proofs.lemmas.Result.{err_from_is_err_and}
+use Rattle.program_io.specs.Streams.{streams}
+use Rattle.nbd_protocol.specs.declared.fault.ServiceFault.TheVariants as fault
+use Rattle.nbd_protocol.specs.Exports.{export_records}
+use Rattle.nbd_protocol.proofs.lemmas.CountedLemmas.{read-none, read-then, read-fewer, read-over, read-other, written-ok, written-other, written-then, written-failed}
+use Rattle.nbd_server.proofs.ServiceLemmas.{held-starts, held-kept, held-more, held-none, held-ends, held-over, held-stops, held-stuck, held-unsaid, exports-kept, placed-next}
+use Rattle.nbd_server.proofs.service.converse.Goals as goal
+
+pub loop-turn-init : goal.loop-turn-init
+loop-turn-init g c = record {
+  held = held-starts (export_records c.args.exports.now) c.args.queue.now c.args.state.now.tally (g.R.Read.remaining c.args.reader.now.inner) (g.W.Write.contents c.args.writer.now.inner) (g.W.Write.contents c.put.new.self.inner) c.requires.tally c.in_ok-put.ensures.writes.ok;
+  exports_are = c.requires.exports;
+  placed = tt;
+  read = read-none c.args.reader.now;
+  written = written-ok c.in_ok-put.ensures.writes.kept;
+}
+
+pub returns-in_err-next-in_default-clause-service : goal.returns-in_err-next-in_default-clause-service
+returns-in_err-next-in_default-clause-service g c =
+    let input = g.R.Read.remaining c.loop-turn.reader.inner in
+    let held = held-kept input (g.W.Write.contents c.loop-turn.writer.inner) (g.W.Write.contents c.flush.new.self.inner) c.loop-turn.invariant.held c.in_ok-flush.ensures.ok.0 in
+    let p = err_from_is_err_and c.from_residual-in_err-next-in_default.result c.from_residual-in_err-next-in_default.ensures.1 in
+    rw (p.1, p.2) (held-ends c.take_message.new.queue c.take_message.new.state.tally (streams (g.R.Read.remaining c.take_message.new.reader.inner) (g.W.Write.contents c.take_message.new.writer.inner)) c.in_err-next-in_default.field-0.0 held
+    c.in_err-next-in_default.ensures.turn)
+
+pub returns-in-None-clause-service : goal.returns-in-None-clause-service
+returns-in-None-clause-service g c =
+    let input = g.R.Read.remaining c.loop-turn.reader.inner in
+    let held = held-kept input (g.W.Write.contents c.loop-turn.writer.inner) (g.W.Write.contents c.flush.new.self.inner) c.loop-turn.invariant.held c.in_ok-flush.ensures.ok.0 in
+    held-none c.take_message.new.queue c.take_message.new.state.tally (streams (g.R.Read.remaining c.take_message.new.reader.inner) (g.W.Write.contents c.take_message.new.writer.inner)) tt held
+    (rw c.in-None.is at c.in_ok-next-in_default.ensures.turn)
+
+pub loop-turn-preserved : goal.loop-turn-preserved
+loop-turn-preserved g c =
+    let input = g.R.Read.remaining c.loop-turn.reader.inner in
+    let mid = streams input (g.W.Write.contents c.flush.new.self.inner) in
+    let new = streams (g.R.Read.remaining c.take_message.new.reader.inner) (g.W.Write.contents c.take_message.new.writer.inner) in
+    let held = held-kept input (g.W.Write.contents c.loop-turn.writer.inner) (g.W.Write.contents c.flush.new.self.inner) c.loop-turn.invariant.held c.in_ok-flush.ensures.ok.0 in
+    let taken = rw c.in-Some.is at c.in_ok-next-in_default.ensures.turn in
+    record {
+      held = held-more c.in-Some.next c.take_message.new.queue c.take_message.new.state.tally new held taken;
+      read = read-then c.loop-turn.invariant.read c.in_ok-next-in_default.ensures.reader;
+      written = written-then c.loop-turn.invariant.written (written-then (written-ok c.in_ok-flush.ensures.kept) c.in_ok-next-in_default.ensures.writer);
+      exports_are = exports-kept c.args.exports.now c.loop-turn.phase c.loop-turn.queue c.take_message.new.queue c.loop-turn.state.tally c.take_message.new.state.tally mid new c.in-Some.next c.loop-turn.invariant.exports_are taken;
+      placed = placed-next (export_records c.args.exports.now) c.loop-turn.phase c.loop-turn.queue c.take_message.new.queue c.loop-turn.state.tally c.take_message.new.state.tally mid new c.in-Some.next c.loop-turn.invariant.placed taken;
+    }
+
+pub returns-in_err-next-in_default-clause-reader : goal.returns-in_err-next-in_default-clause-reader
+returns-in_err-next-in_default-clause-reader g c =
+    let p = err_from_is_err_and c.from_residual-in_err-next-in_default.result c.from_residual-in_err-next-in_default.ensures.1 in
+    rw (p.1, p.2) (read-fewer 0 (read-then c.loop-turn.invariant.read c.in_err-next-in_default.ensures.reader) (omega arith))
+
+pub returns-in_err-next-in_default-clause-writer : goal.returns-in_err-next-in_default-clause-writer
+returns-in_err-next-in_default-clause-writer g c =
+    let p = err_from_is_err_and c.from_residual-in_err-next-in_default.result c.from_residual-in_err-next-in_default.ensures.1 in
+    rw (p.1, p.2) (written-then c.loop-turn.invariant.written (written-then (written-ok c.in_ok-flush.ensures.kept) c.in_err-next-in_default.ensures.writer))
+
+pub returns-in-None-clause-reader : goal.returns-in-None-clause-reader
+returns-in-None-clause-reader g c = read-fewer 0 (read-then c.loop-turn.invariant.read c.in_ok-next-in_default.ensures.reader) (omega arith)
+
+pub returns-in-None-clause-writer : goal.returns-in-None-clause-writer
+returns-in-None-clause-writer g c = written-then c.loop-turn.invariant.written (written-then (written-ok c.in_ok-flush.ensures.kept) c.in_ok-next-in_default.ensures.writer)
+
+pub returns-clause-service : goal.returns-clause-service
+returns-clause-service g c = held-stops (streams (g.R.Read.remaining c.loop-turn.reader.inner) (g.W.Write.contents c.loop-turn.writer.inner)) c.loop-turn.invariant.held
+
+pub returns-clause-reader : goal.returns-clause-reader
+returns-clause-reader g c = read-fewer 0 (read-over c.loop-turn.invariant.read (omega arith)) (omega arith)
+
+pub returns-clause-writer : goal.returns-clause-writer
+returns-clause-writer g c = written-other fault.ReadFault c.loop-turn.invariant.written (λ is. (cc))
+
+pub returns-in_err-put-clause-reader : goal.returns-in_err-put-clause-reader
+returns-in_err-put-clause-reader g c =
+    let p = err_from_is_err_and c.from_residual.result c.from_residual.ensures.1 in
+    rw (p.1, p.2) (read-other fault.WriteFault (read-none c.args.reader.now) (λ is. (cc)))
+
+pub returns-in_err-put-clause-writer : goal.returns-in_err-put-clause-writer
+returns-in_err-put-clause-writer g c =
+    let p = err_from_is_err_and c.from_residual.result c.from_residual.ensures.1 in
+    rw (p.1, p.2) (written-failed c.in_err-put.ensures.writes.failed)
+
+pub returns-in_err-flush-clause-reader : goal.returns-in_err-flush-clause-reader
+returns-in_err-flush-clause-reader g c =
+    let p = err_from_is_err_and c.from_residual-in_err-flush.result c.from_residual-in_err-flush.ensures.1 in
+    rw (p.1, p.2) (read-other fault.WriteFault (read-fewer 0 c.loop-turn.invariant.read (omega arith)) (λ is. (cc)))
+
+pub returns-in_err-flush-clause-writer : goal.returns-in_err-flush-clause-writer
+returns-in_err-flush-clause-writer g c =
+    let p = err_from_is_err_and c.from_residual-in_err-flush.result c.from_residual-in_err-flush.ensures.1 in
+    rw (p.1, p.2) (written-failed c.in_err-flush.ensures.failed)
+
+pub returns-in-Over-clause-reader : goal.returns-in-Over-clause-reader
+returns-in-Over-clause-reader g c = read-fewer 0 c.loop-turn.invariant.read (omega arith)
+
+pub returns-in-Over-clause-writer : goal.returns-in-Over-clause-writer
+returns-in-Over-clause-writer g c = written-then c.loop-turn.invariant.written (written-ok c.in_ok-flush.ensures.kept)
+
+pub returns-in_err-put-clause-service : goal.returns-in_err-put-clause-service
+returns-in_err-put-clause-service g c =
+    let p = err_from_is_err_and c.from_residual.result c.from_residual.ensures.1 in
+    rw (p.1, p.2) (held-unsaid (export_records c.args.exports.now) c.args.queue.now c.args.state.now.tally (g.R.Read.remaining c.args.reader.now.inner) (g.W.Write.contents c.args.writer.now.inner) (g.W.Write.contents c.put.new.self.inner) c.requires.tally)
+
+pub returns-in_err-flush-clause-service : goal.returns-in_err-flush-clause-service
+returns-in_err-flush-clause-service g c =
+    let p = err_from_is_err_and c.from_residual-in_err-flush.result c.from_residual-in_err-flush.ensures.1 in
+    rw (p.1, p.2) (held-stuck (g.R.Read.remaining c.loop-turn.reader.inner) (g.W.Write.contents c.loop-turn.writer.inner) (g.W.Write.contents c.flush.new.self.inner) c.loop-turn.invariant.held)
+
+pub returns-in-Over-clause-service : goal.returns-in-Over-clause-service
+returns-in-Over-clause-service g c =
+    let input = g.R.Read.remaining c.loop-turn.reader.inner in
+    let held = held-kept input (g.W.Write.contents c.loop-turn.writer.inner) (g.W.Write.contents c.flush.new.self.inner) c.loop-turn.invariant.held c.in_ok-flush.ensures.ok.0 in
+    held-over tt held c.in-Over.is

@@ -1,0 +1,61 @@
+-- What `nbd` prints among the errors while it serves a client.
+use Rattle.std.specs.Prelude.{◌≡◌, ℕ, Bool, true, false, List, ◌++◌, codes, decimal, flat_map, Result, if◌then◌else◌}
+use Rattle.nbd_protocol.specs.Exports.{ExportRecord}
+use Rattle.nbd_protocol.specs.declared.fault.ServiceFault.{ServiceFault}
+use Rattle.nbd_server.specs.Service.{IsService}
+use Rattle.nbd_server.specs.declared.tally.Tally.{Tally}
+use Rattle.partition_commands.specs.Warnings.{IsNoted, Notes}
+use Rattle.program_io.specs.Streams.{Streams}
+use Rattle.request_queue.specs.World.{World}
+
+-- ---- the lines
+
+-- whether clients may write it
+abbrev pub rights_text : Bool → List ℕ
+rights_text writable = if writable then codes "rw" else codes "ro"
+
+-- ` SIZE bytes rw`, or `ro`
+abbrev pub export_facts : ℕ → Bool → List ℕ
+export_facts size writable = codes " " ++ (decimal size ++ (codes " bytes " ++ (rights_text writable ++ codes "\n")))
+
+-- its name, size and rights; the name of a mapped device has no control characters
+unfoldable pub named_facts : ExportRecord → List ℕ
+named_facts e = e.name ++ export_facts e.size e.writable
+
+-- the line of an export
+unfoldable pub export_line : ExportRecord → List ℕ
+export_line e = codes "dmstack: export " ++ named_facts e
+
+-- a line for each export
+abbrev pub start_text : List ExportRecord → List ℕ
+start_text exports = flat_map export_line exports
+
+-- how many requests were answered, and how many of these with an input/output error
+unfoldable pub served_line : Tally → List ℕ
+served_line t = codes "dmstack: served " ++ (decimal t.requests ++ (codes " requests, " ++ (decimal t.faults ++ codes " with an input/output error\n")))
+
+-- ---- what was printed
+
+-- a text was printed among the errors, or they failed; nothing with `--quiet`
+abbrev pub IsNotedUnless : Bool → Notes → List ℕ → Type 0
+IsNotedUnless true notes text = notes.new ≡ notes.old
+IsNotedUnless false notes text = IsNoted notes text
+
+-- what is read of a client, written to it and printed among the errors while it is served, and whether `--quiet` is given
+pub record Exchange : Type 0 where
+  pub old : Streams
+  pub new : Streams
+  pub quiet : Bool
+  pub notes : Notes
+
+abbrev pub exchange : Streams → Streams → Bool → Notes → Exchange
+exchange old new quiet notes = record { old = old; new = new; quiet = quiet; notes = notes }
+
+-- a client was served these exports; a line for each was printed, and one with the tally of the requests
+pub record ServesNoted (x : Exchange) (exports : List ExportRecord) (first last : World) (tally : Tally) (outcome : Result Unit ServiceFault) : Type 0 where
+  pub service : IsService exports first last x.old x.new tally outcome
+  pub noted : IsNotedUnless x.quiet x.notes (start_text exports ++ served_line tally)
+
+-- nothing was read, written or printed
+abbrev pub IsUnbegun : Exchange → Type 0
+IsUnbegun x = (x.new ≡ x.old) × (x.notes.new ≡ x.notes.old)

@@ -1,0 +1,17 @@
+-- The sentences on the service of a client.
+use Rattle.std.specs.Prelude.{ℕ, List, codes, Option, Some, None}
+use Rattle.nbd_protocol.specs.declared.fault.ServiceFault.{ServiceFault}
+use Rattle.nbd_protocol.specs.declared.fault.ServiceFault.TheVariants as service
+
+-- a service that ends early; none if the input or the output failed
+unfoldable pub service_message : ServiceFault → Option (List ℕ)
+service_message service.Lost = Some (codes "the client disconnected in the middle of a message")
+service_message service.Magic = Some (codes "the client isn't an NBD client: a message begins with another magic number")
+service_message service.Flags = Some (codes "the client set handshake flags that aren't offered")
+service_message service.NoSuchExport = Some (codes "the client asked for an export that doesn't exist")
+service_message service.ReadFault = None
+service_message service.WriteFault = None
+
+-- requests that were answered with an input/output error
+abbrev pub faults_message : List ℕ
+faults_message = codes "requests of the client failed: 'scan' on the same stack prints the sectors"

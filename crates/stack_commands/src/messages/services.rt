@@ -1,0 +1,23 @@
+//! The sentences on the service of a client.
+ghost use Rattle.std.specs.Prelude.{◌≡◌};
+ghost use Rattle.command_line.specs.FormatOptions.{text_of};
+ghost use Rattle.stack_commands.specs.messages.Services.{service_message};
+
+use nbd_server::ServiceFault;
+
+/// Returns the sentence on a service that ends early, if there is one.
+#[tactic(auto, unfolding(crate::specs::messages::Services::service_message))]
+pub fn service_message(fault: ServiceFault) -> Option<&'static str>
+    ensures { text_of result ≡ service_message fault }
+{
+    match fault {
+        ServiceFault::Lost => Some("the client disconnected in the middle of a message"),
+        ServiceFault::Magic => Some(
+            "the client isn't an NBD client: a message begins with another magic number",
+        ),
+        ServiceFault::Flags => Some("the client set handshake flags that aren't offered"),
+        ServiceFault::NoSuchExport => Some("the client asked for an export that doesn't exist"),
+        ServiceFault::ReadFault => None,
+        ServiceFault::WriteFault => None,
+    }
+}

@@ -1,0 +1,57 @@
+//! When a pass over a mapped device ends.
+ghost use Rattle.std.specs.Prelude.{◌≤◌, IsTrue};
+ghost use Rattle.stack_recovery.specs.Deadlines.{EndsAt, MayEnd};
+
+use device_adapters::Progress;
+use stack_config::DevId;
+
+/// A pass may end early, before a sector after `first`, once the clock shows `seconds`.
+#[derive(Clone, Copy)]
+pub struct Deadline {
+    pub first: u64,
+    pub seconds: u64,
+}
+
+/// A pass over a mapped device: to its last sector, or up to a deadline.
+#[derive(Clone, Copy)]
+pub struct DevicePass {
+    pub device: DevId,
+    pub deadline: Option<Deadline>,
+}
+
+// Returns whether a pass may end before sector `at`, and its time is up.
+fn is_up<P: Progress>(deadline: Option<Deadline>, at: u64, progress: &mut P) -> bool
+    ensures { IsTrue result → MayEnd deadline at }
+{
+    match deadline {
+        None => false,
+        Some(end) => {
+            if at <= end.first {
+                return false;
+            }
+            progress.seconds() >= end.seconds
+        }
+    }
+}
+
+/// Returns the sector before which a pass over `sectors` sectors ends that has reached sector `at`. It doesn't end early if its last
+/// read failed (`failing`).
+pub(crate) fn pass_end<P: Progress>(
+    deadline: Option<Deadline>,
+    at: u64,
+    sectors: u64,
+    failing: bool,
+    progress: &mut P,
+) -> u64
+    requires { at ≤ sectors }
+    ensures few { result ≤ sectors }
+    ensures ends { result ≤ at → EndsAt deadline at sectors }
+{
+    if failing {
+        return sectors;
+    }
+    if is_up(deadline, at, progress) {
+        return at;
+    }
+    sectors
+}
