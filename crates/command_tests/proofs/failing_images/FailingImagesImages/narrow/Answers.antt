@@ -7,7 +7,7 @@ or-right true b is = absurd (true≢false is)
 or-right false b is = is
 
 pub returns-clause-part : goal.returns-clause-part
-returns-clause-part g c =
+returns-clause-part c =
     rw c.new.ensures
     (record {
       size = c.narrow.ensures.part.size;
