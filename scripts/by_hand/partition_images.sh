@@ -1,5 +1,6 @@
 #!/usr/bin/env bash
-# partition_images.sh: makes the files of the rows partition_stacks, partition_roots, partition_copies and hash_offsets anew.
+# partition_images.sh: makes the files of the rows partition_stacks, partition_roots, partition_copies, partition_bindings and
+# hash_offsets anew.
 #
 # Small disks with a GUID partition table, as sgdisk, sfdisk and fdisk make them, one with a verity image in two partitions, as
 # systemd-repart lays it out: the UUID of the data partition is the first half of the root digest, that of the verity
@@ -85,12 +86,14 @@ keep partition_copies one.img
 disk hybrid.img home
 sgdisk -h 1 hybrid.img > /dev/null
 keep partition_copies hybrid.img
+cp "$top/tests/rows/partition_copies/files/hybrid.img.hex" "$top/tests/rows/partition_bindings/files/disk.img.hex"
 
 # Sectors of 4,096 bytes, and a label that looks like an option.
 truncate -s $((64 * 4096)) large.img
 printf '%s\n' g x i "$identifier" r n 1 6 10 n 2 20 20 x n 1 home u 1 00000000-0000-0000-0000-000000000001 \
     n 2 -force u 2 00000000-0000-0000-0000-000000000002 r w | fdisk -b 4096 large.img > /dev/null
 keep partition_copies large.img
+cp "$top/tests/rows/partition_copies/files/large.img.hex" "$top/tests/rows/partition_bindings/files/large.img.hex"
 
 # The tree after the data in one file: as many data blocks as lie before, and one less.
 for blocks in 6 5; do

@@ -35,6 +35,7 @@ PLACES = {
     "example_nbd": (3, EXAMPLE),
     "example_stack": (3, EXAMPLE),
     "example_verified_block": (2, EXAMPLE),
+    "find_commands": (9, VALUES),
     "image_commands": (12, VALUES),
     "partition_commands": (15, VALUES),
     "program_io": (4, VALUES),
@@ -42,6 +43,7 @@ PLACES = {
     "scan_commands": (20, VALUES),
     "stack_commands": (15, VALUES),
     "stack_lines": (2, CACHE),
+    "update_commands": (4, VALUES),
     "verified_cache": (5, CACHE),
     "verity_commands": (9, VALUES),
 }

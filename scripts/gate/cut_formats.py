@@ -7,22 +7,17 @@ whole. So a superblock is never before a tree that isn't its own.
 
 import os
 import random
-import shutil
-import signal
-import subprocess
 import sys
 import tempfile
 
-HERE = os.path.dirname(os.path.realpath(__file__))
+sys.dont_write_bytecode = True
+sys.path.insert(0, os.path.join(os.path.dirname(os.path.realpath(__file__)), "../lib"))
+from cut_calls import Cutter, Unlike
+
 SIGNATURE = b"verity\0\0"
 SIZES = ["--data-block", "512", "--hash-block", "512"]
 UUID = "6c0b2c0e-5a0d-4b5c-9a44-1d1f6a3b2c7e"
 BLOCKS = 700
-MOST = 10_000
-
-
-class Unlike(Exception):
-    """What a cut left that it may not."""
 
 
 def content_of(path):
@@ -31,20 +26,15 @@ def content_of(path):
 
 
 class Formats:
-    """An older image, its data changed, and the library that kills the program."""
+    """An older image, and its data changed."""
 
     def __init__(self, program):
-        self.program = program
-        self.library = os.path.abspath("fail_calls.so")
-        subprocess.run(["gcc", "-shared", "-fPIC", "-o", self.library, f"{HERE}/fail_calls.c", "-ldl"], check=True)
+        self.cutter = Cutter(program)
         drawn = random.Random(1)
         self.old, self.new = (drawn.randbytes(BLOCKS * 512) for _ in range(2))
 
-    def run(self, words, number=None):
-        """Its status, and its root where it printed one; the call of that number kills it."""
-        cut = {"LD_PRELOAD": self.library, "FAIL_KIND": "device", "FAIL": str(number), "FAIL_CUT": "1", "FAIL_MET": "met"}
-        run = subprocess.run([self.program, "format", *SIZES, *words], capture_output=True, env={**os.environ, **(cut if number else {})})
-        return run.returncode
+    def run(self, words):
+        return self.cutter.run(["format", *SIZES, *words])[0]
 
     def try_all(self, name, words, first, is_one, new=("--uuid", UUID)):
         """Each cut of a format by these words and the new one's own, over an image whose superblock is at that byte of HASH."""
@@ -58,6 +48,10 @@ class Formats:
                 with open("image", "r+b" if os.path.exists("image") else "wb") as it:
                     it.write(data)
 
+        def restore():
+            with open("image", "wb") as it:
+                it.write(before)
+
         if os.path.exists("image"):
             os.remove("image")
         prepare(self.old)
@@ -69,17 +63,12 @@ class Formats:
             raise Unlike(f"{name}: the new image isn't made")
         after = content_of("image")
         cuts = 0
-        for number in range(1, MOST):
-            with open("image", "wb") as it:
-                it.write(before)
-            status = self.run(new, number)
-            if status != -signal.SIGKILL:
-                break
+        for number, _, _ in self.cutter.cuts(["format", *SIZES, *new], "device", restore):
             cuts += 1
             left = content_of("image")
             if left not in (before, after) and left[first:first + 8] == SIGNATURE:
                 raise Unlike(f"{name}: killed at call {number}, a superblock is before another tree")
-        if status or content_of("image") != after:
+        if content_of("image") != after:
             raise Unlike(f"{name}: a format that isn't cut leaves another image")
         return cuts
 

@@ -1,10 +1,10 @@
 // Fails call number FAIL (from 1) of the kind FAIL_KIND of the program that it is loaded into: `device` counts positioned reads
 // and writes and syncs, `input` reads of standard input, `errors` writes of standard error, `output` other writes, `text` other
 // reads, and each fails with EIO. `short` and `interrupted` count all of these but the syncs; such a call moves one byte, or is
-// interrupted. `cut` counts the calls that change files and folders, but positioned writes, and the process is killed before
-// that one. The file FAIL_MET then says which call it was, how many whole sectors positioned reads and writes had requested,
-// including it, and of which file. With FAIL_CUT the program is killed in place of the call. `changed` counts positioned reads:
-// before that one the file FAIL_CHANGED gets the first bytes of the file FAIL_TO, at most 4,096.
+// interrupted. `cut` counts the calls that change files and folders, but positioned writes, `change` these too, and the process is
+// killed before that one. The file FAIL_MET then says which call it was, how many whole sectors positioned reads and writes had
+// requested, including it, and of which file. With FAIL_CUT the program is killed in place of the call. `changed` counts positioned
+// reads: before that one the file FAIL_CHANGED gets the first bytes of the file FAIL_TO, at most 4,096.
 #define _GNU_SOURCE
 #include <dlfcn.h>
 #include <errno.h>
@@ -70,12 +70,16 @@ static int is_the_call(const char *kind, const char *call, int fd) {
     return 1;
 }
 
-// Kills the process before a call of the kind `cut`.
-static void may_cut(const char *call, const char *path) {
-    if (!is_counted("cut"))
-        return;
+// Kills the process before a call.
+static void cut(const char *call, const char *path) {
     tell(call, path);
     raise(SIGKILL);
+}
+
+// Kills the process before a call of the kinds `cut` and `change`.
+static void may_cut(const char *call, const char *path) {
+    if (is_counted("cut") || is_counted("change"))
+        cut(call, path);
 }
 
 // Whether a call fails, with its error; one that moves less than it may changes its count.
@@ -126,6 +130,8 @@ ssize_t pread(int fd, void *bytes, size_t n, off_t at) { return pread64(fd, byte
 ssize_t pwrite64(int fd, const void *bytes, size_t n, off64_t at) {
     REAL(ssize_t, "pwrite64", int, const void *, size_t, off64_t);
     asked_to_write += n;
+    if (is_counted("change"))
+        cut("write", path_of(fd));
     return fails("device", "write", fd, &n) ? -1 : real(fd, bytes, n, at);
 }
 
@@ -140,6 +146,14 @@ int fdatasync(int fd) {
     REAL(int, "fdatasync", int);
     return sync_fails(fd) ? -1 : real(fd);
 }
+
+int ftruncate64(int fd, off64_t size) {
+    REAL(int, "ftruncate64", int, off64_t);
+    may_cut("resize", path_of(fd));
+    return real(fd, size);
+}
+
+int ftruncate(int fd, off_t size) { return ftruncate64(fd, size); }
 
 ssize_t read(int fd, void *bytes, size_t n) {
     REAL(ssize_t, "read", int, void *, size_t);

@@ -12,7 +12,9 @@ model of scripts/model says over the files as the failure left them, in which ea
 what the line was to write. (A line `moved` counts what the files were asked for, that line included, so the leaves are files.)
 Another command must name the failure, and answer, when it is repeated, as without one; a format that met one before its sync
 leaves no superblock, and one that met it at its parity (`--fec`) the whole image. If the output fails, standard error must say so,
-and a `copy` must have copied all. A `repair` may also seek elsewhere what it couldn't read: each block that it names is good then, and each other one as it was, and repeated it ends with a whole image.
+and a `copy` must have copied all. A `repair` or an `update` may also seek elsewhere what it couldn't read: each block that it names is
+good then, and each other one as it was, and repeated it ends with a whole image. An `update` leaves the release's superblock only
+before all blocks of the release.
 
 Where a case has the file `kinds`, calls of these kinds alone fail. Where it has the file `calls`, this has a line for each
 positioned read and write and each sync, in their order: which call it is, of which leaf, how many sectors were asked for by then,
@@ -35,6 +37,7 @@ from command_line import Files, binding, bound, cut_words, features_without  # n
 from configuration import Refused  # noqa: E402
 from failing_recovery import Recovery, Unlike as Wrong  # noqa: E402
 from failing_repair import Repair  # noqa: E402
+from failing_update import Update  # noqa: E402
 from sentences import without_sentence  # noqa: E402
 from session import Session  # noqa: E402
 from stack import Fault  # noqa: E402
@@ -375,6 +378,8 @@ def check_case(case):
             case.recovery = Recovery(case, plain[0])
         if case.words[0] == b"repair":
             case.repair = Repair(case, plain[0], cut_words(case.words[1:], "repair")[1])
+        if case.words[0] == b"update":
+            case.repair = Update(case, plain[0], cut_words(case.words[1:], "update")[1])
         return {kind: sweep(case, kind, lambda kind, _, ran: check_command(case, plain, kind, ran)) for kind in case.kinds}
     model = Modelled(case)
     if plain[1] != 0 or not all_allow(model.output(), lines_of(plain[0])):

@@ -15,7 +15,7 @@ class Repair:
 
     def __init__(self, case, output, words):
         self.case, self.plain = case, output.split(b"\n")[:-1]
-        self.before = {it: read_file(f"{case.start}/{it}") for it in os.listdir(case.start)}
+        self.before = self.files_before()
         self.paths = [it.decode() for it in words]
         self.whole = [self.before["whole.data"], self.before["whole.hash"]]
         superblock = read_superblock(self.whole[1])
@@ -24,6 +24,10 @@ class Repair:
         self.check_left(self.mended)
         if self.left() != self.whole:
             raise Unlike("without a failure the image isn't whole")
+
+    def files_before(self):
+        """What the files held."""
+        return {it: read_file(f"{self.case.start}/{it}") for it in os.listdir(self.case.start)}
 
     def left(self):
         """What DATA and HASH hold."""

@@ -60,7 +60,7 @@ def commands_of(page):
         name = heading.split()[0]
         if name in commands:
             sys.exit(f"manual: {name} is there twice")
-        commands[name] = set(re.findall(r"[\[|] ?--([a-z-]+)(?: [A-Z0-9|]+)? ?[\]|]", heading))
+        commands[name] = set(re.findall(r"--([a-z-]+)", heading))
     return commands
 
 

@@ -206,7 +206,8 @@ def changed_block(data):
             say(f"block {k}", k == bad and error.errno == "EIO", str(error))
     for offset, length in ((bad * BLOCK - 1, 1), ((bad + 1) * BLOCK, 3), (5, 700), (1, 65537)):
         say(f"bytes at {offset}", handle.pread(length, offset) == data[offset : offset + length])
-    for offset, length in ((bad * BLOCK - 1, 2), ((bad + 1) * BLOCK - 1, 1), (0, len(data))):
+    over = ((bad * BLOCK - 1, 2), ((bad + 1) * BLOCK - 1, 1), (0, len(data)))
+    for offset, length in over:
         try:
             handle.pread(length, offset)
             say(f"bytes at {offset} over the changed block", False)
@@ -216,20 +217,21 @@ def changed_block(data):
     for offset, length in parts:
         chunks_of(handle, data, offset, length, bad * BLOCK)
     handle.shutdown()
-    over = sum(offset < (bad + 1) * BLOCK and bad * BLOCK < offset + length for offset, length in parts)
-    log_told(len(data), len(data) // BLOCK + 4 + 3 + len(parts), 1 + 3 + over)
+    met = [it for it in ((bad * BLOCK, BLOCK), *over, *parts) if it[0] < (bad + 1) * BLOCK and bad * BLOCK < sum(it)]
+    log_told(len(data), len(data) // BLOCK + 4 + 3 + len(parts), [max(offset, bad * BLOCK) // 512 for offset, _ in met])
 
 
-def log_told(size, requests, faults):
+def log_told(size, requests, lost):
     """What the service of the volume has printed by its end, which may be a moment after the client's."""
-    log = f"dmstack: export v {size} bytes ro\ndmstack: served {requests} requests, {faults} with an input/output error\n"
-    end = f"faults {faults} requests {requests}\n"
+    listed = "".join(f"dmstack: export v: sector {sector}: Mismatch\n" for sector in lost)
+    log = f"dmstack: export v {size} bytes ro\n{listed}dmstack: served {requests} requests, {len(lost)} with an input/output error\n"
+    end = f"faults {len(lost)} requests {requests}\n"
     for _ in range(100):
         errors = open("errors").read()
         if errors.endswith(end):
             break
         time.sleep(0.05)
-    say("changed block: standard error", errors.startswith(log) and errors.endswith(end) and errors.count("\n") == 4, errors[:300])
+    say("changed block: standard error", errors.startswith(log) and errors.endswith(end) and errors.count("\n") == 4 + len(lost), errors[:300])
 
 
 def chunks_of(handle, data, offset, length, bad):

@@ -11,7 +11,7 @@ import time
 from nbd_messages import (
     ACK, CACHE, DF, DISC, EXPORT_NAME, Export, FLUSH, FUA, GO, GREETING, INFO, LIST, LIST_META, READ, REQ_ONE, SECTOR, SERVER, SET_META,
     STACK, STATUS, STRUCTURED, TRIM, WRITE, ZEROES, asks, begun, begun_in_chunks, context, exports, faults_line, flags, option,
-    option_reply, queries, reply, request, requests_in, without_log,
+    option_reply, queries, reply, request, requests_of, without_log,
 )
 from sentences import without_sentence
 
@@ -166,7 +166,7 @@ def gone_behind(runner, label, sent, whole, taken, images, faulty):
         said = served.stderr.read()
     status = served.wait(60)
     limit.cancel()
-    told = faults_line(1, requests_in(sent)) if status == 3 else b""
+    told = faults_line(1, len(requests_of(sent))) if status == 3 else b""
     good = found == whole[:taken] and status in (3 if faulty else 0, 1) and without_sentence(b"", without_log(said), status) == told
     runner.count(f"{label} after {taken} bytes", good and open("F", "rb").read() in images[status != 1 :], f"status {status}, {said[:200]!r}")
 

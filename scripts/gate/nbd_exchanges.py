@@ -18,6 +18,7 @@ sys.path[:0] = [os.path.join(os.path.dirname(os.path.realpath(__file__)), it) fo
 from nbd_ends import ahead, cuts, gone_within  # noqa: E402
 from nbd_failures import failures, forced, refusals  # noqa: E402
 from nbd_handshakes import contexts, handshakes, many_exports  # noqa: E402
+from nbd_memory import memory  # noqa: E402
 from nbd_messages import Runner  # noqa: E402
 from nbd_reads import chunks, gone, transmissions  # noqa: E402
 from nbd_statuses import ignored_blocks, statuses  # noqa: E402
@@ -26,7 +27,7 @@ from nbd_writes import crypt, long_runs, writes, zeroes  # noqa: E402
 
 # The longest first.
 PARTS = [failures, gone_within, ignored_blocks, cuts, chunks, zeroes, contexts, ahead, handshakes, forced]
-PARTS += [transmissions, many_exports, statuses, writes, gone, long_runs, crypt, refusals]
+PARTS += [transmissions, many_exports, statuses, writes, gone, long_runs, memory, crypt, refusals]
 
 
 def counts_of(program, part):

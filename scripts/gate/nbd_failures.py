@@ -4,8 +4,8 @@ import struct
 import subprocess
 
 from nbd_messages import (
-    DF, EIO, ENOMEM, ERROR_OFFSET, FLUSH, FUA, GREETING, READ, SECTOR, STACK, STATUS, WRITE, ZEROES, begun, begun_in_chunks, chunk, exports,
-    failed, faults_line, flags, log_of, reply, request, without_log,
+    DF, EIO, ENOMEM, ERROR_OFFSET, FLUSH, FUA, GREETING, READ, SECTOR, STACK, STATUS, WRITE, ZEROES, begun, begun_in_chunks, chunk, end_of,
+    exports, failed, faults_line, flags, reply, request, start_of, without_log,
 )
 from sentences import without_sentence
 
@@ -50,12 +50,12 @@ def talks(chunked, failing=None, error=EIO):
     return sent, wanted, bytes(e.content), asked
 
 
-def faults_by(asked, chunked, failing):
-    """How many requests report an error where the request of that number fails: a piece is read again, and goes well."""
-    kind = asked[failing][0]
+def lost_by(asked, chunked, failing):
+    """The sectors of the requests that report an error where the request of that number fails: a piece is read again, and goes well."""
+    kind, *rest = asked[failing]
     if kind == "flush":
-        return sum(later == "flush" for later, *_ in asked[failing:])
-    return int(kind != "read" or not chunked)
+        return [0 for later, *_ in asked[failing:] if later == "flush"]
+    return [] if kind == "read" and chunked else [rest[0] // SECTOR]
 
 
 def forced(runner):
@@ -114,9 +114,10 @@ def device_ends(asked, chunked, synced):
     e, ends = exports()["file"], []
     for failing in [k for k, it in enumerate(asked) if (it[0] == "flush") == synced] + [None] * synced:
         _, told, left, _ = talks(chunked, failing)
-        faults = 0 if failing is None else faults_by(asked, chunked, failing)
-        line = b"fault 3 Device 3\n" if synced else faults_line(1, len(asked)) if faults else b""
-        ends.append((told, 3 if line else 0, left, log_of([e], len(asked), faults) + line))
+        lost = [] if failing is None else lost_by(asked, chunked, failing)
+        line = b"fault 3 Device 3\n" if synced else faults_line(1, len(asked)) if lost else b""
+        log = start_of([e]) + end_of("file", len(asked), lost, b"Device")
+        ends.append((told, 3 if line else 0, left, log + line))
     return ends
 
 

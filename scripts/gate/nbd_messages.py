@@ -258,14 +258,22 @@ def faults_line(faults, requests):
     return b"faults %d requests %d\n" % (faults, requests)
 
 
-# The lines on standard error on a service, unless it is quiet: one for each export, and at its end one on the requests.
-LOG = re.compile(rb"((?:dmstack: export [!-~]+ [0-9]+ bytes r[ow]\n)+)(dmstack: served ([0-9]+) requests, ([0-9]+) with an input/output error\n)")
+# The lines on standard error on a service, unless it is quiet: one for each export before the greeting, and those at its end.
+START = re.compile(rb"(?:dmstack: export [!-~]+ [0-9]+ bytes r[ow]\n)+")
+LOG = re.compile(START.pattern + rb"(?:dmstack: export [!-~]+: sector [0-9]+: [A-Za-z]+\n)*(?:dmstack: [0-9]+ more faulty requests\n)?dmstack: served .*\n")
+MOST_LISTED = 60
 
 
-def log_of(served, requests, faults=0):
-    """These lines, of a service of these exports."""
-    lines = [b"dmstack: export %s %d bytes %s\n" % (it.name.encode(), len(it.content), b"rw" if it.writable else b"ro") for it in served]
-    return b"".join(lines) + b"dmstack: served %d requests, %d with an input/output error\n" % (requests, faults)
+def start_of(served):
+    """The line for each of these exports."""
+    return b"".join(b"dmstack: export %s %d bytes %s\n" % (it.name.encode(), len(it.content), b"rw" if it.writable else b"ro") for it in served)
+
+
+def end_of(name, requests, lost=(), kind=b"ErrorTarget"):
+    """The lines at the end of a service of that export: on the first sectors that were lost, by faults of a kind, and on the requests."""
+    listed = b"".join(b"dmstack: export %s: sector %d: %s\n" % (name.encode(), sector, kind) for sector in lost[:MOST_LISTED])
+    more = b"dmstack: %d more faulty requests\n" % (len(lost) - MOST_LISTED) if len(lost) > MOST_LISTED else b""
+    return listed + more + b"dmstack: served %d requests, %d with an input/output error\n" % (requests, len(lost))
 
 
 def without_log(errors):
@@ -273,18 +281,30 @@ def without_log(errors):
     return LOG.sub(b"", errors, 1)
 
 
-def requests_in(sent):
-    """How many requests a client sends that are answered: each whole one but DISC."""
-    at, count = 4, 0
+def requests_of(sent):
+    """The requests that a client sends and that are answered, each whole one but DISC: kinds, flags, offsets and lengths."""
+    at, found = 4, []
     while sent[at : at + 8] == OPTION_MAGIC:
         at += 16 + int.from_bytes(sent[at + 12 : at + 16], "big")
-    while sent[at : at + 4] == struct.pack(">I", REQUEST):
-        kind = int.from_bytes(sent[at + 6 : at + 8], "big")
-        at += 28 + (int.from_bytes(sent[at + 24 : at + 28], "big") if kind == WRITE else 0)
+    while sent[at : at + 4] == struct.pack(">I", REQUEST) and at + 28 <= len(sent):
+        bits, kind, _, offset, length = struct.unpack(">HHQQI", sent[at + 4 : at + 28])
+        at += 28 + (length if kind == WRITE else 0)
         if kind == DISC or at > len(sent):
             break
-        count += 1
-    return count
+        found.append((kind, bits, offset, length))
+    return found
+
+
+def lost_in(sent, export):
+    """The sector of each request that ends with a fault: its first one, or the one that a READ in parts can't read."""
+    parts, found = option(STRUCTURED) in sent, []
+    for kind, bits, offset, length in requests_of(sent):
+        if kind in (READ, WRITE, ZEROES) and offset + length <= len(export.content) and export.fails(offset, length):
+            first = offset // SECTOR
+            if parts and kind == READ and not bits & DF:
+                first = next(max(first, low) for low, high in export.lost if first < high)
+            found.append(first)
+    return found
 
 
 class Runner(Checks):
@@ -308,21 +328,23 @@ class Runner(Checks):
         if done.returncode != status:
             problems.append(f"status {done.returncode} and not {status}")
         served = [] if status == 1 else [*exports().values()] if name is None else [exports()[name]]
-        log = log_of(served, requests_in(sent), int(told.split()[1]) if status == 3 else 0) if served else b""
+        lost = lost_in(sent, exports()[name]) if status == 3 else []
+        log = start_of(served) + end_of(name or "", len(requests_of(sent)), lost) if served else b""
         if without_sentence(b"", done.stderr, done.returncode) not in [log + it for it in (ENDS if status == 4 and not told else [told])]:
             problems.append(f"standard error: {done.stderr[:200]!r}")
         if after is not None and open("F", "rb").read() != after:
             problems.append("the image differs")
         self.count(label, not problems, "; ".join(problems))
 
-    def serve(self, label, words, sent, wanted, faults=0):
-        """The service with these arguments reads what is sent, and then the end of its input. So many requests have faults."""
-        done = subprocess.run([self.program, "nbd", *words], input=sent, capture_output=True, timeout=60)
-        at, requests, status = begins_to_differ(done.stdout, wanted), requests_in(sent), 3 if faults else 0
-        rest = without_sentence(b"", done.stderr, done.returncode)
-        log = LOG.match(rest or b"")
-        good = done.stdout == wanted and done.returncode == status and log and [*map(int, log.groups()[2:])] == [requests, faults]
-        good = good and rest[log.end() :] == (faults_line(faults, requests) if faults else b"")
+    def serve(self, label, words, sent, wanted, lost=(), limited=None):
+        """The service with these arguments reads what is sent, and then the end of its input. So many requests lose these sectors.
+        `limited`, if given, is called in the service's process before the program begins."""
+        done = subprocess.run([self.program, "nbd", *words], input=sent, capture_output=True, timeout=60, preexec_fn=limited)
+        at, requests, status = begins_to_differ(done.stdout, wanted), len(requests_of(sent)), 3 if lost else 0
+        told = without_sentence(b"", done.stderr, done.returncode) or b""
+        start = START.match(told)
+        good = done.stdout == wanted and done.returncode == status and start
+        good = good and told[start.end() :] == end_of(words[1], requests, lost) + (faults_line(len(lost), requests) if lost else b"")
         self.count(label, good, f"differs at {at} of {len(wanted)}, status {done.returncode}, {done.stderr[:200]!r}")
 
 

@@ -5,7 +5,7 @@ import subprocess
 from nbd_messages import (
     ACK, BLOCK, CACHE, DF, DISC, EINVAL, EXPORT_NAME, Export, FAST_ZERO, FLUSH, FUA, GO, GREETING, INVALID, LIST, MOST, NO_HOLE, PIECE,
     READ, REQ_ONE, SECTOR, SERVER, STATUS, STRUCTURED, TRIM, WRITE, ZEROES, asks, begun, begun_in_chunks, exports, failed,
-    faults_line, flags, option, option_reply, reply, request, without_log,
+    faults_line, flags, lost_in, option, option_reply, reply, request, without_log,
 )
 
 
@@ -117,15 +117,13 @@ def large_chunks(runner):
         open("F", "wb").write(content)
         e = Export("l", content, lost=[(k, k + 1) for k in lost])
         sent, wanted = map(bytearray, begun_in_chunks(e))
-        faults = 0
         for offset in (0, 1, 511, 512, PIECE - 513, PIECE - 512, PIECE - 1, PIECE, PIECE + 1, 2 * PIECE - 1024, 4 * PIECE - 3, size - 1):
             for length in (1, 512, 513, 1025, PIECE - 1, PIECE, PIECE + 1, 3 * PIECE, size - offset):
                 if offset + length <= size:
                     cookie = offset ^ length << 32
-                    faults += 2 * e.fails(offset, length)
                     sent += request(READ, offset, length, cookie) + request(READ, offset, length, cookie, bits=DF)
                     wanted += e.chunks(offset, length, cookie) + e.chunks(offset, length, cookie, df=True)
-        runner.serve(f"large reads with {lost} lost", ["large", "l", "F=ro:F"], sent + request(DISC), wanted, faults)
+        runner.serve(f"large reads with {lost} lost", ["large", "l", "F=ro:F"], sent + request(DISC), wanted, lost_in(sent, e))
 
 
 def large_holes(runner):
@@ -146,14 +144,12 @@ def large_holes(runner):
         open("F", "wb").write(b"".join(struct.pack(">I", k) for k in range(at * 128)))
         e = Export("h", content, lost=spans["error"], zeros=spans["zero"])
         sent, wanted = map(bytearray, begun_in_chunks(e))
-        faults = 0
         for offset in (0, 1, 511, 512, 3 * SECTOR - 1, 3 * SECTOR, 5 * SECTOR, 13 * SECTOR, PIECE - 1, PIECE, 2 * PIECE - 3, 4 * PIECE + 1):
             for length in (1, 511, 512, 513, 1025, 700 * SECTOR, PIECE - 1, PIECE, PIECE + 1, 3 * PIECE, len(content) - offset):
                 if offset + length <= len(content):
-                    faults += 2 * e.fails(offset, length)
                     sent += request(READ, offset, length, offset) + request(READ, offset, length, offset, bits=DF)
                     wanted += e.chunks(offset, length, offset) + e.chunks(offset, length, offset, df=True)
-        runner.serve(f"reads of {lines}", ["holes", "h", "F=ro:F"], sent + request(DISC), wanted, faults)
+        runner.serve(f"reads of {lines}", ["holes", "h", "F=ro:F"], sent + request(DISC), wanted, lost_in(sent, e))
 
 
 def large_zeros(runner):

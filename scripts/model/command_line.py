@@ -2,15 +2,17 @@
 
 from configuration import Configuration, Leaf, Refused, check_leaves
 from device_tree import Tree
-from files import WHOLE, Files, Noted, Stop
+from files import WHOLE, Files, Noted, Stop, not_opened
 from images import Drawn, run_diff, run_dump, run_format, run_partitions, run_table, run_verify
 from nbd import Service
+from partitions import part_named
 from recovery import chart_of, check_size, facts_of as lost_facts, lines_of, looked_up, recovered, with_map
 from repairs import run_repair
 from replies import Json, Octets, ending_object
 from session import MOST_SECTORS, SUBMISSION_RULES, Session, Usage, check_request, costs
 from stack import SECTOR, Fault, FileImage, MemoryImage, Stack
 from tables import TextFault, read_stack
+from updates import run_update
 from verity import ImageFault
 from words import (OPTIONS, at_least, binding, bindings, cut_words, exactly, read_cache, read_on_stack, the_number)
 
@@ -20,7 +22,7 @@ TARGETS = ("linear", "striped", "zero", "error", "crypt", "verity", "zero_blocks
            "unstriped")
 # Options and forms of words that a program may not have yet; without them they are wrong words.
 FORMS = ("all", "grow", "json", "map", "retries", "differing", "progress", "pass-cache", "parts", "input-stack", "store-file",
-         "exports", "fec")
+         "exports", "fec", "bound-partitions")
 # Commands whose output is data for another program: their refusals go to standard error.
 OUTPUT_IS_DATA = ("cat", "nbd")
 # Commands whose STACK may be `-`, standard input; where that is the client's or the bytes', `-` is a wrong word.
@@ -54,6 +56,29 @@ def opened(name, kind, value, place, files):
     return FileImage(content, place, part if part != WHOLE else None)
 
 
+def resolved(words, files):
+    """The bindings with each partition as a part of its disk."""
+    found = []
+    for name, kind, value in words:
+        if isinstance(value, tuple) and isinstance(value[1], bytes):
+            path, word = value
+            disk = files.find(path)
+            if not isinstance(disk, bytearray):
+                raise not_opened("OtherFault", path)
+            part = part_named(bytes(disk), word)
+            if part is None:
+                raise not_opened("NotFound", path)
+            value = path, part
+        found.append((name, kind, value))
+    return found
+
+
+def begun(path, words, files):
+    """The bindings, whose partitions are looked up first, and the text of the stack."""
+    words = resolved(words, files)
+    return words, stack_text(path, files)
+
+
 def bound(words, files):
     """A stack over the leaves of the bindings, without a device."""
     images, leaves = {}, []
@@ -81,8 +106,8 @@ def run_load(options, words, files, _given, features):
     (path,), rest = at_least(words, 1)
     if b"json" in options and b"tree" in options:
         raise Usage
-    rest = bindings(rest)
-    stack = loaded(stack_text(path, files), rest, files, features)
+    rest, text = begun(path, bindings(rest), files)
+    stack = loaded(text, rest, files, features)
     configuration = stack.configuration
     if b"tree" in options:
         return Tree(configuration, rest).text(), DONE
@@ -105,8 +130,8 @@ def run_read(options, words, files, _given, features):
     read_cache(options)
     (path, name, first, count), rest = at_least(words, 4)
     first, count = the_number(first), the_number(count)
-    rest = bindings(rest)
-    stack = loaded(stack_text(path, files), rest, files, features)
+    rest, text = begun(path, bindings(rest), files)
+    stack = loaded(text, rest, files, features)
     check_request(stack.configuration, name, first, count, None)
     return Session(stack, features).run(name, first, count, None), DONE
 
@@ -115,8 +140,7 @@ def run_write(options, words, files, _given, features):
     read_cache(options)
     (path, name, first, source), rest = at_least(words, 4)
     first = the_number(first)
-    rest = bindings(rest)
-    text = stack_text(path, files)
+    rest, text = begun(path, bindings(rest), files)
     node = files.content(source)
     data = bytes(node[:(MOST_SECTORS + 1) * SECTOR])
     stack = loaded(text, rest, files, features)
@@ -157,14 +181,15 @@ def run_scan(options, words, files, _given, features):
     check_map(options)
     if b"json" in options and b"chart" in options:
         raise Usage
-    stack = loaded(stack_text(path, files), rest, files, features)
+    rest, text = begun(path, rest, files)
+    stack = loaded(text, rest, files, features)
     return gone_over(options, name, stack, None, files)
 
 
 def run_copy(options, words, files, _given, features):
     (path, name, out_path), rest, _, _ = read_on_stack(options, words, 3)
     check_map(options)
-    text = stack_text(path, files)
+    rest, text = begun(path, rest, files)
     out = files.image(out_path, True)
     stack = loaded(text, rest, files, features)
     return gone_over(options, name, stack, out, files)
@@ -177,7 +202,8 @@ def check_range(device, first, count):
 
 def run_cat(options, words, files, _given, features):
     (path, name), rest, first, count = read_on_stack(options, words, 2)
-    stack = loaded(stack_text(path, files), rest, files, features)
+    rest, text = begun(path, rest, files)
+    stack = loaded(text, rest, files, features)
     device = looked_up(stack.configuration, name)
     check_range(device, first, count or 0)
     end = device.sectors if count is None else first + count
@@ -203,10 +229,10 @@ def run_store(options, words, files, given, features):
     (path, name, source), rest, first, _ = read_on_stack(options, words, 3)
     if path == source == b"-" and "input-stack" in features["forms"]:
         raise Usage
-    text = stack_text(path, files)
     is_file = source != b"-" and "store-file" in features["forms"]
     if source != b"-" and not is_file:
         raise Usage
+    rest, text = begun(path, rest, files)
     data = bytes(files.image(source, False)) if is_file else given
     stack = loaded(text, rest, files, features)
     device = looked_up(stack.configuration, name)
@@ -244,7 +270,8 @@ def run_nbd(options, words, files, given, features):
     rest = bindings(rest)
     if path == b"-" and "input-stack" in features["forms"]:
         raise Usage
-    stack = loaded(stack_text(path, files), rest, files, features)
+    rest, text = begun(path, rest, files)
+    stack = loaded(text, rest, files, features)
     if not name:
         # the sizes of all others have no 64 bits
         devices = [device for device in stack.configuration.devices.values() if device.sectors < 2**55]
@@ -254,7 +281,7 @@ def run_nbd(options, words, files, given, features):
 
 def run_session(options, words, files, given, features):
     read_cache(options)
-    stack = bound(bindings(words), files)
+    stack = bound(resolved(bindings(words), files), files)
     return Session(stack, features).serve(given, files.cut_after)
 
 
@@ -267,7 +294,7 @@ COMMANDS = {
     b"format": run_format, b"verify": run_verify, b"dump": run_dump, b"table": run_table, b"repair": run_repair,
     b"load": run_load, b"read": run_read, b"write": run_write, b"session": run_session,
     b"scan": run_scan, b"copy": run_copy, b"nbd": run_nbd, b"cat": run_cat, b"store": run_store,
-    b"partitions": run_partitions, b"diff": run_diff, b"version": run_version,
+    b"partitions": run_partitions, b"diff": run_diff, b"update": run_update, b"version": run_version,
 }
 
 
@@ -280,6 +307,8 @@ def forms_of(command, options, words):
         found.add("exports")
     if any(word.partition(b"=")[2].partition(b":")[0].startswith((b"ro@", b"rw@")) for word in words):
         found.add("parts")
+    if any(word.partition(b"=")[2].partition(b":")[0].startswith((b"ro#", b"rw#")) for word in words):
+        found.add("bound-partitions")
     return found
 
 

@@ -1,5 +1,7 @@
 """Files as commands open them, and the line that ends a command."""
 
+import re
+
 from stack import SECTOR
 
 REFUSED = 1
@@ -28,9 +30,14 @@ class Noted(list):
         self.warnings = warnings
 
 
+def shown(path):
+    """A path as it is printed: of control characters their numbers."""
+    return re.sub(rb"[\x00-\x1f\x7f]", lambda found: b"\\x%02x" % found[0][0], path)
+
+
 def not_opened(kind, path):
     place = OPENING_FAULTS.index(kind) + 1
-    return Stop(b"refused %d %s %s" % (place, kind.encode(), path))
+    return Stop(b"refused %d %s %s" % (place, kind.encode(), shown(path)))
 
 
 def is_apart(part, other):
@@ -116,11 +123,15 @@ class Files:
         if not isinstance(node, bytearray):
             raise not_opened("OtherFault", path)
         if part != WHOLE and sum(part) > len(node) // SECTOR:
-            raise Stop(OUTSIDE + path)
+            raise Stop(OUTSIDE + shown(path))
+        self.take(node, writable, part, path)
+        return node
+
+    def take(self, node, writable, part, path):
+        """Uses these sectors of a file that a path or an argument names."""
         if self.is_used(node, writable, part):
             raise not_opened("SameFile", path)
         self.opened.append((node, writable, part))
-        return node
 
     def content(self, path):
         """What a file holds that is read as it is opened, and is only read."""

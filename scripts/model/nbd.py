@@ -27,6 +27,8 @@ MOST_OF_AN_OPTION, MOST_OF_A_REQUEST = 65536, 32 * 1024 * 1024
 # reads does so up to the end of a piece, or of a part of one where one extent is asked for, and tells zeros by such blocks.
 PIECE, PART, BLOCK = 256 * 1024, 64 * 1024, 4096
 DONE, FAULTS, BROKEN = 0, 3, 4
+# So many faults are listed at the end.
+MOST_LISTED = 60
 
 
 class Ended(Exception):
@@ -71,7 +73,7 @@ class Service:
 
     def __init__(self, stack, devices):
         self.stack, self.devices = stack, devices
-        self.replies, self.requests, self.faults = Replies(), 0, 0
+        self.replies, self.requests, self.faults = Replies(), 0, []
 
     def serve(self, given, is_quiet=False):
         """The replies to a whole input, and the status."""
@@ -86,14 +88,22 @@ class Service:
         except Ended as end:
             status, line = end.status, end.line
         if status == DONE and self.faults:
-            status, line = FAULTS, b"faults %d requests %d" % (self.faults, self.requests)
+            status, line = FAULTS, b"faults %d requests %d" % (len(self.faults), self.requests)
         self.replies.warnings = [*([] if is_quiet else self.log()), *([line] if line else [])]
         return self.replies, status
 
     def log(self):
-        """The lines on a service that isn't quiet: one on each device, and one on the requests at the end."""
+        """The lines on a service that isn't quiet: one on each device; at the end those on the first faults, and one on the requests."""
         devices = [b"dmstack: export %s %d bytes %s" % (it.name, it.sectors * SECTOR, b"rw" if it.writable else b"ro") for it in self.devices]
-        return [*devices, b"dmstack: served %d requests, %d with an input/output error" % (self.requests, self.faults)]
+        left_out = len(self.faults) - MOST_LISTED
+        more = [b"dmstack: %d more faulty requests" % left_out] if left_out > 0 else []
+        served = b"dmstack: served %d requests, %d with an input/output error" % (self.requests, len(self.faults))
+        return [*devices, *self.faults[:MOST_LISTED], *more, served]
+
+    def lose(self, at, fault):
+        """A request ends with a fault at the sector of that byte."""
+        kind = fault.text.encode().split()[2]
+        self.faults.append(b"dmstack: export %s: sector %d: %s" % (self.device.name, at // SECTOR, kind))
 
     def begin(self):
         """A message begins: where the input has ended, the client went away between two of them."""
@@ -234,9 +244,9 @@ class Service:
             error, answer = 0, self.done(command, flags, offset, length, data)
         except Refused as refused:
             error, answer = refused.error, b""
-        except Fault:
+        except Fault as fault:
             error, answer = EIO, b""
-            self.faults += 1
+            self.lose(offset, fault)
         if self.structured and command in (READ, BLOCK_STATUS):
             octets = framed(cookie, True, *self.chunk(command, offset, error, answer))
         else:
@@ -258,9 +268,9 @@ class Service:
                 continue
             try:
                 octets = self.read(at, behind - at)
-            except Fault:
+            except Fault as fault:
                 if at // SECTOR == (behind - 1) // SECTOR:
-                    self.faults += 1
+                    self.lose(at, fault)
                     yield True, ERROR_OFFSET, struct.pack(">IHQ", EIO, 0, at)
                     return
                 slow = behind

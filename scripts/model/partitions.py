@@ -1,5 +1,6 @@
 """GUID partition tables (UEFI 2.10, chapter 5): both copies, the partitions, and the stacks over them."""
 
+import re
 import struct
 import zlib
 from dataclasses import dataclass
@@ -8,10 +9,11 @@ from uuid import UUID
 from configuration import MOST_DEVICES
 from files import Stop
 from stack import SECTOR
-from tables import is_mapped_name
+from tables import is_mapped_name, number
 from verity import check_sizes, read_superblock, table_line
 
 MOST_OF_ENTRIES = 1 << 20
+UUID_FORM = re.compile(rb"[0-9a-f]{8}(-[0-9a-f]{4}){3}-[0-9a-f]{12}", re.IGNORECASE)
 # Types of the Discoverable Partitions Specification, by systemd's names: those of no architecture, and of each one that of its root
 # partition, its verity partition and its signature, and of the same for /usr.
 KINDS = {
@@ -257,6 +259,23 @@ def table_of(image, size):
         return table_with(image, 4096)
     except Stop:
         return table_with(image, size)
+
+
+def part_named(image, word):
+    """The part, in sectors of 512 bytes, that the partition of that number, UUID or label is; None unless exactly one is."""
+    try:
+        table = table_of(image, SECTOR)
+    except Stop:
+        return None
+    wanted = number(word, 2**32)
+    if wanted:
+        found = [it for it in table.partitions if it.number == wanted]
+    elif UUID_FORM.fullmatch(word):
+        found = [it for it in table.partitions if it.uuid == UUID(word.decode())]
+    else:
+        found = [it for it in table.partitions if it.label.encode() == word]
+    unit = table.size // SECTOR
+    return (found[0].first * unit, found[0].count * unit) if len(found) == 1 else None
 
 
 def warning_lines(image, table):

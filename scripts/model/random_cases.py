@@ -5,14 +5,14 @@ The model is asked which devices stand while a session is made, so that its line
 
 from dataclasses import replace
 
-from random_disks import Disks
 from random_images import Images
 from random_parts import Case, Run
 from random_services import Services
+from random_updates import Updates
 from strange_words import STRANGE_NUMBERS
 
 
-class Maker(Services, Images, Disks):
+class Maker(Services, Images, Updates):
     """Makes one case."""
 
     def case(self):
@@ -20,6 +20,8 @@ class Maker(Services, Images, Disks):
                   (self.words_case, 7), (self.tree_case, 20), (self.disk_case, 6)]
         if self.has("commands", "nbd"):
             makers.append((self.service_case, 14))
+        if self.has("commands", "update"):
+            makers.append((self.update_case, 10))
         made, = self.random.choices([maker for maker, _ in makers], [share for _, share in makers])
         return Case(self.files, made())
 

@@ -32,7 +32,18 @@ class Disks(Trees):
         image = self.disk(size, sectors, placed)
         self.spoil_disk(image, size, sectors)
         self.files[b"disk"] = bytes(image)
-        return [self.disk_run(size, root) for _ in range(self.pick([1, 2]))]
+        runs = [self.disk_run(size, root) for _ in range(self.pick([1, 2]))]
+        if self.has("forms", "bound-partitions") and self.chance(0.4):
+            runs.append(self.bound_run([str(UUID(bytes=own)).encode() for own, *_ in placed]))
+        return runs
+
+    def bound_run(self, uuids):
+        """A device over the first sector of a partition of the disk, maybe beside another one."""
+        others = [b"0", b"1", b"2", b"3", OTHER.encode(), *(label.encode() for label in LABELS)]
+        named = [self.pick(uuids if uuids and self.chance(0.7) else others) for _ in range(self.pick([1, 1, 2]))]
+        words = [b"%s=%s#%s:disk" % (name, self.pick([b"ro", b"rw"]), one) for name, one in zip((b"D", b"E"), named)]
+        self.files[b"bound"] = b"v,,,ro,0 1 linear D 0\n"
+        return Run(self.pick([[b"load", b"bound"], [b"cat", b"bound", b"v"]]) + words)
 
     def verity_parts(self, size):
         """A data partition and one of its tree, whose UUIDs are the halves of the root."""

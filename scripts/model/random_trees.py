@@ -170,7 +170,7 @@ class Trees(Dice):
         """The names of the data and of the tree of an image, of which some blocks are damaged, and some are cut off."""
         data, tree = bytearray(whole), bytearray(area)
         self.damage(it, data, tree)
-        if self.chance(0.03):
+        if tree and self.chance(0.03):
             tree[self.random.randrange(it.hash_block)] ^= 1
         if is_one:
             files = {b"one" + mark: bytes(data) + b"\x77" * (offset - len(data)) + bytes(tree)}

@@ -5,28 +5,31 @@ A hash block that no copy has is reconstructed from the blocks beneath it; if th
 from files import Stop
 from images import check_aligned, surveyed, told_root
 from parity import covered, made_again
+from places import open_place
 from protection import check_parity
 from stack import SECTOR
 from verity import bare_tree, check_sizes, digest, read_superblock
 from words import read_repair
 
 
-def parts_of(whole, first):
-    """The first sector and the number of sectors of the data and of the hash image in their files."""
-    counts = [len(image) // SECTOR for image in whole]
-    data_end = first if first and whole[0] is whole[1] else counts[0]
+def parts_of(places, first):
+    """The first sector and the number of sectors of the data and of the hash image in their places."""
+    counts = [place.sectors() for place in places]
+    is_one = places[0].node is places[1].node and places[0].part == places[1].part
+    data_end = first if first and is_one else counts[0]
     return (0, min(data_end, counts[0])), (min(first, counts[1]), max(0, counts[1] - first))
 
 
 def opened(files, paths, first, copies, writes):
-    """The bytes of the data and of the hash image's file, the length of the data, and the copies of each."""
+    """The bytes of the data and of the hash image's place, the length of the data, and the copies of each."""
     files.opened.clear()
-    whole = [files.image(path, False) for path in paths]
+    places = [open_place(files, path, False) for path in paths]
     files.opened.clear()
-    parts = parts_of(whole, first)
-    for path, part in zip(paths, parts):
-        files.image(path, writes, part)
-    return whole, parts[0][1] * SECTOR, [[files.image(copy[at], False) for copy in copies] for at in (0, 1)]
+    parts = parts_of(places, first)
+    for place, part, path in zip(places, parts, paths):
+        files.take(place.node, writes, place.within(*part), path)
+    found = [[open_place(files, copy[at], False).image() for copy in copies] for at in (0, 1)]
+    return [place.image() for place in places], parts[0][1] * SECTOR, found
 
 
 def block_at(image, at, size):

@@ -19,6 +19,7 @@ OPTIONS = {
     "dump": (b"hash-offset", b"json", b"pin"),
     "table": (*TREE, b"hash-offset", b"root-hash-file", b"name", b"no-superblock", b"pin"),
     "repair": (*TREE, b"hash-offset", b"root-hash-file", b"no-superblock", b"check", b"fec", b"fec-roots", b"pin"),
+    "update": (b"json", b"progress", b"pin"),
     "load": (b"json", b"tree"), "read": (b"cache",), "write": (b"cache",), "session": (b"cache",), "nbd": (b"cache", b"all"),
     "scan": (b"cache", b"map", b"retries", b"progress", b"json", b"chart"),
     "copy": (b"cache", b"map", b"retries", b"differing", b"progress"),
@@ -113,21 +114,40 @@ def uuid_of(word):
 def part_of(kind):
     """`ro@FIRST+COUNT` or `rw@FIRST+COUNT`: the kind, and the sectors of the part."""
     kind, at, place = kind.partition(b"@")
+    if kind not in (b"ro", b"rw") or not at:
+        raise Usage
+    return kind, sectors_of(place)
+
+
+def sectors_of(place):
+    """`FIRST+COUNT`: the sectors of a part of a file."""
     first, plus, count = place.partition(b"+")
-    if kind not in (b"ro", b"rw") or not at or not plus:
+    if not plus:
         raise Usage
     first, count = the_number(first), the_number(count)
     if count < 1 or first + count >= END_OF_PARTS:
         raise Usage
-    return kind, (first, count)
+    return first, count
+
+
+def partition_in(kind):
+    """`ro#PARTITION` or `rw#PARTITION`: the kind, and the number, UUID or label."""
+    kind, sign, word = kind.partition(b"#")
+    if kind not in (b"ro", b"rw") or not sign or not word or b"/" in word:
+        raise Usage
+    return kind, word
 
 
 def binding(word):
-    """The name, the kind, and the number of sectors or the file of a binding; of a part of a file, that part too."""
+    """The name, the kind, and the number of sectors or the file of a binding; of a part of a file, that part too, or the word that
+    names a partition."""
     name, equals, rest = word.partition(b"=")
     kind, colon, value = rest.partition(b":")
     if not equals or not colon:
         raise Usage
+    if kind.startswith((b"ro#", b"rw#")):
+        kind, word = partition_in(kind)
+        return name, kind, (value, word)
     if b"@" in kind:
         kind, part = part_of(kind)
         return name, kind, (value, part)
@@ -213,6 +233,15 @@ def read_repair(options, words):
     root, rest = said_root(options, rest)
     copies = read_copies(data_path, hash_path, rest)
     return data_path, hash_path, root, read_sizes(options), read_offset(options), copies, read_fec(options)
+
+
+def read_update(options, words):
+    """DATA, HASH, and the copies, of which the last one is the release."""
+    (data_path, hash_path, *release), rest = at_least(words, 4)
+    check_pin(options)
+    if b"pin" not in options or len(rest) % 2:
+        raise Usage
+    return data_path, hash_path, [*zip(rest[::2], rest[1::2]), tuple(release)]
 
 
 def check_pin(options, name=b"pin"):

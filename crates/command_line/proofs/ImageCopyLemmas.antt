@@ -1,10 +1,14 @@
 -- Copies that are read one after the other.
-use Rattle.std.proofs.Common.{◌≡◌, ◌<◌, ◌≤◌, ◌-◌, ◌==◌, ℕ, true, false, List, [], ◌∷◌, ◌++◌, length, map, take, drop, get_or, refl, ap, sym, ◌∙◌, arith, Bor, Option, Some, None}
+use Rattle.std.proofs.Common.{◌≡◌, ◌<◌, ◌≤◌, ◌-◌, ◌==◌, ℕ, true, false, List, [], ◌∷◌, ◌++◌, length, map, take, drop, get_or, refl, ap, sym, ◌∙◌, arith, Bor, Option, Some, None, Ok, Err}
 use Rattle.std.specs.Prelude.{option_map}
 use Rattle.std.proofs.lemmas.List.{append_assoc, append-nil, map-append, take_all}
 use Rattle.command_line.specs.declared.image_copies.ImageCopy.{ImageCopy}
 use Rattle.command_line.specs.FormatOptions.{texts_of}
-use Rattle.command_line.specs.ImageCopies.{ImageCopyRecord, copies_in_pairs, image_copy_record, one_file}
+use Rattle.command_line.specs.declared.fault.WordsFault.{WordsFault}
+use Rattle.command_line.specs.declared.fault.WordsFault.TheVariants.{NoMemory, Usage}
+use Rattle.command_line.specs.CommandWords.{RefusesWords}
+use Rattle.command_line.specs.ImageCopies.{AreCopies, ImageCopyRecord, copies_in_pairs, image_copy_record, one_file, said_copies}
+use Rattle.command_line.specs.Misuses.{misuse_record}
 
 -- copies, and more after them
 abbrev pub behind : List ImageCopy → Option (List ImageCopyRecord) → Option (List ImageCopyRecord)
@@ -40,6 +44,19 @@ unfolding copies_in_pairs
 behind-odd copies [] few some = let clash : true ≡ false = some in cc
 behind-odd copies (a ∷ []) few some = refl
 behind-odd copies (a ∷ b ∷ rest) few some = absurd (omega (arith, few))
+
+-- one copy after them
+pub last-more : (said : Option (List ImageCopyRecord)) (copies : List ImageCopy) (last : ImageCopy) → AreCopies said copies
+    → AreCopies (option_map (λ records. records ++ image_copy_record last ∷ []) said) (copies ++ last ∷ [])
+last-more said copies last are =
+    ap (option_map (λ records. records ++ image_copy_record last ∷ [])) are
+    ∙ ap (λ all. Some all) (sym (map-append image_copy_record copies (last ∷ [])))
+
+pub last-refused : (said : Option (List ImageCopyRecord)) (last : ImageCopyRecord) (fault : WordsFault) → RefusesWords (said_copies said) fault
+    → RefusesWords (said_copies (option_map (λ records. records ++ last ∷ []) said)) fault
+last-refused None last (Usage misuse) is = is
+last-refused (Some records) last (Usage misuse) is = let clash : Ok records ≡ Err (misuse_record misuse) = is in cc
+last-refused said last NoMemory refused = refused
 
 pub one-files : (words : List (Bor (List ℕ))) → map (λ word. one_file word.now) words ≡ map one_file (texts_of words)
 one-files [] = refl

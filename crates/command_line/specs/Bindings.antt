@@ -1,13 +1,15 @@
 -- The names that a command line binds to devices.
-use Rattle.std.specs.Prelude.{ℕ, ◌&&◌, nat_le, Bool, true, false, List, codes, Option, Some, option_map, if◌then◌else◌}
+use Rattle.std.specs.Prelude.{ℕ, ◌&&◌, nat_le, Bool, true, false, List, codes, Option, None, Some, option_map, if◌then◌else◌}
 use Rattle.std.specs.Option.{option_and_then}
 use Rattle.std.specs.Str.{bytes_eq}
 use Rattle.dm_table.specs.Numbers.{number, number_if}
 use Rattle.command_line.specs.declared.bindings.Backing.{Backing}
-use Rattle.command_line.specs.declared.bindings.Backing.TheVariants.{File, Part, Zeros, Ramp}
+use Rattle.command_line.specs.declared.bindings.Backing.TheVariants.{File, Part, Partition, Zeros, Ramp}
 use Rattle.command_line.specs.declared.bindings.Binding.{Binding}
 use Rattle.command_line.specs.Cuts.{cut_first}
+use Rattle.command_line.specs.FilePlaces.{NamedPartitionRecord, named_partition_record}
 use Rattle.command_line.specs.PartBindings.{PartRecord, kind_part, part_record}
+use Rattle.command_line.specs.PartitionBindings.{kind_partition}
 
 -- what a name is bound to
 pub data BackingRecord : Type 0 where
@@ -15,6 +17,8 @@ pub data BackingRecord : Type 0 where
   file : List ℕ → Bool → BackingRecord
   -- a part of one
   part : List ℕ → Bool → PartRecord → BackingRecord
+  -- a partition in the partition table of one
+  partition : List ℕ → Bool → NamedPartitionRecord → BackingRecord
   -- so many zero sectors
   zeros : ℕ → BackingRecord
   -- so many sectors, of which sector k is filled with the byte k
@@ -32,14 +36,27 @@ sectors_at word = number_if (λ n. nat_le 1 n && nat_le n 65536) (number word)
 abbrev pub part_backing : List ℕ → List ℕ → Option BackingRecord
 part_backing kind rest = option_map (λ found. part rest found.0 found.1) (kind_part kind)
 
--- `rw:FILE`, `ro:FILE`, `zero:N` or `ramp:N`, of which the kind is before the colon, or a part of a file
+-- `rw#PARTITION:FILE` or `ro#PARTITION:FILE`
+abbrev pub partition_backing : List ℕ → List ℕ → Option BackingRecord
+partition_backing kind rest = option_map (λ found. partition rest found.0 found.1) (kind_partition kind)
+
+-- the part, or else the partition
+abbrev pub or_partition : Option BackingRecord → List ℕ → List ℕ → Option BackingRecord
+or_partition (Some backing) kind rest = Some backing
+or_partition None kind rest = partition_backing kind rest
+
+-- a part of a file, or a partition of it
+unfoldable pub placed_backing : List ℕ → List ℕ → Option BackingRecord
+placed_backing kind rest = or_partition (part_backing kind rest) kind rest
+
+-- `rw:FILE`, `ro:FILE`, `zero:N` or `ramp:N`, of which the kind is before the colon, or a part or a partition of a file
 abbrev pub backing_by : List ℕ → List ℕ → Option BackingRecord
 backing_by kind rest =
     if bytes_eq kind (codes "rw") then Some (file rest true)
     else if bytes_eq kind (codes "ro") then Some (file rest false)
     else if bytes_eq kind (codes "zero") then option_map zeros (sectors_at rest)
     else if bytes_eq kind (codes "ramp") then option_map ramp (sectors_at rest)
-    else part_backing kind rest
+    else placed_backing kind rest
 
 -- `KIND:REST`, cut at the first colon (58)
 abbrev pub backing_of : List ℕ → Option BackingRecord
@@ -56,6 +73,7 @@ binding_of word = option_and_then (λ parts. option_map (bind parts.0) (backing_
 abbrev pub backing_record : Backing → BackingRecord
 backing_record (File path writable) = file path.now writable
 backing_record (Part path writable at) = part path.now writable (part_record at)
+backing_record (Partition path writable named) = partition path.now writable (named_partition_record named)
 backing_record (Zeros sectors) = zeros sectors
 backing_record (Ramp sectors) = ramp sectors
 

@@ -1,5 +1,5 @@
 -- The copies of an image, as words say them.
-use Rattle.std.specs.Prelude.{◌≡◌, List, [], ◌∷◌, codes, map, None, Option, Some, ℕ, option_map, if◌then◌else◌}
+use Rattle.std.specs.Prelude.{◌≡◌, List, [], ◌∷◌, ◌++◌, codes, map, None, Option, Some, ℕ, option_map, if◌then◌else◌}
 use Rattle.std.specs.Str.{bytes_eq}
 use Rattle.command_line.specs.Misuses.{Reading, wanted}
 use Rattle.command_line.specs.declared.misuse.Cause.TheVariants.{Missing}
@@ -27,6 +27,10 @@ copies_of data_path hash_path words = if bytes_eq data_path hash_path then Some 
 -- the hash file of the last copy may be missing
 abbrev pub said_copies : Option (List ImageCopyRecord) → Reading (List ImageCopyRecord)
 said_copies copies = wanted (codes "HASHCOPY") Missing copies
+
+-- two words for each copy, and one more copy after them
+unfoldable pub copies_and_last : ImageCopyRecord → List (List ℕ) → Option (List ImageCopyRecord)
+copies_and_last last words = option_map (λ copies. copies ++ last ∷ []) (copies_in_pairs words)
 
 -- what the program's own value says
 abbrev pub image_copy_record : ImageCopy → ImageCopyRecord

@@ -13,6 +13,7 @@ use Rattle.command_line.specs.words.Repair.{RepairRecord, repair_record, repair_
 use Rattle.command_line.specs.words.Scan.{ScanRecord, scan_record, scan_said}
 use Rattle.command_line.specs.words.Session.{SessionRecord, session_record, session_said}
 use Rattle.command_line.specs.words.Store.{StoreRecord, store_record, store_said}
+use Rattle.command_line.specs.words.Update.{UpdateRecord, update_record, update_said}
 use Rattle.command_line.specs.words.Write.{WriteRecord, write_record, write_said}
 use Rattle.command_line.specs.Misuses.{Reading, misused, refuse_if, said_as, when}
 use Rattle.command_line.specs.OptionGroups.{has_fec_value}
@@ -24,12 +25,13 @@ use Rattle.command_line.specs.words.Format.{FormatRecord, format_record, format_
 use Rattle.command_line.specs.words.Verify.{VerifyRecord, verify_record, verify_said}
 use Rattle.command_line.specs.words.Dump.{DumpRecord, dump_record, dump_said}
 use Rattle.command_line.specs.words.Table.{TableRecord, table_record, table_said}
+use Rattle.command_line.specs.words.Find.{FindRecord, find_record, find_said}
 use Rattle.command_line.specs.words.Partitions.{PartitionsRecord, partitions_record, partitions_said}
 use Rattle.command_line.specs.words.Diff.{DiffRecord, diff_record, diff_said}
 use Rattle.command_line.specs.words.TreeVerify.{TreeVerifyRecord, tree_verify_record, tree_verify_said}
 use Rattle.command_line.specs.words.TreeTable.{TreeTableRecord, tree_table_record, tree_table_said}
 use Rattle.command_line.specs.declared.invocation.Invocation.{Invocation}
-use Rattle.command_line.specs.declared.invocation.Invocation.TheVariants.{Load, Read, Write, Session, Nbd, Exports, Scan, Copy, Cat, Store, Format, Verify, Dump, Table, Partitions, Diff, Repair, VerifyTree, TableTree, FormatFec, VerifyFec, Manual, Version}
+use Rattle.command_line.specs.declared.invocation.Invocation.TheVariants.{Load, Read, Write, Session, Nbd, Exports, Scan, Copy, Cat, Store, Format, Verify, Dump, Table, Partitions, Diff, Repair, Update, Find, VerifyTree, TableTree, FormatFec, VerifyFec, Manual, Version}
 
 pub data InvocationRecord : Type 0 where
   load : LoadRecord → InvocationRecord
@@ -50,6 +52,8 @@ pub data InvocationRecord : Type 0 where
   partitions : PartitionsRecord → InvocationRecord
   diff : DiffRecord → InvocationRecord
   repair : RepairRecord → InvocationRecord
+  update : UpdateRecord → InvocationRecord
+  find_in_place : FindRecord → InvocationRecord
   -- `verify --no-superblock`
   verify_tree : TreeVerifyRecord → InvocationRecord
   table_tree : TreeTableRecord → InvocationRecord
@@ -102,13 +106,15 @@ image_said name texts words =
     else if bytes_eq name (codes "version") then version_said words
     else misused (codes "COMMAND") Unknown
 
--- the commands on a device of a stack
+-- the commands on a device of a stack, `update` and `find`
 unfoldable pub device_said : List ℕ → OptionTexts → List (List ℕ) → Reading InvocationRecord
 device_said name texts words =
     if bytes_eq name (codes "scan") then said_as scan (scan_said texts words)
     else if bytes_eq name (codes "copy") then said_as copy (copy_said texts words)
     else if bytes_eq name (codes "cat") then said_as cat (cat_said texts words)
     else if bytes_eq name (codes "store") then said_as store (store_said texts words)
+    else if bytes_eq name (codes "update") then said_as update (update_said texts words)
+    else if bytes_eq name (codes "find") then said_as find_in_place (find_said texts words)
     else image_said name texts words
 
 -- `nbd`, with `--all` or without it
@@ -153,6 +159,8 @@ invocation_record (Table w) = table (table_record w)
 invocation_record (Partitions w) = partitions (partitions_record w)
 invocation_record (Diff w) = diff (diff_record w)
 invocation_record (Repair w) = repair (repair_record w)
+invocation_record (Update w) = update (update_record w)
+invocation_record (Find w) = find_in_place (find_record w)
 invocation_record (VerifyTree w) = verify_tree (tree_verify_record w)
 invocation_record (TableTree w) = table_tree (tree_table_record w)
 invocation_record (FormatFec w) = format_fec (fec_format_record w)

@@ -12,7 +12,9 @@ pub mod Positional
 pub mod ImageValues
 pub mod ImageCopies
 pub mod PartBindings
+pub mod PartitionBindings
 pub mod words
 pub mod Invocations
+pub mod InvocationBindings
 pub mod CommandWords
 pub mod Reading

@@ -5,6 +5,7 @@ pub mod Dump
 pub mod Exports
 pub mod FecFormat
 pub mod FecVerify
+pub mod Find
 pub mod Format
 pub mod Load
 pub mod Manual
@@ -18,5 +19,6 @@ pub mod Store
 pub mod Table
 pub mod TreeTable
 pub mod TreeVerify
+pub mod Update
 pub mod Verify
 pub mod Write

@@ -1,13 +1,15 @@
 //! The names that a command line binds to devices.
 ghost use Rattle.std.specs.Prelude.{◌≡◌, option_map};
-ghost use Rattle.command_line.specs.Bindings.{backing_by, backing_record, backing_of, binding_record, binding_of, part_backing, sectors_at};
+ghost use Rattle.command_line.specs.Bindings.{backing_by, backing_record, backing_of, binding_record, binding_of, part_backing, partition_backing, placed_backing, sectors_at};
 
+use crate::file_place::NamedPartition;
 use crate::part_bindings::{FilePart, kind_part};
+use crate::partition_bindings::kind_partition;
 use table_text::number;
 
 const MOST_SECTORS: u64 = 65536;
 
-/// What a name is bound to: a file or a part of one, or new sectors in memory.
+/// What a name is bound to: a file or a part of one, a partition of a disk, or new sectors in memory.
 #[derive(Clone, Copy)]
 pub enum Backing<'a> {
     File {
@@ -18,6 +20,12 @@ pub enum Backing<'a> {
         path: &'a str,
         writable: bool,
         part: FilePart,
+    },
+    /// A partition in the partition table of the file.
+    Partition {
+        path: &'a str,
+        writable: bool,
+        named: NamedPartition<'a>,
     },
     Zeros(u32),
     Ramp(u32),
@@ -31,8 +39,8 @@ pub struct Binding<'a> {
 }
 
 /// Returns the binding of a word, or `None` if the word is none: `NAME=rw:FILE`, `NAME=ro:FILE`, `NAME=rw@FIRST+COUNT:FILE`,
-/// `NAME=ro@FIRST+COUNT:FILE`, `NAME=zero:N` or `NAME=ramp:N`, split at the first `=`. FIRST, COUNT and N count sectors of 512
-/// bytes.
+/// `NAME=ro@FIRST+COUNT:FILE`, `NAME=rw#PARTITION:FILE`, `NAME=ro#PARTITION:FILE`, `NAME=zero:N` or `NAME=ramp:N`, split at the
+/// first `=`. FIRST, COUNT and N count sectors of 512 bytes; PARTITION is a number, a UUID or a label.
 pub fn binding_of(word: &str) -> Option<Binding<'_>>
     ensures { option_map binding_record result ≡ binding_of word.now }
 {
@@ -50,7 +58,7 @@ fn backing_of(text: &str) -> Option<Backing<'_>>
 }
 
 // What the text after the colon binds a name to, by the kind before the colon.
-fn backing_by<'a>(kind: &str, rest: &'a str) -> Option<Backing<'a>>
+fn backing_by<'a>(kind: &'a str, rest: &'a str) -> Option<Backing<'a>>
     ensures { option_map backing_record result ≡ backing_by kind.now rest.now }
 {
     let word = kind.as_bytes();
@@ -69,7 +77,17 @@ fn backing_by<'a>(kind: &str, rest: &'a str) -> Option<Backing<'a>>
     } else if word == b"ramp".as_slice() {
         Some(Backing::Ramp(sectors_at(rest)?))
     } else {
-        part_backing(kind, rest)
+        placed_backing(kind, rest)
+    }
+}
+
+// A part of a file, or else a partition of it.
+fn placed_backing<'a>(kind: &'a str, rest: &'a str) -> Option<Backing<'a>>
+    ensures { option_map backing_record result ≡ placed_backing kind.now rest.now }
+{
+    match part_backing(kind, rest) {
+        Some(backing) => Some(backing),
+        None => partition_backing(kind, rest),
     }
 }
 
@@ -82,6 +100,18 @@ fn part_backing<'a>(kind: &str, rest: &'a str) -> Option<Backing<'a>>
         path: rest,
         writable,
         part,
+    })
+}
+
+// `rw#PARTITION` or `ro#PARTITION` before the colon.
+fn partition_backing<'a>(kind: &'a str, rest: &'a str) -> Option<Backing<'a>>
+    ensures { option_map backing_record result ≡ partition_backing kind.now rest.now }
+{
+    let (writable, named) = kind_partition(kind)?;
+    Some(Backing::Partition {
+        path: rest,
+        writable,
+        named,
     })
 }
 

@@ -17,6 +17,7 @@ use crate::words::dump::dump_of;
 use crate::words::exports::exports_of;
 use crate::words::fec_format::fec_format_of;
 use crate::words::fec_verify::fec_verify_of;
+use crate::words::find::find_of;
 use crate::words::format::format_of;
 use crate::words::load::load_of;
 use crate::words::manual::{manual_of, version_of};
@@ -30,6 +31,7 @@ use crate::words::store::store_of;
 use crate::words::table::table_of;
 use crate::words::tree_table::tree_table_of;
 use crate::words::tree_verify::tree_verify_of;
+use crate::words::update::update_of;
 use crate::words::verify::verify_of;
 use crate::words::write::write_of;
 use std::alloc::Global;
@@ -203,6 +205,10 @@ fn device_of<'a>(
         cat_of(alloc, options, words)
     } else if name == b"store".as_slice() {
         store_of(alloc, options, words)
+    } else if name == b"update".as_slice() {
+        update_of(alloc, options, words)
+    } else if name == b"find".as_slice() {
+        find_of(options, words)
     } else {
         image_of(name, options, words)
     }

@@ -3,7 +3,7 @@ ghost use Rattle.std.specs.Prelude.{◌≡◌, map, IfOk, IfErr};
 ghost use Rattle.allocation.specs.Asked.{asked};
 ghost use Rattle.command_line.specs.CommandWords.{RefusesWords};
 ghost use Rattle.command_line.specs.FormatOptions.{texts_of};
-ghost use Rattle.command_line.specs.ImageCopies.{AreCopies, copies_in_pairs, copies_of, image_copy_record, one_file, said_copies};
+ghost use Rattle.command_line.specs.ImageCopies.{AreCopies, copies_and_last, copies_in_pairs, copies_of, image_copy_record, one_file, said_copies};
 
 use crate::fault::WordsFault;
 use crate::misuse::{Cause, Misuse};
@@ -39,6 +39,31 @@ pub fn copies_of<'a>(
         return Ok(copies);
     }
     copies_in_pairs(alloc, words)
+}
+
+/// Returns the copies with these paths, two words each, and `last` after them.
+///
+/// # Errors
+///
+/// - `Usage` of `HASHCOPY` if the last of these copies lacks its second path.
+/// - `NoMemory` if an allocation was refused.
+#[tactic(auto, unfolding(crate::specs::ImageCopies::copies_and_last))]
+pub(crate) fn copies_and_last<'a>(
+    alloc: Global,
+    last: ImageCopy<'a>,
+    words: &[&'a str],
+) -> Result<Vec<ImageCopy<'a>>, WordsFault<'a>>
+    ensures ok { IfOk result (λ v. AreCopies (copies_and_last (image_copy_record last.entry) (texts_of words.now)) v.items) }
+    ensures err { IfErr result (RefusesWords (said_copies (copies_and_last (image_copy_record last.entry) (texts_of words.now)))) }
+{
+    match copies_in_pairs(alloc, words) {
+        Ok(copies) => {
+            let mut all = copies;
+            push(&mut all, last)?;
+            Ok(all)
+        }
+        Err(fault) => Err(fault),
+    }
 }
 
 fn copies_in_one_file<'a>(

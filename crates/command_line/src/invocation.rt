@@ -1,4 +1,10 @@
 //! The commands of a command line.
+ghost use Rattle.std.specs.Prelude.{◌≡◌, map};
+ghost use Rattle.command_line.specs.Bindings.{binding_record};
+ghost use Rattle.command_line.specs.InvocationBindings.{bindings_in, with_bindings};
+ghost use Rattle.command_line.specs.Invocations.{invocation_record};
+
+use crate::bindings::Binding;
 use crate::words::cat::CatWords;
 use crate::words::copy::CopyWords;
 use crate::words::diff::DiffWords;
@@ -6,6 +12,7 @@ use crate::words::dump::DumpWords;
 use crate::words::exports::ExportsWords;
 use crate::words::fec_format::FecFormatWords;
 use crate::words::fec_verify::FecVerifyWords;
+use crate::words::find::FindWords;
 use crate::words::format::FormatWords;
 use crate::words::load::LoadWords;
 use crate::words::nbd::NbdWords;
@@ -18,6 +25,7 @@ use crate::words::store::StoreWords;
 use crate::words::table::TableWords;
 use crate::words::tree_table::TreeTableWords;
 use crate::words::tree_verify::TreeVerifyWords;
+use crate::words::update::UpdateWords;
 use crate::words::verify::VerifyWords;
 use crate::words::write::WriteWords;
 
@@ -66,6 +74,8 @@ pub enum Invocation<'a> {
     Partitions(PartitionsWords<'a>),
     Diff(DiffWords<'a>),
     Repair(RepairWords<'a>),
+    Update(UpdateWords<'a>),
+    Find(FindWords<'a>),
     /// `verify --no-superblock`
     VerifyTree(TreeVerifyWords<'a>),
     TableTree(TreeTableWords<'a>),
@@ -75,4 +85,100 @@ pub enum Invocation<'a> {
     /// The name of the command whose page is printed, if there is one.
     Manual(Option<&'a str>),
     Version,
+}
+
+/// Returns the bindings of a command. One that isn't on a stack has none.
+pub fn bindings_in<'a, 'b>(invocation: &'b Invocation<'a>) -> &'b [Binding<'a>]
+    ensures { map binding_record result.now ≡ bindings_in (invocation_record invocation.now) }
+{
+    match invocation {
+        Invocation::Load(words) => words.bindings.as_slice(),
+        Invocation::Read(words) => words.bindings.as_slice(),
+        Invocation::Write(words) => words.bindings.as_slice(),
+        Invocation::Session(words) => words.bindings.as_slice(),
+        Invocation::Nbd(words) => words.bindings.as_slice(),
+        Invocation::Exports(words) => words.bindings.as_slice(),
+        Invocation::Scan(words) => words.bindings.as_slice(),
+        Invocation::Copy(words) => words.bindings.as_slice(),
+        Invocation::Cat(words) => words.bindings.as_slice(),
+        Invocation::Store(words) => words.bindings.as_slice(),
+        Invocation::Format(_)
+        | Invocation::Verify(_)
+        | Invocation::Dump(_)
+        | Invocation::Table(_)
+        | Invocation::Partitions(_)
+        | Invocation::Diff(_)
+        | Invocation::Repair(_)
+        | Invocation::Update(_)
+        | Invocation::Find(_)
+        | Invocation::VerifyTree(_)
+        | Invocation::TableTree(_)
+        | Invocation::FormatFec(_)
+        | Invocation::VerifyFec(_)
+        | Invocation::Manual(_)
+        | Invocation::Version => &[],
+    }
+}
+
+/// Returns a command with these bindings in place of its own. One that isn't on a stack stays as it is.
+pub fn with_bindings<'a>(invocation: Invocation<'a>, bindings: Vec<Binding<'a>>) -> Invocation<'a>
+    ensures { invocation_record result ≡ with_bindings (map binding_record bindings.entry.items) (invocation_record invocation.entry) }
+{
+    match invocation {
+        Invocation::Load(mut words) => {
+            words.bindings = bindings;
+            Invocation::Load(words)
+        }
+        Invocation::Read(mut words) => {
+            words.bindings = bindings;
+            Invocation::Read(words)
+        }
+        Invocation::Write(mut words) => {
+            words.bindings = bindings;
+            Invocation::Write(words)
+        }
+        Invocation::Session(mut words) => {
+            words.bindings = bindings;
+            Invocation::Session(words)
+        }
+        Invocation::Nbd(mut words) => {
+            words.bindings = bindings;
+            Invocation::Nbd(words)
+        }
+        Invocation::Exports(mut words) => {
+            words.bindings = bindings;
+            Invocation::Exports(words)
+        }
+        Invocation::Scan(mut words) => {
+            words.bindings = bindings;
+            Invocation::Scan(words)
+        }
+        Invocation::Copy(mut words) => {
+            words.bindings = bindings;
+            Invocation::Copy(words)
+        }
+        Invocation::Cat(mut words) => {
+            words.bindings = bindings;
+            Invocation::Cat(words)
+        }
+        Invocation::Store(mut words) => {
+            words.bindings = bindings;
+            Invocation::Store(words)
+        }
+        Invocation::Format(words) => Invocation::Format(words),
+        Invocation::Verify(words) => Invocation::Verify(words),
+        Invocation::Dump(words) => Invocation::Dump(words),
+        Invocation::Table(words) => Invocation::Table(words),
+        Invocation::Partitions(words) => Invocation::Partitions(words),
+        Invocation::Diff(words) => Invocation::Diff(words),
+        Invocation::Repair(words) => Invocation::Repair(words),
+        Invocation::Update(words) => Invocation::Update(words),
+        Invocation::Find(words) => Invocation::Find(words),
+        Invocation::VerifyTree(words) => Invocation::VerifyTree(words),
+        Invocation::TableTree(words) => Invocation::TableTree(words),
+        Invocation::FormatFec(words) => Invocation::FormatFec(words),
+        Invocation::VerifyFec(words) => Invocation::VerifyFec(words),
+        Invocation::Manual(command) => Invocation::Manual(command),
+        Invocation::Version => Invocation::Version,
+    }
 }

@@ -25,8 +25,8 @@ pub fn kind_part(kind: &str) -> Option<(bool, FilePart)>
     Some((writable, part))
 }
 
-// `rw` or `ro`
-fn access_of(access: &[u8]) -> Option<bool>
+/// `rw` or `ro`
+pub(crate) fn access_of(access: &[u8]) -> Option<bool>
     ensures { result ≡ access_of access.now }
 {
     if access == b"rw".as_slice() {

@@ -76,6 +76,8 @@ image_commands more =
     ∷ command (codes "dump") (offset ∷ json ∷ pin ∷ [])
     ∷ command (codes "table") (tree_options (offset ∷ root_file ∷ value_option (codes "name") ∷ bare_option ∷ pin ∷ []))
     ∷ command (codes "repair") (tree_options (offset ∷ root_file ∷ bare_option ∷ flag (codes "check") ∷ fec_options (pin ∷ [])))
+    ∷ command (codes "update") (json ∷ progress ∷ pin ∷ [])
+    ∷ command (codes "find") (json ∷ [])
     ∷ more
 
 -- the commands on stacks

@@ -14,7 +14,7 @@ pub struct CommandRow {
 }
 
 /// All commands.
-pub static COMMANDS: [CommandRow; 18] = [
+pub static COMMANDS: [CommandRow; 20] = [
     CommandRow {
         name: "format",
         options: &[
@@ -89,6 +89,14 @@ pub static COMMANDS: [CommandRow; 18] = [
             FEC_ROOTS,
             PIN,
         ],
+    },
+    CommandRow {
+        name: "update",
+        options: &[QUIET, JSON, PROGRESS, PIN],
+    },
+    CommandRow {
+        name: "find",
+        options: &[QUIET, JSON],
     },
     CommandRow {
         name: "load",

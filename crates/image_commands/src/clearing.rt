@@ -9,7 +9,11 @@ const SIGNATURE: &[u8] = b"verity\0\0";
 
 /// Writes zeros over the first sector if it begins as a superblock does, and syncs the device. So if the tree is
 /// written only in part after it, no superblock precedes that part.
-pub(crate) fn clear_superblock<H: SyncDev>(hash_dev: &mut H) -> Result<(), DeviceFault>
+///
+/// # Errors
+///
+/// `DeviceFault` if a call of the device failed.
+pub fn clear_superblock<H: SyncDev>(hash_dev: &mut H) -> Result<(), DeviceFault>
     requires some { 0 < (H.state hash_dev.old).size }
     requires allowed { IsTrue (H.state hash_dev.old).may_write }
     ensures ok { OnOk result (IsCleared (H.state hash_dev.old) (H.state hash_dev.new)) }

@@ -27,6 +27,7 @@ mod tree_source;
 mod verifying;
 mod watching;
 
+pub use clearing::clear_superblock;
 pub use comparing::{ImagePair, compare, place_parts};
 pub use fault::ImageFault;
 pub use format::{MadeImage, say_made};

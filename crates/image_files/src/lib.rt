@@ -29,6 +29,7 @@ pub use file_texts::FileTexts;
 pub use file_use::{FileUse, has_clash, is_clash};
 pub use images::{FileText, Images, OpenImage};
 pub use memory_text::MemoryText;
+pub use named_parts::partition_under;
 pub use one_file::{is_block_device, is_one_file};
 pub use opening::{UnopenedFile, is_one_place, open_apart, open_image, read_text};
 pub use partitions::part_of;

@@ -87,8 +87,15 @@ fn open_partition<'a, I: Images>(
     open_at(images, path, part, writable)
 }
 
-// Returns the part of the disk under a path that is the partition which an argument names.
-fn partition_under<I: Images>(
+/// Returns the part of the disk under a path that is the partition which an argument names.
+///
+/// # Errors
+///
+/// - The opener's fault if the disk can't be opened for reading.
+/// - `NotFound` if the disk has no valid partition table, or the argument names none of its partitions, or more than one.
+/// - `OtherFault` if the disk failed, so that no copy of the table was found.
+/// - `NoMemory` also if an allocation was refused, so that no copy of the table was found or a label not compared.
+pub fn partition_under<I: Images>(
     alloc: Global,
     images: &mut I,
     path: &str,

@@ -38,8 +38,13 @@ const TABLE_USAGE: &str =
 const REPAIR_USAGE: &str =
     "dmstack repair [--data-block N] [--hash-block N] [--blocks N] [--salt HEX] [--hash-offset BYTES] [--root-hash-file FILE] [--no-superblock] [--check] [--fec FILE] [--fec-roots N] [--pin FILE] DATA HASH ROOT [DATACOPY HASHCOPY]...";
 
+const UPDATE_USAGE: &str =
+    "dmstack update [--json] [--progress] --pin FILE DATA HASH NEWDATA NEWHASH [DATACOPY HASHCOPY]...";
+
 const PARTITIONS_USAGE: &str =
     "dmstack partitions [--sector-size 512|4096] [--json] [--stack] [--root ROOT] [--pin FILE] [--writable] IMAGE";
+
+const FIND_USAGE: &str = "dmstack find [--json] PLACE";
 
 const DIFF_USAGE: &str =
     "dmstack diff [--data-block N] [--hash-block N] [--blocks N] [--salt HEX] [--no-superblock] [--all] [--runs N] [--json] [--old-hash-offset BYTES] [--hash-offset BYTES] [--old-root-hash-file FILE] [--root-hash-file FILE] [--old-pin FILE] [--pin FILE] HASH1 [ROOT1] HASH2 [ROOT2]";
@@ -49,7 +54,7 @@ const MANUAL_USAGE: &str = "dmstack manual [COMMAND]";
 const VERSION_USAGE: &str = "dmstack version";
 
 /// All commands.
-pub static COMMANDS: [Command; 18] = [
+pub static COMMANDS: [Command; 20] = [
     Command {
         name: "load",
         usage: LOAD_USAGE,
@@ -107,8 +112,16 @@ pub static COMMANDS: [Command; 18] = [
         usage: REPAIR_USAGE,
     },
     Command {
+        name: "update",
+        usage: UPDATE_USAGE,
+    },
+    Command {
         name: "partitions",
         usage: PARTITIONS_USAGE,
+    },
+    Command {
+        name: "find",
+        usage: FIND_USAGE,
     },
     Command {
         name: "diff",

@@ -10,6 +10,7 @@ use Rattle.nbd_protocol.specs.declared.header.Header.{Header}
 use Rattle.nbd_protocol.specs.declared.header.Command.{Command}
 use Rattle.nbd_protocol.specs.declared.header.Command.TheVariants.{Read, Write, Zero, Hint, Flush, Status}
 use Rattle.nbd_protocol.specs.declared.request_error.RequestError.{RequestError}
+use Rattle.nbd_server.specs.declared.failure.Failure.{Failure}
 use Rattle.nbd_server.specs.declared.reply.Data.{Data}
 use Rattle.nbd_protocol.specs.declared.request_error.RequestError.TheVariants.{NotPermitted, Invalid, NoSpace}
 use Rattle.nbd_protocol.specs.Exports.{ExportRecord}
@@ -52,11 +53,11 @@ module _ (offset len : ℕ) (bytes : List ℕ) (room : length bytes ≡ 512 * to
 
 -- ---- how a write ends
 
-pub ends-unread : (e : ExportRecord) (w mid w' : World) (offset len : ℕ) (before : List ℕ) (error : RequestError)
+pub ends-unread : (e : ExportRecord) (w mid w' : World) (offset len : ℕ) (before : List ℕ) (error : Failure)
     → ReadsExport e w (offset - offset % 512) (offset % 512) (Ok before) mid → ReadsExport e mid (offset + len) (room_behind offset len) (Err error) w' → FailsToReadEnds e w offset len w' error
 ends-unread e w mid w' offset len before error p q = inr (before, mid, p, q)
 
-pub writes-ended : (e : ExportRecord) (w mid w' : World) (offset : ℕ) (bytes sectors : List ℕ) (result : Result Unit RequestError) → IsFramed e w offset bytes sectors mid
+pub writes-ended : (e : ExportRecord) (w mid w' : World) (offset : ℕ) (bytes sectors : List ℕ) (result : Result Unit Failure) → IsFramed e w offset bytes sectors mid
     → OnOk result (IsStoredAtOnce mid e.device (offset / 512) sectors w') → IfErr result (λ error. FailsToPutAtOnce mid e.device (offset / 512) sectors error w') → WritesAtOnce e w offset bytes (no_bytes result) w'
 writes-ended e w mid w' offset bytes sectors (Ok done) f ok err = (refl, sectors, mid, f, ok)
 writes-ended e w mid w' offset bytes sectors (Err error) f ok err = inr (sectors, mid, f, err)
@@ -157,7 +158,7 @@ settled true Does mid w' (Err error) p (inl s) = let clash : Err error ≡ Ok []
 settled true Does mid w' (Err error) p (inr s) = inr (mid, p, subst (λ (x : World). Flushes x (Err error) w') s.1.1 s.2)
 
 -- what failed has nothing to settle
-pub unsettled : (fua : Bool) (Does : RequestOutcome → World → Type 0) (w' : World) (error : RequestError) → Does (Err error) w' → Settles fua Does (Err error) w'
+pub unsettled : (fua : Bool) (Does : RequestOutcome → World → Type 0) (w' : World) (error : Failure) → Does (Err error) w' → Settles fua Does (Err error) w'
 unsettled false Does w' error p = p
 unsettled true Does w' error p = inl p
 
@@ -167,7 +168,7 @@ some-written : (e : ExportRecord) (w : World) (offset : ℕ) (bytes : List ℕ) 
 some-written e w offset [] outcome w' some p = absurd (omega (arith, some))
 some-written e w offset (byte ∷ more) outcome w' some p = p
 
-by-runs : (e : ExportRecord) (w mid w' : World) (offset : ℕ) (bytes sectors : List ℕ) (result : Result Unit RequestError) → IsFramed e w offset bytes sectors mid
+by-runs : (e : ExportRecord) (w mid w' : World) (offset : ℕ) (bytes sectors : List ℕ) (result : Result Unit Failure) → IsFramed e w offset bytes sectors mid
     → OnOk result (IsStored mid e.device (offset / 512) sectors w') → IfErr result (λ error. FailsToZero mid e.device (offset / 512) sectors error w')
     → WritesInRuns e.device (offset / 512) (length sectors) mid sectors result w' → WritesByRuns e w offset bytes (no_bytes result) w'
 by-runs e w mid w' offset bytes sectors (Ok done) f ok err runs = (refl, sectors, mid, f, record { stored = ok; runs = runs })
@@ -177,12 +178,12 @@ module _ (e : ExportRecord) (w mid w' : World) (offset len : ℕ) (some : 0 < le
   zeros-some : 0 < length {A = ℕ} (replicate len 0)
   zeros-some = omega (arith, length-replicate {A = ℕ} len 0, some)
 
-  pub zeros-unread : (error : RequestError) → FailsToReadEnds e w offset len w' error → WritesAny e w offset (replicate len 0) (Err error) w'
+  pub zeros-unread : (error : Failure) → FailsToReadEnds e w offset len w' error → WritesAny e w offset (replicate len 0) (Err error) w'
   zeros-unread error p =
       let unread = subst (λ n. FailsToReadEnds e w offset n w' error) (sym (length-replicate {A = ℕ} len 0)) p in
       some-written e w offset (replicate len 0) (Err error) w' zeros-some (inl unread)
 
-  pub zeros-written : (before behind : List ℕ) (result : Result Unit RequestError) → ReadsEnds e w offset len before behind mid → OnOk result (IsStored mid e.device (offset / 512) (before ++ (replicate len 0 ++ behind)) w')
+  pub zeros-written : (before behind : List ℕ) (result : Result Unit Failure) → ReadsEnds e w offset len before behind mid → OnOk result (IsStored mid e.device (offset / 512) (before ++ (replicate len 0 ++ behind)) w')
       → IfErr result (λ error. FailsToZero mid e.device (offset / 512) (before ++ (replicate len 0 ++ behind)) error w')
       → WritesInRuns e.device (offset / 512) (length (before ++ (replicate len 0 ++ behind))) mid (before ++ (replicate len 0 ++ behind)) result w' → WritesAny e w offset (replicate len 0) (no_bytes result) w'
   zeros-written before behind result p ok err runs =
@@ -194,7 +195,7 @@ module _ (e : ExportRecord) (w mid w' : World) (offset len : ℕ) (some : 0 < le
 -- ---- what can be sent
 
 -- as many bytes as were asked for
-pub sendable : (len : ℕ) (outcome : Result Data RequestError) → IsPartInside outcome → IfOk outcome (λ d. d.length ≡ len) → len ≤ most_length → IsSendable outcome
+pub sendable : (len : ℕ) (outcome : Result Data Failure) → IsPartInside outcome → IfOk outcome (λ d. d.length ≡ len) → len ≤ most_length → IsSendable outcome
 sendable len (Ok d) inside size few = record { inside = inside; few = omega (arith, size, few) }
 sendable len (Err error) inside size few = tt
 

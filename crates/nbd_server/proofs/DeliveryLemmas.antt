@@ -1,5 +1,5 @@
 -- A READ that is answered piece by piece.
-use Rattle.std.proofs.Common.{◌≡◌, ◌<◌, ◌≤◌, ℕ, ◌+◌, ◌-◌, ◌*◌, ◌/◌, ◌%◌, List, [], ◌++◌, drop, length, refl, take, ap, sym, ◌∙◌, subst, arith, inl, inr, Option, Result, Ok, Err}
+use Rattle.std.proofs.Common.{◌≡◌, ◌<◌, ◌≤◌, ℕ, ◌+◌, ◌-◌, ◌*◌, ◌/◌, ◌%◌, List, [], ◌++◌, drop, length, refl, take, ap, sym, ◌∙◌, subst, arith, inl, inr, Option, None, Result, Ok, Err}
 use Rattle.std.specs.Prelude.{◌⊎◌, ◌==◌, Bool, false, true, OnOk}
 use Rattle.std.specs.Io.KnownBytes.{Appends, Keeps}
 use Rattle.std.proofs.KnownBytes.{Appends-kept, Appends-nil, Appends-trans}
@@ -12,18 +12,19 @@ use Rattle.request_queue.specs.Runs.{IsLed}
 use Rattle.request_queue.specs.World.{World}
 use Rattle.request_queue.proofs.lemmas.LedLemmas.{led-none, led-then}
 use Rattle.nbd_protocol.specs.Exports.{ExportRecord}
-use Rattle.nbd_protocol.specs.declared.request_error.RequestError.{RequestError}
+use Rattle.nbd_server.specs.declared.failure.Failure.{Failure}
+use Rattle.nbd_server.specs.declared.first_faults.SectorFault.{SectorFault}
+use Rattle.nbd_server.specs.Failures.{fault_at, reported_error}
 use Rattle.nbd_server.specs.Replies.{RequestOutcome}
 use Rattle.nbd_server.specs.Sectors.{IsFetched, FailsToFetch, EndsIn, HasNoBuffer}
 use Rattle.nbd_server.specs.Status.{IsLineStatus, TouchZeros, touched}
 use Rattle.nbd_server.specs.declared.status.BlockStatus.{BlockStatus}
-use Rattle.nbd_server.specs.Tallies.{is_fault}
 use Rattle.nbd_server.specs.Transmission.{ReadsExport}
 use Rattle.nbd_server.specs.Premises.{AreBytesOf, IsDeliveryRest}
 use Rattle.nbd_protocol.specs.Chunks.{error_at_chunk, hole_chunk}
 use Rattle.nbd_server.specs.Content.{TellsContent}
 use Rattle.stack_rules.specs.Records.{Configuration}
-use Rattle.nbd_server.specs.Delivery.{AnswersPiece, BeginsWithZeros, Delivers, delivers_none, delivers_more, DeliversAs, DeliversPart, GoesOnReplying, IsDelivered, IsLost, AreNextBytes, IsReadPiece, IsStuck, SendsPiece, at_first, next_size}
+use Rattle.nbd_server.specs.Delivery.{AnswersPiece, BeginsWithZeros, Delivers, delivers_none, delivers_more, DeliversAs, DeliversPart, GoesOnReplying, IsDelivered, IsLost, AreNextBytes, IsReadPiece, IsStuck, SendsPiece, at_first, next_sector, next_size}
 use Rattle.nbd_server.specs.declared.delivery.Delivery.{Delivery}
 use Rattle.nbd_server.specs.declared.delivery.Progress.{Progress}
 use Rattle.nbd_server.proofs.ToldLemmas.{some-told}
@@ -34,11 +35,11 @@ pub read-led : (e : ExportRecord) (w : World) (offset length : ℕ) (outcome : R
 read-led e w offset length (Ok content) w' p = p.1.led
 read-led e w offset length (Err error) w' p = p.led
 
-fails-config : (w : World) (d first count : ℕ) (error : RequestError) (w' : World) → EndsIn w d first count error w' ⊎ HasNoBuffer w count error w' → w'.stack.config ≡ w.stack.config
+fails-config : (w : World) (d first count : ℕ) (error : Failure) (w' : World) → EndsIn w d first count error w' ⊎ HasNoBuffer w count error w' → w'.stack.config ≡ w.stack.config
 fails-config w d first count error w' (inl x) = x.read.config
 fails-config w d first count error w' (inr x) = ap (λ (v : World). v.stack.config) x.1
 
-pub fetch-config : (w : World) (d first count : ℕ) (error : RequestError) (w' : World) → FailsToFetch w d first count error w' → w'.stack.config ≡ w.stack.config
+pub fetch-config : (w : World) (d first count : ℕ) (error : Failure) (w' : World) → FailsToFetch w d first count error w' → w'.stack.config ≡ w.stack.config
 fetch-config w d first count error w' p = fails-config w d first count error w' p.cause
 
 pub read-config : (e : ExportRecord) (w : World) (offset length : ℕ) (outcome : RequestOutcome) (w' : World) → ReadsExport e w offset length outcome w' → w'.stack.config ≡ w.stack.config
@@ -108,7 +109,7 @@ part-front sectors rest start size inside =
     sym (ap (take size) (drop-append-le start sectors rest (omega (arith, inside))) ∙ take-append-le size (drop start sectors) rest there)
 
 -- what was read to the beginning of a buffer
-pub read-of : (e : ExportRecord) (w w' : World) (at size : ℕ) (sectors rest : List ℕ) (result : Result Unit RequestError) → length sectors ≡ 512 * touched at size
+pub read-of : (e : ExportRecord) (w w' : World) (at size : ℕ) (sectors rest : List ℕ) (result : Result Unit Failure) → length sectors ≡ 512 * touched at size
     → OnOk result (IsFetched w e.device (at / 512) (touched at size) sectors w') → OnOk result (ReadsExport e w at size (Ok (take size (drop (at % 512) (sectors ++ rest)))) w')
 read-of e w w' at size sectors rest (Ok done) held p = (sectors, p, sym (part-front sectors rest (at % 512) size (omega (arith, held))))
 read-of e w w' at size sectors rest (Err error) held p = tt
@@ -166,7 +167,7 @@ module _ (e : ExportRecord) (d : Delivery) (p : Progress) (w w' : World) (size a
     piece-sent n is content reads a = (a.text, sent-goes n is content a.text reads a.holds, a.written)
 
     -- it wasn't, and lies in several sectors
-    pub piece-put_off : (error : RequestError) → ReadsExport e w at size (Err error) w' → 1 < touched at size → new ≡ old → AnswersPiece e d p w w' old new (Ok (record { done = p.done; slow = p.done + size }))
+    pub piece-put_off : (error : Failure) → ReadsExport e w at size (Err error) w' → 1 < touched at size → new ≡ old → AnswersPiece e d p w w' old new (Ok (record { done = p.done; slow = p.done + size }))
     piece-put_off error reads several same = (
       [],
       inr (inl (record {
@@ -182,7 +183,7 @@ module _ (e : ExportRecord) (d : Delivery) (p : Progress) (w w' : World) (size a
     )
 
     -- it wasn't, and lies in one
-    pub piece-lost : (error : RequestError) → ReadsExport e w at size (Err error) w' → touched at size ≤ 1 → (lost : IsLost e d p w (error_at_chunk d.cookie at error) w') × (lost.error ≡ error)
+    pub piece-lost : (error : Failure) → ReadsExport e w at size (Err error) w' → touched at size ≤ 1 → (lost : IsLost e d p w (error_at_chunk d.cookie at (reported_error error)) w') × (lost.error ≡ error)
     piece-lost error reads few = (
       record {
         size = size;
@@ -190,7 +191,7 @@ module _ (e : ExportRecord) (d : Delivery) (p : Progress) (w w' : World) (size a
         piece = piece;
         one = omega (arith, few, piece.next.bytes.some, place);
         reads = subst (λ (k : ℕ). ReadsExport e w k size (Err error) w') place reads;
-        chunk_is = ap (λ (k : ℕ). error_at_chunk d.cookie k error) place;
+        chunk_is = ap (λ (k : ℕ). error_at_chunk d.cookie k (reported_error error)) place;
       },
       refl,
     )
@@ -201,8 +202,8 @@ module _ (e : ExportRecord) (d : Delivery) (p : Progress) (w w' : World) (size a
         let told = some-told d.cookie (p.done + size == d.count) (d.offset + p.done) content some in
         inl (told.text, record { done = p.done + size; slow = p.slow }, sent-goes size refl content told.text reads told.tells)
 
-    pub lost-stuck : (error : RequestError) → ReadsExport e w at size (Err error) w' → touched at size ≤ 1 → SendsPiece e d p w w'
-    lost-stuck error reads few = inr (error_at_chunk d.cookie at error, (piece-lost error reads few).0)
+    pub lost-stuck : (error : Failure) → ReadsExport e w at size (Err error) w' → touched at size ≤ 1 → SendsPiece e d p w w'
+    lost-stuck error reads few = inr (error_at_chunk d.cookie at (reported_error error), (piece-lost error reads few).0)
 
 -- ---- replies
 
@@ -249,12 +250,12 @@ module _ (e : ExportRecord) (d : Delivery) (first : World) (p : Progress) (w w' 
   lost-part : (chunk : List ℕ) → IsLost e d p w chunk w' → DeliversPart e d first (u.written ++ chunk) w'
   lost-part chunk lost = record { last = p; mid = w; written = u.written; chunk = chunk; pieces = u.pieces; lost = lost; reply_is = refl }
 
-  pub underway-lost : (error : RequestError) (faulty : Bool) → faulty ≡ is_fault error → AnswersPiece e d p w w' mid new (Err error) → Grows old new (λ reply. DeliversAs e d first faulty reply w')
-  underway-lost error faulty is a = record {
+  pub underway-lost : (error : Failure) (met : Option SectorFault) → met ≡ fault_at (next_sector d p) error → AnswersPiece e d p w w' mid new (Err error) → Grows old new (λ reply. DeliversAs e d first met reply w')
+  underway-lost error met is a = record {
     text = u.written ++ a.0;
     holds = (
       inr (record { last = p; mid = w; written = u.written; chunk = a.0; pieces = u.pieces; lost = a.1; reply_is = refl }),
-      is ∙ sym (ap (λ (x : RequestError). is_fault x) a.2),
+      is ∙ sym (ap (λ (x : Failure). fault_at (next_sector d p) x) a.2),
     );
     written = Appends-trans old mid new u.written a.0 u.appended a.3;
   }
@@ -265,7 +266,7 @@ module _ (e : ExportRecord) (d : Delivery) (first : World) (p : Progress) (w w' 
   underway-stuck (inr r) = inr (u.written ++ r.0, inr (lost-part r.0 r.1))
 
 pub underway-all : (e : ExportRecord) (d : Delivery) (first : World) (p : Progress) (w : World) (old new : Option (List ℕ)) → IsUnderway e d first p w old new → d.count ≤ p.done
-    → Grows old new (λ reply. DeliversAs e d first false reply w)
+    → Grows old new (λ reply. DeliversAs e d first None reply w)
 underway-all e d first p w old new u all = record { text = u.written; holds = (inl (record { last = p; pieces = u.pieces; all = omega (arith, u.inside, all) }), refl); written = u.appended }
 
 -- ---- chunks that are handed on

@@ -27,10 +27,9 @@ use Rattle.request_queue.specs.World.{World, Step, read_bytes}
 use Rattle.request_queue.proofs.lemmas.BytesLemmas.{bytes-at}
 use Rattle.request_queue.proofs.lemmas.KeptLemmas.{bytes-kept}
 use Rattle.request_queue.proofs.lemmas.LedLemmas.{led-none, led-one}
-use Rattle.nbd_protocol.specs.declared.request_error.RequestError.TheVariants.{NoMemory}
+use Rattle.nbd_server.specs.Failures.{failure_of, no_memory}
 use Rattle.nbd_protocol.specs.Exports.{ExportRecord}
 use Rattle.nbd_server.specs.Premises.{AreBytesOf, AreSectorsOf}
-use Rattle.nbd_protocol.specs.Headers.{error_of}
 use Rattle.nbd_server.specs.Sectors.{IsFetched, FailsToFetch}
 use Rattle.nbd_server.specs.Status.{touched}
 use Rattle.nbd_server.specs.Transmission.{room_behind}
@@ -76,7 +75,7 @@ module _ (w w' : World) (d first count len : ℕ) (all : len ≡ count * 512) wh
       (subst (λ (n : ℕ). ReadsInTurn (range_at d first n) w.stack (Ok bytes) w'.stack) sectors-are pieces) s
 
   pub unfetched : (fault : IoFault) → (failed_by fault ≡ failed_by io.NoMemory → MeetVerity (said_at w.stack.config (mapped d)) first (len / 512)) → Step EachPart w (read_bytes d first len (Ok (Err fault))) w' → ReadsInPieces w d first len (Ok (Err fault)) w'
-      → FailsToFetch w d first count (error_of fault) w'
+      → FailsToFetch w d first count (failure_of fault) w'
   unfetched fault cause s pieces = record {
     cause = inl (record {
       fault = fault;
@@ -99,7 +98,7 @@ module _ (w w' : World) (d first count len : ℕ) (all : len ≡ count * 512) wh
       tests-pass (nat_le (length w.stack.config.devices) d) (nat_lt (size w.stack.config (mapped d)) (first + div_ceil len 512)) (len % 512 == 0) (range_at d first (len / 512)) fault one two three h
 
 -- an allocation of the bytes was refused
-pub no-buffer : (w : World) (d first count : ℕ) → IsOutOfMemory (512 * count) → FailsToFetch w d first count NoMemory w
+pub no-buffer : (w : World) (d first count : ℕ) → IsOutOfMemory (512 * count) → FailsToFetch w d first count no_memory w
 no-buffer w d first count refused = record { cause = inr (refl, refl, refused); led = led-none EachPart w }
 
 -- ---- the sectors that bytes of the export touch

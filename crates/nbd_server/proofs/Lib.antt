@@ -12,3 +12,4 @@ pub mod ZeroLemmas
 pub mod MessageLemmas
 pub mod RunLemmas
 mod ExtentLemmas
+pub mod LogLemmas

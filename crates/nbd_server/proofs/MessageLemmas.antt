@@ -1,5 +1,5 @@
 -- Messages as they are taken and answered.
-use Rattle.std.proofs.Common.{◌≡◌, ◌≢◌, ◌<◌, ◌≤◌, ℕ, List, [], ◌∷◌, ◌++◌, length, refl, ap, sym, ◌∙◌, subst, append-nil, inl, inr, Option, Some, None, Result, Ok, Err, arith}
+use Rattle.std.proofs.Common.{◌≡◌, ◌≢◌, ◌<◌, ◌≤◌, ℕ, ◌/◌, List, [], ◌∷◌, ◌++◌, length, refl, ap, sym, ◌∙◌, subst, append-nil, inl, inr, Option, Some, None, Result, Ok, Err, arith}
 use Rattle.std.specs.Prelude.{◌⊎◌, ◌||◌, ◌&&◌, All, Bool, true, false, is_some, not, take, codes, ◌==◌, if◌then◌else◌}
 use Rattle.std.specs.Io.KnownBytes.{Appends, Consumes, Keeps}
 use Rattle.std.specs.Str.{bytes_eq}
@@ -28,9 +28,10 @@ use Rattle.nbd_server.specs.Replies.{RequestOutcome, agreed_reply}
 use Rattle.nbd_server.specs.Transmission.{ServesRequest}
 use Rattle.nbd_server.specs.Delivery.{DeliversAs, IsStuck, bytes_asked, delivery_of, has_df}
 use Rattle.nbd_server.specs.declared.delivery.Delivery.{Delivery}
-use Rattle.nbd_server.specs.Service.{EndsReply, AnswersOption, BeginsRequest, IsTooLong, IsAnswered, IsExportUnnamed, IsNameUnread, GivesReply, TakesOption, TakesRequest, CountsMessage, EndsMessage, EndsTurn, gives_fault, request_tally}
-use Rattle.nbd_server.specs.Tallies.{counted, is_faulty}
-use Rattle.nbd_server.specs.declared.tally.Tally.{Tally}
+use Rattle.nbd_server.specs.Service.{EndsReply, AnswersOption, BeginsRequest, IsTooLong, IsAnswered, IsExportUnnamed, IsNameUnread, GivesReply, TakesOption, TakesRequest, CountsMessage, EndsMessage, EndsTurn, request_fault, request_log}
+use Rattle.nbd_server.specs.Logs.{logged, outcome_fault}
+use Rattle.nbd_server.specs.declared.first_faults.SectorFault.{SectorFault}
+use Rattle.nbd_server.specs.declared.session_log.SessionLog.{SessionLog}
 
 -- what came of a message that the service ends in
 broken : (es : List ExportRecord) (phase : Phase) (w w' : World) (old new : Streams) (x : ServiceFault) → w' ≡ w → (part : List ℕ) → Consumes old.input new.input part → Keeps old.output new.output → Breaks es phase part new.input x
@@ -257,18 +258,18 @@ module _ (es : List ExportRecord) (agreed : Agreement) (e : ExportRecord) (at : 
   })
 
   -- a reply that reports a fault, or none
-  abbrev GivesAs : Bool → List ℕ → List ℕ → Option Delivery → Type 0
-  GivesAs faulty payload reply found =
-      (replies : GivesReply e agreed w (header_of header) payload found reply w') × (faulty ≡ gives_fault e agreed w (header_of header) payload found reply w' replies)
+  abbrev GivesAs : Option SectorFault → List ℕ → List ℕ → Option Delivery → Type 0
+  GivesAs met payload reply found =
+      (replies : GivesReply e agreed w (header_of header) payload found reply w') × (met ≡ request_fault e agreed w (header_of header) payload found reply w' replies)
 
   -- it was taken, has that reply, and is counted
-  request-counts : (t : Tally) (faulty : Bool) (found : Option Delivery) → delivery_of e agreed (header_of header) ≡ found → (header_of header).kind ≢ 2 → (payload reply : List ℕ) → length payload ≡ payload_len (header_of header)
-      → GivesAs faulty payload reply found → CountsMessage es (Serving agreed) w t (counted faulty t) (Serving agreed) w' (header ++ payload) reply
-  request-counts t faulty found is other payload reply count replies =
-      let given = subst (λ (f : Option Delivery). GivesAs faulty payload reply f) (sym is) replies in
+  request-counts : (t : SessionLog) (met : Option SectorFault) (found : Option Delivery) → delivery_of e agreed (header_of header) ≡ found → (header_of header).kind ≢ 2 → (payload reply : List ℕ) → length payload ≡ payload_len (header_of header)
+      → GivesAs met payload reply found → CountsMessage es (Serving agreed) w t (logged agreed.place met t) (Serving agreed) w' (header ++ payload) reply
+  request-counts t met found is other payload reply count replies =
+      let given = subst (λ (f : Option Delivery). GivesAs met payload reply f) (sym is) replies in
       subst
       (λ (x : ExportRecord). (takes : TakesRequest x agreed w (header ++ payload) reply (Serving agreed) w')
-      × (counted faulty t ≡ request_tally x agreed w takes.header takes.payload reply (Serving agreed) w' takes.answered t))
+      × (logged agreed.place met t ≡ request_log x agreed w takes.header takes.payload reply (Serving agreed) w' takes.answered t))
       (sym at) (
         record {
           header = header;
@@ -279,18 +280,18 @@ module _ (es : List ExportRecord) (agreed : Agreement) (e : ExportRecord) (at : 
           count = count;
           answered = inr (other, record { replies = given.0; next_is = refl });
         },
-        ap (λ (b : Bool). counted b t) given.1,
+        ap (λ (m : Option SectorFault). logged agreed.place m t) given.1,
       )
 
   module _ (other : (header_of header).kind ≢ 2) (output output' : Option (List ℕ)) where
-    request-answered : (t : Tally) (faulty : Bool) (found : Option Delivery) → delivery_of e agreed (header_of header) ≡ found → (payload reply : List ℕ) → length payload ≡ payload_len (header_of header) → Consumes mid input' payload
-        → GivesAs faulty payload reply found → Appends output output' reply → EndsTurn es (Serving agreed) w w' t (counted faulty t) (streams input output) (streams input' output') (Ok (Some (Serving agreed)))
-    request-answered t faulty found is payload reply count c replies a = record {
+    request-answered : (t : SessionLog) (met : Option SectorFault) (found : Option Delivery) → delivery_of e agreed (header_of header) ≡ found → (payload reply : List ℕ) → length payload ≡ payload_len (header_of header) → Consumes mid input' payload
+        → GivesAs met payload reply found → Appends output output' reply → EndsTurn es (Serving agreed) w w' t (logged agreed.place met t) (streams input output) (streams input' output') (Ok (Some (Serving agreed)))
+    request-answered t met found is payload reply count c replies a = record {
       taken = header ++ payload;
       written = reply;
       consumed = Consumes-trans input mid input' header payload first c;
       appended = a;
-      holds = request-counts t faulty found is other payload reply count replies;
+      holds = request-counts t met found is other payload reply count replies;
     }
 
     -- and the writer failed in its reply
@@ -305,9 +306,9 @@ module _ (es : List ExportRecord) (agreed : Agreement) (e : ExportRecord) (at : 
     })
 
     module _ (outcome : RequestOutcome) (none : delivery_of e agreed (header_of header) ≡ None) where
-      pub request-served : (t : Tally) → (payload : List ℕ) × (length payload ≡ payload_len (header_of header)) × Consumes mid input' payload × ServesRequest e agreed w (header_of header) payload outcome w'
-          → Appends output output' (agreed_reply agreed (header_of header) outcome) → EndsTurn es (Serving agreed) w w' t (counted (is_faulty outcome) t) (streams input output) (streams input' output') (Ok (Some (Serving agreed)))
-      request-served t p a = request-answered t (is_faulty outcome) None none p.0 (agreed_reply agreed (header_of header) outcome) p.1 p.2 ((outcome, p.3, refl), refl) a
+      pub request-served : (t : SessionLog) → (payload : List ℕ) × (length payload ≡ payload_len (header_of header)) × Consumes mid input' payload × ServesRequest e agreed w (header_of header) payload outcome w'
+          → Appends output output' (agreed_reply agreed (header_of header) outcome) → EndsTurn es (Serving agreed) w w' t (logged agreed.place (outcome_fault ((header_of header).offset / 512) outcome) t) (streams input output) (streams input' output') (Ok (Some (Serving agreed)))
+      request-served t p a = request-answered t (outcome_fault ((header_of header).offset / 512) outcome) None none p.0 (agreed_reply agreed (header_of header) outcome) p.1 p.2 ((outcome, p.3, refl), refl) a
 
       pub request-unanswered : (payload : List ℕ) × (length payload ≡ payload_len (header_of header)) × Consumes mid input' payload × ServesRequest e agreed w (header_of header) payload outcome w'
           → EndsMessage es (Serving agreed) w w' (streams input output) (streams input' output') (Err fault.WriteFault)
@@ -321,8 +322,8 @@ module _ (es : List ExportRecord) (agreed : Agreement) (e : ExportRecord) (at : 
       no-payload : 0 ≡ payload_len (header_of header)
       no-payload = chunked-payload agreed (header_of header) (delivery-chunked e agreed (header_of header) d found)
 
-      pub request-delivered : (t : Tally) (faulty : Bool) → Grows output output' (λ reply. DeliversAs e d w faulty reply w') → EndsTurn es (Serving agreed) w w' t (counted faulty t) (streams input output) (streams input' output') (Ok (Some (Serving agreed)))
-      request-delivered t faulty p = request-answered t faulty (Some d) found [] p.text no-payload nothing p.holds p.written
+      pub request-delivered : (t : SessionLog) (met : Option SectorFault) → Grows output output' (λ reply. DeliversAs e d w met reply w') → EndsTurn es (Serving agreed) w w' t (logged agreed.place met t) (streams input output) (streams input' output') (Ok (Some (Serving agreed)))
+      request-delivered t met p = request-answered t met (Some d) found [] p.text no-payload nothing p.holds p.written
 
       pub request-stuck : IsStuck e d w w' → EndsMessage es (Serving agreed) w w' (streams input output) (streams input' output') (Err fault.WriteFault)
       request-stuck (inl begun) = inr (record {
@@ -335,7 +336,7 @@ module _ (es : List ExportRecord) (agreed : Agreement) (e : ExportRecord) (at : 
 last-payload : (h : Header) → h.kind ≡ 2 → 0 ≡ payload_len h
 last-payload h kind = sym (ap (λ (k : ℕ). if k == 1 then h.length else 0) kind)
 
-pub request-last : (es : List ExportRecord) (agreed : Agreement) (w : World) (t : Tally) (input input' output : Option (List ℕ)) (header : List ℕ) → Consumes input input' header → length header ≡ 28 → big_endian32 header 0 ≡ request_magic → (header_of header).kind ≡ 2
+pub request-last : (es : List ExportRecord) (agreed : Agreement) (w : World) (t : SessionLog) (input input' output : Option (List ℕ)) (header : List ℕ) → Consumes input input' header → length header ≡ 28 → big_endian32 header 0 ≡ request_magic → (header_of header).kind ≡ 2
     → EndsTurn es (Serving agreed) w w t t (streams input output) (streams input' output) (Ok (Some Over))
 request-last es agreed w t input input' output header c size magic kind = record {
   taken = header;
@@ -358,12 +359,12 @@ request-last es agreed w t input input' output header c size magic kind = record
 
 -- ---- messages that aren't counted
 
-pub flags-uncounted : (es : List ExportRecord) (w w' : World) (t : Tally) (old new : Streams) (result : Result (Option Phase) ServiceFault) → EndsMessage es Greeted w w' old new result → EndsTurn es Greeted w w' t t old new result
+pub flags-uncounted : (es : List ExportRecord) (w w' : World) (t : SessionLog) (old new : Streams) (result : Result (Option Phase) ServiceFault) → EndsMessage es Greeted w w' old new result → EndsTurn es Greeted w w' t t old new result
 flags-uncounted es w w' t old new (Ok (Some next)) m = record { taken = m.taken; written = m.written; consumed = m.consumed; appended = m.appended; holds = (m.holds, refl) }
 flags-uncounted es w w' t old new (Ok None) m = (m, refl)
 flags-uncounted es w w' t old new (Err fault) m = (m, refl)
 
-pub option-uncounted : (es : List ExportRecord) (terms : Terms) (w w' : World) (t : Tally) (old new : Streams) (result : Result (Option Phase) ServiceFault) → EndsMessage es (Haggling terms) w w' old new result
+pub option-uncounted : (es : List ExportRecord) (terms : Terms) (w w' : World) (t : SessionLog) (old new : Streams) (result : Result (Option Phase) ServiceFault) → EndsMessage es (Haggling terms) w w' old new result
     → EndsTurn es (Haggling terms) w w' t t old new result
 option-uncounted es terms w w' t old new (Ok (Some next)) m = record { taken = m.taken; written = m.written; consumed = m.consumed; appended = m.appended; holds = (m.holds, refl) }
 option-uncounted es terms w w' t old new (Ok None) m = (m, refl)

@@ -9,7 +9,7 @@ use Rattle.request_queue.specs.Runs.{IsLed}
 use Rattle.request_queue.specs.World.{World}
 use Rattle.request_queue.proofs.lemmas.LedLemmas.{led-none}
 use Rattle.nbd_protocol.specs.Exports.{ExportRecord}
-use Rattle.nbd_protocol.specs.declared.request_error.RequestError.{RequestError}
+use Rattle.nbd_server.specs.declared.failure.Failure.{Failure}
 use Rattle.nbd_server.specs.Replies.{RequestOutcome}
 use Rattle.nbd_server.specs.Content.{zero_block}
 use Rattle.nbd_server.specs.Status.{HasReadStatus, IsReadStatus, IsRun, IsStatus, TouchIgnoring, block_at, block_first, descriptor, is_zero_block}
@@ -88,7 +88,7 @@ err-as (Ok x) P Q f p = tt
 err-as (Err error) P Q f p = f p
 
 -- bytes that couldn't be read are data
-pub unread-status : (offset size : ℕ) (error : RequestError) (one : Bool) (told : List ℕ) → 0 < size → told ≡ descriptor (record { count = size; zeros = false }) → HasReadStatus (Err error) offset size one told
+pub unread-status : (offset size : ℕ) (error : Failure) (one : Bool) (told : List ℕ) → 0 < size → told ≡ descriptor (record { count = size; zeros = false }) → HasReadStatus (Err error) offset size one told
 unread-status offset size error one told some is =
     let s : BlockStatus = record { count = size; zeros = false } in
     let rule = IsReadStatus offset (Err error) in

@@ -12,6 +12,7 @@ use Rattle.nbd_protocol.specs.declared.phase.Agreement.{Agreement}
 use Rattle.nbd_protocol.specs.declared.phase.Phase.{Phase}
 use Rattle.nbd_protocol.specs.declared.phase.Phase.TheVariants.{Greeted, Haggling, Serving, Over}
 use Rattle.nbd_protocol.specs.declared.request_error.RequestError.{RequestError}
+use Rattle.nbd_server.specs.declared.failure.Failure.{Failure}
 use Rattle.nbd_protocol.specs.Exports.{ExportRecord, export_at}
 use Rattle.nbd_protocol.specs.Headers.{command_of, header_of}
 use Rattle.nbd_server.specs.Replies.{RequestOutcome}
@@ -33,7 +34,7 @@ ends-led e w mid w' offset length before behind p q =
 framed-led : (e : ExportRecord) (w : World) (offset : ℕ) (bytes sectors : List ℕ) (w' : World) → IsFramed e w offset bytes sectors w' → IsLed EachPart w w'
 framed-led e w offset bytes sectors w' p = ends-led e w p.ends.mid w' offset (length bytes) (Ok p.before) (Ok p.behind) p.ends.first p.ends.last
 
-unread-led : (e : ExportRecord) (w : World) (offset length : ℕ) (error : RequestError) (w' : World) → FailsToReadEnds e w offset length w' error → IsLed EachPart w w'
+unread-led : (e : ExportRecord) (w : World) (offset length : ℕ) (error : Failure) (w' : World) → FailsToReadEnds e w offset length w' error → IsLed EachPart w w'
 unread-led e w offset length error w' (inl p) = read-led e w (offset - offset % 512) (offset % 512) (Err error) w' p
 unread-led e w offset length error w' (inr p) = ends-led e w p.1 w' offset length (Ok p.0) (Err error) p.2 p.3
 
@@ -60,7 +61,7 @@ given-led e w offset bytes outcome w' (inr p) = payload-led e w offset bytes out
 
 flush-led : (w : World) (outcome : RequestOutcome) (w' : World) → Flushes w outcome w' → IsLed EachPart w w'
 flush-led w (Ok content) w' p = led-one EachPart w (sync (Ok tt)) w' p.1
-flush-led w (Err error) w' p = led-one EachPart w (sync (Err p.1)) w' p.2
+flush-led w (Err error) w' p = led-one EachPart w (sync (Err p.0)) w' p.2
 
 settle-led : (w : World) (fua : Bool) (Does : RequestOutcome → World → Type 0) → ((o : RequestOutcome) (v : World) → Does o v → IsLed EachPart w v) → (outcome : RequestOutcome) (w' : World)
     → Settles fua Does outcome w' → IsLed EachPart w w'

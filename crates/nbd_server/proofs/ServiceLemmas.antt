@@ -16,6 +16,7 @@ use Rattle.nbd_protocol.specs.declared.phase.Phase.TheVariants.{Greeted, Hagglin
 use Rattle.nbd_protocol.specs.declared.header.Command.{Command}
 use Rattle.nbd_protocol.specs.declared.header.Command.TheVariants.{Read, Write, Zero, Hint, Flush, Status}
 use Rattle.nbd_protocol.specs.declared.request_error.RequestError.{RequestError}
+use Rattle.nbd_server.specs.declared.failure.Failure.{Failure}
 use Rattle.nbd_protocol.specs.Exports.{AreExports, ExportRecord, asked, export_at, export_records}
 use Rattle.nbd_protocol.specs.declared.export.Export.{Export}
 use Rattle.nbd_protocol.specs.Numbers.{big_endian32}
@@ -31,33 +32,33 @@ use Rattle.nbd_protocol.specs.Streaming.{Spoken}
 use Rattle.nbd_protocol.specs.declared.header.Header.{Header}
 use Rattle.nbd_server.specs.Delivery.{delivery_of}
 use Rattle.nbd_server.specs.declared.delivery.Delivery.{Delivery}
-use Rattle.nbd_server.specs.Service.{AnswersOption, BeginsMessage, Conversation, begins, goes_on, EndsTurn, IsInterrupted, IsService, IsLastRequest, IsServedRequest, IsUnanswered, GivesReply, TakesMessage, message_tally, tally_before, tally_of}
-use Rattle.nbd_server.specs.Tallies.{no_requests}
-use Rattle.nbd_server.specs.declared.tally.Tally.{Tally}
+use Rattle.nbd_server.specs.Service.{AnswersOption, BeginsMessage, Conversation, begins, goes_on, EndsTurn, IsInterrupted, IsService, IsLastRequest, IsServedRequest, IsUnanswered, GivesReply, TakesMessage, message_log, log_before, log_of}
+use Rattle.nbd_server.specs.Logs.{no_log}
+use Rattle.nbd_server.specs.declared.session_log.SessionLog.{SessionLog}
 use Rattle.nbd_server.proofs.DeliveryLemmas.{delivered-config, read-config}
 use Rattle.nbd_server.proofs.ReadStatusLemmas.{status-config}
 use Rattle.nbd_server.proofs.RunLemmas.{begun-led, talk-led}
 use Rattle.request_queue.proofs.lemmas.LedLemmas.{led-then}
 
--- the messages so far, the greeting and their replies, and their tally
-abbrev pub IsTalk : List ExportRecord → World → Phase → World → Tally → List ℕ → List ℕ → Type 0
-IsTalk es first phase now tally taken written = (replies : List ℕ) × (talk : Conversation es first phase now taken replies) × (written ≡ greeting ++ replies) × (tally ≡ tally_of talk)
+-- the messages so far, the greeting and their replies, and their log
+abbrev pub IsTalk : List ExportRecord → World → Phase → World → SessionLog → List ℕ → List ℕ → Type 0
+IsTalk es first phase now log taken written = (replies : List ℕ) × (talk : Conversation es first phase now taken replies) × (written ≡ greeting ++ replies) × (log ≡ log_of talk)
 
-abbrev pub BusyOr : List ExportRecord → World → Phase → World → Tally → Streams → Streams → Type 0
-BusyOr es first phase now tally old new = Spoken old new (IsTalk es first phase now tally)
+abbrev pub BusyOr : List ExportRecord → World → Phase → World → SessionLog → Streams → Streams → Type 0
+BusyOr es first phase now log old new = Spoken old new (IsTalk es first phase now log)
 
-pub held-starts : (es : List ExportRecord) (first : World) (tally : Tally) (input output output' : Option (List ℕ)) → tally ≡ no_requests → Appends output output' greeting
-    → BusyOr es first Greeted first tally (streams input output) (streams input output')
-held-starts es first tally input output output' none a = record { taken = []; written = greeting; consumed = Consumes-nil input; appended = a; holds = ([], begins, sym (append-nil greeting), none) }
+pub held-starts : (es : List ExportRecord) (first : World) (log : SessionLog) (input output output' : Option (List ℕ)) → log ≡ no_log → Appends output output' greeting
+    → BusyOr es first Greeted first log (streams input output) (streams input output')
+held-starts es first log input output output' none a = record { taken = []; written = greeting; consumed = Consumes-nil input; appended = a; holds = ([], begins, sym (append-nil greeting), none) }
 
 -- what was kept back is handed on
-pub held-kept : {es : List ExportRecord} {first now : World} {phase : Phase} {tally : Tally} {old : Streams} (input output output' : Option (List ℕ)) → BusyOr es first phase now tally old (streams input output) → Keeps output output'
-    → BusyOr es first phase now tally old (streams input output')
+pub held-kept : {es : List ExportRecord} {first now : World} {phase : Phase} {log : SessionLog} {old : Streams} (input output output' : Option (List ℕ)) → BusyOr es first phase now log old (streams input output) → Keeps output output'
+    → BusyOr es first phase now log old (streams input output')
 held-kept {old = old} input output output' h k = record { taken = h.taken; written = h.written; consumed = h.consumed; appended = Appends-kept old.output output output' h.written h.appended k; holds = h.holds }
 
-pub held-more : {es : List ExportRecord} {first now : World} {phase : Phase} {tally : Tally} {old mid : Streams} (next : Phase) (now' : World) (tally' : Tally) (new : Streams) → BusyOr es first phase now tally old mid
-    → EndsTurn es phase now now' tally tally' mid new (Ok (Some next)) → BusyOr es first next now' tally' old new
-held-more {es = es} {now = now} {phase = phase} {old = old} {mid = mid} next now' tally' new h t = record {
+pub held-more : {es : List ExportRecord} {first now : World} {phase : Phase} {log : SessionLog} {old mid : Streams} (next : Phase) (now' : World) (log' : SessionLog) (new : Streams) → BusyOr es first phase now log old mid
+    → EndsTurn es phase now now' log log' mid new (Ok (Some next)) → BusyOr es first next now' log' old new
+held-more {es = es} {now = now} {phase = phase} {old = old} {mid = mid} next now' log' new h t = record {
   taken = h.taken ++ t.taken;
   written = h.written ++ t.written;
   consumed = Consumes-trans old.input mid.input new.input h.taken t.taken h.consumed t.consumed;
@@ -66,16 +67,16 @@ held-more {es = es} {now = now} {phase = phase} {old = old} {mid = mid} next now
     h.holds.0 ++ t.written,
     goes_on t.taken t.written h.holds.1 t.holds.0,
     ap (λ l. l ++ t.written) h.holds.2 ∙ append_assoc greeting h.holds.0 t.written,
-    t.holds.1 ∙ ap (λ (x : Tally). message_tally es phase now t.taken t.written next now' t.holds.0 x) h.holds.3,
+    t.holds.1 ∙ ap (λ (x : SessionLog). message_log es phase now t.taken t.written next now' t.holds.0 x) h.holds.3,
   );
 }
 
 -- it went away between two messages
-pub held-none : {es : List ExportRecord} {first now : World} {phase : Phase} {tally : Tally} {old mid : Streams} (now' : World) (tally' : Tally) (new : Streams) (done : Unit) → BusyOr es first phase now tally old mid
-    → EndsTurn es phase now now' tally tally' mid new (Ok None) → IsService es first now' old new tally' (Ok done)
-held-none {es = es} {first = first} {now = now} {phase = phase} {tally = tally} {old = old} {mid = mid} now' tally' new done h t =
+pub held-none : {es : List ExportRecord} {first now : World} {phase : Phase} {log : SessionLog} {old mid : Streams} (now' : World) (log' : SessionLog) (new : Streams) (done : Unit) → BusyOr es first phase now log old mid
+    → EndsTurn es phase now now' log log' mid new (Ok None) → IsService es first now' old new log' (Ok done)
+held-none {es = es} {first = first} {now = now} {phase = phase} {log = log} {old = old} {mid = mid} now' log' new done h t =
     let none = t.0.0 in
-    let talk = subst (λ (x : World). IsTalk es first phase x tally h.taken h.written) (sym none.holds.2) h.holds in
+    let talk = subst (λ (x : World). IsTalk es first phase x log h.taken h.written) (sym none.holds.2) h.holds in
     record {
       held = λ other. record {
         taken = h.taken ++ none.taken;
@@ -88,7 +89,7 @@ held-none {es = es} {first = first} {now = now} {phase = phase} {tally = tally} 
           replies = talk.0;
           rest = none.taken;
           talk = talk.1;
-          tallied = t.1 ∙ talk.3;
+          logged_is = t.1 ∙ talk.3;
           taken_is = refl;
           written_is = ap (λ l. h.written ++ l) none.holds.1 ∙ append-nil h.written ∙ talk.2;
           ends = (none.holds.0, inr t.0.1);
@@ -99,9 +100,9 @@ held-none {es = es} {first = first} {now = now} {phase = phase} {tally = tally} 
     }
 
 -- the service ends in a message, for another fault than the writer's
-ends-in : {es : List ExportRecord} {first now : World} {phase : Phase} {tally : Tally} {old mid : Streams} (now' : World) (tally' : Tally) (new : Streams) (x : ServiceFault) → x ≢ fault.WriteFault → BusyOr es first phase now tally old mid
-    → tally' ≡ tally → Spoken mid new (λ taken written. (written ≡ []) × (now' ≡ now) × Breaks es phase taken new.input x) → IsService es first now' old new tally' (Err x)
-ends-in {es = es} {first = first} {now = now} {phase = phase} {tally = tally} {old = old} {mid = mid} now' tally' new x apart h same t = let talk = subst (λ (y : World). IsTalk es first phase y tally h.taken h.written) (sym t.holds.1) h.holds in record {
+ends-in : {es : List ExportRecord} {first now : World} {phase : Phase} {log : SessionLog} {old mid : Streams} (now' : World) (log' : SessionLog) (new : Streams) (x : ServiceFault) → x ≢ fault.WriteFault → BusyOr es first phase now log old mid
+    → log' ≡ log → Spoken mid new (λ taken written. (written ≡ []) × (now' ≡ now) × Breaks es phase taken new.input x) → IsService es first now' old new log' (Err x)
+ends-in {es = es} {first = first} {now = now} {phase = phase} {log = log} {old = old} {mid = mid} now' log' new x apart h same t = let talk = subst (λ (y : World). IsTalk es first phase y log h.taken h.written) (sym t.holds.1) h.holds in record {
   held = λ other. record {
     taken = h.taken ++ t.taken;
     written = h.written ++ t.written;
@@ -113,7 +114,7 @@ ends-in {es = es} {first = first} {now = now} {phase = phase} {tally = tally} {o
       replies = talk.0;
       rest = t.taken;
       talk = talk.1;
-      tallied = same ∙ talk.3;
+      logged_is = same ∙ talk.3;
       taken_is = refl;
       written_is = ap (λ l. h.written ++ l) t.holds.0 ∙ append-nil h.written ∙ talk.2;
       ends = t.holds.2;
@@ -126,9 +127,9 @@ ends-in {es = es} {first = first} {now = now} {phase = phase} {tally = tally} {o
 -- ---- the writer failed
 
 -- those messages were taken and done
-stuck : {es : List ExportRecord} {first last : World} {phase : Phase} {old new : Streams} (tally : Tally) (whole replies : List ℕ) → Consumes old.input new.input whole → (talk : Conversation es first phase last whole replies)
-    → (tally ≡ tally_of talk) ⊎ (tally ≡ tally_before talk) → IsService es first last old new tally (Err fault.WriteFault)
-stuck {last = last} {phase = phase} {old = old} {new = new} tally whole replies c talk tallied = record {
+stuck : {es : List ExportRecord} {first last : World} {phase : Phase} {old new : Streams} (log : SessionLog) (whole replies : List ℕ) → Consumes old.input new.input whole → (talk : Conversation es first phase last whole replies)
+    → (log ≡ log_of talk) ⊎ (log ≡ log_before talk) → IsService es first last old new log (Err fault.WriteFault)
+stuck {last = last} {phase = phase} {old = old} {new = new} log whole replies c talk logged_is = record {
   held = λ other. absurd (other refl);
   done = λ is. record {
     phase = phase;
@@ -138,16 +139,16 @@ stuck {last = last} {phase = phase} {old = old} {new = new} tally whole replies 
     rest = [];
     consumed = subst (λ (l : List ℕ). Consumes old.input new.input l) (sym (append-nil whole)) c;
     talk = talk;
-    tallied = tallied;
+    logged_is = logged_is;
     ends = inl (refl, refl);
   };
   led = talk-led talk;
 }
 
 -- and the reply to another one was begun
-stuck-begun : {es : List ExportRecord} {first mid : World} {phase : Phase} (last : World) (old new : Streams) (tally : Tally) (whole replies rest : List ℕ) → Consumes old.input new.input (whole ++ rest) → (talk : Conversation es first phase mid whole replies)
-    → tally ≡ tally_of talk → BeginsMessage es phase mid rest last → IsService es first last old new tally (Err fault.WriteFault)
-stuck-begun {es = es} {first = first} {mid = mid} {phase = phase} last old new tally whole replies rest c talk tallied begun = record {
+stuck-begun : {es : List ExportRecord} {first mid : World} {phase : Phase} (last : World) (old new : Streams) (log : SessionLog) (whole replies rest : List ℕ) → Consumes old.input new.input (whole ++ rest) → (talk : Conversation es first phase mid whole replies)
+    → log ≡ log_of talk → BeginsMessage es phase mid rest last → IsService es first last old new log (Err fault.WriteFault)
+stuck-begun {es = es} {first = first} {mid = mid} {phase = phase} last old new log whole replies rest c talk logged_is begun = record {
   held = λ other. absurd (other refl);
   done = λ is. record {
     phase = phase;
@@ -157,47 +158,47 @@ stuck-begun {es = es} {first = first} {mid = mid} {phase = phase} last old new t
     rest = rest;
     consumed = c;
     talk = talk;
-    tallied = inl tallied;
+    logged_is = inl logged_is;
     ends = inr begun;
   };
   led = led-then EachPart first mid last (talk-led talk) (begun-led es phase mid rest last begun);
 }
 
 -- in the greeting
-pub held-unsaid : (es : List ExportRecord) (first : World) (tally : Tally) (input output output' : Option (List ℕ)) → tally ≡ no_requests → IsService es first first (streams input output) (streams input output') tally (Err fault.WriteFault)
-held-unsaid es first tally input output output' none = stuck {old = streams input output} {new = streams input output'} tally [] [] (Consumes-nil input) begins (inl none)
+pub held-unsaid : (es : List ExportRecord) (first : World) (log : SessionLog) (input output output' : Option (List ℕ)) → log ≡ no_log → IsService es first first (streams input output) (streams input output') log (Err fault.WriteFault)
+held-unsaid es first log input output output' none = stuck {old = streams input output} {new = streams input output'} log [] [] (Consumes-nil input) begins (inl none)
 
 -- between two messages
-pub held-stuck : {es : List ExportRecord} {first now : World} {phase : Phase} {tally : Tally} {old : Streams} (input output output' : Option (List ℕ)) → BusyOr es first phase now tally old (streams input output)
-    → IsService es first now old (streams input output') tally (Err fault.WriteFault)
-held-stuck {tally = tally} {old = old} input output output' h = stuck {old = old} {new = streams input output'} tally h.taken h.holds.0 h.consumed h.holds.1 (inl h.holds.3)
+pub held-stuck : {es : List ExportRecord} {first now : World} {phase : Phase} {log : SessionLog} {old : Streams} (input output output' : Option (List ℕ)) → BusyOr es first phase now log old (streams input output)
+    → IsService es first now old (streams input output') log (Err fault.WriteFault)
+held-stuck {log = log} {old = old} input output output' h = stuck {old = old} {new = streams input output'} log h.taken h.holds.0 h.consumed h.holds.1 (inl h.holds.3)
 
 -- in a reply
-held-fails : {es : List ExportRecord} {first now : World} {phase : Phase} {tally : Tally} {old mid : Streams} (now' : World) (tally' : Tally) (new : Streams) → BusyOr es first phase now tally old mid → tally' ≡ tally
-    → IsUnanswered es phase now now' mid.input new.input ⊎ IsInterrupted es phase now now' mid.input new.input → IsService es first now' old new tally' (Err fault.WriteFault)
-held-fails {old = old} {mid = mid} now' tally' new h same (inl t) =
-    stuck {old = old} {new = new} tally' (h.taken ++ t.message) (h.holds.0 ++ t.reply) (Consumes-trans old.input mid.input new.input h.taken t.message h.consumed t.consumed) (goes_on t.message t.reply h.holds.1 t.takes) (inr (same ∙ h.holds.3))
-held-fails {old = old} {mid = mid} now' tally' new h same (inr t) =
-    stuck-begun now' old new tally' h.taken h.holds.0 t.message (Consumes-trans old.input mid.input new.input h.taken t.message h.consumed t.consumed) h.holds.1 (same ∙ h.holds.3) t.begins
+held-fails : {es : List ExportRecord} {first now : World} {phase : Phase} {log : SessionLog} {old mid : Streams} (now' : World) (log' : SessionLog) (new : Streams) → BusyOr es first phase now log old mid → log' ≡ log
+    → IsUnanswered es phase now now' mid.input new.input ⊎ IsInterrupted es phase now now' mid.input new.input → IsService es first now' old new log' (Err fault.WriteFault)
+held-fails {old = old} {mid = mid} now' log' new h same (inl t) =
+    stuck {old = old} {new = new} log' (h.taken ++ t.message) (h.holds.0 ++ t.reply) (Consumes-trans old.input mid.input new.input h.taken t.message h.consumed t.consumed) (goes_on t.message t.reply h.holds.1 t.takes) (inr (same ∙ h.holds.3))
+held-fails {old = old} {mid = mid} now' log' new h same (inr t) =
+    stuck-begun now' old new log' h.taken h.holds.0 t.message (Consumes-trans old.input mid.input new.input h.taken t.message h.consumed t.consumed) h.holds.1 (same ∙ h.holds.3) t.begins
 
 -- ---- any fault
 
-pub held-ends : {es : List ExportRecord} {first now : World} {phase : Phase} {tally : Tally} {old mid : Streams} (now' : World) (tally' : Tally) (new : Streams) (x : ServiceFault) → BusyOr es first phase now tally old mid
-    → EndsTurn es phase now now' tally tally' mid new (Err x) → IsService es first now' old new tally' (Err x)
-held-ends now' tally' new fault.Lost h t = ends-in now' tally' new fault.Lost (λ is. (cc)) h t.1 t.0
-held-ends now' tally' new fault.Magic h t = ends-in now' tally' new fault.Magic (λ is. (cc)) h t.1 t.0
-held-ends now' tally' new fault.Flags h t = ends-in now' tally' new fault.Flags (λ is. (cc)) h t.1 t.0
-held-ends now' tally' new fault.NoSuchExport h t = ends-in now' tally' new fault.NoSuchExport (λ is. (cc)) h t.1 t.0
-held-ends now' tally' new fault.ReadFault h t = ends-in now' tally' new fault.ReadFault (λ is. (cc)) h t.1 t.0
-held-ends {old = old} {mid = mid} now' tally' new fault.WriteFault h t = held-fails {old = old} {mid = mid} now' tally' new h t.1 t.0
+pub held-ends : {es : List ExportRecord} {first now : World} {phase : Phase} {log : SessionLog} {old mid : Streams} (now' : World) (log' : SessionLog) (new : Streams) (x : ServiceFault) → BusyOr es first phase now log old mid
+    → EndsTurn es phase now now' log log' mid new (Err x) → IsService es first now' old new log' (Err x)
+held-ends now' log' new fault.Lost h t = ends-in now' log' new fault.Lost (λ is. (cc)) h t.1 t.0
+held-ends now' log' new fault.Magic h t = ends-in now' log' new fault.Magic (λ is. (cc)) h t.1 t.0
+held-ends now' log' new fault.Flags h t = ends-in now' log' new fault.Flags (λ is. (cc)) h t.1 t.0
+held-ends now' log' new fault.NoSuchExport h t = ends-in now' log' new fault.NoSuchExport (λ is. (cc)) h t.1 t.0
+held-ends now' log' new fault.ReadFault h t = ends-in now' log' new fault.ReadFault (λ is. (cc)) h t.1 t.0
+held-ends {old = old} {mid = mid} now' log' new fault.WriteFault h t = held-fails {old = old} {mid = mid} now' log' new h t.1 t.0
 
 -- the reader was called too often
-pub held-stops : {es : List ExportRecord} {first now : World} {phase : Phase} {tally : Tally} {old : Streams} (new : Streams) → BusyOr es first phase now tally old new → IsService es first now old new tally (Err fault.ReadFault)
-held-stops {now = now} {tally = tally} new h =
-    ends-in {mid = new} now tally new fault.ReadFault (λ is. (cc)) h refl (record { taken = []; written = []; consumed = Consumes-nil new.input; appended = Appends-nil new.output; holds = (refl, refl, inl refl) })
+pub held-stops : {es : List ExportRecord} {first now : World} {phase : Phase} {log : SessionLog} {old : Streams} (new : Streams) → BusyOr es first phase now log old new → IsService es first now old new log (Err fault.ReadFault)
+held-stops {now = now} {log = log} new h =
+    ends-in {mid = new} now log new fault.ReadFault (λ is. (cc)) h refl (record { taken = []; written = []; consumed = Consumes-nil new.input; appended = Appends-nil new.output; holds = (refl, refl, inl refl) })
 
 -- the client has ended it
-pub held-over : {es : List ExportRecord} {first now : World} {phase : Phase} {tally : Tally} {old new : Streams} (done : Unit) → BusyOr es first phase now tally old new → phase ≡ Over → IsService es first now old new tally (Ok done)
+pub held-over : {es : List ExportRecord} {first now : World} {phase : Phase} {log : SessionLog} {old new : Streams} (done : Unit) → BusyOr es first phase now log old new → phase ≡ Over → IsService es first now old new log (Ok done)
 held-over {phase = phase} done h over = record {
   held = λ other. record {
     taken = h.taken;
@@ -210,7 +211,7 @@ held-over {phase = phase} done h over = record {
       replies = h.holds.0;
       rest = [];
       talk = h.holds.1;
-      tallied = h.holds.3;
+      logged_is = h.holds.3;
       taken_is = sym (append-nil h.taken);
       written_is = h.holds.2;
       ends = (refl, inl over);
@@ -230,12 +231,12 @@ framed-config e w offset bytes sectors w' p =
     read-config e p.ends.mid (offset + length bytes) (room_behind offset (length bytes)) (Ok p.behind) w' p.ends.last
     ∙ read-config e w (offset - offset % 512) (offset % 512) (Ok p.before) p.ends.mid p.ends.first
 
-ends-config : (e : ExportRecord) (w : World) (offset length : ℕ) (error : RequestError) (w' : World) → FailsToReadEnds e w offset length w' error → w'.stack.config ≡ w.stack.config
+ends-config : (e : ExportRecord) (w : World) (offset length : ℕ) (error : Failure) (w' : World) → FailsToReadEnds e w offset length w' error → w'.stack.config ≡ w.stack.config
 ends-config e w offset length error w' (inl p) = read-config e w (offset - offset % 512) (offset % 512) (Err error) w' p
 ends-config e w offset length error w' (inr p) =
     read-config e p.1 (offset + length) (room_behind offset length) (Err error) w' p.3 ∙ read-config e w (offset - offset % 512) (offset % 512) (Ok p.0) p.1 p.2
 
-unstored-config : (w : World) (d first : ℕ) (bytes : List ℕ) (error : RequestError) (w' : World) → EndsPut w d first bytes error w' ⊎ StopsPut w d first bytes error w' → w'.stack.config ≡ w.stack.config
+unstored-config : (w : World) (d first : ℕ) (bytes : List ℕ) (error : Failure) (w' : World) → EndsPut w d first bytes error w' ⊎ StopsPut w d first bytes error w' → w'.stack.config ≡ w.stack.config
 unstored-config w d first bytes error w' (inl p) = p.3.any.config
 unstored-config w d first bytes error w' (inr p) = p.2.put.put.any.config
 
@@ -293,9 +294,9 @@ message-config es (Haggling terms) w message reply next w' p = same-config w w' 
 message-config es (Serving agreed) w message reply next w' p = request-config (export_at es agreed.place) agreed w p.header p.payload reply next w' p.answered
 message-config es Over w message reply next w' p = absurd p
 
-pub exports-kept : (exports : List Export) (phase : Phase) (w w' : World) (tally tally' : Tally) (old new : Streams) (next : Phase) → AreExports w.stack.config exports
-    → EndsTurn (export_records exports) phase w w' tally tally' old new (Ok (Some next)) → AreExports w'.stack.config exports
-exports-kept exports phase w w' tally tally' old new next x t = subst (λ c. AreExports c exports) (sym (message-config (export_records exports) phase w t.taken t.written next w' t.holds.0)) x
+pub exports-kept : (exports : List Export) (phase : Phase) (w w' : World) (log log' : SessionLog) (old new : Streams) (next : Phase) → AreExports w.stack.config exports
+    → EndsTurn (export_records exports) phase w w' log log' old new (Ok (Some next)) → AreExports w'.stack.config exports
+exports-kept exports phase w w' log log' old new next x t = subst (λ c. AreExports c exports) (sym (message-config (export_records exports) phase w t.taken t.written next w' t.holds.0)) x
 
 -- ---- the export that is served is one of them
 
@@ -333,5 +334,5 @@ module _ (es : List ExportRecord) where
   message-placed (Serving agreed) w message reply next w' placed p = request-placed (export_at es agreed.place) agreed w p.header p.payload reply next w' placed p.answered
   message-placed Over w message reply next w' placed p = absurd p
 
-  pub placed-next : (phase : Phase) (w w' : World) (tally tally' : Tally) (old new : Streams) (next : Phase) → IsExportPlaced es phase → EndsTurn es phase w w' tally tally' old new (Ok (Some next)) → IsExportPlaced es next
-  placed-next phase w w' tally tally' old new next placed t = message-placed phase w t.taken t.written next w' placed t.holds.0
+  pub placed-next : (phase : Phase) (w w' : World) (log log' : SessionLog) (old new : Streams) (next : Phase) → IsExportPlaced es phase → EndsTurn es phase w w' log log' old new (Ok (Some next)) → IsExportPlaced es next
+  placed-next phase w w' log log' old new next placed t = message-placed phase w t.taken t.written next w' placed t.holds.0

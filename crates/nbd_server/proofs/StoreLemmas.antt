@@ -29,9 +29,9 @@ use Rattle.request_queue.proofs.lemmas.AdmissionLemmas.{writable-ok}
 use Rattle.request_queue.proofs.lemmas.AtOnceLemmas.{steps-led}
 use Rattle.request_queue.proofs.lemmas.BytesLemmas.{bytes_range-ok}
 use Rattle.request_queue.proofs.lemmas.LedLemmas.{led-none, led-then}
-use Rattle.nbd_protocol.specs.declared.request_error.RequestError.{RequestError}
-use Rattle.nbd_protocol.specs.declared.request_error.RequestError.TheVariants.{NoMemory, InputOutput}
-use Rattle.nbd_protocol.specs.Headers.{error_of}
+use Rattle.nbd_server.specs.declared.failure.Failure.{Failure}
+use Rattle.nbd_server.specs.declared.failure.Failure.TheVariants.{Faulty}
+use Rattle.nbd_server.specs.Failures.{failure_of, no_memory}
 use Rattle.nbd_server.specs.Sectors.{IsStored, IsStoredAtOnce, IsPartPut, FailsToPutAll, FailsToPutAtOnce, FailsToZero, EndsPut, StopsPut, most_run_bytes}
 use Rattle.nbd_server.specs.Zeros.{IsNextRun, WritesInRuns, no_run, a_run, last_run, lacks_run, WroteRun, most_run_sectors}
 
@@ -82,20 +82,20 @@ pub stored-none : (w : World) (d first : ℕ) → IsStored w d first [] w
 stored-none w d first = record { put = write-none w.stack d first; led = led-none EachPart w }
 
 -- an allocation of the first run was refused
-pub lacks-first : (w : World) (d first : ℕ) (bytes : List ℕ) → 0 < length bytes → IsOutOfMemory most_run_bytes → FailsToZero w d first bytes NoMemory w
+pub lacks-first : (w : World) (d first : ℕ) (bytes : List ℕ) → 0 < length bytes → IsOutOfMemory most_run_bytes → FailsToZero w d first bytes no_memory w
 lacks-first w d first bytes some refused = inr (refl, record { count = 0; few = some; put = stored-none w d first }, refused)
 
-pub zero-fails : (w : World) (d first : ℕ) (bytes : List ℕ) (w' : World) (result : Result Unit RequestError) → IfErr result (λ error. FailsToPutAtOnce w d first bytes error w') → IfErr result (λ error. FailsToZero w d first bytes error w')
+pub zero-fails : (w : World) (d first : ℕ) (bytes : List ℕ) (w' : World) (result : Result Unit Failure) → IfErr result (λ error. FailsToPutAtOnce w d first bytes error w') → IfErr result (λ error. FailsToZero w d first bytes error w')
 zero-fails w d first bytes w' (Ok done) p = tt
 zero-fails w d first bytes w' (Err error) p = inl p.put
 
 -- the write of a run ended so, or its allocation was refused
-pub wrote-run : (w : World) (d first : ℕ) (bytes : List ℕ) (w' : World) (result : Result Unit RequestError) → OnOk result (IsStoredAtOnce w d first bytes w') → IfErr result (λ error. FailsToPutAtOnce w d first bytes error w')
+pub wrote-run : (w : World) (d first : ℕ) (bytes : List ℕ) (w' : World) (result : Result Unit Failure) → OnOk result (IsStoredAtOnce w d first bytes w') → IfErr result (λ error. FailsToPutAtOnce w d first bytes error w')
     → WroteRun w d first bytes result w'
 wrote-run w d first bytes w' (Ok done) ok err = ok.steps
 wrote-run w d first bytes w' (Err error) ok err = inl (err.fault, err.told, err.steps)
 
-pub run-lacks : (w : World) (d first : ℕ) (bytes : List ℕ) → IsOutOfMemory most_run_bytes → WroteRun w d first bytes (Err NoMemory) w
+pub run-lacks : (w : World) (d first : ℕ) (bytes : List ℕ) → IsOutOfMemory most_run_bytes → WroteRun w d first bytes (Err no_memory) w
 run-lacks w d first bytes refused = inr (refl, refl, refused)
 
 -- memory runs out where some sector is encrypted
@@ -122,20 +122,20 @@ module _ (w : World) (d first : ℕ) (bytes : List ℕ) (w' : World) where
   }
 
   put-fails : (fault : IoFault) (range : SectorRange) → EncryptsAt w d first bytes fault → write_range w.stack.config d first bytes ≡ Ok range → IsLed EachPart w w'
-      → WritesWhole w.stack range bytes (Err fault) w'.stack → EndsPut w d first bytes (error_of fault) w' ⊎ StopsPut w d first bytes (error_of fault) w'
-  put-fails (io.Stack fault) range some h led p = inl (refl, io.Stack fault, refl, at-place bytes (Err (io.Stack fault)) range h p)
-  put-fails (io.Device i) range some h led p = inl (refl, io.Device i, refl, at-place bytes (Err (io.Device i)) range h p)
+      → WritesWhole w.stack range bytes (Err fault) w'.stack → EndsPut w d first bytes (failure_of fault) w' ⊎ StopsPut w d first bytes (failure_of fault) w'
+  put-fails (io.Stack fault) range some h led p = inl (io.Stack fault, refl, refl, at-place bytes (Err (io.Stack fault)) range h p)
+  put-fails (io.Device i) range some h led p = inl (io.Device i, refl, refl, at-place bytes (Err (io.Device i)) range h p)
   put-fails io.NoMemory range some h led p =
       let count : length bytes / 512 ≡ range.count = ap (λ (r : SectorRange). r.count) (range-is range h) in
       inr (refl, some refl, record { count = p.0; few = omega (arith, p.1, count); put = record { put = at-place (take (512 * p.0) bytes) (Ok tt) range h p.2; led = led } }, p.3)
 
-  pub unstored : (fault : IoFault) → EncryptsAt w d first bytes fault → BytesWritten w d first bytes (Err fault) w' → FailsToPutAtOnce w d first bytes (error_of fault) w'
+  pub unstored : (fault : IoFault) → EncryptsAt w d first bytes fault → BytesWritten w d first bytes (Err fault) w' → FailsToPutAtOnce w d first bytes (failure_of fault) w'
   unstored fault some s =
       let led = steps-led s.range w bytes (Err fault) w' s.steps in
       record { put = record { cause = put-fails fault s.range some s.admits led s.whole; led = led }; fault = fault; told = refl; steps = steps-at (Err fault) s }
 
   -- a run of zeros is one write
-  pub run-stored : (result : Result Unit RequestError) → OnOk result (IsStoredAtOnce w d first bytes w') → OnOk result (IsStored w d first bytes w')
+  pub run-stored : (result : Result Unit Failure) → OnOk result (IsStoredAtOnce w d first bytes w') → OnOk result (IsStored w d first bytes w')
   run-stored (Ok done) p = p.stored
   run-stored (Err error) p = tt
 
@@ -145,7 +145,7 @@ module _ (w v w' : World) (d first : ℕ) (x y : List ℕ) (even : length x % 51
   pub stored-more : IsStored v d (first + length x / 512) y w' → IsStored w d first (x ++ y) w'
   stored-more q = record { put = pieces-then d first x y even p.put q.put; led = led-then EachPart w v w' p.led q.led }
 
-no-memory : (fault : IoFault) → error_of fault ≡ InputOutput → ended fault ≡ ended io.NoMemory → ⊥
+no-memory : (fault : IoFault) → failure_of fault ≡ Faulty fault → ended fault ≡ ended io.NoMemory → ⊥
 no-memory (io.Stack fault) e same = cc
 no-memory (io.Device i) e same = cc
 no-memory io.NoMemory e same = cc
@@ -171,14 +171,14 @@ module _ (w v w' : World) (d first : ℕ) (x y z : List ℕ) (even : length x % 
       SomeOf-more (λ s. (said_at w.stack.config (mapped d) s).encrypts) first (length x / 512) (length y / 512) (length (x ++ (y ++ z)) / 512) inside
       (subst (λ (c : Configuration). SomeEncrypt (said_at c (mapped d)) (first + length x / 512) (length y / 512)) p.put.any.config some)
 
-  cause-more : (error : RequestError) → EndsPut v d (first + length x / 512) y error w' ⊎ StopsPut v d (first + length x / 512) y error w' → EndsPut w d first (x ++ (y ++ z)) error w' ⊎ StopsPut w d first (x ++ (y ++ z)) error w'
-  cause-more error (inl q) = inl (q.0, q.1, q.2, pieces-end d first x y even p.put z q.1 (no-memory q.1 q.2) q.3)
+  cause-more : (error : Failure) → EndsPut v d (first + length x / 512) y error w' ⊎ StopsPut v d (first + length x / 512) y error w' → EndsPut w d first (x ++ (y ++ z)) error w' ⊎ StopsPut w d first (x ++ (y ++ z)) error w'
+  cause-more error (inl q) = inl (q.0, q.1, q.2, pieces-end d first x y even p.put z q.0 (no-memory q.0 q.2) q.3)
   cause-more error (inr q) = inr (q.0, encrypt-more q.1, part-more q.2, q.3)
 
-  stored-fails : (error : RequestError) → FailsToPutAll v d (first + length x / 512) y error w' → FailsToPutAll w d first (x ++ (y ++ z)) error w'
+  stored-fails : (error : Failure) → FailsToPutAll v d (first + length x / 512) y error w' → FailsToPutAll w d first (x ++ (y ++ z)) error w'
   stored-fails error q = record { cause = cause-more error q.cause; led = led-then EachPart w v w' p.led q.led }
 
-  pub zeroed-fails : (error : RequestError) → FailsToZero v d (first + length x / 512) y error w' → FailsToZero w d first (x ++ (y ++ z)) error w'
+  pub zeroed-fails : (error : Failure) → FailsToZero v d (first + length x / 512) y error w' → FailsToZero w d first (x ++ (y ++ z)) error w'
   zeroed-fails error (inl q) = inl (stored-fails error q)
   zeroed-fails error (inr q) = inr (q.0, part-more q.1, q.2)
 
@@ -221,24 +221,24 @@ module _ (w v w' : World) (d first at : ℕ) (all y z : List ℕ) (p : IsPut w d
   more-turns size steps = a_run p.turns (next-run (Ok tt) size steps)
 
   -- the run failed
-  fault-turns : (error : RequestError) (fault : IoFault) → error ≡ error_of fault → IsRunOf v d at (length (y ++ z)) (length y) → WritesInSteps (range_at d at (length y / 512)) v y (Err fault) w'
+  fault-turns : (error : Failure) (fault : IoFault) → error ≡ failure_of fault → IsRunOf v d at (length (y ++ z)) (length y) → WritesInSteps (range_at d at (length y / 512)) v y (Err fault) w'
       → WritesInRuns d first (length all) w all (Err error) w'
   fault-turns error fault told size steps =
       subst (λ (l : List ℕ). WritesInRuns d first (length all) w l (Err error) w') (sym p.all_is)
-      (subst (λ (e : RequestError). WritesInRuns d first (length all) w (p.front ++ (y ++ z)) (Err e) w') (sym told) (last_run z p.turns (next-run (Err fault) size steps)))
+      (subst (λ (e : Failure). WritesInRuns d first (length all) w (p.front ++ (y ++ z)) (Err e) w') (sym told) (last_run z p.turns (next-run (Err fault) size steps)))
 
-  memory-turns : (error : RequestError) → error ≡ NoMemory → w' ≡ v → IsOutOfMemory most_run_bytes → WritesInRuns d first (length all) w all (Err error) w'
+  memory-turns : (error : Failure) → error ≡ no_memory → w' ≡ v → IsOutOfMemory most_run_bytes → WritesInRuns d first (length all) w all (Err error) w'
   memory-turns error told same refused =
       subst (λ (l : List ℕ). WritesInRuns d first (length all) w l (Err error) w') (sym p.all_is)
-      (subst (λ (e : RequestError). WritesInRuns d first (length all) w (p.front ++ (y ++ z)) (Err e) w') (sym told)
-      (subst (λ (u : World). WritesInRuns d first (length all) w (p.front ++ (y ++ z)) (Err NoMemory) u) (sym same) (lacks_run (y ++ z) p.turns refused)))
+      (subst (λ (e : Failure). WritesInRuns d first (length all) w (p.front ++ (y ++ z)) (Err e) w') (sym told)
+      (subst (λ (u : World). WritesInRuns d first (length all) w (p.front ++ (y ++ z)) (Err no_memory) u) (sym same) (lacks_run (y ++ z) p.turns refused)))
 
-  pub failed-turns : (error : RequestError) → IsRunOf v d at (length (y ++ z)) (length y) → WroteRun v d at y (Err error) w' → WritesInRuns d first (length all) w all (Err error) w'
+  pub failed-turns : (error : Failure) → IsRunOf v d at (length (y ++ z)) (length y) → WroteRun v d at y (Err error) w' → WritesInRuns d first (length all) w all (Err error) w'
   failed-turns error size (inl q) = fault-turns error q.0 q.1 size q.2
   failed-turns error size (inr q) = memory-turns error q.0 q.1 q.2
 
 -- the last run has all that is left
-pub last-turns : (w v w' : World) (d first at : ℕ) (all y : List ℕ) (result : Result Unit RequestError) → IsPut w d first at all y v → length y % 512 ≡ 0 → length y ≤ most_run_bytes → WroteRun v d at y result w'
+pub last-turns : (w v w' : World) (d first at : ℕ) (all y : List ℕ) (result : Result Unit Failure) → IsPut w d first at all y v → length y % 512 ≡ 0 → length y ≤ most_run_bytes → WroteRun v d at y result w'
     → WritesInRuns d first (length all) w all result w'
 last-turns w v w' d first at all y result p whole few ran = by result ran
   where
@@ -251,7 +251,7 @@ last-turns w v w' d first at all y result p whole few ran = by result ran
     seam : all ≡ rest.front ++ y
     seam = rest.all_is ∙ ap (λ (l : List ℕ). rest.front ++ l) (append-nil y)
 
-    by : (r : Result Unit RequestError) → WroteRun v d at y r w' → WritesInRuns d first (length all) w all r w'
+    by : (r : Result Unit Failure) → WroteRun v d at y r w' → WritesInRuns d first (length all) w all r w'
     by (Ok done) q = subst (λ (l : List ℕ). WritesInRuns d first (length all) w l (Ok tt) w') (sym seam) (more-turns w v w' d first at all y [] rest size q)
     by (Err error) q = failed-turns w v w' d first at all y [] rest error size q
 
@@ -267,20 +267,20 @@ module _ (w v w' : World) (d first at : ℕ) (all y : List ℕ) where
     all_is = p.all_is ∙ sym (append_assoc p.front y z);
   }
 
-  pub put-ends : (z : List ℕ) (error : RequestError) → IsPut w d first at all (y ++ z) v → FailsToZero v d at y error w' → FailsToZero w d first all error w'
+  pub put-ends : (z : List ℕ) (error : Failure) → IsPut w d first at all (y ++ z) v → FailsToZero v d at y error w' → FailsToZero w d first all error w'
   put-ends z error p q = subst (λ l. FailsToZero w d first l error w') (sym p.all_is) (zeroed-fails w v w' d first p.front y z p.whole p.stored error (subst (λ k. FailsToZero v d k y error w') p.place q))
 
   put-last : IsPut w d first at all y v → IsStored v d at y w' → IsStored w d first all w'
   put-last p q = subst (λ l. IsStored w d first l w') (sym p.all_is) (stored-more w v w' d first p.front y p.whole p.stored (subst (λ k. IsStored v d k y w') p.place q))
 
-  put-last-ends : (error : RequestError) → IsPut w d first at all y v → FailsToZero v d at y error w' → FailsToZero w d first all error w'
+  put-last-ends : (error : Failure) → IsPut w d first at all y v → FailsToZero v d at y error w' → FailsToZero w d first all error w'
   put-last-ends error p q = put-ends [] error (subst (λ l. IsPut w d first at all l v) (sym (append-nil y)) p) q
 
   -- the last of them
-  pub put-ok : (result : Result Unit RequestError) → IsPut w d first at all y v → OnOk result (IsStored v d at y w') → OnOk result (IsStored w d first all w')
+  pub put-ok : (result : Result Unit Failure) → IsPut w d first at all y v → OnOk result (IsStored v d at y w') → OnOk result (IsStored w d first all w')
   put-ok (Ok done) p q = put-last p q
   put-ok (Err error) p q = tt
 
-  pub put-err : (result : Result Unit RequestError) → IsPut w d first at all y v → IfErr result (λ error. FailsToZero v d at y error w') → IfErr result (λ error. FailsToZero w d first all error w')
+  pub put-err : (result : Result Unit Failure) → IsPut w d first at all y v → IfErr result (λ error. FailsToZero v d at y error w') → IfErr result (λ error. FailsToZero w d first all error w')
   put-err (Ok done) p q = tt
   put-err (Err error) p q = put-last-ends error p q

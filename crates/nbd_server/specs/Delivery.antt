@@ -19,7 +19,9 @@ use Rattle.nbd_protocol.specs.Chunks.{error_at_chunk, hole_chunk}
 use Rattle.nbd_server.specs.Content.{TellsContent}
 use Rattle.nbd_server.specs.Status.{IsLineStatus, IsOtherKind, TouchZeros, touched}
 use Rattle.nbd_server.specs.declared.extent.ExtentKind.TheVariants as known
-use Rattle.nbd_server.specs.Tallies.{is_fault}
+use Rattle.nbd_server.specs.Failures.{fault_at, reported_error}
+use Rattle.nbd_server.specs.declared.failure.Failure.{Failure}
+use Rattle.nbd_server.specs.declared.first_faults.SectorFault.{SectorFault}
 use Rattle.nbd_server.specs.Transmission.{ReadsExport}
 use Rattle.nbd_server.specs.declared.delivery.Delivery.{Delivery}
 use Rattle.nbd_server.specs.declared.delivery.Progress.{Progress}
@@ -94,7 +96,7 @@ pub record IsSent (e : ExportRecord) (d : Delivery) (p : Progress) (w : World) (
 -- The piece lies in several sectors and couldn't be read. Nothing is sent, and its bytes are read again sector by sector.
 pub record IsPutOff (e : ExportRecord) (d : Delivery) (p : Progress) (w : World) (chunk : List ℕ) (next : Progress) (w' : World) : Type 0 where
   pub size : ℕ
-  pub error : RequestError
+  pub error : Failure
   pub piece : IsReadPiece w.stack.config e d p size
   pub several : 1 < touched (d.offset + p.done) size
   pub reads : ReadsExport e w (d.offset + p.done) size (Err error) w'
@@ -104,11 +106,11 @@ pub record IsPutOff (e : ExportRecord) (d : Delivery) (p : Progress) (w : World)
 -- The piece lies in one sector that couldn't be read. The last chunk reports the error and the piece's offset.
 pub record IsLost (e : ExportRecord) (d : Delivery) (p : Progress) (w : World) (chunk : List ℕ) (w' : World) : Type 0 where
   pub size : ℕ
-  pub error : RequestError
+  pub error : Failure
   pub piece : IsReadPiece w.stack.config e d p size
   pub one : touched (d.offset + p.done) size ≡ 1
   pub reads : ReadsExport e w (d.offset + p.done) size (Err error) w'
-  pub chunk_is : chunk ≡ error_at_chunk d.cookie (d.offset + p.done) error
+  pub chunk_is : chunk ≡ error_at_chunk d.cookie (d.offset + p.done) (reported_error error)
 
 -- The first bytes of the piece are on `zero` lines, so they are zeros whatever the backing devices hold. Nothing is read, and a
 -- hole of all of them is sent.
@@ -127,12 +129,12 @@ abbrev pub GoesOnReplying : ExportRecord → Delivery → Progress → World →
 GoesOnReplying e d p w chunk next w' = IsSent e d p w chunk next w' ⊎ (IsPutOff e d p w chunk next w' ⊎ IsHole e d p w chunk next w')
 
 -- The result of a piece whose chunks were written: the progress of the reply, or the error of the lost sector at which it ended.
-abbrev pub AnswersPiece : ExportRecord → Delivery → Progress → World → World → Option (List ℕ) → Option (List ℕ) → Result Progress RequestError → Type 0
+abbrev pub AnswersPiece : ExportRecord → Delivery → Progress → World → World → Option (List ℕ) → Option (List ℕ) → Result Progress Failure → Type 0
 AnswersPiece e d p w w' old new (Ok next) = (chunk : List ℕ) × GoesOnReplying e d p w chunk next w' × Appends old new chunk
 AnswersPiece e d p w w' old new (Err error) = (chunk : List ℕ) × (lost : IsLost e d p w chunk w') × (lost.error ≡ error) × Appends old new chunk
 
 -- the result of a piece of an export whose chunks were written to a writer
-abbrev pub WritesPiece : {W : Type 0} → (W → Option (List ℕ)) → CountedRecord W → CountedRecord W → Export → Delivery → Progress → World → World → Result Progress RequestError → Type 0
+abbrev pub WritesPiece : {W : Type 0} → (W → Option (List ℕ)) → CountedRecord W → CountedRecord W → Export → Delivery → Progress → World → World → Result Progress Failure → Type 0
 WritesPiece contents old new export d p w w' next = AnswersPiece (export_record export) d p w w' (contents old.inner) (contents new.inner) next
 
 -- what a piece did if the writer failed in its chunks
@@ -169,18 +171,22 @@ pub record DeliversPart (e : ExportRecord) (d : Delivery) (w : World) (reply : L
 abbrev pub IsDelivered : ExportRecord → Delivery → World → List ℕ → World → Type 0
 IsDelivered e d w reply w' = DeliversAll e d w reply w' ⊎ DeliversPart e d w reply w'
 
--- whether the reply reports an input/output error
-abbrev pub reports_fault : (e : ExportRecord) → (d : Delivery) → (w : World) → (reply : List ℕ) → (w' : World) → IsDelivered e d w reply w' → Bool
-reports_fault e d w reply w' (inl whole) = false
-reports_fault e d w reply w' (inr part) = is_fault part.lost.error
+-- the sector in which the next byte lies
+abbrev pub next_sector : Delivery → Progress → ℕ
+next_sector d p = (d.offset + p.done) / 512
 
--- a reply that reports one, or none
-abbrev pub DeliversAs : ExportRecord → Delivery → World → Bool → List ℕ → World → Type 0
-DeliversAs e d w faulty reply w' = (told : IsDelivered e d w reply w') × (faulty ≡ reports_fault e d w reply w' told)
+-- the fault that the reply reports as an input/output error, with the sector of the piece that can't be read
+abbrev pub delivery_fault : (e : ExportRecord) → (d : Delivery) → (w : World) → (reply : List ℕ) → (w' : World) → IsDelivered e d w reply w' → Option SectorFault
+delivery_fault e d w reply w' (inl whole) = None
+delivery_fault e d w reply w' (inr part) = fault_at (next_sector d part.last) part.lost.error
+
+-- a reply that reports that fault, or none
+abbrev pub DeliversAs : ExportRecord → Delivery → World → Option SectorFault → List ℕ → World → Type 0
+DeliversAs e d w met reply w' = (told : IsDelivered e d w reply w') × (met ≡ delivery_fault e d w reply w' told)
 
 -- the reply was written
-abbrev pub WritesDelivery : {W : Type 0} → (W → Option (List ℕ)) → CountedRecord W → CountedRecord W → Export → Delivery → World → World → Bool → Type 0
-WritesDelivery contents old new export d w w' faulty = Grows (contents old.inner) (contents new.inner) (λ reply. DeliversAs (export_record export) d w faulty reply w')
+abbrev pub WritesDelivery : {W : Type 0} → (W → Option (List ℕ)) → CountedRecord W → CountedRecord W → Export → Delivery → World → World → Option SectorFault → Type 0
+WritesDelivery contents old new export d w w' met = Grows (contents old.inner) (contents new.inner) (λ reply. DeliversAs (export_record export) d w met reply w')
 
 -- the reply began: some pieces were read
 pub record IsBegun (e : ExportRecord) (d : Delivery) (w w' : World) : Type 0 where

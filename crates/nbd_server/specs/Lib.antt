@@ -1,3 +1,5 @@
+pub mod Failures
+pub mod Logs
 pub mod Sectors
 pub mod Replies
 pub mod Status

@@ -17,9 +17,9 @@ use Rattle.request_queue.specs.Ranges.{range_at}
 use Rattle.request_queue.specs.Runs.{IsLed}
 use Rattle.request_queue.specs.WholeRuns.{ReadsWhole}
 use Rattle.request_queue.specs.World.{World}
-use Rattle.nbd_protocol.specs.Headers.{error_of}
-use Rattle.nbd_protocol.specs.declared.request_error.RequestError.{RequestError}
-use Rattle.nbd_protocol.specs.declared.request_error.RequestError.TheVariants.{NoMemory, InputOutput}
+use Rattle.nbd_server.specs.Failures.{failure_of, no_memory}
+use Rattle.nbd_server.specs.declared.failure.Failure.{Failure}
+use Rattle.nbd_server.specs.declared.failure.Failure.TheVariants.{Faulty}
 
 -- Sectors of a mapped device were read, as one read of them all, and in pieces that split no unit and no data block that fits in
 -- one. The bytes are what the lines allow with some hash chains, each of which verifies for its line; over steady backing devices
@@ -36,19 +36,19 @@ abbrev pub HasCause : World → ℕ → ℕ → ℕ → IoFault → Type 0
 HasCause w d first count fault = fault ≡ io.NoMemory → MeetVerity (said_at w.stack.config (mapped d)) first count
 
 -- the read of them all ended in that fault
-pub record EndsIn (w : World) (d first count : ℕ) (error : RequestError) (w' : World) : Type 0 where
+pub record EndsIn (w : World) (d first count : ℕ) (error : Failure) (w' : World) : Type 0 where
   pub fault : IoFault
-  pub told : error ≡ error_of fault
+  pub told : error ≡ failure_of fault
   pub cause : HasCause w d first count fault
   pub read : ReadsWhole w.stack (range_at d first count) (Err fault) w'.stack
   pub pieces : ReadsInTurn (range_at d first count) w.stack (Err fault) w'.stack
 
 -- the allocation of the buffer was refused, and nothing was read
-abbrev pub HasNoBuffer : World → ℕ → RequestError → World → Type 0
-HasNoBuffer w count error w' = (error ≡ NoMemory) × (w' ≡ w) × IsOutOfMemory (512 * count)
+abbrev pub HasNoBuffer : World → ℕ → Failure → World → Type 0
+HasNoBuffer w count error w' = (error ≡ no_memory) × (w' ≡ w) × IsOutOfMemory (512 * count)
 
 -- the sectors couldn't be read
-pub record FailsToFetch (w : World) (d first count : ℕ) (error : RequestError) (w' : World) : Type 0 where
+pub record FailsToFetch (w : World) (d first count : ℕ) (error : Failure) (w' : World) : Type 0 where
   pub cause : EndsIn w d first count error w' ⊎ HasNoBuffer w count error w'
   pub led : IsLed EachPart w w'
 
@@ -58,9 +58,9 @@ pub record IsStored (w : World) (d first : ℕ) (bytes : List ℕ) (w' : World) 
   pub led : IsLed EachPart w w'
 
 -- the write of them all ended in that fault; the pieces after the one that failed weren't written
-abbrev pub EndsPut : World → ℕ → ℕ → List ℕ → RequestError → World → Type 0
+abbrev pub EndsPut : World → ℕ → ℕ → List ℕ → Failure → World → Type 0
 EndsPut w d first bytes error w' =
-    (error ≡ InputOutput) × (fault : IoFault) × (error_of fault ≡ InputOutput) × WritesInPieces w.stack d first bytes (Err fault) w'.stack
+    (fault : IoFault) × (error ≡ Faulty fault) × (failure_of fault ≡ Faulty fault) × WritesInPieces w.stack d first bytes (Err fault) w'.stack
 
 -- the first of the sectors were written, and no others
 pub record IsPartPut (w : World) (d first : ℕ) (bytes : List ℕ) (w' : World) : Type 0 where
@@ -69,12 +69,12 @@ pub record IsPartPut (w : World) (d first : ℕ) (bytes : List ℕ) (w' : World)
   pub put : IsStored w d first (take (512 * count) bytes) w'
 
 -- an allocation was refused after the first sectors were written; this happens only if some of the sectors are encrypted
-abbrev pub StopsPut : World → ℕ → ℕ → List ℕ → RequestError → World → Type 0
+abbrev pub StopsPut : World → ℕ → ℕ → List ℕ → Failure → World → Type 0
 StopsPut w d first bytes error w' =
-    (error ≡ NoMemory) × SomeEncrypt (said_at w.stack.config (mapped d)) first (length bytes / 512) × IsPartPut w d first bytes w' × IsOutOfMemory largest_allocation
+    (error ≡ no_memory) × SomeEncrypt (said_at w.stack.config (mapped d)) first (length bytes / 512) × IsPartPut w d first bytes w' × IsOutOfMemory largest_allocation
 
 -- not all of the sectors were written
-pub record FailsToPutAll (w : World) (d first : ℕ) (bytes : List ℕ) (error : RequestError) (w' : World) : Type 0 where
+pub record FailsToPutAll (w : World) (d first : ℕ) (bytes : List ℕ) (error : Failure) (w' : World) : Type 0 where
   pub cause : EndsPut w d first bytes error w' ⊎ StopsPut w d first bytes error w'
   pub led : IsLed EachPart w w'
 
@@ -84,10 +84,10 @@ pub record IsStoredAtOnce (w : World) (d first : ℕ) (bytes : List ℕ) (w' : W
   pub steps : WritesInSteps (range_at d first (length bytes / 512)) w bytes (Ok tt) w'
 
 -- such a write ended in a fault
-pub record FailsToPutAtOnce (w : World) (d first : ℕ) (bytes : List ℕ) (error : RequestError) (w' : World) : Type 0 where
+pub record FailsToPutAtOnce (w : World) (d first : ℕ) (bytes : List ℕ) (error : Failure) (w' : World) : Type 0 where
   pub put : FailsToPutAll w d first bytes error w'
   pub fault : IoFault
-  pub told : error ≡ error_of fault
+  pub told : error ≡ failure_of fault
   pub steps : WritesInSteps (range_at d first (length bytes / 512)) w bytes (Err fault) w'
 
 -- the most bytes in a run of zeros: 1 MiB
@@ -96,9 +96,9 @@ most_run_bytes = 1048576
 
 -- zeros with the rest of their first and last sector, written run by run: the allocation of a run was refused after earlier
 -- runs were written
-abbrev pub LacksRun : World → ℕ → ℕ → List ℕ → RequestError → World → Type 0
-LacksRun w d first bytes error w' = (error ≡ NoMemory) × IsPartPut w d first bytes w' × IsOutOfMemory most_run_bytes
+abbrev pub LacksRun : World → ℕ → ℕ → List ℕ → Failure → World → Type 0
+LacksRun w d first bytes error w' = (error ≡ no_memory) × IsPartPut w d first bytes w' × IsOutOfMemory most_run_bytes
 
 -- not all of these were written
-abbrev pub FailsToZero : World → ℕ → ℕ → List ℕ → RequestError → World → Type 0
+abbrev pub FailsToZero : World → ℕ → ℕ → List ℕ → Failure → World → Type 0
 FailsToZero w d first bytes error w' = FailsToPutAll w d first bytes error w' ⊎ LacksRun w d first bytes error w'

@@ -1,5 +1,5 @@
 -- The session of a client: its messages in order, and the reply to each.
-use Rattle.std.specs.Prelude.{◌≡◌, ◌≢◌, ◌⊎◌, ℕ, ◌<◌, ◌≤◌, nat_le, true, false, List, [], ◌++◌, length, take, codes, Bool, Option, Some, None, Result, Ok, Err}
+use Rattle.std.specs.Prelude.{◌≡◌, ◌≢◌, ◌⊎◌, ℕ, ◌<◌, ◌≤◌, ◌/◌, nat_le, true, false, List, [], ◌++◌, length, take, codes, Bool, Option, Some, None, Result, Ok, Err}
 use mathlib.Core.Logic.{inl, inr}
 use Rattle.std.specs.Io.KnownBytes.{Appends, Consumes, IsAtEnd, Keeps}
 use Rattle.request_queue.specs.Parts.{EachPart}
@@ -16,9 +16,10 @@ use Rattle.nbd_server.specs.Causes.{Breaks}
 use Rattle.nbd_protocol.specs.Streaming.{Spoken, TakesInto, content_in}
 use Rattle.nbd_server.specs.Replies.{RequestOutcome, agreed_reply}
 use Rattle.nbd_server.specs.Transmission.{ServesRequest}
-use Rattle.nbd_server.specs.Delivery.{IsBegun, IsDelivered, delivery_of, reports_fault}
-use Rattle.nbd_server.specs.Tallies.{counted, is_faulty, no_requests}
-use Rattle.nbd_server.specs.declared.tally.Tally.{Tally}
+use Rattle.nbd_server.specs.Delivery.{IsBegun, IsDelivered, delivery_fault, delivery_of}
+use Rattle.nbd_server.specs.Logs.{logged, no_log, outcome_fault}
+use Rattle.nbd_server.specs.declared.first_faults.SectorFault.{SectorFault}
+use Rattle.nbd_server.specs.declared.session_log.SessionLog.{SessionLog}
 use Rattle.nbd_server.specs.declared.delivery.Delivery.{Delivery}
 use Rattle.nbd_protocol.specs.declared.header.Header.{Header}
 use Rattle.nbd_protocol.specs.declared.fault.ServiceFault.{ServiceFault}
@@ -102,34 +103,34 @@ pub data Conversation (es : List ExportRecord) (first : World) : Phase → World
   goes_on : {phase next : Phase} {w w' : World} {taken written : List ℕ} (message reply : List ℕ) → Conversation es first phase w taken written → TakesMessage es phase w message reply next w'
       → Conversation es first next w' (taken ++ message) (written ++ reply)
 
--- ---- the tally of the requests
+-- ---- the log of the requests
 
--- whether the reply to a request reports an input/output error
-abbrev pub gives_fault : (e : ExportRecord) → (a : Agreement) → (w : World) → (h : Header) → (payload : List ℕ) → (found : Option Delivery) → (reply : List ℕ) → (w' : World) → GivesReply e a w h payload found reply w' → Bool
-gives_fault e a w h payload (Some d) reply w' given = reports_fault e d w reply w' given
-gives_fault e a w h payload None reply w' given = is_faulty given.0
+-- the fault that the reply to a request reports as an input/output error
+abbrev pub request_fault : (e : ExportRecord) → (a : Agreement) → (w : World) → (h : Header) → (payload : List ℕ) → (found : Option Delivery) → (reply : List ℕ) → (w' : World) → GivesReply e a w h payload found reply w' → Option SectorFault
+request_fault e a w h payload (Some d) reply w' given = delivery_fault e d w reply w' given
+request_fault e a w h payload None reply w' given = outcome_fault (h.offset / 512) given.0
 
--- the tally after a request: DISC isn't counted
-abbrev pub request_tally : (e : ExportRecord) → (agreed : Agreement) → (w : World) → (header payload reply : List ℕ) → (next : Phase) → (w' : World)
-    → IsLastRequest w header reply next w' ⊎ ((header_of header).kind ≢ 2) × IsServedRequest e agreed w header payload reply next w' → Tally → Tally
-request_tally e agreed w header payload reply next w' (inl last) t = t
-request_tally e agreed w header payload reply next w' (inr served) t =
-    counted (gives_fault e agreed w (header_of header) payload (delivery_of e agreed (header_of header)) reply w' served.1.replies) t
+-- the log after a request: DISC isn't counted
+abbrev pub request_log : (e : ExportRecord) → (agreed : Agreement) → (w : World) → (header payload reply : List ℕ) → (next : Phase) → (w' : World)
+    → IsLastRequest w header reply next w' ⊎ ((header_of header).kind ≢ 2) × IsServedRequest e agreed w header payload reply next w' → SessionLog → SessionLog
+request_log e agreed w header payload reply next w' (inl last) log = log
+request_log e agreed w header payload reply next w' (inr served) log =
+    logged agreed.place (request_fault e agreed w (header_of header) payload (delivery_of e agreed (header_of header)) reply w' served.1.replies) log
 
--- the tally after a message
-abbrev pub message_tally : (es : List ExportRecord) → (phase : Phase) → (w : World) → (message reply : List ℕ) → (next : Phase) → (w' : World) → TakesMessage es phase w message reply next w' → Tally → Tally
-message_tally es (Serving agreed) w message reply next w' takes t = request_tally (export_at es agreed.place) agreed w takes.header takes.payload reply next w' takes.answered t
-message_tally es phase w message reply next w' takes t = t
+-- the log after a message
+abbrev pub message_log : (es : List ExportRecord) → (phase : Phase) → (w : World) → (message reply : List ℕ) → (next : Phase) → (w' : World) → TakesMessage es phase w message reply next w' → SessionLog → SessionLog
+message_log es (Serving agreed) w message reply next w' takes log = request_log (export_at es agreed.place) agreed w takes.header takes.payload reply next w' takes.answered log
+message_log es phase w message reply next w' takes log = log
 
--- the tally of a sequence of messages
-abbrev pub tally_of : {es : List ExportRecord} {first : World} {phase : Phase} {w : World} {taken written : List ℕ} → Conversation es first phase w taken written → Tally
-tally_of begins = no_requests
-tally_of {es = es} (goes_on {phase = phase} {next = next} {w = w} {w' = w'} message reply talk takes) = message_tally es phase w message reply next w' takes (tally_of talk)
+-- the log of a sequence of messages
+abbrev pub log_of : {es : List ExportRecord} {first : World} {phase : Phase} {w : World} {taken written : List ℕ} → Conversation es first phase w taken written → SessionLog
+log_of begins = no_log
+log_of {es = es} (goes_on {phase = phase} {next = next} {w = w} {w' = w'} message reply talk takes) = message_log es phase w message reply next w' takes (log_of talk)
 
--- the tally of the messages before the last one
-abbrev pub tally_before : {es : List ExportRecord} {first : World} {phase : Phase} {w : World} {taken written : List ℕ} → Conversation es first phase w taken written → Tally
-tally_before begins = no_requests
-tally_before (goes_on message reply talk takes) = tally_of talk
+-- the log of the messages before the last one
+abbrev pub log_before : {es : List ExportRecord} {first : World} {phase : Phase} {w : World} {taken written : List ℕ} → Conversation es first phase w taken written → SessionLog
+log_before begins = no_log
+log_before (goes_on message reply talk takes) = log_of talk
 
 -- ---- ends
 
@@ -195,12 +196,12 @@ EndsMessage es phase w w' old new (Ok None) = Spoken old new (λ taken written. 
 EndsMessage es phase w w' old new (Err WriteFault) = IsUnanswered es phase w w' old.input new.input ⊎ IsInterrupted es phase w w' old.input new.input
 EndsMessage es phase w w' old new (Err fault) = Spoken old new (λ taken written. (written ≡ []) × (w' ≡ w) × Breaks es phase taken new.input fault)
 
--- a message that was handled, and the tally before and after it
-abbrev pub CountsMessage : List ExportRecord → Phase → World → Tally → Tally → Phase → World → List ℕ → List ℕ → Type 0
-CountsMessage es phase w t t' next w' message reply = (takes : TakesMessage es phase w message reply next w') × (t' ≡ message_tally es phase w message reply next w' takes t)
+-- a message that was handled, and the log before and after it
+abbrev pub CountsMessage : List ExportRecord → Phase → World → SessionLog → SessionLog → Phase → World → List ℕ → List ℕ → Type 0
+CountsMessage es phase w t t' next w' message reply = (takes : TakesMessage es phase w message reply next w') × (t' ≡ message_log es phase w message reply next w' takes t)
 
--- how a message ends, and the tally before and after it: only a message that was handled is counted
-abbrev pub EndsTurn : List ExportRecord → Phase → World → World → Tally → Tally → Streams → Streams → Result (Option Phase) ServiceFault → Type 0
+-- how a message ends, and the log before and after it: only a message that was handled is counted
+abbrev pub EndsTurn : List ExportRecord → Phase → World → World → SessionLog → SessionLog → Streams → Streams → Result (Option Phase) ServiceFault → Type 0
 EndsTurn es phase w w' t t' old new (Ok (Some next)) = Spoken old new (CountsMessage es phase w t t' next w')
 EndsTurn es phase w w' t t' old new (Ok None) = EndsMessage es phase w w' old new (Ok None) × (t' ≡ t)
 EndsTurn es phase w w' t t' old new (Err fault) = EndsMessage es phase w w' old new (Err fault) × (t' ≡ t)
@@ -216,14 +217,14 @@ abbrev pub EndsSo : List ExportRecord → Phase → List ℕ → Option (List �
 EndsSo es phase rest input (Ok done) = (rest ≡ []) × ((phase ≡ Over) ⊎ IsAtEnd input)
 EndsSo es phase rest input (Err fault) = Breaks es phase rest input fault
 
--- the input was whole messages and a rest, and the output the greeting and the replies to these messages; the tally is theirs
-pub record IsHeld (es : List ExportRecord) (first last : World) (input : Option (List ℕ)) (tally : Tally) (result : Result Unit ServiceFault) (taken written : List ℕ) : Type 0 where
+-- the input was whole messages and a rest, and the output the greeting and the replies to these messages; the log is theirs
+pub record IsHeld (es : List ExportRecord) (first last : World) (input : Option (List ℕ)) (log : SessionLog) (result : Result Unit ServiceFault) (taken written : List ℕ) : Type 0 where
   pub phase : Phase
   pub whole : List ℕ
   pub replies : List ℕ
   pub rest : List ℕ
   pub talk : Conversation es first phase last whole replies
-  pub tallied : tally ≡ tally_of talk
+  pub logged_is : log ≡ log_of talk
   pub taken_is : taken ≡ whole ++ rest
   pub written_is : written ≡ greeting ++ replies
   pub ends : EndsSo es phase rest input result
@@ -231,7 +232,7 @@ pub record IsHeld (es : List ExportRecord) (first last : World) (input : Option 
 -- The input was whole messages, which were handled; their replies may be incomplete. If the last message is answered piece by
 -- piece, perhaps only some of its pieces were read. A request whose reply failed isn't
 -- counted.
-pub record IsServiceDone (es : List ExportRecord) (first last : World) (old new : Option (List ℕ)) (tally : Tally) : Type 0 where
+pub record IsServiceDone (es : List ExportRecord) (first last : World) (old new : Option (List ℕ)) (log : SessionLog) : Type 0 where
   pub phase : Phase
   pub whole : List ℕ
   pub replies : List ℕ
@@ -239,14 +240,14 @@ pub record IsServiceDone (es : List ExportRecord) (first last : World) (old new 
   pub rest : List ℕ
   pub consumed : Consumes old new (whole ++ rest)
   pub talk : Conversation es first phase mid whole replies
-  pub tallied : (tally ≡ tally_of talk) ⊎ (tally ≡ tally_before talk)
+  pub logged_is : (log ≡ log_of talk) ⊎ (log ≡ log_before talk)
   pub ends : ((rest ≡ []) × (last ≡ mid)) ⊎ BeginsMessage es phase mid rest last
 
--- What a session read and wrote, from the first state of its queue to the last, and the tally of its requests.
-pub record IsService (es : List ExportRecord) (first last : World) (old new : Streams) (tally : Tally) (result : Result Unit ServiceFault) : Type 0 where
+-- What a session read and wrote, from the first state of its queue to the last, and the log of its requests.
+pub record IsService (es : List ExportRecord) (first last : World) (old new : Streams) (log : SessionLog) (result : Result Unit ServiceFault) : Type 0 where
   -- if the writer didn't fail
-  pub held : result ≢ Err WriteFault → Spoken old new (IsHeld es first last new.input tally result)
+  pub held : result ≢ Err WriteFault → Spoken old new (IsHeld es first last new.input log result)
   -- if the writer failed
-  pub done : result ≡ Err WriteFault → IsServiceDone es first last old.input new.input tally
+  pub done : result ≡ Err WriteFault → IsServiceDone es first last old.input new.input log
   -- in each case the messages are a run of the queue, to which the queue's law applies
   pub led : IsLed EachPart first last

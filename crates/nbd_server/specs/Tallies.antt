@@ -1,19 +1,6 @@
 -- How many requests of a session were answered, and how many of these with an input/output error.
-use Rattle.std.specs.Prelude.{ℕ, ◌+◌, min, Bool, true, false, Ok, Err, if◌then◌else◌}
-use Rattle.nbd_protocol.specs.declared.request_error.RequestError.{RequestError}
-use Rattle.nbd_protocol.specs.declared.request_error.RequestError.TheVariants.{InputOutput}
-use Rattle.nbd_server.specs.Replies.{RequestOutcome}
+use Rattle.std.specs.Prelude.{ℕ, ◌+◌, min, Bool, if◌then◌else◌}
 use Rattle.nbd_server.specs.declared.tally.Tally.{Tally}
-
--- an input/output error
-abbrev pub is_fault : RequestError → Bool
-is_fault InputOutput = true
-is_fault error = false
-
--- a request that ended with one
-abbrev pub is_faulty : RequestOutcome → Bool
-is_faulty (Ok content) = false
-is_faulty (Err error) = is_fault error
 
 -- one more, up to 2^64 - 1
 abbrev pub one_more : ℕ → ℕ

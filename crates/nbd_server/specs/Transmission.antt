@@ -25,7 +25,9 @@ use Rattle.nbd_protocol.specs.declared.fault.ServiceFault.{ServiceFault}
 use Rattle.nbd_server.specs.declared.byte_range.Ends.{Ends}
 use Rattle.nbd_server.specs.declared.reply.Data.{Data}
 use Rattle.nbd_protocol.specs.declared.request_error.RequestError.{RequestError}
-use Rattle.nbd_protocol.specs.declared.request_error.RequestError.TheVariants.{NoMemory, InputOutput}
+use Rattle.nbd_server.specs.Failures.{no_memory}
+use Rattle.nbd_server.specs.declared.failure.Failure.{Failure}
+use Rattle.nbd_server.specs.declared.failure.Failure.TheVariants.{Faulty, Refused}
 
 -- success without effect
 abbrev pub Stays : World → RequestOutcome → World → Type 0
@@ -37,7 +39,7 @@ ReadsExport e w offset length (Ok content) w' = (bytes : List ℕ) × IsFetched 
 ReadsExport e w offset length (Err error) w' = FailsToFetch w e.device (offset / 512) (touched offset length) error w'
 
 -- the byte range couldn't be read
-abbrev pub FailsToReadBytes : ExportRecord → World → ℕ → ℕ → World → RequestError → Type 0
+abbrev pub FailsToReadBytes : ExportRecord → World → ℕ → ℕ → World → Failure → Type 0
 FailsToReadBytes e w offset length w' error = ReadsExport e w offset length (Err error) w'
 
 -- ---- writes
@@ -53,7 +55,7 @@ pub record ReadsEnds (e : ExportRecord) (w : World) (offset length : ℕ) (befor
   pub last : ReadsExport e mid (offset + length) (room_behind offset length) (Ok behind) w'
 
 -- one of the two couldn't be read
-abbrev pub FailsToReadEnds : ExportRecord → World → ℕ → ℕ → World → RequestError → Type 0
+abbrev pub FailsToReadEnds : ExportRecord → World → ℕ → ℕ → World → Failure → Type 0
 FailsToReadEnds e w offset length w' error =
     ReadsExport e w (offset - offset % 512) (offset % 512) (Err error) w'
     ⊎ ((before : List ℕ) × (mid : World) × ReadsExport e w (offset - offset % 512) (offset % 512) (Ok before) mid
@@ -97,7 +99,7 @@ WritesAny e w offset (byte ∷ more) outcome w' = WritesByRuns e w offset (byte 
 -- all that was written so far is synced, or a backing device failed to sync
 abbrev pub Flushes : World → RequestOutcome → World → Type 0
 Flushes w (Ok content) w' = (content ≡ []) × Step EachPart w (sync (Ok tt)) w'
-Flushes w (Err error) w' = (error ≡ InputOutput) × (fault : IoFault) × Step EachPart w (sync (Err fault)) w'
+Flushes w (Err error) w' = (fault : IoFault) × (error ≡ Faulty fault) × Step EachPart w (sync (Err fault)) w'
 
 -- with FUA a sync follows
 abbrev pub Settles : Bool → (RequestOutcome → World → Type 0) → RequestOutcome → World → Type 0
@@ -159,17 +161,17 @@ StaysOrReads e w offset count one w' = (w' ≡ w) ⊎ ((part : ℕ) × (size : �
 -- a BLOCK_STATUS: the status, or an allocation of the four bytes of a number was refused
 abbrev pub TellsStatus : ExportRecord → World → ℕ → ℕ → Bool → RequestOutcome → World → Type 0
 TellsStatus e w offset count one (Ok told) w' = TellsExtents e w offset count one told w'
-TellsStatus e w offset count one (Err error) w' = (error ≡ NoMemory) × StaysOrReads e w offset count one w' × IsOutOfMemory 4
+TellsStatus e w offset count one (Err error) w' = (error ≡ no_memory) × StaysOrReads e w offset count one w' × IsOutOfMemory 4
 
 -- ---- requests
 
 -- an error without effect
 abbrev pub RefusesRequest : World → RequestError → RequestOutcome → World → Type 0
-RefusesRequest w error outcome w' = (outcome ≡ Err error) × (w' ≡ w)
+RefusesRequest w error outcome w' = (outcome ≡ Err (Refused error)) × (w' ≡ w)
 
 -- the allocation of the sectors that a byte range touches was refused, and nothing was done
 abbrev pub LacksSectors : World → ℕ → List ℕ → RequestOutcome → World → Type 0
-LacksSectors w offset bytes outcome w' = (outcome ≡ Err NoMemory) × (w' ≡ w) × IsOutOfMemory (512 * touched offset (length bytes))
+LacksSectors w offset bytes outcome w' = (outcome ≡ Err no_memory) × (w' ≡ w) × IsOutOfMemory (512 * touched offset (length bytes))
 
 -- a WRITE of the payload that follows the request
 abbrev pub WritesGiven : ExportRecord → World → ℕ → List ℕ → RequestOutcome → World → Type 0
@@ -197,17 +199,17 @@ reply_data d = take d.length (drop d.start d.bytes.items)
 abbrev pub AreEndsRead : ExportRecord → World → ℕ → ℕ → World → Ends → Type 0
 AreEndsRead e w offset length w' ends = ReadsEnds e w offset length (reply_data ends.before) (reply_data ends.behind) w'
 
-abbrev pub data_outcome : Result Data RequestError → RequestOutcome
+abbrev pub data_outcome : Result Data Failure → RequestOutcome
 data_outcome (Ok d) = Ok (reply_data d)
 data_outcome (Err error) = Err error
 
 -- a write returns no bytes
-abbrev pub no_bytes : Result Unit RequestError → RequestOutcome
+abbrev pub no_bytes : Result Unit Failure → RequestOutcome
 no_bytes (Ok done) = Ok []
 no_bytes (Err error) = Err error
 
 -- the part is within the buffer
-abbrev pub IsPartInside : Result Data RequestError → Type 0
+abbrev pub IsPartInside : Result Data Failure → Type 0
 IsPartInside outcome = IfOk outcome (λ d. d.start + d.length ≤ length d.bytes.items)
 
 -- the part is within the buffer, and no longer than a request allows
@@ -215,11 +217,11 @@ pub record IsPart (d : Data) : Type 0 where
   pub inside : d.start + d.length ≤ length d.bytes.items
   pub few : d.length ≤ most_length
 
-abbrev pub IsSendable : Result Data RequestError → Type 0
+abbrev pub IsSendable : Result Data Failure → Type 0
 IsSendable outcome = IfOk outcome IsPart
 
 -- the payload of a request was received, and the request was served
-pub record IsTakenAndServed (e : ExportRecord) (a : Agreement) (w : World) (h : Header) (old new : Option (List ℕ)) (outcome : Result Data RequestError) (w' : World) : Type 0 where
+pub record IsTakenAndServed (e : ExportRecord) (a : Agreement) (w : World) (h : Header) (old new : Option (List ℕ)) (outcome : Result Data Failure) (w' : World) : Type 0 where
   pub payload : List ℕ
   pub size : length payload ≡ payload_len h
   pub consumed : Consumes old new payload
@@ -227,7 +229,7 @@ pub record IsTakenAndServed (e : ExportRecord) (a : Agreement) (w : World) (h : 
   pub inside : IsSendable outcome
 
 -- the payload of a request was received from a reader, and the request was served
-abbrev pub Handles : {R : Type 0} → (R → Option (List ℕ)) → CountedRecord R → CountedRecord R → Export → Agreement → Header → World → World → Result Data RequestError → Type 0
+abbrev pub Handles : {R : Type 0} → (R → Option (List ℕ)) → CountedRecord R → CountedRecord R → Export → Agreement → Header → World → World → Result Data Failure → Type 0
 Handles remaining old new export a h w w' outcome = IsTakenAndServed (export_record export) a w h (remaining old.inner) (remaining new.inner) outcome w'
 
 -- fewer bytes than the payload were received, and nothing was done

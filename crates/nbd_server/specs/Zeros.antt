@@ -7,9 +7,8 @@ use Rattle.stack_meaning.specs.declared.fault.IoFault.{IoFault}
 use Rattle.request_queue.specs.AtOnce.{WritesInSteps}
 use Rattle.request_queue.specs.Ranges.{range_at}
 use Rattle.request_queue.specs.World.{World}
-use Rattle.nbd_protocol.specs.Headers.{error_of}
-use Rattle.nbd_protocol.specs.declared.request_error.RequestError.{RequestError}
-use Rattle.nbd_protocol.specs.declared.request_error.RequestError.TheVariants.{NoMemory}
+use Rattle.nbd_server.specs.Failures.{failure_of, no_memory}
+use Rattle.nbd_server.specs.declared.failure.Failure.{Failure}
 use Rattle.nbd_server.specs.Sectors.{IsStored, FailsToZero, most_run_bytes}
 use Rattle.nbd_server.specs.declared.zeros.Zeros.{Zeros}
 
@@ -30,17 +29,17 @@ pub record IsRunLen (c : Configuration) (d first left n : ℕ) : Type 0 where
   pub inside : n ≤ left
 
 -- not all of the sectors were written
-abbrev pub FailsToPutZeros : World → ℕ → ℕ → Zeros → World → RequestError → Type 0
+abbrev pub FailsToPutZeros : World → ℕ → ℕ → Zeros → World → Failure → Type 0
 FailsToPutZeros w d first z w' error = FailsToZero w d first (zeros_of z) error w'
 
 -- ---- the runs
 
 -- these sectors of device d were written by one write of the queue, or it ended in a fault, or no memory was left for them
-abbrev pub WroteRun : World → ℕ → ℕ → List ℕ → Result Unit RequestError → World → Type 0
+abbrev pub WroteRun : World → ℕ → ℕ → List ℕ → Result Unit Failure → World → Type 0
 WroteRun w d first bytes (Ok done) w' = WritesInSteps (range_at d first (length bytes / 512)) w bytes (Ok tt) w'
 WroteRun w d first bytes (Err error) w' =
-    ((fault : IoFault) × (error ≡ error_of fault) × WritesInSteps (range_at d first (length bytes / 512)) w bytes (Err fault) w')
-    ⊎ ((error ≡ NoMemory) × (w' ≡ w) × IsOutOfMemory most_run_bytes)
+    ((fault : IoFault) × (error ≡ failure_of fault) × WritesInSteps (range_at d first (length bytes / 512)) w bytes (Err fault) w')
+    ⊎ ((error ≡ no_memory) × (w' ≡ w) × IsOutOfMemory most_run_bytes)
 
 -- The next run, of so many bytes that are left of device d from sector `first` on. It splits no unit and no data block that fits
 -- in one run, and is written by one write of the queue.
@@ -50,12 +49,12 @@ pub record IsNextRun (w : World) (d first left : ℕ) (bytes : List ℕ) (result
 
 -- So many bytes are written from sector `first` on, run by run, each from where the one before it ended, up to the last one or the
 -- first that fails: by a fault, or because its allocation was refused. The bytes after that one aren't written.
-pub data WritesInRuns (d first total : ℕ) (w : World) : List ℕ → Result Unit RequestError → World → Type 0 where
+pub data WritesInRuns (d first total : ℕ) (w : World) : List ℕ → Result Unit Failure → World → Type 0 where
   no_run : WritesInRuns d first total w [] (Ok tt) w
   a_run : {x y : List ℕ} {v w' : World} → WritesInRuns d first total w x (Ok tt) v → IsNextRun v d (first + length x / 512) (total - length x) y (Ok tt) w' → WritesInRuns d first total w (x ++ y) (Ok tt) w'
   last_run : {x y : List ℕ} {v w' : World} {fault : IoFault} (z : List ℕ) → WritesInRuns d first total w x (Ok tt) v → IsNextRun v d (first + length x / 512) (total - length x) y (Err fault) w'
-      → WritesInRuns d first total w (x ++ (y ++ z)) (Err (error_of fault)) w'
-  lacks_run : {x : List ℕ} {v : World} (z : List ℕ) → WritesInRuns d first total w x (Ok tt) v → IsOutOfMemory most_run_bytes → WritesInRuns d first total w (x ++ z) (Err NoMemory) v
+      → WritesInRuns d first total w (x ++ (y ++ z)) (Err (failure_of fault)) w'
+  lacks_run : {x : List ℕ} {v : World} (z : List ℕ) → WritesInRuns d first total w x (Ok tt) v → IsOutOfMemory most_run_bytes → WritesInRuns d first total w (x ++ z) (Err no_memory) v
 
 -- the sectors were written in runs
 pub record IsStoredInRuns (w : World) (d first : ℕ) (bytes : List ℕ) (w' : World) : Type 0 where
@@ -63,6 +62,6 @@ pub record IsStoredInRuns (w : World) (d first : ℕ) (bytes : List ℕ) (w' : W
   pub runs : WritesInRuns d first (length bytes) w bytes (Ok tt) w'
 
 -- not all of them were: a run failed, or its allocation was refused
-pub record FailsToPutInRuns (w : World) (d first : ℕ) (bytes : List ℕ) (error : RequestError) (w' : World) : Type 0 where
+pub record FailsToPutInRuns (w : World) (d first : ℕ) (bytes : List ℕ) (error : Failure) (w' : World) : Type 0 where
   pub fails : FailsToZero w d first bytes error w'
   pub runs : WritesInRuns d first (length bytes) w bytes (Err error) w'

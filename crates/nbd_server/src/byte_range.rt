@@ -5,12 +5,13 @@ ghost use Rattle.nbd_server.specs.Premises.{AreBytesOf, HaveSizes, WritesFrom};
 ghost use Rattle.nbd_server.specs.Status.{touched};
 ghost use Rattle.nbd_server.specs.Transmission.{AreEndsRead, FailsToReadEnds, IsPartInside, ReadsExport, WritesAny, reply_data, data_outcome, no_bytes};
 
+use crate::failure::Failure;
 use crate::fetch::fetch;
 use crate::reply::Data;
 use crate::store::{store, store_zeros};
 use crate::zeros::Zeros;
 use block_device::BlockDev;
-use nbd_protocol::{Export, RequestError};
+use nbd_protocol::Export;
 use request_queue::Queue;
 use std::alloc::Global;
 
@@ -25,7 +26,7 @@ pub(crate) fn touched(offset: u64, len: u32) -> usize
 ///
 /// # Errors
 ///
-/// - `InputOutput` if the stack refused the access or a device failed.
+/// - `Faulty` if the stack refused the access or a device failed.
 /// - `NoMemory` if an allocation was refused.
 pub(crate) fn read_bytes<D: BlockDev>(
     alloc: Global,
@@ -33,7 +34,7 @@ pub(crate) fn read_bytes<D: BlockDev>(
     export: &Export<'_>,
     offset: u64,
     len: u32,
-) -> Result<Data, RequestError>
+) -> Result<Data, Failure>
     requires { AreBytesOf queue.old.stack.config (export_record export.now) offset len }
     ensures value { ReadsExport (export_record export.now) queue.old offset len (data_outcome result) queue.new }
     ensures inside { IsPartInside result }
@@ -62,7 +63,7 @@ fn read_ends<D: BlockDev>(
     export: &Export<'_>,
     offset: u64,
     len: u32,
-) -> Result<Ends, RequestError>
+) -> Result<Ends, Failure>
     requires { AreBytesOf queue.old.stack.config (export_record export.now) offset len }
     ensures ok { IfOk result (AreEndsRead (export_record export.now) queue.old offset len queue.new) }
     ensures sizes { IfOk result (λ ends. HaveSizes offset len (reply_data ends.before) (reply_data ends.behind)) }
@@ -85,7 +86,7 @@ pub(crate) fn write_bytes<D: BlockDev>(
     offset: u64,
     len: u32,
     bytes: &mut [u8],
-) -> Result<(), RequestError>
+) -> Result<(), Failure>
     requires bytes { AreBytesOf queue.old.stack.config (export_record export.now) offset len }
     requires room { length bytes.old ≡ 512 * touched offset len }
     requires allowed { IsTrue export.now.writable }
@@ -106,7 +107,7 @@ pub(crate) fn write_zeros<D: BlockDev>(
     export: &Export<'_>,
     offset: u64,
     len: u32,
-) -> Result<(), RequestError>
+) -> Result<(), Failure>
     requires bytes { AreBytesOf queue.old.stack.config (export_record export.now) offset len }
     requires allowed { IsTrue export.now.writable }
     ensures { WritesAny (export_record export.now) queue.old offset (replicate len 0) (no_bytes result) queue.new }

@@ -7,17 +7,18 @@ ghost use Rattle.nbd_server.specs.Content.{TellsContent};
 ghost use Rattle.nbd_server.specs.Premises.{AreBytesOf, ArePieceBytes, IsDeliveryRest, ReadsTo};
 ghost use Rattle.nbd_server.specs.Status.{touched};
 ghost use Rattle.nbd_server.specs.Transmission.{FailsToReadBytes};
-ghost use Rattle.nbd_server.specs.Delivery.{AreNextBytes, IsDeliveryPiece, IsReadPiece, IsStuck, SendsPiece, WritesDelivery, WritesPiece, delivery_of, has_df};
+ghost use Rattle.nbd_server.specs.Delivery.{AreNextBytes, IsDeliveryPiece, IsReadPiece, IsStuck, SendsPiece, WritesDelivery, WritesPiece, delivery_of, has_df, next_sector};
 
 use crate::byte_range::touched;
 use crate::content::say_content;
+use crate::failure::Failure;
 use crate::fetch::read_into;
+use crate::first_faults::SectorFault;
 use crate::piece::piece_sectors;
 use crate::room::Room;
 use crate::status::status_at;
-use crate::tally::is_fault;
 use block_device::BlockDev;
-use nbd_protocol::{Agreement, Command, Export, Header, RequestError, say_error_at, say_hole};
+use nbd_protocol::{Agreement, Command, Export, Header, say_error_at, say_hole};
 use program_io::{Counted, WriteFault};
 use request_queue::Queue;
 use stack_config::Config;
@@ -90,6 +91,14 @@ impl Delivery {
         self.offset + u64::from(progress.done)
     }
 
+    // The sector in which the next byte lies.
+    fn sector(self, progress: Progress) -> u64
+        requires { IsDeliveryRest self progress }
+        ensures { result ≡ next_sector self progress }
+    {
+        self.at(progress) / SECTOR
+    }
+
     // The size of the next piece.
     fn piece_len(self, config: &Config, export: &Export<'_>, progress: Progress) -> u32
         requires bytes { AreBytesOf config.now (export_record export.now) self.offset self.count }
@@ -149,7 +158,7 @@ fn read_to<D: BlockDev>(
     at: u64,
     size: u32,
     out: &mut [u8],
-) -> Result<(), RequestError>
+) -> Result<(), Failure>
     requires bytes { AreBytesOf queue.old.stack.config (export_record export.now) at size }
     requires room { 512 * touched at size ≤ length out.old }
     ensures ok { OnOk result (ReadsTo (export_record export.now) queue.old at size out.new queue.new) }
@@ -172,7 +181,7 @@ fn read_piece<D: BlockDev>(
     export: &Export<'_>,
     at: u64,
     size: u32,
-) -> Result<(), RequestError>
+) -> Result<(), Failure>
     requires { ArePieceBytes queue.old.stack.config (export_record export.now) at size }
     ensures ok { OnOk result (ReadsTo (export_record export.now) queue.old at size room.new.bytes queue.new) }
     ensures inside { at % 512 + size ≤ length room.new.bytes }
@@ -190,7 +199,7 @@ fn deliver_piece<D: BlockDev, W: Write>(
     delivery: Delivery,
     piece: Piece,
     writer: &mut Counted<W>,
-) -> Result<Result<Progress, RequestError>, WriteFault>
+) -> Result<Result<Progress, Failure>, WriteFault>
     requires bytes { AreBytesOf queue.old.stack.config (export_record export.now) delivery.offset delivery.count }
     requires piece { IsReadPiece queue.old.stack.config (export_record export.now) delivery piece.progress piece.size }
     ensures ok { IfOk result (WritesPiece W.contents writer.old writer.new export.now delivery piece.progress queue.old queue.new) }
@@ -217,7 +226,7 @@ fn deliver_piece<D: BlockDev, W: Write>(
                     slow: progress.done + size,
                 }));
             }
-            say_error_at(writer, delivery.cookie, at, error)?;
+            say_error_at(writer, delivery.cookie, at, error.reported())?;
             Ok(Err(error))
         }
     }
@@ -231,7 +240,7 @@ fn deliver_next<D: BlockDev, W: Write>(
     delivery: Delivery,
     progress: Progress,
     writer: &mut Counted<W>,
-) -> Result<Result<Progress, RequestError>, WriteFault>
+) -> Result<Result<Progress, Failure>, WriteFault>
     requires bytes { AreBytesOf queue.old.stack.config (export_record export.now) delivery.offset delivery.count }
     requires some { progress.done < delivery.count }
     ensures ok { IfOk result (WritesPiece W.contents writer.old writer.new export.now delivery progress queue.old queue.new) }
@@ -257,7 +266,7 @@ fn deliver_next<D: BlockDev, W: Write>(
 /// Answers a READ piece by piece, up to the first sector that can't be read. Each piece is sent as soon as it is read.
 ///
 /// A piece that can't be read is read again sector by sector. Zeros are sent as holes. If a piece begins with zeros of `zero`
-/// lines, these aren't read. Returns whether the reply reports an input/output error.
+/// lines, these aren't read. Returns the fault that the reply reports as an input/output error, if there is one.
 ///
 /// # Errors
 ///
@@ -268,7 +277,7 @@ pub(crate) fn deliver<D: BlockDev, W: Write>(
     export: &Export<'_>,
     delivery: Delivery,
     writer: &mut Counted<W>,
-) -> Result<bool, WriteFault>
+) -> Result<Option<SectorFault>, WriteFault>
     requires { AreBytesOf queue.old.stack.config (export_record export.now) delivery.offset delivery.count }
     ensures reply { IfOk result (WritesDelivery W.contents writer.old writer.new export.now delivery queue.old queue.new) }
     ensures kept { IfOk result (λ _. writer.new.failed ≡ writer.old.failed) }
@@ -279,8 +288,8 @@ pub(crate) fn deliver<D: BlockDev, W: Write>(
     'pieces: while progress.done < delivery.count {
         match deliver_next(room, queue, export, delivery, progress, writer)? {
             Ok(next) => progress = next,
-            Err(error) => return Ok(is_fault(error)),
+            Err(error) => return Ok(error.at(delivery.sector(progress))),
         }
     }
-    Ok(false)
+    Ok(None)
 }

@@ -4,9 +4,10 @@ ghost use Rattle.nbd_protocol.specs.Exports.{export_record};
 ghost use Rattle.nbd_server.specs.Premises.{AreSectorsOf};
 ghost use Rattle.nbd_server.specs.Sectors.{FailsToFetch, IsFetched};
 
+use crate::failure::Failure;
 use allocation::zeros;
 use block_device::BlockDev;
-use nbd_protocol::{Export, RequestError};
+use nbd_protocol::Export;
 use request_queue::{BytesFault, Queue};
 use std::alloc::Global;
 
@@ -17,7 +18,7 @@ pub(crate) fn read_into<D: BlockDev>(
     first: u64,
     count: u64,
     out: &mut [u8],
-) -> Result<(), RequestError>
+) -> Result<(), Failure>
     requires sectors { AreSectorsOf queue.old.stack.config (export_record export.now) first count }
     requires room { length out.old ≡ count * 512 }
     ensures ok { OnOk result (IsFetched queue.old export.now.device.0 first count out.new queue.new) }
@@ -25,7 +26,7 @@ pub(crate) fn read_into<D: BlockDev>(
 {
     match queue.read_bytes(export.device, first, out) {
         Ok(()) => Ok(()),
-        Err(BytesFault::Failed(fault)) => Err(RequestError::from(fault)),
+        Err(BytesFault::Failed(fault)) => Err(Failure::from(fault)),
         Err(BytesFault::Refused(_fault)) => unreachable!(),
     }
 }
@@ -34,7 +35,7 @@ pub(crate) fn read_into<D: BlockDev>(
 ///
 /// # Errors
 ///
-/// - `InputOutput` if the stack refused the access or a device failed.
+/// - `Faulty` if the stack refused the access or a device failed.
 /// - `NoMemory` if an allocation was refused.
 pub(crate) fn fetch<D: BlockDev>(
     alloc: Global,
@@ -42,7 +43,7 @@ pub(crate) fn fetch<D: BlockDev>(
     export: &Export<'_>,
     first: u64,
     count: u64,
-) -> Result<Vec<u8>, RequestError>
+) -> Result<Vec<u8>, Failure>
     requires { AreSectorsOf queue.old.stack.config (export_record export.now) first count }
     ensures ok { IfOk result (λ bytes. IsFetched queue.old export.now.device.0 first count bytes.items queue.new) }
     ensures err { IfErr result (λ error. FailsToFetch queue.old export.now.device.0 first count error queue.new) }

@@ -5,9 +5,9 @@ ghost use Rattle.nbd_protocol.specs.Headers.{most_length};
 ghost use Rattle.nbd_server.specs.Replies.{chunked_reply, content_chunk, read_chunk, agreed_reply, simple_head, simple_reply};
 ghost use Rattle.nbd_server.specs.Transmission.{IsPart, IsSendable, reply_data, data_outcome};
 
+use crate::failure::Failure;
 use nbd_protocol::{
-    Agreement, BLOCK_STATUS, Header, RequestError, put32, put64, say_data, say_error, say_none,
-    say_status,
+    Agreement, BLOCK_STATUS, Header, put32, put64, say_data, say_error, say_none, say_status,
 };
 use program_io::{Counted, WriteFault};
 use std::alloc::Global;
@@ -72,7 +72,7 @@ fn say_head<W: Write>(writer: &mut Counted<W>, error: u32, cookie: u64) -> Resul
 fn say_simple<W: Write>(
     writer: &mut Counted<W>,
     cookie: u64,
-    outcome: Result<Data, RequestError>,
+    outcome: Result<Data, Failure>,
 ) -> Result<(), WriteFault>
     requires { IsSendable outcome }
     ensures { Writes W.contents writer.old writer.new (simple_reply cookie (data_outcome outcome)) result }
@@ -82,7 +82,7 @@ fn say_simple<W: Write>(
             say_head(writer, 0, cookie)?;
             writer.put(data.part())
         }
-        Err(error) => say_head(writer, error.number(), cookie),
+        Err(error) => say_head(writer, error.reported().number(), cookie),
     }
 }
 
@@ -120,14 +120,14 @@ fn say_content<W: Write>(
 fn say_chunks<W: Write>(
     writer: &mut Counted<W>,
     header: Header,
-    outcome: Result<Data, RequestError>,
+    outcome: Result<Data, Failure>,
 ) -> Result<(), WriteFault>
     requires { IsSendable outcome }
     ensures { Writes W.contents writer.old writer.new (chunked_reply header (data_outcome outcome)) result }
 {
     match outcome {
         Ok(data) => say_content(writer, header, data.part()),
-        Err(error) => say_error(writer, header.cookie, error),
+        Err(error) => say_error(writer, header.cookie, error.reported()),
     }
 }
 
@@ -140,7 +140,7 @@ pub(crate) fn say_reply<W: Write>(
     writer: &mut Counted<W>,
     agreed: Agreement,
     header: Header,
-    outcome: Result<Data, RequestError>,
+    outcome: Result<Data, Failure>,
 ) -> Result<(), WriteFault>
     requires { IsSendable outcome }
     ensures { Writes W.contents writer.old writer.new (agreed_reply agreed header (data_outcome outcome)) result }

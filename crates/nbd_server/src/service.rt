@@ -4,13 +4,13 @@ ghost use Rattle.program_io.specs.Streams.{streams};
 ghost use Rattle.nbd_protocol.specs.Exports.{AreExports, export_records};
 ghost use Rattle.nbd_server.specs.Premises.{IsGoing};
 ghost use Rattle.nbd_server.specs.Service.{IsService, EndsTurn};
-ghost use Rattle.nbd_server.specs.Tallies.{no_requests};
+ghost use Rattle.nbd_server.specs.Logs.{no_log};
 ghost use Rattle.nbd_protocol.specs.Streaming.{HasRead, HasWritten, result_fault};
 ghost use Rattle.nbd_protocol.specs.declared.phase.Phase.TheVariants.{Over};
 
 use crate::haggling::{take_flags, take_option};
+use crate::session_log::SessionLog;
 use crate::session_state::SessionState;
-use crate::tally::Tally;
 use crate::transmission::take_request;
 use block_device::SyncDev;
 use nbd_protocol::{Export, Phase, ServiceFault, export_at};
@@ -18,6 +18,7 @@ use program_io::Counted;
 use request_queue::Queue;
 use std::alloc::Global;
 use std::io::{Read, Write};
+use std::mem;
 
 const GREETING: [u8; 18] = *b"NBDMAGICIHAVEOPT\0\x03";
 
@@ -31,7 +32,7 @@ fn take_message<D: SyncDev, R: Read, W: Write>(
     writer: &mut Counted<W>,
 ) -> Result<Option<Phase>, ServiceFault>
     requires { IsGoing queue.old.stack.config exports.now phase }
-    ensures turn { EndsTurn (export_records exports.now) phase queue.old queue.new state.old.tally state.new.tally
+    ensures turn { EndsTurn (export_records exports.now) phase queue.old queue.new state.old.log state.new.log
         (streams (R.remaining reader.old.inner) (W.contents writer.old.inner)) (streams (R.remaining reader.new.inner) (W.contents writer.new.inner)) result }
     ensures reader { HasRead 1 reader.old reader.new (result_fault result) }
     ensures writer { HasWritten writer.old writer.new (result_fault result) }
@@ -56,9 +57,9 @@ fn converse<D: SyncDev, R: Read, W: Write>(
     writer: &mut Counted<W>,
 ) -> Result<(), ServiceFault>
     requires exports { AreExports queue.old.stack.config exports.now }
-    requires tally { state.old.tally ≡ no_requests }
+    requires log { state.old.log ≡ no_log }
     ensures service { IsService (export_records exports.now) queue.old queue.new
-        (streams (R.remaining reader.old.inner) (W.contents writer.old.inner)) (streams (R.remaining reader.new.inner) (W.contents writer.new.inner)) state.new.tally result }
+        (streams (R.remaining reader.old.inner) (W.contents writer.old.inner)) (streams (R.remaining reader.new.inner) (W.contents writer.new.inner)) state.new.log result }
     ensures reader { HasRead 0 reader.old reader.new (result_fault result) }
     ensures writer { HasWritten writer.old writer.new (result_fault result) }
 {
@@ -79,7 +80,8 @@ fn converse<D: SyncDev, R: Read, W: Write>(
 
 /// Serves one of the exports to a client, until the client ends the session or disconnects between two messages.
 ///
-/// Each reply is flushed before the next call of the reader. The requests that were answered are counted in `tally`, from zero.
+/// Each reply is flushed before the next call of the reader. `log` gets the tally of the requests that were answered, and their first
+/// 60 faults.
 ///
 /// # Errors
 ///
@@ -95,16 +97,16 @@ pub fn serve<D: SyncDev, R: Read, W: Write>(
     exports: &[Export<'_>],
     reader: &mut Counted<R>,
     writer: &mut Counted<W>,
-    tally: &mut Tally,
+    log: &mut SessionLog,
 ) -> Result<(), ServiceFault>
     requires { AreExports queue.old.stack.config exports.now }
     ensures service { IsService (export_records exports.now) queue.old queue.new
-        (streams (R.remaining reader.old.inner) (W.contents writer.old.inner)) (streams (R.remaining reader.new.inner) (W.contents writer.new.inner)) tally.new result }
+        (streams (R.remaining reader.old.inner) (W.contents writer.old.inner)) (streams (R.remaining reader.new.inner) (W.contents writer.new.inner)) log.new result }
     ensures reader { HasRead 0 reader.old reader.new (result_fault result) }
     ensures writer { HasWritten writer.old writer.new (result_fault result) }
 {
     let mut state = SessionState::new(alloc);
     let outcome = converse(&mut state, queue, exports, reader, writer);
-    *tally = state.tally;
+    mem::swap(log, &mut state.log);
     outcome
 }

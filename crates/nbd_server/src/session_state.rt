@@ -1,33 +1,34 @@
 //! What a session keeps from one message to the next.
 ghost use Rattle.std.specs.Prelude.{◌≡◌};
-ghost use Rattle.nbd_server.specs.Tallies.{counted, no_requests};
+ghost use Rattle.nbd_server.specs.Logs.{logged, no_log};
 
+use crate::first_faults::SectorFault;
 use crate::room::Room;
-use crate::tally::Tally;
+use crate::session_log::SessionLog;
 use std::alloc::Global;
 
-/// The buffer for the pieces of a reply, and the tally of the requests so far.
+/// The buffer for the pieces of a reply, and the log of the requests so far.
 #[derive(Drop)]
 pub(crate) struct SessionState {
     pub(crate) room: Room,
-    pub(crate) tally: Tally,
+    pub(crate) log: SessionLog,
 }
 
 impl SessionState {
-    /// Returns an empty buffer, and the tally of no requests.
+    /// Returns an empty buffer, and the log of no requests.
     pub(crate) fn new(alloc: Global) -> SessionState
-        ensures { result.tally ≡ no_requests }
+        ensures { result.log ≡ no_log }
     {
         SessionState {
             room: Room::new(alloc),
-            tally: Tally::none(),
+            log: SessionLog::none(),
         }
     }
 
-    /// Counts a request that was answered, with an input/output error if `faulty` is set.
-    pub(crate) fn count(&mut self, faulty: bool)
-        ensures { self.new.tally ≡ counted faulty self.old.tally }
+    /// Counts a request of the export at an index, which was answered with that fault, or with none.
+    pub(crate) fn count(&mut self, place: usize, met: Option<SectorFault>)
+        ensures { self.new.log ≡ logged place met self.old.log }
     {
-        self.tally = self.tally.count(faulty);
+        self.log.count(place, met);
     }
 }

@@ -5,10 +5,11 @@ ghost use Rattle.nbd_protocol.specs.Exports.{IsExport, export_record};
 ghost use Rattle.nbd_server.specs.Premises.{AreExportSectors, HaveEnds, IsZeroRun};
 ghost use Rattle.nbd_server.specs.Zeros.{FailsToPutZeros, IsRunLen, WritesInRuns, WroteRun, zeros_of};
 
+use crate::failure::Failure;
 use crate::zeros::Zeros;
 use alignment::aligned_len;
 use block_device::BlockDev;
-use nbd_protocol::{Export, RequestError};
+use nbd_protocol::Export;
 use request_queue::{BytesFault, Queue};
 use std::alloc::Global;
 
@@ -21,14 +22,14 @@ const MOST_BYTES: usize = 1048576;
 ///
 /// # Errors
 ///
-/// - `InputOutput` if the stack refused the write or a device failed.
+/// - `Faulty` if the stack refused the write or a device failed.
 /// - `NoMemory` if an allocation was refused; some of the sectors are encrypted then.
 pub(crate) fn store<D: BlockDev>(
     queue: &mut Queue<D>,
     export: &Export<'_>,
     first: u64,
     bytes: &[u8],
-) -> Result<(), RequestError>
+) -> Result<(), Failure>
     requires export { IsExport queue.old.stack.config (export_record export.now) }
     requires sectors { AreExportSectors (export_record export.now) first bytes.now }
     ensures ok { OnOk result (IsStoredAtOnce queue.old export.now.device.0 first bytes.now queue.new) }
@@ -36,7 +37,7 @@ pub(crate) fn store<D: BlockDev>(
 {
     match queue.write_bytes(export.device, first, bytes) {
         Ok(()) => Ok(()),
-        Err(BytesFault::Failed(fault)) => Err(RequestError::from(fault)),
+        Err(BytesFault::Failed(fault)) => Err(Failure::from(fault)),
         Err(BytesFault::Refused(_fault)) => unreachable!(),
     }
 }
@@ -48,7 +49,7 @@ fn zero_run<D: BlockDev>(
     export: &Export<'_>,
     first: u64,
     zeros: &Zeros<'_>,
-) -> Result<(), RequestError>
+) -> Result<(), Failure>
     requires export { IsExport queue.old.stack.config (export_record export.now) }
     requires run { IsZeroRun zeros.now }
     requires sectors { AreExportSectors (export_record export.now) first (zeros_of zeros.now) }
@@ -78,7 +79,7 @@ fn run_bytes<D: BlockDev>(queue: &Queue<D>, export: &Export<'_>, first: u64, lef
 ///
 /// # Errors
 ///
-/// - `InputOutput` if the stack refused the write or a device failed.
+/// - `Faulty` if the stack refused the write or a device failed.
 /// - `NoMemory` if an allocation was refused.
 pub(crate) fn store_zeros<D: BlockDev>(
     alloc: Global,
@@ -86,7 +87,7 @@ pub(crate) fn store_zeros<D: BlockDev>(
     export: &Export<'_>,
     first: u64,
     zeros: &Zeros<'_>,
-) -> Result<(), RequestError>
+) -> Result<(), Failure>
     requires export { IsExport queue.old.stack.config (export_record export.now) }
     requires ends { HaveEnds zeros.now }
     requires some { 0 < zeros.now.count }

@@ -1,10 +1,6 @@
 //! The counts of the requests of a session.
 ghost use Rattle.std.specs.Prelude.{◌≡◌};
-ghost use Rattle.nbd_server.specs.Tallies.{counted, is_fault, is_faulty, no_requests, one_more};
-ghost use Rattle.nbd_server.specs.Transmission.{data_outcome};
-
-use crate::reply::Data;
-use nbd_protocol::RequestError;
+ghost use Rattle.nbd_server.specs.Tallies.{counted, no_requests, one_more};
 
 /// How many requests were answered, and how many of these with an input/output error.
 ///
@@ -45,25 +41,5 @@ impl Tally {
             requests: one_more(self.requests),
             faults,
         }
-    }
-}
-
-/// Whether an error is an input/output error.
-pub(crate) fn is_fault(error: RequestError) -> bool
-    ensures { result ≡ is_fault error }
-{
-    match error {
-        RequestError::InputOutput => true,
-        _ => false,
-    }
-}
-
-/// Whether the result of a request is an input/output error.
-pub(crate) fn is_faulty(outcome: &Result<Data, RequestError>) -> bool
-    ensures { result ≡ is_faulty (data_outcome outcome.now) }
-{
-    match outcome {
-        Ok(_) => false,
-        Err(error) => is_fault(*error),
     }
 }

@@ -5,6 +5,7 @@ ghost use Rattle.allocation.specs.Refusal.{IsOutOfMemory};
 ghost use Rattle.program_io.specs.Streams.{streams};
 ghost use Rattle.nbd_protocol.specs.Exports.{ExportRecord, IsExport, export_at, export_record};
 ghost use Rattle.nbd_protocol.specs.Headers.{IsWithin, most_length, payload_len};
+ghost use Rattle.nbd_server.specs.Logs.{outcome_fault};
 ghost use Rattle.nbd_server.specs.Premises.{AreBytesOf, IsBare};
 ghost use Rattle.nbd_server.specs.Service.{EndsTurn};
 ghost use Rattle.nbd_protocol.specs.Streaming.{HasRead, HasWritten, result_fault};
@@ -14,11 +15,12 @@ ghost use Rattle.nbd_protocol.specs.declared.phase.Phase.TheVariants.{Serving};
 use crate::byte_range::{read_bytes, touched, write_bytes, write_zeros};
 use crate::delivery::{Delivery, deliver};
 use crate::extent::{ExtentKind, is_same_kind};
+use crate::failure::Failure;
+use crate::first_faults::SectorFault;
 use crate::read_status::read_status;
 use crate::reply::{Data, say_reply};
 use crate::session_state::SessionState;
 use crate::status::{bytes_at, status_of};
-use crate::tally::is_faulty;
 use allocation::OutOfMemory;
 use block_device::{BlockDev, SyncDev};
 use nbd_protocol::{
@@ -39,7 +41,7 @@ fn read<D: BlockDev>(
     export: &Export<'_>,
     offset: u64,
     len: u32,
-) -> Result<Data, RequestError>
+) -> Result<Data, Failure>
     requires bytes { AreBytesOf queue.old.stack.config (export_record export.now) offset len }
     requires few { len ≤ most_length }
     ensures value { ReadsExport (export_record export.now) queue.old offset len (data_outcome result) queue.new }
@@ -56,7 +58,7 @@ fn take_write<D: BlockDev, R: Read>(
     offset: u64,
     len: u32,
     reader: &mut Counted<R>,
-) -> Result<Result<(), RequestError>, ServiceFault>
+) -> Result<Result<(), Failure>, ServiceFault>
     requires bytes { AreBytesOf queue.old.stack.config (export_record export.now) offset len }
     requires allowed { IsTrue export.now.writable }
     ensures ok { IfOk result (λ outcome. (payload : List ℕ) × (length payload ≡ len) × Consumes (R.remaining reader.old.inner) (R.remaining reader.new.inner) payload
@@ -70,24 +72,24 @@ fn take_write<D: BlockDev, R: Read>(
     let sectors = touched(offset, len);
     let start = (offset % 512) as usize;
     let Some(mut bytes) = take_sectors(alloc, reader, sectors, start, len)? else {
-        return Ok(Err(RequestError::NoMemory));
+        return Ok(Err(Failure::Refused(RequestError::NoMemory)));
     };
     Ok(write_bytes(alloc, queue, export, offset, len, bytes.as_mut_slice()))
 }
 
 // Syncs all that was written.
-fn flush<D: SyncDev>(alloc: Global, queue: &mut Queue<D>) -> Result<Data, RequestError>
+fn flush<D: SyncDev>(alloc: Global, queue: &mut Queue<D>) -> Result<Data, Failure>
     ensures value { Flushes queue.old (data_outcome result) queue.new }
     ensures inside { IsSendable result }
 {
     match queue.sync() {
         Ok(()) => Ok(Data::none(alloc)),
-        Err(_) => Err(RequestError::InputOutput),
+        Err(fault) => Err(Failure::Faulty(fault)),
     }
 }
 
 // Ends a write: with FUA it is synced.
-fn settle<D: SyncDev>(alloc: Global, queue: &mut Queue<D>, fua: bool) -> Result<Data, RequestError>
+fn settle<D: SyncDev>(alloc: Global, queue: &mut Queue<D>, fua: bool) -> Result<Data, Failure>
     ensures value { Settles fua (Stays queue.old) (data_outcome result) queue.new }
     ensures inside { IsSendable result }
 {
@@ -105,7 +107,7 @@ fn zero<D: SyncDev>(
     offset: u64,
     len: u32,
     fua: bool,
-) -> Result<Data, RequestError>
+) -> Result<Data, Failure>
     requires bytes { AreBytesOf queue.old.stack.config (export_record export.now) offset len }
     requires allowed { IsTrue export.now.writable }
     ensures value { ServesZero (export_record export.now) queue.old offset len fua (data_outcome result) queue.new }
@@ -146,7 +148,7 @@ fn tell_status<D: BlockDev>(
     offset: u64,
     len: u32,
     one: bool,
-) -> Result<Data, RequestError>
+) -> Result<Data, Failure>
     requires bytes { AreBytesOf queue.old.stack.config (export_record export.now) offset len }
     requires some { 0 < len }
     ensures value { TellsStatus (export_record export.now) queue.old offset len one (data_outcome result) queue.new }
@@ -154,7 +156,7 @@ fn tell_status<D: BlockDev>(
 {
     match told_of(alloc, queue, export, offset, len, one) {
         Ok(told) => Ok(Data::all(told)),
-        Err(refused) => Err(RequestError::from(refused)),
+        Err(refused) => Err(Failure::from(refused)),
     }
 }
 
@@ -164,7 +166,7 @@ fn serve_bare<D: SyncDev>(
     queue: &mut Queue<D>,
     export: &Export<'_>,
     command: Command,
-) -> Result<Data, RequestError>
+) -> Result<Data, Failure>
     requires export { IsExport queue.old.stack.config (export_record export.now) }
     requires within { IsWithin (export_record export.now) command }
     requires bare { IsBare command }
@@ -197,7 +199,7 @@ fn serve_request<D: SyncDev, R: Read>(
     agreed: Agreement,
     header: Header,
     reader: &mut Counted<R>,
-) -> Result<Result<Data, RequestError>, ServiceFault>
+) -> Result<Result<Data, Failure>, ServiceFault>
     requires { IsExport queue.old.stack.config (export_record export.now) }
     ensures ok { IfOk result (Handles R.remaining reader.old reader.new export.now agreed header queue.old queue.new) }
     ensures err { IfErr result (FallsShort R.remaining reader.old reader.new (payload_len header) queue.old queue.new) }
@@ -207,7 +209,7 @@ fn serve_request<D: SyncDev, R: Read>(
         Ok(command) => command,
         Err(error) => {
             skip(reader, header.payload_len())?;
-            return Ok(Err(error));
+            return Ok(Err(Failure::Refused(error)));
         }
     };
     match command {
@@ -226,6 +228,16 @@ fn serve_request<D: SyncDev, R: Read>(
     }
 }
 
+// The fault by which a request ended, with the request's first sector.
+fn outcome_fault(sector: u64, outcome: &Result<Data, Failure>) -> Option<SectorFault>
+    ensures { result ≡ outcome_fault sector (data_outcome outcome.now) }
+{
+    match outcome {
+        Ok(_) => None,
+        Err(error) => error.at(sector),
+    }
+}
+
 /// Receives a request, writes the reply and counts it. Returns `None` if the input ended before the request.
 pub(crate) fn take_request<D: SyncDev, R: Read, W: Write>(
     state: &mut SessionState,
@@ -236,7 +248,7 @@ pub(crate) fn take_request<D: SyncDev, R: Read, W: Write>(
     writer: &mut Counted<W>,
 ) -> Result<Option<Phase>, ServiceFault>
     requires { IsExport queue.old.stack.config (export_record export.now) }
-    ensures turn { (es : List ExportRecord) → export_at es agreed.place ≡ export_record export.now → EndsTurn es (Serving agreed) queue.old queue.new state.old.tally state.new.tally
+    ensures turn { (es : List ExportRecord) → export_at es agreed.place ≡ export_record export.now → EndsTurn es (Serving agreed) queue.old queue.new state.old.log state.new.log
         (streams (R.remaining reader.old.inner) (W.contents writer.old.inner)) (streams (R.remaining reader.new.inner) (W.contents writer.new.inner)) result }
     ensures reader { HasRead 1 reader.old reader.new (result_fault result) }
     ensures writer { HasWritten writer.old writer.new (result_fault result) }
@@ -254,15 +266,15 @@ pub(crate) fn take_request<D: SyncDev, R: Read, W: Write>(
     }
     match Delivery::of(export, agreed, header) {
         Some(delivery) => {
-            let faulty = deliver(&mut state.room, queue, export, delivery, writer)?;
-            state.count(faulty);
+            let lost = deliver(&mut state.room, queue, export, delivery, writer)?;
+            state.count(agreed.place, lost);
             return Ok(Some(Phase::Serving { agreed }));
         }
         None => {}
     }
     let outcome = serve_request(state.room.alloc, queue, export, agreed, header, reader)?;
-    let failed = is_faulty(&outcome);
+    let met = outcome_fault(header.offset / 512, &outcome);
     say_reply(writer, agreed, header, outcome)?;
-    state.count(failed);
+    state.count(agreed.place, met);
     Ok(Some(Phase::Serving { agreed }))
 }

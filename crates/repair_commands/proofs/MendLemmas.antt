@@ -3,12 +3,26 @@ use Rattle.std.proofs.Common.{◌≡◌, ◌≤◌, Bool, false, IsTrue, Result,
 use Rattle.std.specs.Prelude.{OnErr, OnOk}
 use Rattle.block_device.specs.Device.{Device, HasFailed, IsUnsynced, synced}
 use Rattle.tree_repair.specs.Worlds.{RepairWorld}
-use Rattle.repair_commands.specs.Mends.{IsSyncTried, KeepsBothImages}
+use Rattle.repair_commands.specs.Mends.{IsSyncTried, KeepsBothImages, KeepsImage}
 
 -- a sync leaves the image as it is, whether it ends well or not
-pub sync-image : {T E : Type 0} (a b : Device) (r : Result T E) → OnOk r (b ≡ synced a) → OnErr r (IsUnsynced a b) → b.image ≡ a.image
-sync-image a b (Ok x) done fails = ap (λ (d : Device). d.image) done
-sync-image a b (Err e) done fails = ap (λ (d : Device). d.image) fails.moved
+pub sync-image : {T E : Type 0} (a b : Device) (r : Result T E) → OnOk r (b ≡ synced a) → OnErr r (IsUnsynced a b) → KeepsImage a b
+sync-image a b (Ok x) done fails = record {
+  image = ap (λ (d : Device). d.image) done;
+  size = ap (λ (d : Device). d.size) done;
+  may_write = ap (λ (d : Device). d.may_write) done;
+  steady = ap (λ (d : Device). d.steady) done;
+}
+sync-image a b (Err e) done fails = record {
+  image = ap (λ (d : Device). d.image) fails.moved;
+  size = ap (λ (d : Device). d.size) fails.moved;
+  may_write = ap (λ (d : Device). d.may_write) fails.moved;
+  steady = ap (λ (d : Device). d.steady) fails.moved;
+}
+
+-- a device that wasn't synced stores the same
+pub keeps-image : (d : Device) → KeepsImage d d
+keeps-image d = record { image = refl; size = refl; may_write = refl; steady = refl }
 
 -- and takes no failure back
 unsynced-more : (a b : Device) → IsUnsynced a b → HasFailed a b → a.failures ≤ b.failures
@@ -26,7 +40,7 @@ sync-tried write a b (Err e) may done fails = inr fails.1
 
 -- what isn't synced stays as it is
 pub keeps-all : (w : RepairWorld) → KeepsBothImages w w
-keeps-all w = record { data_image = refl; hash_image = refl; data_more = omega arith; hash_more = omega arith; data_copies_are = refl; hash_copies_are = refl }
+keeps-all w = record { data_image = keeps-image w.data_dev; hash_image = keeps-image w.hash_dev; data_more = omega arith; hash_more = omega arith; data_copies_are = refl; hash_copies_are = refl }
 
 pub on_err-weaker : {T E : Type 0} {P Q : Type 0} (r : Result T E) → (P → Q) → OnErr r P → OnErr r Q
 on_err-weaker (Ok x) weaker holds = tt

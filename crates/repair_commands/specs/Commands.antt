@@ -98,6 +98,14 @@ MendsOnce plan w old = λ mid between outcome. MendsInOnePass plan w mid old bet
 abbrev pub MendsHalf : Plan → Option ParityUse → RepairWorld → Option (List ℕ) → Bool → Mending RepairFault
 MendsHalf plan parity w old failed = λ mid between cause. HalfMends plan parity w mid old between failed cause
 
+-- the image on two devices was repaired from copies in one pass, and what is still lost was reported: nothing
+abbrev pub RepairsDevices : Plan → Bool → RepairWorld → SurveyedDevices → Option (List ℕ) → Option (List ℕ) → Type 0
+RepairsDevices plan whole w t' old new = MendsAndTells (MendsOnce plan w old) whole plan new t'
+
+-- this ended early, or not all blocks are valid
+abbrev pub EndsOnDevices : Plan → Bool → RepairWorld → SurveyedDevices → Option (List ℕ) → Option (List ℕ) → Bool → TreeFault → Type 0
+EndsOnDevices plan whole w t' old new failed fault = EndsEarly (MendsOnce plan w old) (MendsHalf plan None w old failed) whole plan new failed fault t'
+
 -- ---- on files
 
 -- this holds of the two devices as they are closed
@@ -109,12 +117,11 @@ pub record GivesBack {S D : Type 0} (w : Calls S D) (p : Places) (parts : Parts)
 
 -- the open images were repaired, what is still lost was reported, and both parts were closed
 abbrev pub MendsOpened : {S D : Type 0} → Calls S D → Places → Opened D → FoundTree → Option (List ℕ) → Option (List ℕ) → Type 0
-MendsOpened w p o found old new = GivesBack w p o.parts (MendsAndTells (MendsOnce (plan_of p found) (opened_world w.state o) old) found.whole (plan_of p found) new)
+MendsOpened w p o found old new = GivesBack w p o.parts (λ t'. RepairsDevices (plan_of p found) found.whole (opened_world w.state o) t' old new)
 
 -- this ended early, and both parts were closed
 abbrev pub EndsOpened : {S D : Type 0} → Calls S D → Places → Opened D → FoundTree → Option (List ℕ) → Option (List ℕ) → Bool → TreeFault → Type 0
-EndsOpened w p o found old new failed fault =
-    GivesBack w p o.parts (EndsEarly (MendsOnce (plan_of p found) (opened_world w.state o) old) (MendsHalf (plan_of p found) None (opened_world w.state o) old failed) found.whole (plan_of p found) new failed fault)
+EndsOpened w p o found old new failed fault = GivesBack w p o.parts (λ t'. EndsOnDevices (plan_of p found) found.whole (opened_world w.state o) t' old new failed fault)
 
 -- ---- what is read before anything is written
 
@@ -178,7 +185,15 @@ abbrev pub IsRepairEnd : {S D : Type 0} → Calls S D → Places → List ImageC
 IsRepairEnd w p copies sought old new failed fault =
     IsRepairUnplaced w p sought old new fault ⊎ (EndsUnopenedRepair w p copies old new fault ⊎ (EndsRefused w p copies sought old new fault ⊎ EndsUnmended w p copies sought old new failed fault))
 
--- ---- in terms of an opener, a writer before and after, and the arguments
+-- ---- in terms of the devices that are returned, an opener, a writer before and after, and the arguments
+
+abbrev pub AreDevicesRepaired : {D H W : Type 0} → (D → Device) → (H → Device) → RepairWorld → Bool → Plan → D → H → (W → Option (List ℕ)) → CountedRecord W → CountedRecord W → Type 0
+AreDevicesRepaired data_state hash_state w whole plan d h contents before behind =
+    RepairsDevices plan whole w (surveyed_devices (data_state d) (hash_state h)) (contents before.inner) (contents behind.inner)
+
+abbrev pub AreDevicesUnrepaired : {D H W : Type 0} → (D → Device) → (H → Device) → RepairWorld → Bool → Plan → D → H → (W → Option (List ℕ)) → CountedRecord W → CountedRecord W → TreeFault → Type 0
+AreDevicesUnrepaired data_state hash_state w whole plan d h contents before behind =
+    EndsOnDevices plan whole w (surveyed_devices (data_state d) (hash_state h)) (contents before.inner) (contents behind.inner) behind.failed
 
 abbrev pub plan_at : RepairPlaces → FoundTree → Plan
 plan_at places found = plan_of (places_of places) found

@@ -16,10 +16,17 @@ use Rattle.verity_format.specs.Blocks.{IsOnlyRead}
 use Rattle.verity_format.specs.declared.verifying.VerifyFault.{VerifyFault}
 use Rattle.verity_format.specs.declared.verifying.VerifyFault.TheVariants.{Device as DeviceFailed}
 
+-- a device stores the same as before, and is as large, as writable and as steady
+pub record KeepsImage (old new : Device) : Type 0 where
+  pub image : new.image ≡ old.image
+  pub size : new.size ≡ old.size
+  pub may_write : new.may_write ≡ old.may_write
+  pub steady : new.steady ≡ old.steady
+
 -- both devices store the same as before, their failure counters didn't decrease, and the copies are unchanged
 pub record KeepsBothImages (w w' : RepairWorld) : Type 0 where
-  pub data_image : w'.data_dev.image ≡ w.data_dev.image
-  pub hash_image : w'.hash_dev.image ≡ w.hash_dev.image
+  pub data_image : KeepsImage w.data_dev w'.data_dev
+  pub hash_image : KeepsImage w.hash_dev w'.hash_dev
   pub data_more : w.data_dev.failures ≤ w'.data_dev.failures
   pub hash_more : w.hash_dev.failures ≤ w'.hash_dev.failures
   pub data_copies_are : w'.data_copies ≡ w.data_copies

@@ -6,13 +6,14 @@ ghost use Rattle.fec_area.specs.Layouts.{IsLaidOn};
 ghost use Rattle.repair_commands.specs.Mends.{IsEndBehind, IsMendedInPasses, IsMendingCut, IsRunByParity, IsRunCut, IsUnheard, parity_use};
 ghost use Rattle.verity_format.specs.Blocks.{IsOnlyRead};
 
+use crate::devices::devices_of;
 use crate::fault::ParityRepairFault;
 use crate::found_tree::{FoundTree, find_repaired_tree};
 use crate::nowhere::Nowhere;
 use crate::opening::{Opened, open_all};
 use crate::pair::RepairPlaces;
 use crate::parity::{LaidParity, lay_out, open_parity};
-use crate::repair::{damaged, devices_of, give_back, plan_at};
+use crate::repair::{damaged, give_back, plan_at};
 use crate::rest::tell;
 use crate::syncing::{end_of, sync_both};
 use block_device::{BlockDev, SyncDev};

@@ -3,6 +3,7 @@
 
 mod by_parity;
 mod copies;
+mod devices;
 mod fault;
 mod found_tree;
 mod mending;
@@ -17,6 +18,9 @@ mod syncing;
 mod unused;
 
 pub use by_parity::repair_by_parity;
+pub use devices::repair_devices;
 pub use fault::ParityRepairFault;
-pub use pair::RepairPlaces;
-pub use repair::repair_images;
+pub use nowhere::Nowhere;
+pub use opening::{Copies, Opened, open_all};
+pub use pair::{Pair, Parts, RepairPlaces};
+pub use repair::{give_back, repair_images};

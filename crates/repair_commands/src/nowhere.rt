@@ -4,7 +4,7 @@ use std::io::Write;
 
 /// Replaces a writer that failed.
 #[derive(Drop)]
-pub(crate) struct Nowhere;
+pub struct Nowhere;
 
 impl Write for Nowhere {
     fn write(&mut self, buffer: &[u8]) -> io::Result<usize> {

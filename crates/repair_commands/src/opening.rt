@@ -15,7 +15,7 @@ use verity_commands::TreeFault;
 
 /// The two parts of files that are repaired, open, and the copies of each.
 #[derive(Drop)]
-pub(crate) struct Opened<'a, D> {
+pub struct Opened<'a, D> {
     pub parts: Parts<'a>,
     pub pair: Pair<D>,
     pub copies: Copies<D>,
@@ -23,13 +23,18 @@ pub(crate) struct Opened<'a, D> {
 
 /// The data of the copies, and their hashes.
 #[derive(Drop)]
-pub(crate) struct Copies<D> {
+pub struct Copies<D> {
     pub data_copies: Vec<D>,
     pub hash_copies: Vec<D>,
 }
 
 /// Opens the two images once, takes what is repaired of each, and opens the copies.
-pub(crate) fn open_all<'a, I: Images>(
+///
+/// # Errors
+///
+/// - `Open` if a file can't be opened, or conflicts with an open one.
+/// - `Survey` with `NoMemory` if memory ran out.
+pub fn open_all<'a, I: Images>(
     alloc: Global,
     images: &mut I,
     places: RepairPlaces<'a>,

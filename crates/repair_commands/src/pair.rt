@@ -24,7 +24,7 @@ pub struct RepairPlaces<'a> {
 
 /// The parts of the two files that are the data image and the hash image, and the paths of these files.
 #[derive(Clone, Copy, Debug, PartialEq, Eq)]
-pub(crate) struct Parts<'a> {
+pub struct Parts<'a> {
     pub data_path: &'a str,
     pub data_part: Part,
     pub hash_path: &'a str,
@@ -33,7 +33,7 @@ pub(crate) struct Parts<'a> {
 
 /// The two images, open.
 #[derive(Drop)]
-pub(crate) struct Pair<D> {
+pub struct Pair<D> {
     pub data_image: OpenImage<D>,
     pub hash_image: OpenImage<D>,
 }

@@ -3,11 +3,10 @@ ghost use Rattle.std.specs.Prelude.{◌≡◌, ◌≤◌, ◌^◌, IfErr, OnOk};
 ghost use Rattle.tree_repair.specs.Repairs.{IsAllowed};
 ghost use Rattle.repair_commands.specs.Commands.{AreRepaired, AreUnrepaired, GivesBackBoth, IsPairMended, IsPairUnmended, pair_world, plan_at};
 
+use crate::devices::repair_devices;
 use crate::found_tree::{FoundTree, find_repaired_tree};
-use crate::mending::mend;
 use crate::opening::{Copies, Opened, open_all};
 use crate::pair::{Pair, Parts, RepairPlaces};
-use crate::rest::tell;
 use block_device::BlockDev;
 use command_line::ImageCopy;
 use image_commands::{SoughtTree, may_seek};
@@ -77,10 +76,8 @@ fn mend_opened<'a, I: Images, W: Write>(
         pair,
         copies,
     } = opened;
-    let mut image = damaged(pair, copies);
-    let ended = mend(alloc, &mut image, &plan, writer);
-    let devices = devices_of(image);
-    let (data, hash, told) = tell(alloc, devices, ended, found.whole, &plan, writer);
+    let image = damaged(pair, copies);
+    let (data, hash, told) = repair_devices(alloc, image, found.whole, &plan, writer);
     give_back(images, places, parts, data, hash);
     told
 }
@@ -117,24 +114,8 @@ pub(crate) fn damaged<D: BlockDev + Drop>(pair: Pair<D>, copies: Copies<D>) -> D
     }
 }
 
-/// Returns the two devices of an image, after its repair.
-pub(crate) fn devices_of<D: BlockDev, H: BlockDev, C: BlockDev + Drop>(
-    image: DamagedImage<D, H, C>,
-) -> (D, H)
-    ensures data { D.state result.0 ≡ image.world.data_dev }
-    ensures hash { H.state result.1 ≡ image.world.hash_dev }
-{
-    let DamagedImage {
-        data,
-        hash,
-        data_copies: _,
-        hash_copies: _,
-    } = image;
-    (data, hash)
-}
-
 /// Closes both parts if the repair may have written to them.
-pub(crate) fn give_back<I: Images>(
+pub fn give_back<I: Images>(
     images: &mut I,
     places: RepairPlaces<'_>,
     parts: Parts<'_>,

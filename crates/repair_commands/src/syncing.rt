@@ -1,7 +1,7 @@
 //! Syncs both devices after a repair.
 ghost use Rattle.std.specs.Prelude.{◌≡◌, ◌≤◌, false, IfErr, IsTrue, OnErr, OnOk};
 ghost use Rattle.block_device.specs.Device.{IsUnsynced};
-ghost use Rattle.repair_commands.specs.Mends.{IsOnMedium, IsUnsyncedCause, KeepsBothImages, end_of};
+ghost use Rattle.repair_commands.specs.Mends.{IsOnMedium, IsUnsyncedCause, KeepsBothImages, KeepsImage, end_of};
 
 use block_device::{BlockDev, DeviceFault, SyncDev};
 use tree_repair::{DamagedImage, Outcome, RepairFault};
@@ -42,7 +42,7 @@ pub(crate) fn end_of(
 
 // Syncs a device if the repair may have written to it.
 fn sync_one<D: SyncDev>(device: &mut D, write: bool) -> Result<(), DeviceFault>
-    ensures kept { (D.state device.new).image ≡ (D.state device.old).image }
+    ensures kept { KeepsImage (D.state device.old) (D.state device.new) }
     ensures ok { OnOk result (IsTrue write → (D.state device.new).dirty ≡ false) }
     ensures err { OnErr result (IsTrue write × IsUnsynced (D.state device.old) (D.state device.new)) }
     ensures counted { (D.state device.old).failures ≤ (D.state device.new).failures }

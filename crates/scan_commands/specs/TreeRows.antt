@@ -11,7 +11,7 @@ use Rattle.stack_rules.specs.declared.lower.Lower.{Lower}
 use Rattle.stack_rules.specs.declared.lower.Lower.TheVariants.{Leaf as leaf, Device as device}
 use Rattle.stack_rules.specs.Records.{Configuration}
 use Rattle.stack_rules.specs.Names.{name_of, size, may_write}
-use Rattle.command_line.specs.Bindings.{BackingRecord, BindingRecord, file, part, zeros, ramp}
+use Rattle.command_line.specs.Bindings.{BackingRecord, BindingRecord, file, part, partition, zeros, ramp}
 use Rattle.io_fault_text.specs.Paths.{shown_path}
 
 -- the branches at the left of a row: a bar for each device above it that has further rows
@@ -65,6 +65,7 @@ IsIn c (device d) = d.0 < length c.devices
 abbrev pub backing_text : BackingRecord → List ℕ
 backing_text (file path writable) = codes " file " ++ shown_path path
 backing_text (part path writable at) = codes " file " ++ shown_path path
+backing_text (partition path writable named) = codes " file " ++ shown_path path
 backing_text (zeros sectors) = []
 backing_text (ramp sectors) = []
 

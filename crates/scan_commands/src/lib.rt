@@ -30,7 +30,7 @@ pub use map_texts::say_pass_fault;
 pub use passing::Passing;
 pub use phase::Phase;
 pub use recovering_fault::RecoveringFault;
-pub use report::say_counts;
+pub use report::{say_counts, tell_counts};
 pub use rescue_fault::PassFault;
 pub use scan::{ScanPlan, scan_device};
 pub use tree::say_tree;

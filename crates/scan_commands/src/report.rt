@@ -17,7 +17,7 @@ use std::io::Write;
 ///
 /// - `Lost` with the counts if sectors are lost.
 /// - `Write` if this line or an earlier one can't be written.
-pub(crate) fn tell_counts<'a, W: Write>(
+pub fn tell_counts<'a, W: Write>(
     counts: Counts,
     writer: &mut Counted<W>,
 ) -> Result<(), RecoveringFault<'a>>

@@ -139,6 +139,7 @@ pub(crate) fn say_file<W: Write>(
                 writable: _,
                 part: _,
             } => say_path_of(path, writer),
+            Backing::Partition { path, .. } => say_path_of(path, writer),
             Backing::Zeros(_) => Ok(()),
             Backing::Ramp(_) => Ok(()),
         },

@@ -1,6 +1,9 @@
 -- What `nbd` prints among the errors.
-use Rattle.std.proofs.Common.{◌≡◌, ◌∙◌, ◌++◌, ℕ, Bool, true, false, List, Option, Result, inl, inr, refl}
+use Rattle.std.proofs.Common.{◌≡◌, ◌≤◌, ◌∙◌, ◌++◌, ℕ, Bool, true, false, List, [], length, Option, Result, ap, arith, inl, inr, refl, sym}
 use Rattle.std.proofs.KnownBytes.{Appends-trans}
+use Rattle.std.proofs.lemmas.List.{get_or_past, length-map}
+use Rattle.nbd_protocol.specs.Exports.{ExportRecord, export_at, export_record, export_records, no_export}
+use Rattle.nbd_protocol.specs.declared.export.Export.{Export}
 use Rattle.program_io.specs.Counted.{CountedRecord, Writes}
 use Rattle.program_io.specs.declared.fault.WriteFault.{WriteFault}
 use Rattle.partition_commands.specs.Warnings.{notes_of}
@@ -23,3 +26,7 @@ module _ {E : Type 0} (contents : E → Option (List ℕ)) where
   noted-then old mid new false first second (inr failed) kept after = inr (kept failed)
   noted-then old mid new false first second (inl before) kept (inr failed) = inr failed
   noted-then old mid new false first second (inl before) kept (inl after) = inl (Appends-trans (contents old.inner) (contents mid.inner) (contents new.inner) first second before after)
+
+-- the name of an export that isn't there
+pub no-name : (exports : List Export) (place : ℕ) → length exports ≤ place → [] ≡ (export_at (export_records exports) place).name
+no-name exports place past = sym (ap (λ (e : ExportRecord). e.name) (get_or_past (export_records exports) place no_export (omega (arith, past, length-map exports export_record))))

@@ -16,8 +16,8 @@ use Rattle.command_line.specs.FormatOptions.{OptionTexts}
 use Rattle.manual_pages.specs.MessageLines.{message_line}
 use Rattle.manual_pages.specs.UsageErrors.{explanation}
 use Rattle.partition_commands.specs.Warnings.{Notes}
-use Rattle.stack_commands.specs.Invocations.{AreCommandNotes, FailsCommand, Succeeds}
 use Rattle.stack_commands.specs.messages.Commands.{ending_message}
+use Rattle.stack_commands.specs.Resolutions.{EndsEarly, SucceedsResolved}
 use Rattle.stack_commands.specs.Uses.{IsUsageEnd, Uses}
 
 -- the command of some words, and the values of its options
@@ -49,7 +49,7 @@ object_asked json fault = json && not (is_usage fault)
 abbrev pub IsRunEnd : {S D T G : Type 0} → List (List ℕ) → Uses S D T G → Bool → CommandEnd → Type 0
 IsRunEnd words u failed ended =
     (IsUsageEnd words ended.fault × (u.new ≡ u.old) × (u.images.new ≡ u.images.old) × (u.notes.new ≡ u.notes.old) × (ended.json ≡ false))
-    ⊎ ((invocation : InvocationRecord) × (texts : OptionTexts) × IsCommandOf words texts invocation × FailsCommand texts invocation u failed ended.fault × AreCommandNotes invocation u.notes
+    ⊎ ((invocation : InvocationRecord) × (texts : OptionTexts) × IsCommandOf words texts invocation × EndsEarly texts invocation u failed ended.fault
     × (ended.json ≡ object_asked texts.json ended.fault) × (ended.quiet ≡ texts.quiet))
 
 -- the words; whether the writer failed; what was written to the errors' writer before and by now, and whether that failed
@@ -133,4 +133,4 @@ pub record EndsCommand {S D T G : Type 0} (u : Uses S D T G) (told : Told) (stat
 
 -- the command of some words succeeded
 abbrev pub IsCommandDone : {S D T G : Type 0} → List (List ℕ) → Uses S D T G → Type 0
-IsCommandDone words u = (invocation : InvocationRecord) × (texts : OptionTexts) × IsCommandOf words texts invocation × Succeeds texts invocation u × AreCommandNotes invocation u.notes
+IsCommandDone words u = (invocation : InvocationRecord) × (texts : OptionTexts) × IsCommandOf words texts invocation × SucceedsResolved texts invocation u

@@ -18,6 +18,7 @@ use Rattle.command_line.specs.declared.words.repair.RepairWords.{RepairWords}
 use Rattle.command_line.specs.declared.words.scan.ScanWords.{ScanWords}
 use Rattle.command_line.specs.declared.option_words.OptionWords.{OptionWords}
 use Rattle.command_line.specs.declared.words.tree_verify.TreeVerifyWords.{TreeVerifyWords}
+use Rattle.command_line.specs.declared.words.update.UpdateWords.{UpdateWords}
 use Rattle.command_line.specs.declared.words.verify.VerifyWords.{VerifyWords}
 use Rattle.command_line.specs.declared.words.write.WriteWords.{WriteWords}
 use Rattle.command_line.specs.FecFiles.{fec_record}
@@ -32,6 +33,7 @@ use Rattle.command_line.specs.words.Read.{read_record}
 use Rattle.command_line.specs.words.Repair.{repair_record}
 use Rattle.command_line.specs.words.Scan.{scan_record}
 use Rattle.command_line.specs.words.TreeVerify.{tree_verify_record}
+use Rattle.command_line.specs.words.Update.{update_record}
 use Rattle.command_line.specs.words.Verify.{verify_record}
 use Rattle.command_line.specs.words.Write.{write_record}
 use Rattle.image_files.specs.Opener.{Calls, Opener, calls}
@@ -53,6 +55,7 @@ use Rattle.stack_commands.specs.Endings.{IsEnd, IsEndAs, IsSilent}
 use Rattle.stack_commands.specs.Invocations.{CatsSectors, CopiesSectors, IsCatCommandEnd, IsCopyWordsEnd, IsLoadWordsEnd, IsPageEnd, IsReadWordsEnd, IsScanWordsEnd, IsWriteWordsEnd, ListsDevices, PrintsPage, ReadsDevice, ScansSectors, WritesDevice}
 use Rattle.stack_commands.specs.Repairing.{IsParityWordsEnd, IsRepairWordsEnd, RepairsImage}
 use Rattle.stack_commands.specs.StackCommands.{IsListEnd, IsReadEnd, IsWriteEnd, PrintsDevices, PrintsReply, PrintsWritten}
+use Rattle.stack_commands.specs.Updating.{IsUpdateWordsEnd, UpdatesImage}
 use Rattle.stack_commands.specs.Uses.{IsTreesEnd}
 use Rattle.stack_commands.specs.Verifying.{ChecksImage, ChecksTree, GoesOverImage, GoesOverTree, IsCheckCommandEnd, IsCheckTreeEnd, IsGoingOverEnd, IsGoingOverTreeEnd}
 
@@ -166,6 +169,12 @@ module _ {S D T E : Type 0} (relations : Opener S D) (state : D → Device) (con
 
   abbrev pub EndsByParity : RepairPlaces → FecFile → List ImageCopy → SoughtTree → CommandFault → Type 0
   EndsByParity places fec copies sought = IsParityWordsEnd desk_calls (places_of places) (fec_record fec) copies sought desk_before desk_behind desk_failed
+
+  abbrev pub DoesUpdate : UpdateWords → Type 0
+  DoesUpdate words = UpdatesImage desk_calls (update_record words) desk_before desk_behind
+
+  abbrev pub EndsUpdate : UpdateWords → CommandFault → Type 0
+  EndsUpdate words = IsUpdateWordsEnd desk_calls (update_record words) desk_before desk_behind desk_failed
 
   -- over a stack file
   abbrev pub ListsFile : StackFile → ListForm → Bool → Type 0

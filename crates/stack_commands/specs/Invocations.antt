@@ -2,7 +2,7 @@
 use Rattle.std.specs.Io.KnownBytes.{Appends}
 use Rattle.std.specs.Prelude.{◌≡◌, ◌⊎◌, ◌≢◌, ℕ, Bool, true, false, codes, List, [], None, Ok, Option, Some, unwrap_or}
 use Rattle.command_line.specs.FormatOptions.{OptionTexts}
-use Rattle.command_line.specs.Invocations.{InvocationRecord, cat, copy, diff, dump, exports, format, format_fec, load, manual, nbd, partitions, read, repair, scan, session, store, table, table_tree, verify, verify_fec, verify_tree, version, write}
+use Rattle.command_line.specs.Invocations.{InvocationRecord, cat, copy, diff, dump, exports, find_in_place, format, format_fec, load, manual, nbd, partitions, read, repair, scan, session, store, table, table_tree, update, verify, verify_fec, verify_tree, version, write}
 use Rattle.command_line.specs.words.Cat.{CatRecord}
 use Rattle.command_line.specs.words.Copy.{CopyRecord}
 use Rattle.command_line.specs.words.Exports.{ExportsRecord}
@@ -20,6 +20,7 @@ use Rattle.fec_commands.specs.Commands.{IsVerifyFecEnd, VerifiesFec}
 use Rattle.fec_commands.specs.Formatting.{FormatsFec, IsFormatFecEnd}
 use Rattle.manual_pages.specs.Pages.{PageRecord, page_of}
 use Rattle.manual_pages.specs.Versions.{version_text}
+use Rattle.find_commands.specs.Commands.{FindsInPlace, IsFindEnd}
 use Rattle.partition_commands.specs.declared.fault.PartitionsFault.{PartitionsFault}
 use Rattle.partition_commands.specs.Invocations.{IsFormQuiet, IsListingEnd, ListsPartitions}
 use Rattle.partition_commands.specs.Warnings.{Notes}
@@ -41,6 +42,7 @@ use Rattle.verity_commands.specs.Formatting.{FormatsAt, IsSaidFormatEnd}
 use Rattle.verity_commands.specs.Placed.{DumpsAt, IsDumpEnd, IsTableEnd, PrintsEntry}
 use Rattle.verity_commands.specs.Trees.{IsTableTreeEnd, PrintsTreeEntry}
 use Rattle.stack_commands.specs.Repairing.{IsRepairWordsEnd, RepairsImage}
+use Rattle.stack_commands.specs.Updating.{IsUpdateWordsEnd, UpdatesImage}
 use Rattle.stack_commands.specs.Uses.{IsRecoveringEnd, IsStreamEnd, IsVerityEnd, Uses}
 use Rattle.stack_commands.specs.Verifying.{ChecksImage, ChecksTree, IsCheckCommandEnd, IsCheckTreeEnd}
 
@@ -90,7 +92,7 @@ abbrev pub IsSessionWordsEnd : {S D : Type 0} → Calls S D → SessionRecord �
 IsSessionWordsEnd w s old new failed fault = IsServeEnd w s.cache s.bindings old new failed fault
 
 abbrev pub ServesNamedDevice : {S D : Type 0} → Calls S D → NbdRecord → Exchange → Type 0
-ServesNamedDevice w n x = ServesWell (λ tally. ServesClient w (device_on n.stack n.name n.cache n.bindings) x tally (Ok tt) (Ok tt))
+ServesNamedDevice w n x = ServesWell (λ log. ServesClient w (device_on n.stack n.name n.cache n.bindings) x log (Ok tt) (Ok tt))
 
 abbrev pub IsNbdWordsEnd : {S D : Type 0} → Calls S D → NbdRecord → Exchange → Bool → CommandFault → Type 0
 IsNbdWordsEnd w n x failed fault = IsClientEnd w (device_on n.stack n.name n.cache n.bindings) x failed fault
@@ -143,7 +145,7 @@ IsCopyWordsEnd w c old new failed fault = IsRecoveringEnd (IsCopyEnd w (copied c
 -- ---- a client that is served each device
 
 abbrev pub ServesDevices : {S D : Type 0} → Calls S D → ExportsRecord → Exchange → Type 0
-ServesDevices w e x = ServesWell (λ tally. ServesExports w (on e.stack e.bindings) e.cache x tally (Ok tt) (Ok tt))
+ServesDevices w e x = ServesWell (λ log. ServesExports w (on e.stack e.bindings) e.cache x log (Ok tt) (Ok tt))
 
 abbrev pub IsExportsWordsEnd : {S D : Type 0} → Calls S D → ExportsRecord → Exchange → Bool → CommandFault → Type 0
 IsExportsWordsEnd w e x failed fault = IsExportsEnd w (on e.stack e.bindings) e.cache x failed fault
@@ -189,6 +191,8 @@ Succeeds texts (table t) u = PrintsEntry u.images t u.old.output u.new.output
 Succeeds texts (partitions p) u = ListsPartitions u.images p u.old.output u.new.output u.notes
 Succeeds texts (diff d) u = ComparesImages texts u.images d u.old.output u.new.output
 Succeeds texts (repair r) u = RepairsImage texts u.images r u.old.output u.new.output
+Succeeds texts (update p) u = UpdatesImage u.images p u.old.output u.new.output
+Succeeds texts (find_in_place f) u = FindsInPlace u.images f u.old.output u.new.output
 Succeeds texts (verify_tree v) u = ChecksTree texts u.images v u.old.output u.new.output
 Succeeds texts (table_tree t) u = PrintsTreeEntry texts u.images t u.old.output u.new.output
 Succeeds texts (format_fec f) u = FormatsFec texts u.images u.drawing f u.old.output u.new.output
@@ -215,6 +219,8 @@ FailsCommand texts (table t) u failed fault = IsVerityEnd (IsTableEnd u.images t
 FailsCommand texts (partitions p) u failed fault = IsPartitionsEnd (λ end. IsListingEnd u.images p failed u.notes end × IsFormQuiet p.form u.old.output u.new.output end) fault
 FailsCommand texts (diff d) u failed fault = IsComparingEnd texts u.images d u.old.output u.new.output failed fault
 FailsCommand texts (repair r) u failed fault = IsRepairWordsEnd texts u.images r u.old.output u.new.output failed fault
+FailsCommand texts (update p) u failed fault = IsUpdateWordsEnd u.images p u.old.output u.new.output failed fault
+FailsCommand texts (find_in_place f) u failed fault = IsRecoveringEnd (IsFindEnd u.images f u.old.output u.new.output failed) fault
 FailsCommand texts (verify_tree v) u failed fault = IsCheckTreeEnd texts u.images v u.old.output u.new.output failed fault
 FailsCommand texts (table_tree t) u failed fault = IsVerityEnd (IsTableTreeEnd texts u.images t u.old.output u.new.output failed) fault
 FailsCommand texts (format_fec f) u failed fault = IsFecEnd (IsFormatFecEnd texts u.images u.drawing f u.old.output u.new.output failed) fault

@@ -11,9 +11,11 @@ pub mod Lines
 pub mod ManyExports
 pub mod Refusals
 pub mod Repairing
+pub mod Resolutions
 pub mod Served
 pub mod ServiceLog
 pub mod StackCommands
+pub mod Updating
 pub mod Uses
 pub mod Verifying
 pub mod messages

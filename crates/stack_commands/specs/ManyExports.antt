@@ -6,7 +6,7 @@ use Rattle.nbd_protocol.specs.Exports.{ExportRecord}
 use Rattle.nbd_protocol.specs.Offers.{AreNames, Offers, longest_name}
 use Rattle.nbd_protocol.specs.declared.fault.ServiceFault.{ServiceFault}
 use Rattle.nbd_protocol.specs.declared.fault.ServiceFault.TheVariants as service_fault
-use Rattle.nbd_server.specs.declared.tally.Tally.{Tally}
+use Rattle.nbd_server.specs.declared.session_log.SessionLog.{SessionLog}
 use Rattle.request_queue.specs.World.{World}
 use Rattle.stack_engine.specs.Stacks.{StackRecord}
 use Rattle.stack_meaning.specs.declared.fault.IoFault.{IoFault}
@@ -26,24 +26,24 @@ pub record AreOffered (stack : StackRecord) (exports : List ExportRecord) : Type
   pub named : AreNames stack.config.devices names
   pub offered : Offers stack.config names exports
 
--- The service of a client, over each device of the stack, and the tally of its requests. The images were closed with what was
+-- The service of a client, over each device of the stack, and the log of its requests. The images were closed with what was
 -- written to them, synced or not.
-pub record ServesExports {S D : Type 0} (w : Calls S D) (words : StackWords) (cache : ℕ) (x : Exchange) (tally : Tally) (outcome : Result Unit ServiceFault) (synced : Result Unit IoFault) : Type 0 where
+pub record ServesExports {S D : Type 0} (w : Calls S D) (words : StackWords) (cache : ℕ) (x : Exchange) (log : SessionLog) (outcome : Result Unit ServiceFault) (synced : Result Unit IoFault) : Type 0 where
   pub stack : StackRecord
   pub exports : List ExportRecord
   pub last : World
   pub between : S
   pub loaded : Loads (record w { new = between }) words cache stack
   pub offered : AreOffered stack exports
-  pub served : ServesNoted x exports (new_world stack) last tally outcome
+  pub served : ServesNoted x exports (new_world stack) last log outcome
   pub back : GivesBack (record w { old = between }) words.bindings last.stack.leaves synced
 
 -- the service itself ended early, as by a failure of the writer
 pub record FailsToServeExports {S D : Type 0} (w : Calls S D) (words : StackWords) (cache : ℕ) (x : Exchange) (failed : Bool) (fault : CommandFault) : Type 0 where
   pub service : ServiceFault
-  pub tally : Tally
+  pub log : SessionLog
   pub synced : Result Unit IoFault
-  pub served : ServesExports w words cache x tally (Err service) synced
+  pub served : ServesExports w words cache x log (Err service) synced
   pub is : fault ≡ Service service
   pub written : service ≡ service_fault.WriteFault → failed ≡ true
 
@@ -59,4 +59,4 @@ pub record FailsToOffer {S D : Type 0} (w : Calls S D) (words : StackWords) (cac
 abbrev pub IsExportsEnd : {S D : Type 0} → Calls S D → StackWords → ℕ → Exchange → Bool → CommandFault → Type 0
 IsExportsEnd w words cache x failed fault =
     (IsUnbegun x × (IsStackEnd (FailsToLoadFile w words) fault ⊎ FailsToOffer w words cache fault))
-    ⊎ (FailsToServeExports w words cache x failed fault ⊎ IsServedEnd (λ tally synced. ServesExports w words cache x tally (Ok tt) synced) fault)
+    ⊎ (FailsToServeExports w words cache x failed fault ⊎ IsServedEnd (λ log synced. ServesExports w words cache x log (Ok tt) synced) fault)

@@ -97,13 +97,13 @@ module _ {S D R T E X : Type 0} (relations : Opener S D) (state : D → Device) 
 
   -- over a stack file
   abbrev pub ServesDevice : ServedDevice → List Binding → Type 0
-  ServesDevice device bindings = ServesWell (λ tally. ServesClient client_calls (served_device device bindings) client_exchange tally (Ok tt) (Ok tt))
+  ServesDevice device bindings = ServesWell (λ log. ServesClient client_calls (served_device device bindings) client_exchange log (Ok tt) (Ok tt))
 
   abbrev pub EndsClient : ServedDevice → List Binding → CommandFault → Type 0
   EndsClient device bindings = IsClientEnd client_calls (served_device device bindings) client_exchange client_failed
 
   abbrev pub ServesEach : ℕ → List ℕ → List Binding → Type 0
-  ServesEach cache stack bindings = ServesWell (λ tally. ServesExports client_calls (on stack (map binding_record bindings)) cache client_exchange tally (Ok tt) (Ok tt))
+  ServesEach cache stack bindings = ServesWell (λ log. ServesExports client_calls (on stack (map binding_record bindings)) cache client_exchange log (Ok tt) (Ok tt))
 
   abbrev pub EndsAll : ℕ → List ℕ → List Binding → CommandFault → Type 0
   EndsAll cache stack bindings = IsExportsEnd client_calls (on stack (map binding_record bindings)) cache client_exchange client_failed

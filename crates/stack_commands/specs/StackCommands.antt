@@ -10,7 +10,7 @@ use Rattle.stack_meaning.specs.declared.fault.IoFault.{IoFault}
 use Rattle.nbd_protocol.specs.declared.fault.ServiceFault.{ServiceFault}
 use Rattle.nbd_protocol.specs.declared.fault.ServiceFault.TheVariants as service_fault
 use Rattle.nbd_protocol.specs.Exports.{ExportRecord, HasNoExport, IsExport}
-use Rattle.nbd_server.specs.declared.tally.Tally.{Tally}
+use Rattle.nbd_server.specs.declared.session_log.SessionLog.{SessionLog}
 use Rattle.request_queue.specs.declared.reply.Reply.{Reply}
 use Rattle.request_queue.specs.Requests.{RequestRecord}
 use Rattle.request_queue.specs.World.{World}
@@ -139,9 +139,9 @@ IsServeEnd w cache bindings old new failed fault = ⊥
 
 -- ---- `nbd`
 
--- The service of a client, over the device of that name in the stack, and the tally of its requests. The images were then closed,
+-- The service of a client, over the device of that name in the stack, and the log of its requests. The images were then closed,
 -- synced or not.
-pub record ServesClient {S D : Type 0} (w : Calls S D) (words : DeviceWords) (x : Exchange) (tally : Tally) (outcome : Result Unit ServiceFault) (synced : Result Unit IoFault) : Type 0 where
+pub record ServesClient {S D : Type 0} (w : Calls S D) (words : DeviceWords) (x : Exchange) (log : SessionLog) (outcome : Result Unit ServiceFault) (synced : Result Unit IoFault) : Type 0 where
   pub stack : StackRecord
   pub export : ExportRecord
   pub last : World
@@ -149,21 +149,21 @@ pub record ServesClient {S D : Type 0} (w : Calls S D) (words : DeviceWords) (x 
   pub loaded : Loads (record w { new = between }) words.words words.cache stack
   pub is_export : IsExport stack.config export
   pub named : export.name ≡ words.name
-  pub served : ServesNoted x (export ∷ []) (new_world stack) last tally outcome
+  pub served : ServesNoted x (export ∷ []) (new_world stack) last log outcome
   pub back : GivesBack (record w { old = between }) words.words.bindings last.stack.leaves synced
 
 -- all was served and synced, and no request was answered with an input/output error
-abbrev pub ServesWell : (Tally → Type 0) → Type 0
-ServesWell Done = (tally : Tally) × (tally.faults ≡ 0) × Done tally
+abbrev pub ServesWell : (SessionLog → Type 0) → Type 0
+ServesWell Done = (log : SessionLog) × (log.tally.faults ≡ 0) × Done log
 
 -- all was served and synced, but requests were answered with an input/output error
-abbrev pub IsFaultsEnd : (Tally → Type 0) → CommandFault → Type 0
-IsFaultsEnd Done (Faults tally) = (tally.faults ≢ 0) × Done tally
+abbrev pub IsFaultsEnd : (SessionLog → Type 0) → CommandFault → Type 0
+IsFaultsEnd Done (Faults tally) = (tally.faults ≢ 0) × ((log : SessionLog) × (tally ≡ log.tally) × Done log)
 IsFaultsEnd Done fault = ⊥
 
 -- all was served, and an image wasn't synced or requests were answered with an input/output error
-abbrev pub IsServedEnd : (Tally → Result Unit IoFault → Type 0) → CommandFault → Type 0
-IsServedEnd Done fault = IsSyncEnd (λ synced. (tally : Tally) × Done tally synced) fault ⊎ IsFaultsEnd (λ tally. Done tally (Ok tt)) fault
+abbrev pub IsServedEnd : (SessionLog → Result Unit IoFault → Type 0) → CommandFault → Type 0
+IsServedEnd Done fault = IsSyncEnd (λ synced. (log : SessionLog) × Done log synced) fault ⊎ IsFaultsEnd (λ log. Done log (Ok tt)) fault
 
 -- the stack has no device of that name that a client can be told of
 pub record HasNoDevice {S D : Type 0} (w : Calls S D) (words : DeviceWords) (fault : StackFault) : Type 0 where
@@ -179,9 +179,9 @@ FailsToExport w words fault = FailsToLoadFile w words.words fault ⊎ HasNoDevic
 -- the service itself ended early, as by a failure of the writer
 pub record FailsToServeClient {S D : Type 0} (w : Calls S D) (words : DeviceWords) (x : Exchange) (failed : Bool) (fault : CommandFault) : Type 0 where
   pub service : ServiceFault
-  pub tally : Tally
+  pub log : SessionLog
   pub synced : Result Unit IoFault
-  pub served : ServesClient w words x tally (Err service) synced
+  pub served : ServesClient w words x log (Err service) synced
   pub is : fault ≡ Service service
   pub written : service ≡ service_fault.WriteFault → failed ≡ true
 
@@ -190,4 +190,4 @@ pub record FailsToServeClient {S D : Type 0} (w : Calls S D) (words : DeviceWord
 abbrev pub IsClientEnd : {S D : Type 0} → Calls S D → DeviceWords → Exchange → Bool → CommandFault → Type 0
 IsClientEnd w words x failed fault =
     (IsUnbegun x × IsStackEnd (FailsToExport w words) fault)
-    ⊎ (FailsToServeClient w words x failed fault ⊎ IsServedEnd (λ tally synced. ServesClient w words x tally (Ok tt) synced) fault)
+    ⊎ (FailsToServeClient w words x failed fault ⊎ IsServedEnd (λ log synced. ServesClient w words x log (Ok tt) synced) fault)

@@ -18,12 +18,14 @@ use crate::scan::invoke_scan;
 use crate::serve::invoke_session;
 use crate::streams::{invoke_cat, invoke_store};
 use crate::tree_verify::check_tree;
+use crate::update::update_image;
 use crate::verify::check_image;
 use crate::write::invoke_write;
 use command_line::Invocation;
 use command_parser::CommandLine;
 use device_adapters::{Progress, Watchers};
 use fec_commands::{invoke_format_fec, invoke_verify_fec};
+use find_commands::invoke_find;
 use image_commands::Generators;
 use image_files::Images;
 use manual_pages::{page_of, print_page, print_version};
@@ -111,6 +113,10 @@ pub fn invoke<'a, I: Images, G: Generators + Progress + Watchers, S: Read, W: Wr
         Invocation::Repair(words) => {
             repair_image(alloc, Context { images, writer }, &words, &options)
         }
+        Invocation::Update(words) => {
+            update_image(alloc, Context { images, writer }, generators, &words)
+        }
+        Invocation::Find(words) => Ok(invoke_find(alloc, images, &words, writer)?),
         Invocation::VerifyTree(words) => {
             check_tree(
                 alloc,

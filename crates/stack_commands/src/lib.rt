@@ -24,6 +24,7 @@ mod serve;
 mod service_log;
 mod streams;
 mod tree_verify;
+mod update;
 mod verify;
 mod words;
 mod write;

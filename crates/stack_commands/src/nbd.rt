@@ -12,7 +12,7 @@ use block_device::{BlockDev, SyncDev};
 use command_line::{Binding, ExportsWords, NbdWords, ServedDevice};
 use image_files::Images;
 use nbd_protocol::{Export, exports_of, names_of};
-use nbd_server::{ServiceFault, Tally, serve};
+use nbd_server::{ServiceFault, SessionLog, serve};
 use request_queue::Queue;
 use stack_files::{StackFault, StackFile, open_loaded, sync_and_close};
 use std::alloc::Global;
@@ -86,11 +86,12 @@ fn serve_client<'a, I: Images, R: Read, W: Write, E: Write>(
     let Some(export) = Export::of(queue.stack().config(), device.name.as_bytes()) else {
         return Err(CommandFault::Stack(StackFault::NoSuchDevice));
     };
-    let mut tally = Tally::none();
-    let outcome = serve_noted(alloc, &mut queue, &[export], client, &mut tally);
+    let mut log = SessionLog::none();
+    let outcome = serve_noted(alloc, &mut queue, &[export], client, &mut log);
     let synced = sync_and_close(images, bindings, queue.into_stack());
     outcome?;
     synced?;
+    let tally = log.tally;
     if tally.faults == 0 {
         return Ok(());
     }
@@ -120,27 +121,28 @@ fn serve_exports<'a, I: Images, R: Read, W: Write, E: Write>(
     let listed = names.as_slice();
     let exports = exports_of(alloc, config, listed)?;
     let offered = exports.as_slice();
-    let mut tally = Tally::none();
-    let outcome = serve_noted(alloc, &mut queue, offered, client, &mut tally);
+    let mut log = SessionLog::none();
+    let outcome = serve_noted(alloc, &mut queue, offered, client, &mut log);
     let synced = sync_and_close(images, bindings, queue.into_stack());
     outcome?;
     synced?;
+    let tally = log.tally;
     if tally.faults == 0 {
         return Ok(());
     }
     Err(CommandFault::Faults(tally))
 }
 
-// Serves the exports. Among the errors a line for each of them is printed before, and one with the tally after.
+// Serves the exports. Among the errors a line for each of them is printed before, and those on the log after.
 fn serve_noted<D: SyncDev, R: Read, W: Write, E: Write>(
     alloc: Global,
     queue: &mut Queue<D>,
     exports: &[Export<'_>],
     client: Client<'_, R, W, E>,
-    tally: &mut Tally,
+    log: &mut SessionLog,
 ) -> Result<(), ServiceFault>
     requires { AreExports queue.old.stack.config exports.now }
-    ensures served { ServesNoted (exchanged R.remaining W.contents E.contents client.entry client.exit) (export_records exports.now) queue.old queue.new tally.new result }
+    ensures served { ServesNoted (exchanged R.remaining W.contents E.contents client.entry client.exit) (export_records exports.now) queue.old queue.new log.new result }
     ensures writer { HasWritten client.entry.writer.now client.exit.1.0.now (result_fault result) }
 {
     let Client {
@@ -150,7 +152,7 @@ fn serve_noted<D: SyncDev, R: Read, W: Write, E: Write>(
         quiet,
     } = client;
     note_start(errors, exports, quiet);
-    let outcome = serve(alloc, queue, exports, reader, writer, tally);
-    note_end(errors, *tally, quiet);
+    let outcome = serve(alloc, queue, exports, reader, writer, log);
+    note_end(errors, exports, log, quiet);
     outcome
 }

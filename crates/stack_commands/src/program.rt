@@ -1,5 +1,5 @@
 //! The whole program: its words, a reader and a writer in, the status out.
-ghost use Rattle.std.specs.Prelude.{false, true, ◌≡◌, ◌⊎◌, ℕ, List, Option, map, string_bytes, OnOk, IfErr};
+ghost use Rattle.std.specs.Prelude.{false, true, ◌≡◌, ◌⊎◌, ℕ, List, Option, map, string_bytes, OnOk, IfOk, IfErr};
 ghost use Rattle.program_io.specs.Streams.{streams};
 ghost use Rattle.command_line.specs.FormatOptions.{text_of};
 ghost use Rattle.image_commands.specs.Drawing.{drawing};
@@ -7,7 +7,7 @@ ghost use Rattle.image_files.specs.Opener.{calls};
 ghost use Rattle.partition_commands.specs.Warnings.{notes_of};
 ghost use Rattle.stack_commands.specs.Commands.{EndsCommand, ExplainsEnd, ExplainsUsage, IsCommandDone, IsRepeated, is_usage, misuse_of, object_asked, output_is_data, said_message, told_to, writes_data};
 ghost use Rattle.stack_commands.specs.Contexts.{IsToldAs};
-ghost use Rattle.stack_commands.specs.Lines.{DoesWords, EndsWords};
+ghost use Rattle.stack_commands.specs.Lines.{DoesWords, EndsUnresolved, EndsWords, ResolvesLine};
 ghost use Rattle.stack_commands.specs.Uses.{uses};
 
 use crate::command_end::CommandEnd;
@@ -15,14 +15,15 @@ use crate::ending::{end, end_as};
 use crate::fault::CommandFault;
 use crate::invocation::invoke;
 use crate::messages::commands::ending_message;
-use command_line::Misuse;
-use command_parser::parse;
+use command_line::{Misuse, bindings_in, with_bindings};
+use command_parser::{CommandLine, parse};
 use device_adapters::{Progress, Watchers};
 use fec_commands::FecFault;
 use image_commands::Generators;
 use image_files::Images;
 use manual_pages::{print_message, print_usage_error};
 use program_io::{Counted, WriteFault};
+use stack_files::resolve_bindings;
 use std::alloc::Global;
 use std::io::{Read, Write};
 use verity_commands::VerityFault;
@@ -177,7 +178,29 @@ fn output_is_data(words: &[String]) -> bool
     }
 }
 
-// Files are opened in the order of the words, once all words are read.
+// The line with the partitions that its bindings name as parts of their disks.
+fn resolve_line<'a, I: Images>(
+    alloc: Global,
+    images: &mut I,
+    line: CommandLine<'a>,
+) -> Result<CommandLine<'a>, CommandEnd<'a>>
+    ensures ok { IfOk result (ResolvesLine I.relations I.Dev.state images.old images.new line.entry) }
+    ensures err { IfErr result (EndsUnresolved I.relations I.Dev.state images.old images.new line.entry) }
+{
+    let CommandLine {
+        invocation,
+        options,
+    } = line;
+    match resolve_bindings(alloc, images, bindings_in(&invocation)) {
+        Ok(bindings) => Ok(CommandLine {
+            invocation: with_bindings(invocation, bindings),
+            options,
+        }),
+        Err(fault) => Err(command_end(CommandFault::Stack(fault), options.json, options.quiet)),
+    }
+}
+
+// Files are opened in the order of the words, once all words are read and the partitions are looked up.
 fn run<'a, I: Images, G: Generators + Progress + Watchers, S: Read, W: Write, E: Write>(
     alloc: Global,
     images: &mut I,
@@ -192,7 +215,8 @@ fn run<'a, I: Images, G: Generators + Progress + Watchers, S: Read, W: Write, E:
     ensures ok { OnOk result (DoesWords I.relations I.Dev.state S.remaining W.contents images.old images.new (drawing G.gives G.Generator.stream generators.old generators.new) reader.old reader.new writer.old writer.new (notes_of E.contents errors.old errors.new) (map string_bytes words.now)) }
     ensures err { IfErr result (EndsWords I.relations I.Dev.state S.remaining W.contents images.old images.new (drawing G.gives G.Generator.stream generators.old generators.new) reader.old reader.new writer.old writer.new (notes_of E.contents errors.old errors.new) (map string_bytes words.now)) }
 {
-    let line = parse(alloc, words)?;
+    let said = parse(alloc, words)?;
+    let line = resolve_line(alloc, images, said)?;
     let (json, quiet) = (line.options.json, line.options.quiet);
     match invoke(alloc, images, generators, line, reader, writer, errors) {
         Ok(()) => Ok(()),

@@ -1,5 +1,6 @@
 pub mod LeafClosingLemmas
 pub mod OpeningLemmas
+pub mod ResolvingLemmas
 pub mod ClosingLemmas
 pub mod ConfigurationLemmas
 pub mod DeviceLemmas

@@ -2,7 +2,7 @@
 use Rattle.std.specs.Global.{Global}
 use Rattle.std.specs.Prelude.{◌≡◌, ℕ, Bool, true, List, [], ◌∷◌, ◌++◌, map, Vec}
 use Rattle.block_device.specs.Device.{Device, in_memory, zeros_image, ramp_image}
-use Rattle.command_line.specs.Bindings.{BackingRecord, BindingRecord, backing_record, binding_record, file, part, ramp, zeros}
+use Rattle.command_line.specs.Bindings.{BackingRecord, BindingRecord, backing_record, binding_record, file, part, partition, ramp, zeros}
 use Rattle.command_line.specs.declared.bindings.Backing.{Backing}
 use Rattle.command_line.specs.declared.bindings.Binding.{Binding}
 use Rattle.device_adapters.specs.declared.part.Part.{Part}
@@ -36,10 +36,11 @@ pub record MakesMemory {S D : Type 0} (w : Calls S D) (image : List (List ℕ)) 
   pub is : w.state device ≡ in_memory image true
   pub same : w.new ≡ w.old
 
--- the device is the one that the name is bound to
+-- the device is the one that the name is bound to; there is none of a partition that isn't resolved
 abbrev pub OpensBacking : {S D : Type 0} → Calls S D → List FileUse → BackingRecord → D → List FileUse → Type 0
 OpensBacking w files (file path writable) device files' = OpensBackingFile w files path writable device files'
 OpensBacking w files (part path writable at) device files' = OpensPartOf w files path writable (device_part at) device files'
+OpensBacking w files (partition path writable named) device files' = ⊥
 OpensBacking w files (zeros n) device files' = MakesMemory w (zeros_image n) device × (files' ≡ files)
 OpensBacking w files (ramp n) device files' = MakesMemory w (ramp_image n) device × (files' ≡ files)
 
@@ -67,6 +68,7 @@ pub record AreBound {S D : Type 0} (w : Calls S D) (files : List FileUse) (bindi
 abbrev pub ClosesBacking : {S D : Type 0} → Calls S D → BackingRecord → D → Type 0
 ClosesBacking w (file path writable) device = w.relations.takes w.old path device w.new
 ClosesBacking w (part path writable at) device = w.relations.takes_part w.old path (device_part at) device w.new
+ClosesBacking w (partition path writable named) device = w.new ≡ w.old
 ClosesBacking w (zeros n) device = w.new ≡ w.old
 ClosesBacking w (ramp n) device = w.new ≡ w.old
 

@@ -6,4 +6,5 @@ pub mod Closings
 pub mod Configuration
 pub mod Endings
 pub mod NamedDevices
+pub mod Resolving
 pub mod StacksOfTexts

@@ -3,8 +3,9 @@ use Rattle.std.specs.Global.{Global}
 use Rattle.std.specs.Prelude.{◌≡◌, ◌⊎◌, ℕ, ◌+◌, ◌*◌, ◌^◌, ◌<◌, ◌≤◌, Bool, List, [], ◌∷◌, ◌++◌, length, map, Vec}
 use Rattle.std.specs.List.{sum_by}
 use Rattle.allocation.specs.Refusal.{IsOutOfMemory}
+use Rattle.block_device.specs.declared.open_fault.OpenFault.TheVariants.{NotFound}
 use Rattle.block_device.specs.Device.{Device}
-use Rattle.command_line.specs.Bindings.{BackingRecord, BindingRecord, backing_record, binding_record, file, part, ramp, zeros}
+use Rattle.command_line.specs.Bindings.{BackingRecord, BindingRecord, backing_record, binding_record, file, part, partition, ramp, zeros}
 use Rattle.command_line.specs.declared.bindings.Backing.{Backing}
 use Rattle.command_line.specs.declared.bindings.Binding.{Binding}
 use Rattle.image_files.specs.Apart.{RefusesApart}
@@ -55,17 +56,25 @@ most_source = 2049 * 512
 abbrev pub IsIdle : {S D : Type 0} → Calls S D → Type 0
 IsIdle w = w.new ≡ w.old
 
+-- a partition that isn't resolved is not found, and nothing is opened
+pub record IsUnresolved {S D : Type 0} (w : Calls S D) (path : List ℕ) (unopened : UnopenedFile) : Type 0 where
+  pub path_is : unopened.path.now ≡ path
+  pub fault_is : unopened.fault ≡ NotFound
+  pub same : w.new ≡ w.old
+
 -- the image of a binding, or its part of one, can't be opened
 abbrev pub RefusesBacking : {S D : Type 0} → Calls S D → List FileUse → BackingRecord → OpeningFault → Type 0
 RefusesBacking w files (file path writable) (Open unopened) = RefusesApart w files path writable unopened
 RefusesBacking w files (part path writable at) (Open unopened) = RefusesPart w files path writable (device_part at) (unopened_part.File unopened)
 RefusesBacking w files (part path writable at) (Outside of) = RefusesPart w files path writable (device_part at) (unopened_part.Outside of)
+RefusesBacking w files (partition path writable named) (Open unopened) = IsUnresolved w path unopened
 RefusesBacking w files backing fault = ⊥
 
 -- the most elements that one allocation requests for a binding's device: its sectors in memory, or one more open file
 abbrev pub backing_room : BackingRecord → ℕ
 backing_room (file path writable) = 1
 backing_room (part path writable at) = 1
+backing_room (partition path writable named) = 0
 backing_room (zeros n) = n * 512
 backing_room (ramp n) = n * 512
 

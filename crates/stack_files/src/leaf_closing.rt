@@ -5,7 +5,7 @@ use block_device::BlockDev;
 use command_line::{Backing, Binding};
 use image_files::{Images, device_part};
 
-// Closes the image of a binding. A device in memory has no path.
+// Closes the image of a binding. A device in memory has no path, and no device is opened of a partition that isn't resolved.
 fn close_backing<I: Images>(images: &mut I, backing: Backing<'_>, device: I::Dev)
     ensures { ClosesBy I.relations I.Dev.state images.old images.new backing.entry device }
 {
@@ -16,6 +16,7 @@ fn close_backing<I: Images>(images: &mut I, backing: Backing<'_>, device: I::Dev
             writable: _,
             part,
         } => images.close_part(path, device_part(part), device),
+        Backing::Partition { .. } => drop(device),
         Backing::Zeros(_) | Backing::Ramp(_) => drop(device),
     }
 }

@@ -7,9 +7,9 @@ ghost use Rattle.stack_files.specs.Openings.{FailsToBack, FailsToBindAll};
 
 use crate::opening_fault::OpeningFault;
 use allocation::{OutOfMemory, copied, push};
-use block_device::{BlockDev, MemoryDev};
+use block_device::{BlockDev, MemoryDev, OpenFault};
 use command_line::{Backing, Binding};
-use image_files::{FileUse, Images, device_part, open_apart, open_part};
+use image_files::{FileUse, Images, UnopenedFile, device_part, open_apart, open_part};
 use stack_config::Leaf;
 use std::alloc::Global;
 
@@ -49,7 +49,8 @@ impl<D: BlockDev + Drop> OpenLeaves<D> {
 }
 
 // Opens the image of a binding, or a part of one, or makes a device in memory. A sector that is open already is refused if one
-// of the two devices is writable: the engine assumes that backing devices don't share sectors.
+// of the two devices is writable: the engine assumes that backing devices don't share sectors. A partition isn't opened before
+// it is resolved (`resolve_bindings`).
 fn open_backing<'a, I: Images>(
     alloc: Global,
     images: &mut I,
@@ -79,6 +80,10 @@ fn open_backing<'a, I: Images>(
             push(files, FileUse { id, writable, part })?;
             Ok(image.device)
         }
+        Backing::Partition { path, .. } => {
+            let fault = OpenFault::NotFound;
+            Err(OpeningFault::Open(UnopenedFile { fault, path }))
+        }
         Backing::Zeros(sectors) => Ok(I::of_memory(MemoryDev::zeros(alloc, sectors, true)?)),
         Backing::Ramp(sectors) => Ok(I::of_memory(MemoryDev::ramp(alloc, sectors, true)?)),
     }
@@ -89,7 +94,7 @@ fn open_backing<'a, I: Images>(
 /// # Errors
 ///
 /// - `NoMemory` if an allocation was refused.
-/// - `Open` if a file can't be opened, or conflicts with an open one.
+/// - `Open` if a file can't be opened, or conflicts with an open one; `NotFound` of a partition that isn't resolved.
 /// - `Outside` if a binding's part isn't within its file.
 pub fn open_all<'a, I: Images>(
     alloc: Global,

@@ -1,5 +1,5 @@
-//! The stack that a stack file makes over the images of its bindings: opens the images, loads the text, finds a device by name,
-//! and closes the images.
+//! The stack that a stack file makes over the images of its bindings: resolves partitions, opens the images, loads the text, finds
+//! a device by name, and closes the images.
 #![tactic(auto)]
 
 mod closing;
@@ -8,6 +8,7 @@ mod device;
 mod leaf_closing;
 mod leaves;
 mod opening_fault;
+mod resolving;
 mod source;
 mod stack;
 mod stack_fault;
@@ -18,6 +19,7 @@ pub use configuration::{configuration_of, open_configuration};
 pub use device::{NamedDevice, find_device, open_device, open_device_and_output};
 pub use leaves::OpenLeaves;
 pub use opening_fault::OpeningFault;
+pub use resolving::resolve_bindings;
 pub use source::MOST_TEXT;
 pub use stack::{load_stack, open_leaves, open_loaded};
 pub use stack_fault::StackFault;

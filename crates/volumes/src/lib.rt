@@ -7,7 +7,7 @@ mod service;
 
 pub use block_device::{BlockDev, DeviceFault, FileDev, MemoryDev, OpenFault, SyncDev};
 pub use image::{BlockFault, VerityImage};
-pub use nbd_server::{Export, ServiceFault, serve};
+pub use nbd_server::{Export, FirstFault, FirstFaults, ServiceFault, SessionLog, Tally, serve};
 pub use program_io::{Counted, WriteFault};
 pub use request_queue::{BytesFault, Queue, Reply, Request, RunFault};
 pub use service::serve_device;

@@ -4,7 +4,7 @@ ghost use Rattle.nbd_protocol.specs.Exports.{HasNoExport};
 ghost use Rattle.volumes.specs.Services.{ServesDevice};
 
 use block_device::SyncDev;
-use nbd_server::{Export, ServiceFault, Tally, serve};
+use nbd_server::{Export, ServiceFault, SessionLog, serve};
 use program_io::Counted;
 use request_queue::Queue;
 use std::alloc::Global;
@@ -29,6 +29,6 @@ pub fn serve_device<D: SyncDev, R: Read, W: Write>(
     let Some(export) = Export::of(queue.stack().config(), name) else {
         return None;
     };
-    let mut tally = Tally::none();
-    Some(serve(alloc, queue, &[export], reader, writer, &mut tally))
+    let mut log = SessionLog::none();
+    Some(serve(alloc, queue, &[export], reader, writer, &mut log))
 }

@@ -9,7 +9,7 @@ use Rattle.nbd_server.proofs.service.converse.Goals as goal
 
 pub loop-turn-init : goal.loop-turn-init
 loop-turn-init g c = record {
-  held = held-starts (export_records c.args.exports.now) c.args.queue.now c.args.state.now.tally (g.R.Read.remaining c.args.reader.now.inner) (g.W.Write.contents c.args.writer.now.inner) (g.W.Write.contents c.put.new.self.inner) c.requires.tally c.in_ok-put.ensures.writes.ok;
+  held = held-starts (export_records c.args.exports.now) c.args.queue.now c.args.state.now.log (g.R.Read.remaining c.args.reader.now.inner) (g.W.Write.contents c.args.writer.now.inner) (g.W.Write.contents c.put.new.self.inner) c.requires.log c.in_ok-put.ensures.writes.ok;
   exports_are = c.requires.exports;
   placed = tt;
   read = read-none c.args.reader.now;
@@ -21,14 +21,14 @@ returns-in_err-next-in_default-clause-service g c =
     let input = g.R.Read.remaining c.loop-turn.reader.inner in
     let held = held-kept input (g.W.Write.contents c.loop-turn.writer.inner) (g.W.Write.contents c.flush.new.self.inner) c.loop-turn.invariant.held c.in_ok-flush.ensures.ok.0 in
     let p = err_from_is_err_and c.from_residual-in_err-next-in_default.result c.from_residual-in_err-next-in_default.ensures.1 in
-    rw (p.1, p.2) (held-ends c.take_message.new.queue c.take_message.new.state.tally (streams (g.R.Read.remaining c.take_message.new.reader.inner) (g.W.Write.contents c.take_message.new.writer.inner)) c.in_err-next-in_default.field-0.0 held
+    rw (p.1, p.2) (held-ends c.take_message.new.queue c.take_message.new.state.log (streams (g.R.Read.remaining c.take_message.new.reader.inner) (g.W.Write.contents c.take_message.new.writer.inner)) c.in_err-next-in_default.field-0.0 held
     c.in_err-next-in_default.ensures.turn)
 
 pub returns-in-None-clause-service : goal.returns-in-None-clause-service
 returns-in-None-clause-service g c =
     let input = g.R.Read.remaining c.loop-turn.reader.inner in
     let held = held-kept input (g.W.Write.contents c.loop-turn.writer.inner) (g.W.Write.contents c.flush.new.self.inner) c.loop-turn.invariant.held c.in_ok-flush.ensures.ok.0 in
-    held-none c.take_message.new.queue c.take_message.new.state.tally (streams (g.R.Read.remaining c.take_message.new.reader.inner) (g.W.Write.contents c.take_message.new.writer.inner)) tt held
+    held-none c.take_message.new.queue c.take_message.new.state.log (streams (g.R.Read.remaining c.take_message.new.reader.inner) (g.W.Write.contents c.take_message.new.writer.inner)) tt held
     (rw c.in-None.is at c.in_ok-next-in_default.ensures.turn)
 
 pub loop-turn-preserved : goal.loop-turn-preserved
@@ -39,11 +39,11 @@ loop-turn-preserved g c =
     let held = held-kept input (g.W.Write.contents c.loop-turn.writer.inner) (g.W.Write.contents c.flush.new.self.inner) c.loop-turn.invariant.held c.in_ok-flush.ensures.ok.0 in
     let taken = rw c.in-Some.is at c.in_ok-next-in_default.ensures.turn in
     record {
-      held = held-more c.in-Some.next c.take_message.new.queue c.take_message.new.state.tally new held taken;
+      held = held-more c.in-Some.next c.take_message.new.queue c.take_message.new.state.log new held taken;
       read = read-then c.loop-turn.invariant.read c.in_ok-next-in_default.ensures.reader;
       written = written-then c.loop-turn.invariant.written (written-then (written-ok c.in_ok-flush.ensures.kept) c.in_ok-next-in_default.ensures.writer);
-      exports_are = exports-kept c.args.exports.now c.loop-turn.phase c.loop-turn.queue c.take_message.new.queue c.loop-turn.state.tally c.take_message.new.state.tally mid new c.in-Some.next c.loop-turn.invariant.exports_are taken;
-      placed = placed-next (export_records c.args.exports.now) c.loop-turn.phase c.loop-turn.queue c.take_message.new.queue c.loop-turn.state.tally c.take_message.new.state.tally mid new c.in-Some.next c.loop-turn.invariant.placed taken;
+      exports_are = exports-kept c.args.exports.now c.loop-turn.phase c.loop-turn.queue c.take_message.new.queue c.loop-turn.state.log c.take_message.new.state.log mid new c.in-Some.next c.loop-turn.invariant.exports_are taken;
+      placed = placed-next (export_records c.args.exports.now) c.loop-turn.phase c.loop-turn.queue c.take_message.new.queue c.loop-turn.state.log c.take_message.new.state.log mid new c.in-Some.next c.loop-turn.invariant.placed taken;
     }
 
 pub returns-in_err-next-in_default-clause-reader : goal.returns-in_err-next-in_default-clause-reader
@@ -100,7 +100,7 @@ returns-in-Over-clause-writer g c = written-then c.loop-turn.invariant.written (
 pub returns-in_err-put-clause-service : goal.returns-in_err-put-clause-service
 returns-in_err-put-clause-service g c =
     let p = err_from_is_err_and c.from_residual.result c.from_residual.ensures.1 in
-    rw (p.1, p.2) (held-unsaid (export_records c.args.exports.now) c.args.queue.now c.args.state.now.tally (g.R.Read.remaining c.args.reader.now.inner) (g.W.Write.contents c.args.writer.now.inner) (g.W.Write.contents c.put.new.self.inner) c.requires.tally)
+    rw (p.1, p.2) (held-unsaid (export_records c.args.exports.now) c.args.queue.now c.args.state.now.log (g.R.Read.remaining c.args.reader.now.inner) (g.W.Write.contents c.args.writer.now.inner) (g.W.Write.contents c.put.new.self.inner) c.requires.log)
 
 pub returns-in_err-flush-clause-service : goal.returns-in_err-flush-clause-service
 returns-in_err-flush-clause-service g c =

@@ -9,7 +9,7 @@ use Rattle.nbd_server.proofs.service.converse.Given as goal
 -- each message so far was taken and replied to, and no call failed
 abbrev pub invariant-loop-turn : goal.invariant-loop-turn
 invariant-loop-turn g l = record {
-  held : BusyOr (export_records l.exports) l.fn.queue l.phase l.queue l.state.tally (streams (g.R.Read.remaining l.fn.reader.inner) (g.W.Write.contents l.fn.writer.inner)) (streams (g.R.Read.remaining l.reader.inner) (g.W.Write.contents l.writer.inner));
+  held : BusyOr (export_records l.exports) l.fn.queue l.phase l.queue l.state.log (streams (g.R.Read.remaining l.fn.reader.inner) (g.W.Write.contents l.fn.writer.inner)) (streams (g.R.Read.remaining l.reader.inner) (g.W.Write.contents l.writer.inner));
   exports_are : AreExports l.queue.stack.config l.exports;
   placed : IsExportPlaced (export_records l.exports) l.phase;
   read : HasRead l._turn l.fn.reader l.reader None;

@@ -12,7 +12,7 @@ pub returns-in-Greeted-clause-turn : goal.returns-in-Greeted-clause-turn
 returns-in-Greeted-clause-turn g c =
     let es = export_records c.args.exports.now in
     let output = g.W.Write.contents c.args.writer.now.inner in
-    rw c.in-Greeted.is (flags-uncounted es c.args.queue.now c.args.queue.now c.args.state.now.tally (streams (g.R.Read.remaining c.args.reader.now.inner) output) (streams (g.R.Read.remaining c.take_flags.new.reader.inner) output) c.take_flags.result
+    rw c.in-Greeted.is (flags-uncounted es c.args.queue.now c.args.queue.now c.args.state.now.log (streams (g.R.Read.remaining c.args.reader.now.inner) output) (streams (g.R.Read.remaining c.take_flags.new.reader.inner) output) c.take_flags.result
     (c.take_flags.ensures.turn es c.args.queue.now output))
 
 pub returns-in-Greeted-clause-writer : goal.returns-in-Greeted-clause-writer
@@ -22,7 +22,7 @@ pub returns-in-Haggling-clause-turn : goal.returns-in-Haggling-clause-turn
 returns-in-Haggling-clause-turn g c =
     let old = streams (g.R.Read.remaining c.args.reader.now.inner) (g.W.Write.contents c.args.writer.now.inner) in
     let new = streams (g.R.Read.remaining c.take_option.new.reader.inner) (g.W.Write.contents c.take_option.new.writer.inner) in
-    rw c.in-Haggling.is (option-uncounted (export_records c.args.exports.now) c.in-Haggling.terms c.args.queue.now c.args.queue.now c.args.state.now.tally old new c.take_option.result (c.take_option.ensures.turn c.args.queue.now))
+    rw c.in-Haggling.is (option-uncounted (export_records c.args.exports.now) c.in-Haggling.terms c.args.queue.now c.args.queue.now c.args.state.now.log old new c.take_option.result (c.take_option.ensures.turn c.args.queue.now))
 
 pub take_option-requires : goal.take_option-requires
 take_option-requires g c = exports-short c.args.queue.now.stack.config c.args.exports.now c.requires.exports_are

@@ -3,6 +3,7 @@ use Rattle.std.proofs.lemmas.Result.{err_from_is_err_and}
 use Rattle.nbd_protocol.specs.declared.header.Command.{Command}
 use Rattle.nbd_protocol.specs.declared.header.Command.TheVariants.{Write}
 use Rattle.nbd_protocol.specs.declared.request_error.RequestError.{RequestError}
+use Rattle.nbd_server.specs.declared.failure.Failure.{Failure}
 use Rattle.nbd_protocol.specs.Exports.{export_record}
 use Rattle.nbd_protocol.specs.Headers.{command_of}
 use Rattle.nbd_protocol.specs.Streaming.{IsShort}
@@ -60,7 +61,7 @@ returns-in-Ok-2-clause-ok g c =
     let p = c.in_ok-take_write-in-Write.ensures.ok in
     let command : command_of e a h ≡ Ok (Write w.offset w.length w.fua) = sym c.command.ensures.value ∙ c.in-Ok.is ∙ ap Ok w.is in
     let does = WritesGiven e c.args.queue.now w.offset p.0 in
-    let given : does (Ok []) c.take_write.new.queue = subst (λ (r : Result Unit RequestError). does (no_bytes r) c.take_write.new.queue) c.in-Ok-2.is p.3 in
+    let given : does (Ok []) c.take_write.new.queue = subst (λ (r : Result Unit Failure). does (no_bytes r) c.take_write.new.queue) c.in-Ok-2.is p.3 in
     record {
       payload = p.0;
       size = p.1 ∙ sym (write-payload w.offset w.length w.fua e a h command);
@@ -80,7 +81,7 @@ returns-in-Err-2-clause-ok g c =
     let error = c.in-Err-2.error in
     let command : command_of e a h ≡ Ok (Write w.offset w.length w.fua) = sym c.command.ensures.value ∙ c.in-Ok.is ∙ ap Ok w.is in
     let does = WritesGiven e c.args.queue.now w.offset p.0 in
-    let given : does (Err error) c.take_write.new.queue = subst (λ (r : Result Unit RequestError). does (no_bytes r) c.take_write.new.queue) c.in-Err-2.is p.3 in
+    let given : does (Err error) c.take_write.new.queue = subst (λ (r : Result Unit Failure). does (no_bytes r) c.take_write.new.queue) c.in-Err-2.is p.3 in
     record {
       payload = p.0;
       size = p.1 ∙ sym (write-payload w.offset w.length w.fua e a h command);

@@ -63,7 +63,7 @@ returns-then-header-eq-DISCONNECT-clause-turn g c = λ es at.
     let size : length bytes ≡ 28 = omega (arith, c.fill.auto.buffer) in
     let magic : big_endian32 bytes 0 ≡ request_magic = omega (arith, c.number32.ensures, c.if-number32-ne-MAGIC.false) in
     let kind : (header_of bytes).kind ≡ 2 = sym (ap (λ (h : Header). h.kind) c.of-header.ensures) ∙ c.if-header-eq-DISCONNECT.true in
-    request-last es c.args.agreed c.args.queue.now c.args.state.now.tally input mid (g.W.Write.contents c.args.writer.now.inner) bytes first size magic kind
+    request-last es c.args.agreed c.args.queue.now c.args.state.now.log input mid (g.W.Write.contents c.args.writer.now.inner) bytes first size magic kind
 
 pub returns-in_err-outcome-clause-turn : goal.returns-in_err-outcome-clause-turn
 returns-in_err-outcome-clause-turn g c = λ es at.
@@ -93,8 +93,8 @@ returns-in_err-outcome-clause-writer g c =
 pub deliver-requires : goal.deliver-requires
 deliver-requires g c = record { export = c.requires; within = c.in-Some.ensures.within }
 
-pub returns-in_err-faulty-in-Some-clause-turn : goal.returns-in_err-faulty-in-Some-clause-turn
-returns-in_err-faulty-in-Some-clause-turn g c = λ es at.
+pub returns-in_err-lost-in-Some-clause-turn : goal.returns-in_err-lost-in-Some-clause-turn
+returns-in_err-lost-in-Some-clause-turn g c = λ es at.
     let input = g.R.Read.remaining c.args.reader.now.inner in
     let mid = g.R.Read.remaining c.fill.new.reader.inner in
     let bytes = c.fill.new.buffer in
@@ -103,22 +103,22 @@ returns-in_err-faulty-in-Some-clause-turn g c = λ es at.
     let magic : big_endian32 bytes 0 ≡ request_magic = omega (arith, c.number32.ensures, c.if-number32-ne-MAGIC.false) in
     let other : (header_of bytes).kind ≢ 2 = λ is. c.if-header-eq-DISCONNECT.false (ap (λ (h : Header). h.kind) c.of-header.ensures ∙ is) in
     let found = rw c.of-header.ensures at (sym c.of.ensures.value ∙ c.in-Some.is) in
-    let p = err_from_is_err_and c.from_residual-in_err-faulty-in-Some.result c.from_residual-in_err-faulty-in-Some.ensures.1 in
+    let p = err_from_is_err_and c.from_residual-in_err-lost-in-Some.result c.from_residual-in_err-lost-in-Some.ensures.1 in
     rw (p.1, p.2) (
       request-stuck es c.args.agreed (export_record c.args.export.now) at c.args.queue.now c.deliver.new.queue input mid mid bytes first size magic other
-          (g.W.Write.contents c.args.writer.now.inner) (g.W.Write.contents c.deliver.new.writer.inner) c.in-Some.delivery found refl c.in_err-faulty-in-Some.ensures.stuck,
+          (g.W.Write.contents c.args.writer.now.inner) (g.W.Write.contents c.deliver.new.writer.inner) c.in-Some.delivery found refl c.in_err-lost-in-Some.ensures.stuck,
       refl,
     )
 
-pub returns-in_err-faulty-in-Some-clause-reader : goal.returns-in_err-faulty-in-Some-clause-reader
-returns-in_err-faulty-in-Some-clause-reader g c =
-    let p = err_from_is_err_and c.from_residual-in_err-faulty-in-Some.result c.from_residual-in_err-faulty-in-Some.ensures.1 in
+pub returns-in_err-lost-in-Some-clause-reader : goal.returns-in_err-lost-in-Some-clause-reader
+returns-in_err-lost-in-Some-clause-reader g c =
+    let p = err_from_is_err_and c.from_residual-in_err-lost-in-Some.result c.from_residual-in_err-lost-in-Some.ensures.1 in
     rw (p.1, p.2) (read-other fault.WriteFault c.in_ok-fill.ensures.reader (λ is. (cc)))
 
-pub returns-in_err-faulty-in-Some-clause-writer : goal.returns-in_err-faulty-in-Some-clause-writer
-returns-in_err-faulty-in-Some-clause-writer g c =
-    let p = err_from_is_err_and c.from_residual-in_err-faulty-in-Some.result c.from_residual-in_err-faulty-in-Some.ensures.1 in
-    rw (p.1, p.2) (written-failed c.in_err-faulty-in-Some.ensures.failed)
+pub returns-in_err-lost-in-Some-clause-writer : goal.returns-in_err-lost-in-Some-clause-writer
+returns-in_err-lost-in-Some-clause-writer g c =
+    let p = err_from_is_err_and c.from_residual-in_err-lost-in-Some.result c.from_residual-in_err-lost-in-Some.ensures.1 in
+    rw (p.1, p.2) (written-failed c.in_err-lost-in-Some.ensures.failed)
 
 pub returns-in-Some-clause-turn : goal.returns-in-Some-clause-turn
 returns-in-Some-clause-turn g c = λ es at.
@@ -131,13 +131,13 @@ returns-in-Some-clause-turn g c = λ es at.
     let other : (header_of bytes).kind ≢ 2 = λ is. c.if-header-eq-DISCONNECT.false (ap (λ (h : Header). h.kind) c.of-header.ensures ∙ is) in
     let found = rw c.of-header.ensures at (sym c.of.ensures.value ∙ c.in-Some.is) in
     rw c.count.ensures (request-delivered es c.args.agreed (export_record c.args.export.now) at c.args.queue.now c.deliver.new.queue input mid mid bytes first size magic other
-    (g.W.Write.contents c.args.writer.now.inner) (g.W.Write.contents c.deliver.new.writer.inner) c.in-Some.delivery found refl c.args.state.now.tally c.in_ok-faulty-in-Some.faulty c.in_ok-faulty-in-Some.ensures.reply)
+    (g.W.Write.contents c.args.writer.now.inner) (g.W.Write.contents c.deliver.new.writer.inner) c.in-Some.delivery found refl c.args.state.now.log c.in_ok-lost-in-Some.lost c.in_ok-lost-in-Some.ensures.reply)
 
 pub returns-in-Some-clause-reader : goal.returns-in-Some-clause-reader
 returns-in-Some-clause-reader g c = c.in_ok-fill.ensures.reader
 
 pub returns-in-Some-clause-writer : goal.returns-in-Some-clause-writer
-returns-in-Some-clause-writer g c = written-ok c.in_ok-faulty-in-Some.ensures.kept
+returns-in-Some-clause-writer g c = written-ok c.in_ok-lost-in-Some.ensures.kept
 
 -- ---- the reply
 
@@ -181,8 +181,8 @@ returns-clause-turn g c = λ es at.
     let magic : big_endian32 bytes 0 ≡ request_magic = omega (arith, c.number32.ensures, c.if-number32-ne-MAGIC.false) in
     let other : (header_of bytes).kind ≢ 2 = λ is. c.if-header-eq-DISCONNECT.false (ap (λ (h : Header). h.kind) c.of-header.ensures ∙ is) in
     let none = rw c.of-header.ensures at (sym c.of.ensures.value ∙ c.in-None.is) in
-    rw (c.count-2.ensures, c.is_faulty-failed.ensures) (request-served es c.args.agreed (export_record c.args.export.now) at c.args.queue.now c.serve_request.new.queue input mid input' bytes first size magic
-    other (g.W.Write.contents c.args.writer.now.inner) (g.W.Write.contents c.say_reply.new.writer.inner) (data_outcome c.in_ok-outcome.outcome) none c.args.state.now.tally
+    rw (c.count-2.ensures, c.outcome_fault-met.ensures, c.of-header.ensures) (request-served es c.args.agreed (export_record c.args.export.now) at c.args.queue.now c.serve_request.new.queue input mid input' bytes first size magic
+    other (g.W.Write.contents c.args.writer.now.inner) (g.W.Write.contents c.say_reply.new.writer.inner) (data_outcome c.in_ok-outcome.outcome) none c.args.state.now.log
     (let p = rw c.of-header.ensures at c.in_ok-outcome.ensures.ok in (p.payload, p.size, p.consumed, p.serves)) (rw c.of-header.ensures at c.in_ok-say_reply.ensures.ok))
 
 pub returns-clause-reader : goal.returns-clause-reader

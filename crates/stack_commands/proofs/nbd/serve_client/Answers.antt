@@ -36,9 +36,9 @@ returns-in_err-outcome-clause-err g c =
     err-from c.from_residual-in_err-outcome.result _ (Service c.in_err-outcome.field-0.0) c.from_residual-in_err-outcome.ensures.1
     (inr (inl (record {
       service = c.in_err-outcome.field-0.0;
-      tally = c.serve_noted-outcome.new.tally;
+      log = c.serve_noted-outcome.new.log;
       synced = c.sync_and_close-synced.result;
-      served = client-served _ c.open_loaded.new.images _ c.in_ok-stack.stack c.new-queue.result c.serve_noted-outcome.new.queue e _ c.serve_noted-outcome.new.tally _ _
+      served = client-served _ c.open_loaded.new.images _ c.in_ok-stack.stack c.new-queue.result c.serve_noted-outcome.new.queue e _ c.serve_noted-outcome.new.log _ _
           c.in_ok-stack.ensures.ok c.new-queue.ensures.value (subst (λ (x : Configuration). IsExport x e) at c.in-Some.ensures.some.0) named c.in_err-outcome.ensures.served (rw c.into_stack.ensures at c.sync_and_close-synced.ensures);
       is = refl;
       written = λ is. c.in_err-outcome.ensures.writer.failed (ap Some is);
@@ -51,8 +51,8 @@ returns-in_err-synced-clause-err g c =
     let named = ap (λ (b : Bor (List ℕ)). b.now) c.in-Some.ensures.some.1 ∙ c.as_bytes.ensures.value in
     err-from c.from_residual-in_err-synced.result _ (Io c.in_err-synced.field-0.0) c.from_residual-in_err-synced.ensures.1
     (inr (inr (inl (
-      c.serve_noted-outcome.new.tally,
-      client-served _ c.open_loaded.new.images _ c.in_ok-stack.stack c.new-queue.result c.serve_noted-outcome.new.queue e _ c.serve_noted-outcome.new.tally _ _
+      c.serve_noted-outcome.new.log,
+      client-served _ c.open_loaded.new.images _ c.in_ok-stack.stack c.new-queue.result c.serve_noted-outcome.new.queue e _ c.serve_noted-outcome.new.log _ _
           c.in_ok-stack.ensures.ok c.new-queue.ensures.value (subst (λ (x : Configuration). IsExport x e) at c.in-Some.ensures.some.0) named c.in_ok-outcome.ensures.served (rw c.into_stack.ensures at c.in_err-synced.ensures),
     ))))
 
@@ -61,9 +61,9 @@ returns-then-tally-eq0-clause-ok g c =
     let e = export_record c.in-Some.export in
     let at = c.config.ensures.value ∙ ap (λ (v : StackRecord). v.config) c.stack.ensures in
     let named = ap (λ (b : Bor (List ℕ)). b.now) c.in-Some.ensures.some.1 ∙ c.as_bytes.ensures.value in (
-      c.serve_noted-outcome.new.tally,
+      c.serve_noted-outcome.new.log,
       c.if-tally-eq0.true,
-      client-served _ c.open_loaded.new.images _ c.in_ok-stack.stack c.new-queue.result c.serve_noted-outcome.new.queue e _ c.serve_noted-outcome.new.tally _ _
+      client-served _ c.open_loaded.new.images _ c.in_ok-stack.stack c.new-queue.result c.serve_noted-outcome.new.queue e _ c.serve_noted-outcome.new.log _ _
           c.in_ok-stack.ensures.ok c.new-queue.ensures.value (subst (λ (x : Configuration). IsExport x e) at c.in-Some.ensures.some.0) named c.in_ok-outcome.ensures.served (rw c.into_stack.ensures at c.in_ok-synced.ensures),
     )
 
@@ -74,8 +74,12 @@ returns-clause-err g c =
     let named = ap (λ (b : Bor (List ℕ)). b.now) c.in-Some.ensures.some.1 ∙ c.as_bytes.ensures.value in
     inr (inr (inr (
       c.if-tally-eq0.false,
-      client-served _ c.open_loaded.new.images _ c.in_ok-stack.stack c.new-queue.result c.serve_noted-outcome.new.queue e _ c.serve_noted-outcome.new.tally _ _
-          c.in_ok-stack.ensures.ok c.new-queue.ensures.value (subst (λ (x : Configuration). IsExport x e) at c.in-Some.ensures.some.0) named c.in_ok-outcome.ensures.served (rw c.into_stack.ensures at c.in_ok-synced.ensures),
+      (
+        c.serve_noted-outcome.new.log,
+        refl,
+        client-served _ c.open_loaded.new.images _ c.in_ok-stack.stack c.new-queue.result c.serve_noted-outcome.new.queue e _ c.serve_noted-outcome.new.log _ _
+            c.in_ok-stack.ensures.ok c.new-queue.ensures.value (subst (λ (x : Configuration). IsExport x e) at c.in-Some.ensures.some.0) named c.in_ok-outcome.ensures.served (rw c.into_stack.ensures at c.in_ok-synced.ensures),
+      ),
     )))
 
 pub serve_noted-outcome-requires : goal.serve_noted-outcome-requires

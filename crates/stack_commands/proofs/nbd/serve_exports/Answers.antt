@@ -47,9 +47,9 @@ returns-in_err-outcome-clause-err g c =
     err-from c.from_residual-in_err-outcome.result _ (Service c.in_err-outcome.field-0.0) c.from_residual-in_err-outcome.ensures.1
     (inr (inl (record {
       service = c.in_err-outcome.field-0.0;
-      tally = c.serve_noted-outcome.new.tally;
+      log = c.serve_noted-outcome.new.log;
       synced = c.sync_and_close-synced.result;
-      served = exports-served _ c.open_loaded.new.images _ _ c.in_ok-stack.stack c.new-queue.result c.serve_noted-outcome.new.queue names es _ c.serve_noted-outcome.new.tally _ _
+      served = exports-served _ c.open_loaded.new.images _ _ c.in_ok-stack.stack c.new-queue.result c.serve_noted-outcome.new.queue names es _ c.serve_noted-outcome.new.log _ _
           c.in_ok-stack.ensures.ok c.new-queue.ensures.value named offered c.in_err-outcome.ensures.served (rw c.into_stack.ensures at c.sync_and_close-synced.ensures);
       is = refl;
       written = λ is. c.in_err-outcome.ensures.writer.failed (ap Some is);
@@ -66,8 +66,8 @@ returns-in_err-synced-clause-err g c =
     let offered = subst (λ (x : Configuration). Offers x names es) at held in
     err-from c.from_residual-in_err-synced.result _ (Io c.in_err-synced.field-0.0) c.from_residual-in_err-synced.ensures.1
     (inr (inr (inl (
-      c.serve_noted-outcome.new.tally,
-      exports-served _ c.open_loaded.new.images _ _ c.in_ok-stack.stack c.new-queue.result c.serve_noted-outcome.new.queue names es _ c.serve_noted-outcome.new.tally _ _
+      c.serve_noted-outcome.new.log,
+      exports-served _ c.open_loaded.new.images _ _ c.in_ok-stack.stack c.new-queue.result c.serve_noted-outcome.new.queue names es _ c.serve_noted-outcome.new.log _ _
           c.in_ok-stack.ensures.ok c.new-queue.ensures.value named offered c.in_ok-outcome.ensures.served (rw c.into_stack.ensures at c.in_err-synced.ensures),
     ))))
 
@@ -80,9 +80,9 @@ returns-then-tally-eq0-clause-ok g c =
     let named = subst (λ (x : Configuration). AreNames x.devices names) at said in
     let held = subst (λ (l : List Export). Offers c.config-config.result.now names (export_records l)) (sym c.as_slice-offered.ensures.value) c.in_ok-exports.ensures.ok in
     let offered = subst (λ (x : Configuration). Offers x names es) at held in (
-      c.serve_noted-outcome.new.tally,
+      c.serve_noted-outcome.new.log,
       c.if-tally-eq0.true,
-      exports-served _ c.open_loaded.new.images _ _ c.in_ok-stack.stack c.new-queue.result c.serve_noted-outcome.new.queue names es _ c.serve_noted-outcome.new.tally _ _
+      exports-served _ c.open_loaded.new.images _ _ c.in_ok-stack.stack c.new-queue.result c.serve_noted-outcome.new.queue names es _ c.serve_noted-outcome.new.log _ _
           c.in_ok-stack.ensures.ok c.new-queue.ensures.value named offered c.in_ok-outcome.ensures.served (rw c.into_stack.ensures at c.in_ok-synced.ensures),
     )
 
@@ -97,6 +97,10 @@ returns-clause-err g c =
     let offered = subst (λ (x : Configuration). Offers x names es) at held in
     inr (inr (inr (
       c.if-tally-eq0.false,
-      exports-served _ c.open_loaded.new.images _ _ c.in_ok-stack.stack c.new-queue.result c.serve_noted-outcome.new.queue names es _ c.serve_noted-outcome.new.tally _ _
-          c.in_ok-stack.ensures.ok c.new-queue.ensures.value named offered c.in_ok-outcome.ensures.served (rw c.into_stack.ensures at c.in_ok-synced.ensures),
+      (
+        c.serve_noted-outcome.new.log,
+        refl,
+        exports-served _ c.open_loaded.new.images _ _ c.in_ok-stack.stack c.new-queue.result c.serve_noted-outcome.new.queue names es _ c.serve_noted-outcome.new.log _ _
+            c.in_ok-stack.ensures.ok c.new-queue.ensures.value named offered c.in_ok-outcome.ensures.served (rw c.into_stack.ensures at c.in_ok-synced.ensures),
+      ),
     )))

@@ -1,5 +1,5 @@
 use Rattle.nbd_protocol.specs.Exports.{export_records}
-use Rattle.stack_commands.specs.ServiceLog.{served_line, start_text}
+use Rattle.stack_commands.specs.ServiceLog.{end_text, start_text}
 use Rattle.stack_commands.proofs.ServiceLogLemmas.{noted-then}
 use Rattle.stack_commands.proofs.nbd.serve_noted.Goals as goal
 
@@ -13,7 +13,7 @@ returns-clause-served g c = record {
       c.note_end.new.errors
       c.args.client.quiet
       (start_text (export_records c.args.exports.now))
-      (served_line c.serve-outcome.new.tally)
+      (end_text (export_records c.args.exports.now) c.serve-outcome.new.log)
       c.note_start.ensures.noted
       c.note_end.ensures.failed
       c.note_end.ensures.noted;

@@ -60,6 +60,9 @@ returns-in_ok-push-in-Part-clause-ok g c =
       more = rw c.device_part-part.ensures at c.in_ok-push-in-Part.ensures.ok;
     })
 
+pub returns-in-Partition-clause-err : goal.returns-in-Partition-clause-err
+returns-in-Partition-clause-err g c = rw c.in-Partition.is (record { path_is = refl; fault_is = refl; same = refl })
+
 pub returns-in_err-zeros-in-Zeros-clause-err : goal.returns-in_err-zeros-in-Zeros-clause-err
 returns-in_err-zeros-in-Zeros-clause-err g c =
     err-from c.from_residual-in_err-zeros-in-Zeros.result _ NoMemory c.from_residual-in_err-zeros-in-Zeros.ensures.1

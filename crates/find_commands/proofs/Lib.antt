@@ -1,0 +1,5 @@
+mod EndingLemmas
+mod FieldLemmas
+mod ObjectLemmas
+mod SearchLemmas
+mod TellingLemmas

@@ -1,0 +1,7 @@
+use Rattle.std.proofs.Common.{ap, ◌∙◌}
+use Rattle.serde_json.specs.Written.{has_float}
+use Rattle.find_commands.proofs.ObjectLemmas.{plain_found}
+use Rattle.find_commands.proofs.object.found_line.Goals as goal
+
+pub line_of-requires : goal.line_of-requires
+line_of-requires c = ap has_float c.in_ok-value.ensures ∙ plain_found c.args.findings.now c.args.counts

@@ -1,0 +1,29 @@
+-- The names of the kinds of things, and of the commands that open them.
+use Rattle.std.specs.Prelude.{ℕ, List, codes}
+use Rattle.find_commands.specs.declared.kind.Kind.{Kind}
+use Rattle.find_commands.specs.declared.kind.Kind.TheVariants.{Gpt, GptBackup, Verity, Luks2, Luks2Secondary, Ext4, Erofs, Squashfs, Xfs, Btrfs}
+
+abbrev pub found_name : Kind → List ℕ
+found_name Gpt = codes "gpt"
+found_name GptBackup = codes "gpt-backup"
+found_name Verity = codes "verity"
+found_name Luks2 = codes "luks2"
+found_name Luks2Secondary = codes "luks2-secondary"
+found_name Ext4 = codes "ext4"
+found_name Erofs = codes "erofs"
+found_name Squashfs = codes "squashfs"
+found_name Xfs = codes "xfs"
+found_name Btrfs = codes "btrfs"
+
+-- `partitions` and `verify` are commands of the program
+abbrev pub opener_name : Kind → List ℕ
+opener_name Gpt = codes "partitions"
+opener_name GptBackup = codes "partitions"
+opener_name Verity = codes "verify"
+opener_name Luks2 = codes "cryptsetup"
+opener_name Luks2Secondary = codes "cryptsetup"
+opener_name Ext4 = codes "mount"
+opener_name Erofs = codes "mount"
+opener_name Squashfs = codes "mount"
+opener_name Xfs = codes "mount"
+opener_name Btrfs = codes "mount"

@@ -1,0 +1,21 @@
+//! FindsThings what its first sectors still show on a disk: partition tables, hash trees, encrypted devices and file systems.
+#![tactic(auto)]
+
+mod fields;
+mod find;
+mod finding;
+mod kind;
+mod line;
+mod listing;
+mod object;
+mod piece;
+mod search;
+mod sectors;
+mod signatures;
+
+pub use find::invoke_find;
+pub use finding::{Finding, found_at};
+pub use kind::Kind;
+pub use line::say_finding;
+pub use listing::{FindingList, KeptFindings, ListFault};
+pub use search::find_in;

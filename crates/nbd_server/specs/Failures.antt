@@ -1,0 +1,29 @@
+-- Why a request isn't done, and what is reported of it.
+use Rattle.std.specs.Prelude.{ℕ, Option, Some, None}
+use Rattle.nbd_protocol.specs.declared.request_error.RequestError.{RequestError}
+use Rattle.nbd_protocol.specs.declared.request_error.RequestError.TheVariants.{InputOutput, NoMemory}
+use Rattle.nbd_server.specs.declared.failure.Failure.{Failure}
+use Rattle.nbd_server.specs.declared.failure.Failure.TheVariants.{Faulty, Refused}
+use Rattle.nbd_server.specs.declared.first_faults.SectorFault.{SectorFault}
+use Rattle.stack_meaning.specs.declared.fault.IoFault.{IoFault}
+use Rattle.stack_meaning.specs.declared.fault.IoFault.TheVariants as io
+
+-- an allocation was refused
+abbrev pub no_memory : Failure
+no_memory = Refused NoMemory
+
+-- what an access to the stack that ended in a fault comes to
+abbrev pub failure_of : IoFault → Failure
+failure_of (io.Stack fault) = Faulty (io.Stack fault)
+failure_of (io.Device leaf) = Faulty (io.Device leaf)
+failure_of io.NoMemory = no_memory
+
+-- the error that the reply reports
+abbrev pub reported_error : Failure → RequestError
+reported_error (Refused error) = error
+reported_error (Faulty fault) = InputOutput
+
+-- a fault with a sector; other failures are none
+abbrev pub fault_at : ℕ → Failure → Option SectorFault
+fault_at sector (Refused error) = None
+fault_at sector (Faulty fault) = Some (record { sector = sector; fault = fault })

@@ -1,0 +1,92 @@
+//! The first faults of the requests of a session.
+ghost use Rattle.std.specs.Prelude.{◌≡◌, ◌<◌, ◌++◌, ◌∷◌, [], length};
+ghost use Rattle.nbd_server.specs.Logs.{kept_first};
+
+use stack_meaning::{Fault, IoFault};
+use std::marker::Model;
+
+// The most faults that are kept.
+const MOST: usize = 60;
+
+/// The fault of a request, and its first sector, or that of the piece that can't be read.
+#[derive(Clone, Copy, Debug, PartialEq, Eq)]
+pub struct SectorFault {
+    pub sector: u64,
+    pub fault: IoFault,
+}
+
+/// The fault of a request, with the index of its export.
+#[derive(Clone, Copy, Debug, PartialEq, Eq)]
+pub struct FirstFault {
+    pub place: usize,
+    pub sector: u64,
+    pub fault: IoFault,
+}
+
+/// The first faults of a session, at most 60. No memory is allocated for them.
+#[derive(Drop)]
+pub struct FirstFaults {
+    faults: [FirstFault; MOST],
+    count: usize,
+}
+
+impl Model for FirstFaults {
+    ghost use Rattle.std.specs.Prelude.{List, ◌≤◌, take};
+    ghost use Rattle.nbd_server.specs.declared.first_faults.FirstFault.{FirstFault};
+
+    ghost Value = { List FirstFault };
+
+    ghost view = { λ f. take f.count f.faults };
+
+    ghost invariant = { λ f. f.count ≤ 60 };
+}
+
+impl FirstFaults {
+    /// Returns no faults.
+    pub(crate) fn none() -> FirstFaults
+        ensures { result ≡ [] }
+    {
+        let unused = FirstFault {
+            place: 0,
+            sector: 0,
+            fault: IoFault::Stack(Fault::ErrorTarget),
+        };
+        FirstFaults {
+            faults: [unused; MOST],
+            count: 0,
+        }
+    }
+
+    /// Returns the faults in their order.
+    pub fn as_slice(&self) -> &[FirstFault]
+        ensures { result.now ≡ self.now }
+    {
+        &self.faults[..self.count]
+    }
+
+    // Returns how many there are.
+    fn len(&self) -> usize
+        ensures { result ≡ length self.now }
+    {
+        self.as_slice().len()
+    }
+
+    // Appends a fault.
+    fn add(&mut self, fault: FirstFault)
+        requires { length self.old < 60 }
+        ensures { self.new ≡ self.old ++ fault ∷ [] }
+    {
+        self.faults[self.count] = fault;
+        self.count += 1;
+    }
+
+    /// Appends a fault, if there are fewer than 60.
+    pub(crate) fn keep(&mut self, fault: FirstFault)
+        ensures { self.new ≡ kept_first self.old fault }
+    {
+        if self.len() >= MOST {
+            return;
+        }
+        self.add(fault);
+    }
+}

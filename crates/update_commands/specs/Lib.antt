@@ -1,0 +1,9 @@
+pub mod Beginnings
+pub mod Commands
+pub mod Counts
+pub mod Growing
+pub mod Laws
+pub mod Orders
+pub mod Releases
+pub mod Seals
+pub mod Updates

@@ -1,0 +1,159 @@
+-- An image on two devices that is brought to a release.
+use Rattle.std.specs.Prelude.{◌≡◌, ◌⊎◌, ℕ, Bool, true, false, List, Option, None, map}
+use Rattle.std.specs.Io.KnownBytes.{Appends}
+use Rattle.block_device.specs.Device.{Device}
+use Rattle.program_io.specs.Counted.{CountedRecord}
+use Rattle.repair_commands.specs.Commands.{EndsOnDevices, RepairsDevices}
+use Rattle.tree_repair.specs.declared.repair.Plan.{Plan}
+use Rattle.tree_repair.specs.Worlds.{RepairWorld, repair_world}
+use Rattle.tree_survey.specs.declared.fault.SurveyFault.TheVariants.{Image}
+use Rattle.verity_commands.specs.declared.tree_fault.TreeFault.{TreeFault}
+use Rattle.verity_commands.specs.declared.tree_fault.TreeFault.TheVariants.{Survey}
+use Rattle.verity_commands.specs.Surveyed.{SurveyedDevices, surveyed_devices}
+use Rattle.verity_format.specs.declared.verifying.VerifyFault.TheVariants.{Device as DeviceFailed}
+use Rattle.verity_format.specs.Superblock.{SuperRecord, shape_of}
+use Rattle.update_commands.specs.declared.counts.Counts.{Counts}
+use Rattle.update_commands.specs.declared.devices.Target.{Target}
+use Rattle.update_commands.specs.declared.release.Release.{Release}
+use Rattle.update_commands.specs.Beginnings.{Begins, IsUnbegun}
+use Rattle.update_commands.specs.Counts.{IsUncounted, counts_of, counts_said, written_to}
+use Rattle.update_commands.specs.Releases.{plan_of}
+use Rattle.update_commands.specs.Seals.{IsSealed, IsUnsealed}
+
+-- the devices of the image and of its copies
+abbrev pub target_world : {D H C : Type 0} → (D → Device) → (H → Device) → (C → Device) → Target D H C → RepairWorld
+target_world data_state hash_state copy_state t = repair_world (data_state t.data_dev) (hash_state t.hash_dev) (map copy_state t.copies.data_copies.items) (map copy_state t.copies.hash_copies.items)
+
+-- ---- the repair
+
+-- The image was repaired by the tree of the release, all blocks are valid in the end, and what was written is synced; nothing was
+-- printed. The pin fixes the tree, so no scan is needed for entries after the last used ones.
+abbrev pub RepairsSilently : Plan → RepairWorld → SurveyedDevices → Type 0
+RepairsSilently plan w t' = RepairsDevices plan true w t' None None
+
+-- what `repair` prints was printed, or nothing with `--json`
+abbrev pub RepairsAloud : Bool → Plan → RepairWorld → SurveyedDevices → Option (List ℕ) → Option (List ℕ) → Type 0
+RepairsAloud true plan w t' old new = RepairsSilently plan w t' × (new ≡ old)
+RepairsAloud false plan w t' old new = RepairsDevices plan true w t' old new
+
+-- it ended early, or not all blocks are valid
+abbrev pub EndsSilently : Plan → RepairWorld → SurveyedDevices → TreeFault → Type 0
+EndsSilently plan w t' fault = (unheard : Bool) × EndsOnDevices plan true w t' None None unheard fault
+
+-- what `repair` prints was printed, or nothing with `--json`
+abbrev pub EndsAloud : Bool → Plan → RepairWorld → SurveyedDevices → Option (List ℕ) → Option (List ℕ) → Bool → TreeFault → Type 0
+EndsAloud true plan w t' old new failed fault = EndsSilently plan w t' fault × (new ≡ old)
+EndsAloud false plan w t' old new failed fault = EndsOnDevices plan true w t' old new failed fault
+
+-- ---- the end
+
+-- the superblock was written and synced, and then the counts were printed
+pub record Finishes (s : SuperRecord) (counts : Counts) (json : Bool) (hash_dev hash_dev' : Device) (old new : Option (List ℕ)) : Type 0 where
+  pub sealed : IsSealed s hash_dev hash_dev'
+  pub counted : Appends old new (counts_said json counts)
+
+-- the superblock couldn't be written or synced, and nothing was printed
+pub record EndsUnsealed (hash_dev hash_dev' : Device) (old new : Option (List ℕ)) (fault : TreeFault) : Type 0 where
+  pub unsealed : IsUnsealed hash_dev hash_dev'
+  pub is : fault ≡ Survey (Image DeviceFailed)
+  pub quiet : new ≡ old
+
+-- it was written and synced, and the counts weren't printed
+pub record EndsUncounted (s : SuperRecord) (json : Bool) (hash_dev hash_dev' : Device) (failed : Bool) (fault : TreeFault) : Type 0 where
+  pub sealed : IsSealed s hash_dev hash_dev'
+  pub uncounted : IsUncounted json failed fault
+
+abbrev pub IsUnfinished : SuperRecord → Bool → Device → Device → Option (List ℕ) → Option (List ℕ) → Bool → TreeFault → Type 0
+IsUnfinished s json hash_dev hash_dev' old new failed fault = EndsUnsealed hash_dev hash_dev' old new fault ⊎ EndsUncounted s json hash_dev hash_dev' failed fault
+
+-- ---- after the superblock was cleared
+
+-- the counts of the blocks that were written from one state of two devices to another
+abbrev pub counts_between : Release → RepairWorld → SurveyedDevices → Counts
+counts_between r w t = counts_of (shape_of r.superblock) (written_to w.data_dev w.hash_dev) (written_to t.data_dev t.hash_dev)
+
+-- All blocks were found or written valid, and synced. Then the superblock was written and synced, and the counts were printed.
+pub record UpdatesBegun (r : Release) (json : Bool) (w : RepairWorld) (t' : SurveyedDevices) (old new : Option (List ℕ)) : Type 0 where
+  pub mended : SurveyedDevices
+  pub between : Option (List ℕ)
+  pub repairs : RepairsAloud json (plan_of r) w mended old between
+  pub finishes : Finishes r.superblock (counts_between r w mended) json mended.hash_dev t'.hash_dev between new
+  pub data_is : t'.data_dev ≡ mended.data_dev
+
+-- all blocks were found or written valid, and the rest couldn't be done
+pub record EndsRepaired (r : Release) (json : Bool) (w : RepairWorld) (t' : SurveyedDevices) (old new : Option (List ℕ)) (failed : Bool) (fault : TreeFault) : Type 0 where
+  pub mended : SurveyedDevices
+  pub between : Option (List ℕ)
+  pub repairs : RepairsAloud json (plan_of r) w mended old between
+  pub unfinished : IsUnfinished r.superblock json mended.hash_dev t'.hash_dev between new failed fault
+  pub data_is : t'.data_dev ≡ mended.data_dev
+
+-- that, or the repair ended early, or not all blocks are valid, and the superblock wasn't written
+abbrev pub EndsBegun : Release → Bool → RepairWorld → SurveyedDevices → Option (List ℕ) → Option (List ℕ) → Bool → TreeFault → Type 0
+EndsBegun r json w t' old new failed fault = EndsAloud json (plan_of r) w t' old new failed fault ⊎ EndsRepaired r json w t' old new failed fault
+
+-- ---- the update
+
+-- the devices with a superblock that is cleared
+abbrev pub with_cleared : RepairWorld → Device → RepairWorld
+with_cleared w cleared = record w { hash_dev = cleared }
+
+-- The release fits on the devices, and the superblock was cleared and synced before anything else. Then the image was brought to the
+-- release, and the superblock written last.
+pub record UpdatesDevices (r : Release) (json : Bool) (w : RepairWorld) (t' : SurveyedDevices) (old new : Option (List ℕ)) : Type 0 where
+  pub cleared : Device
+  pub begins : Begins r.superblock w.data_dev w.hash_dev cleared
+  pub updates : UpdatesBegun r json (with_cleared w cleared) t' old new
+
+-- the release doesn't fit, or the superblock couldn't be cleared; nothing else was written, and nothing printed
+pub record EndsUnbegun (r : Release) (w : RepairWorld) (t' : SurveyedDevices) (old new : Option (List ℕ)) (fault : TreeFault) : Type 0 where
+  pub unbegun : IsUnbegun r.superblock w.data_dev w.hash_dev t'.hash_dev fault
+  pub data_is : t'.data_dev ≡ w.data_dev
+  pub quiet : new ≡ old
+
+-- the superblock was cleared and synced, and then the update ended early
+pub record EndsCleared (r : Release) (json : Bool) (w : RepairWorld) (t' : SurveyedDevices) (old new : Option (List ℕ)) (failed : Bool) (fault : TreeFault) : Type 0 where
+  pub cleared : Device
+  pub begins : Begins r.superblock w.data_dev w.hash_dev cleared
+  pub ends : EndsBegun r json (with_cleared w cleared) t' old new failed fault
+
+abbrev pub EndsUpdate : Release → Bool → RepairWorld → SurveyedDevices → Option (List ℕ) → Option (List ℕ) → Bool → TreeFault → Type 0
+EndsUpdate r json w t' old new failed fault = EndsUnbegun r w t' old new fault ⊎ EndsCleared r json w t' old new failed fault
+
+-- ---- in terms of the devices that are returned, and a writer before and after
+
+abbrev pub FinishesOf : {H W : Type 0} → (H → Device) → SuperRecord → Counts → Bool → H → H → (W → Option (List ℕ)) → CountedRecord W → CountedRecord W → Type 0
+FinishesOf state s counts json h h' contents before behind = Finishes s counts json (state h) (state h') (contents before.inner) (contents behind.inner)
+
+abbrev pub IsUnfinishedOf : {H W : Type 0} → (H → Device) → SuperRecord → Bool → H → H → (W → Option (List ℕ)) → CountedRecord W → CountedRecord W → TreeFault → Type 0
+IsUnfinishedOf state s json h h' contents before behind = IsUnfinished s json (state h) (state h') (contents before.inner) (contents behind.inner) behind.failed
+
+abbrev pub AreRepairedAloud : {D H W : Type 0} → (D → Device) → (H → Device) → RepairWorld → Plan → Bool → D → H → (W → Option (List ℕ)) → CountedRecord W → CountedRecord W → Type 0
+AreRepairedAloud data_state hash_state w plan json d h contents before behind =
+    RepairsAloud json plan w (surveyed_devices (data_state d) (hash_state h)) (contents before.inner) (contents behind.inner)
+
+abbrev pub AreUnrepairedAloud : {D H W : Type 0} → (D → Device) → (H → Device) → RepairWorld → Plan → Bool → D → H → (W → Option (List ℕ)) → CountedRecord W → CountedRecord W → TreeFault → Type 0
+AreUnrepairedAloud data_state hash_state w plan json d h contents before behind =
+    EndsAloud json plan w (surveyed_devices (data_state d) (hash_state h)) (contents before.inner) (contents behind.inner) behind.failed
+
+abbrev pub AreRepairedSilently : {D H : Type 0} → (D → Device) → (H → Device) → RepairWorld → Plan → D → H → Type 0
+AreRepairedSilently data_state hash_state w plan d h = RepairsSilently plan w (surveyed_devices (data_state d) (hash_state h))
+
+abbrev pub AreUnrepairedSilently : {D H : Type 0} → (D → Device) → (H → Device) → RepairWorld → Plan → D → H → TreeFault → Type 0
+AreUnrepairedSilently data_state hash_state w plan d h fault = EndsSilently plan w (surveyed_devices (data_state d) (hash_state h)) fault
+
+abbrev pub AreBegunUpdated : {D H C W : Type 0} → (D → Device) → (H → Device) → (C → Device) → Target D H C → Release → Bool → D → H → (W → Option (List ℕ)) → CountedRecord W → CountedRecord W → Type 0
+AreBegunUpdated data_state hash_state copy_state t r json d h contents before behind =
+    UpdatesBegun r json (target_world data_state hash_state copy_state t) (surveyed_devices (data_state d) (hash_state h)) (contents before.inner) (contents behind.inner)
+
+abbrev pub AreBegunUnupdated : {D H C W : Type 0} → (D → Device) → (H → Device) → (C → Device) → Target D H C → Release → Bool → D → H → (W → Option (List ℕ)) → CountedRecord W → CountedRecord W → TreeFault → Type 0
+AreBegunUnupdated data_state hash_state copy_state t r json d h contents before behind =
+    EndsBegun r json (target_world data_state hash_state copy_state t) (surveyed_devices (data_state d) (hash_state h)) (contents before.inner) (contents behind.inner) behind.failed
+
+abbrev pub AreUpdated : {D H C W : Type 0} → (D → Device) → (H → Device) → (C → Device) → Target D H C → Release → Bool → D → H → (W → Option (List ℕ)) → CountedRecord W → CountedRecord W → Type 0
+AreUpdated data_state hash_state copy_state t r json d h contents before behind =
+    UpdatesDevices r json (target_world data_state hash_state copy_state t) (surveyed_devices (data_state d) (hash_state h)) (contents before.inner) (contents behind.inner)
+
+abbrev pub AreUnupdated : {D H C W : Type 0} → (D → Device) → (H → Device) → (C → Device) → Target D H C → Release → Bool → D → H → (W → Option (List ℕ)) → CountedRecord W → CountedRecord W → TreeFault → Type 0
+AreUnupdated data_state hash_state copy_state t r json d h contents before behind =
+    EndsUpdate r json (target_world data_state hash_state copy_state t) (surveyed_devices (data_state d) (hash_state h)) (contents before.inner) (contents behind.inner) behind.failed

@@ -1,0 +1,172 @@
+//! Brings an image on two open devices to a release.
+ghost use Rattle.std.specs.Prelude.{◌≡◌, ◌≤◌, ◌^◌, IfErr, OnOk, true};
+ghost use Rattle.tree_repair.specs.Repairs.{IsAllowed};
+ghost use Rattle.update_commands.specs.Updates.{AreBegunUnupdated, AreBegunUpdated, AreRepairedAloud, AreRepairedSilently, AreUnrepairedAloud, AreUnrepairedSilently, AreUnupdated, AreUpdated, FinishesOf, IsUnfinishedOf, target_world};
+
+use crate::beginning::begin;
+use crate::counts::{Counts, counts_of, say_counts, written_to};
+use crate::release::{Release, plan_of};
+use crate::sealing::seal;
+use block_device::{BlockDev, SyncDev};
+use program_io::Counted;
+use repair_commands::{Copies, Nowhere, repair_devices};
+use std::alloc::Global;
+use std::io::Write;
+use tree_repair::{DamagedImage, Plan};
+use tree_survey::SurveyFault;
+use verity_commands::TreeFault;
+use verity_format::{Superblock, VerifyFault};
+
+/// The open devices of an image that is updated, and of its copies.
+#[derive(Drop)]
+pub(crate) struct Target<D, H, C> {
+    pub data_dev: D,
+    pub hash_dev: H,
+    pub copies: Copies<C>,
+}
+
+/// Brings an image to a release: clears its superblock, seeks each block that isn't the release's in the copies, writes and syncs
+/// what was found, and writes the superblock only if all blocks are valid then. Returns the two devices of the image.
+///
+/// # Errors
+///
+/// - `Survey` if the release doesn't fit on the devices, before anything is written, if a device failed, or memory ran out.
+/// - `Damaged` if blocks are lost.
+/// - `Write` if a line can't be written.
+pub(crate) fn update_devices<
+    'a,
+    D: SyncDev + Drop,
+    H: SyncDev + Drop,
+    C: BlockDev + Drop,
+    W: Write,
+>(
+    alloc: Global,
+    target: Target<D, H, C>,
+    release: &Release,
+    json: bool,
+    writer: &mut Counted<W>,
+) -> (D, H, Result<(), TreeFault<'a>>)
+    requires { IsAllowed true (D.state target.data_dev) (H.state target.hash_dev) }
+    ensures ok { OnOk result.2 (AreUpdated D.state H.state C.state target release.now json result.0 result.1 W.contents writer.old writer.new) }
+    ensures err { IfErr result.2 (AreUnupdated D.state H.state C.state target release.now json result.0 result.1 W.contents writer.old writer.new) }
+{
+    let Target {
+        data_dev,
+        hash_dev,
+        copies,
+    } = target;
+    let mut cleared = hash_dev;
+    match begin(&data_dev, &mut cleared, &release.superblock) {
+        Ok(()) => {
+            let begun = Target {
+                data_dev,
+                hash_dev: cleared,
+                copies,
+            };
+            update_begun(alloc, begun, release, json, writer)
+        }
+        Err(fault) => (data_dev, cleared, Err(fault)),
+    }
+}
+
+// Brings the image to the release, once its superblock is cleared.
+fn update_begun<'a, D: SyncDev + Drop, H: SyncDev + Drop, C: BlockDev + Drop, W: Write>(
+    alloc: Global,
+    target: Target<D, H, C>,
+    release: &Release,
+    json: bool,
+    writer: &mut Counted<W>,
+) -> (D, H, Result<(), TreeFault<'a>>)
+    requires { IsAllowed true (D.state target.data_dev) (H.state target.hash_dev) }
+    ensures ok { OnOk result.2 (AreBegunUpdated D.state H.state C.state target release.now json result.0 result.1 W.contents writer.old writer.new) }
+    ensures err { IfErr result.2 (AreBegunUnupdated D.state H.state C.state target release.now json result.0 result.1 W.contents writer.old writer.new) }
+{
+    let plan = plan_of(release);
+    let before = written_to(&target.data_dev, &target.hash_dev);
+    let image = image_of(target);
+    let (data_dev, hash_dev, repaired) = repair_aloud(alloc, image, &plan, json, writer);
+    match repaired {
+        Ok(()) => {
+            let after = written_to(&data_dev, &hash_dev);
+            let counts = counts_of(&plan.tree.shape, &before, &after);
+            let mut sealed = hash_dev;
+            let superblock = &release.superblock;
+            let ended = finish(alloc, &mut sealed, superblock, &counts, json, writer);
+            (data_dev, sealed, ended)
+        }
+        Err(fault) => (data_dev, hash_dev, Err(fault)),
+    }
+}
+
+// The image that is repaired.
+fn image_of<D: BlockDev, H: BlockDev, C: BlockDev>(target: Target<D, H, C>) -> DamagedImage<D, H, C>
+    ensures { result.world ≡ target_world D.state H.state C.state target }
+{
+    let Target {
+        data_dev,
+        hash_dev,
+        copies,
+    } = target;
+    let Copies {
+        data_copies,
+        hash_copies,
+    } = copies;
+    DamagedImage {
+        data: data_dev,
+        hash: hash_dev,
+        data_copies,
+        hash_copies,
+    }
+}
+
+// Repairs the image, and prints what `repair` prints. For a JSON object nothing is printed.
+fn repair_aloud<'a, D: SyncDev + Drop, H: SyncDev + Drop, C: BlockDev + Drop, W: Write>(
+    alloc: Global,
+    image: DamagedImage<D, H, C>,
+    plan: &Plan,
+    json: bool,
+    writer: &mut Counted<W>,
+) -> (D, H, Result<(), TreeFault<'a>>)
+    requires first { plan.now.copy_first ≤ 2 ^ 55 }
+    requires allowed { IsAllowed plan.now.write image.world.data_dev image.world.hash_dev }
+    ensures ok { OnOk result.2 (AreRepairedAloud D.state H.state image.world plan.now json result.0 result.1 W.contents writer.old writer.new) }
+    ensures err { IfErr result.2 (AreUnrepairedAloud D.state H.state image.world plan.now json result.0 result.1 W.contents writer.old writer.new) }
+{
+    if json {
+        return repair_silently(alloc, image, plan);
+    }
+    repair_devices(alloc, image, true, plan, writer)
+}
+
+// Repairs the image, and prints nothing.
+fn repair_silently<'a, D: SyncDev + Drop, H: SyncDev + Drop, C: BlockDev + Drop>(
+    alloc: Global,
+    image: DamagedImage<D, H, C>,
+    plan: &Plan,
+) -> (D, H, Result<(), TreeFault<'a>>)
+    requires first { plan.now.copy_first ≤ 2 ^ 55 }
+    requires allowed { IsAllowed plan.now.write image.world.data_dev image.world.hash_dev }
+    ensures ok { OnOk result.2 (AreRepairedSilently D.state H.state image.world plan.now result.0 result.1) }
+    ensures err { IfErr result.2 (AreUnrepairedSilently D.state H.state image.world plan.now result.0 result.1) }
+{
+    let mut nowhere = Counted::new(Nowhere);
+    repair_devices(alloc, image, true, plan, &mut nowhere)
+}
+
+// Writes the superblock, and prints the counts.
+fn finish<'a, H: SyncDev, W: Write>(
+    alloc: Global,
+    hash_dev: &mut H,
+    superblock: &Superblock,
+    counts: &Counts,
+    json: bool,
+    writer: &mut Counted<W>,
+) -> Result<(), TreeFault<'a>>
+    ensures ok { OnOk result (FinishesOf H.state superblock.now counts.now json hash_dev.old hash_dev.new W.contents writer.old writer.new) }
+    ensures err { IfErr result (IsUnfinishedOf H.state superblock.now json hash_dev.old hash_dev.new W.contents writer.old writer.new) }
+{
+    match seal(hash_dev, superblock) {
+        Ok(()) => say_counts(alloc, counts, json, writer),
+        Err(_) => Err(TreeFault::Survey(SurveyFault::Image(VerifyFault::Device))),
+    }
+}

@@ -1,0 +1,15 @@
+//! The command `update`: brings an image in place to the release of a pin.
+#![tactic(auto)]
+
+mod beginning;
+mod counts;
+mod devices;
+mod growing;
+pub mod laws;
+mod order;
+mod release;
+mod sealing;
+mod update;
+
+pub use order::UpdateOrder;
+pub use update::update_images;

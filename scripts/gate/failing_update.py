@@ -1,0 +1,81 @@
+"""What `update` may print, and what its files may hold, where a call failed on the way."""
+from itertools import takewhile
+
+from failing_recovery import Unlike, read_file
+from failing_repair import REFUSED, Repair, is_repaired
+from stack import SECTOR
+from updates import told
+
+CLEARED = bytes(SECTOR)
+
+
+class Update(Repair):
+    """A run of `update` in which no call failed, with which others are compared. The files are those of `Repair`, `whole.data` and
+    `whole.hash` the release. The superblock of HASH is looked at apart from the blocks."""
+
+    def __init__(self, case, output, words):
+        data, hashes, *copies = words
+        self.old = read_file(f"{case.start}/{hashes.decode()}")[:SECTOR]
+        self.new = read_file(f"{case.start}/whole.hash")[:SECTOR]
+        super().__init__(case, output, [data, hashes, *copies[2:], *copies[:2]])
+        self.good = self.plain[-2]
+        if self.plain != told(self.tree, self.mended, False) or self.superblock() != self.new:
+            raise Unlike("without a failure it ends otherwise")
+
+    def files_before(self):
+        before = super().files_before()
+        return {**before, "hash": self.new + before["hash"][SECTOR:]}
+
+    def left(self):
+        data, hashes = super().left()
+        return [data, self.new + hashes[SECTOR:]]
+
+    def superblock(self):
+        return super().left()[1][:SECTOR]
+
+    def blocks_left(self, other):
+        """How many data and hash blocks of what was left aren't as the other two files have them."""
+        sizes = self.tree.data_block, self.tree.hash_block
+        return [sum(left[at:at + size] != content[at:at + size] for at in range(0, len(left), size))
+                for left, content, size in zip(self.left(), other, sizes)]
+
+    def check(self, kind, what, output, status):
+        lines = output.split(b"\n")[:-1]
+        mended = list(takewhile(is_repaired, lines))
+        rest = lines[len(mended):]
+        self.check_left(mended, kind != "output")
+        is_untouched = not any(self.blocks_left([self.before[it] for it in self.paths[:2]]))
+        is_whole = self.left() == self.whole
+        if kind == "output":
+            good = status == 1 and b"\n".join(self.plain + [b""]).startswith(output)
+            states = {CLEARED, self.new} if is_whole else {CLEARED}
+        elif kind == "text":
+            good = status == 1 and not mended and rest[:1] != [] and rest[0].startswith(b"refused ")
+            states = {self.old}
+        elif kind == "memory":
+            good = status == 1 and rest == [b"no memory"] and self.mended[:len(mended)] == mended
+            states = {self.old, CLEARED} if is_untouched else {CLEARED}
+        else:
+            good, states = self.ends_on_device(what[0], mended, rest, status)
+            states |= {self.old} if is_untouched and rest == [REFUSED] else set()
+        if not good or self.superblock() not in states:
+            raise Unlike(f"status {status}, {output[-200:]}, a superblock that begins with {self.superblock()[:8]}")
+        return self.check_again(self.case.run(again=True))
+
+    def ends_on_device(self, call, mended, rest, status):
+        """Whether this is an end of a run in which a read, a write or a sync failed, and the superblocks that may be left then."""
+        if rest == [self.good, REFUSED]:
+            # the superblock couldn't be written or synced
+            return status == 1 and call != b"read" and mended == self.mended, {CLEARED, self.new}
+        if call != b"read":
+            wanted = self.mended if call == b"sync" and mended else self.mended[:len(mended)]
+            return status == 1 and rest == [REFUSED] and mended == wanted, {CLEARED}
+        if mended + rest == told(self.tree, mended, False):
+            anew = set(map(self.place, mended)) - set(map(self.place, self.mended))
+            return status == 0 and len(anew) <= 1, {self.new}
+        return self.is_read_around(mended, rest, status), {CLEARED}
+
+    def check_again(self, ran):
+        """Repeated, it ends with the release."""
+        if ran[1] != 0 or ran[0].split(b"\n")[-3] != self.good or self.left() != self.whole or self.superblock() != self.new:
+            raise Unlike(f"repeated: status {ran[1]}, {ran[0][-200:]}")

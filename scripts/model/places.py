@@ -1,0 +1,109 @@
+"""Images as arguments name them: whole files, parts of files, partitions of disks."""
+
+from dataclasses import dataclass
+
+from files import OUTSIDE, WHOLE, Stop, not_opened
+from partitions import table_of
+from session import Usage
+from stack import SECTOR
+from tables import number
+from words import sectors_of, uuid_of
+
+MISSING = b"refused 1 "
+
+
+@dataclass
+class Place:
+    """A file, and the first sector and the number of sectors of the part that is used."""
+
+    node: bytearray
+    part: tuple
+
+    def image(self):
+        """The bytes of the part, which may be written but not made longer."""
+        if self.part == WHOLE:
+            return self.node
+        first, count = self.part
+        return memoryview(self.node)[first * SECTOR:(first + count) * SECTOR]
+
+    def sectors(self):
+        return len(self.image()) // SECTOR
+
+    def within(self, first, count):
+        """A part of this part, in sectors of the file."""
+        return (self.part[0] if self.part != WHOLE else 0) + first, count
+
+
+def uuid_in(word):
+    try:
+        return uuid_of(word) if len(word) == 36 else None
+    except Usage:
+        return None
+
+
+def named_part(text):
+    """The path and the sectors of `FILE@FIRST+COUNT`, or the path and the word of `FILE#PARTITION`; None if it is neither."""
+    path, sign, place = text.rpartition(b"@")
+    if sign:
+        try:
+            return path, sectors_of(place)
+        except Usage:
+            pass
+    path, sign, word = text.rpartition(b"#")
+    if not sign or not word or number(word) is None and uuid_in(word) is None and b"/" in word:
+        return None
+    return path, word
+
+
+def partition_part(files, path, word):
+    """The sectors of the only partition of that number, UUID or label."""
+    node = files.find(path)
+    if not isinstance(node, bytearray):
+        raise not_opened("OtherFault", path)
+    try:
+        table = table_of(bytes(node), SECTOR)
+    except Stop:
+        raise not_opened("NotFound", path) from None
+    value, uuid = number(word, 2**32), uuid_in(word)
+    if value:
+        found = [it for it in table.partitions if it.number == value]
+    elif uuid is not None:
+        found = [it for it in table.partitions if it.uuid.bytes == uuid]
+    else:
+        found = [it for it in table.partitions if it.label.encode() == word]
+    if len(found) != 1:
+        raise not_opened("NotFound", path)
+    unit = table.size // SECTOR
+    return found[0].first * unit, found[0].count * unit
+
+
+def open_place(files, text, writable):
+    """The place that an argument names; a file of that whole name comes first."""
+    try:
+        return Place(files.image(text, writable), WHOLE)
+    except Stop as stop:
+        named = named_part(text)
+        if not stop.line.startswith(MISSING) or named is None:
+            raise
+    path, part = named
+    try:
+        part = part if isinstance(part, tuple) else partition_part(files, path, part)
+        return Place(files.image(path, writable, part), part)
+    except Stop as stop:
+        kind = "NotFound" if stop.line.startswith(OUTSIDE) else stop.line.split(b" ")[2].decode()
+        raise not_opened(kind, text) from None
+
+
+def grow_place(files, text, sectors):
+    """Makes the file that an argument names at least so long; one that isn't there is made. A part of a file keeps its size."""
+    try:
+        node = files.find(text)
+    except Stop as stop:
+        if not stop.line.startswith(MISSING):
+            raise
+        if named_part(text) is not None:
+            return
+        files.make(text)
+        node = files.find(text)
+    if isinstance(node, bytearray):
+        node.extend(bytes(max(0, sectors * SECTOR - len(node))))
