@@ -4,8 +4,8 @@
 cut_updates.py PROGRAM: older, longer, damaged and missing images, and parts of a disk, are brought to a release. After each cut each
 block must be as it was or as the release has it, and all else as it was. HASH has its old superblock only if no block is changed yet,
 and that of the release only if all blocks are the release's; otherwise it has none. Run again, the update must end with the release,
-and fetch only the blocks that were missing. The zeros over the old superblock must be synced before a block is written, and all blocks
-before the new one is.
+and fetch only the blocks that were missing. The zeros over the old superblock must be synced before a block is written, also
+those of an update that was killed, and all blocks before the new superblock is.
 """
 import os
 import random
@@ -122,7 +122,7 @@ class Update:
                 raise Unlike(f"run again, it leaves another {path}")
 
     def check_syncs(self, calls):
-        """What is written before the superblock is cleared, and before it is written, is synced."""
+        """What is written before the superblock is cleared, and before it is written, is synced, as is HASH if it has none."""
         changes = [it for it in calls if it[0] in ("write", "sync")]
         writes = [at for at, (call, _) in enumerate(changes) if call == "write"]
         dirty, hashes = set(), self.paths[1]
@@ -135,6 +135,8 @@ class Update:
             dirty = dirty | {path} if call == "write" else dirty - {path}
         if dirty:
             raise Unlike(f"{dirty} aren't synced in the end")
+        if not is_cleared and ("sync", hashes) not in changes[: writes[0]]:
+            raise Unlike("zeros that a killed update may have left aren't synced")
 
     def cut_at_each(self, cutter):
         """An update that is killed at each of its calls, and run again. Returns how many there were."""

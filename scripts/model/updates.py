@@ -43,5 +43,5 @@ def told(tree, lines, as_json):
     facts = {"kept": tree.blocks + sum(tree.levels) - len(sizes), "fetched": len(sizes), "fetched_bytes": sum(sizes)}
     if as_json:
         return [Json(facts)]
-    counts = " ".join("%s %d" % it for it in facts.items())
-    return [*lines, b"good %d changed 0 unknown 0" % tree.blocks, counts.encode()]
+    counts = b"kept %d fetched %d bytes %d" % tuple(facts.values())
+    return [*lines, b"good %d changed 0 unknown 0" % tree.blocks, counts]

@@ -107,10 +107,13 @@ search-failed Does receives old now at lost s n bytes device e did =
 
 -- a finding of the last read wasn't received
 pub search-stops : {D L : Type 0} (Does : D → Call → D → Type 0) (receives : L → Finding → L → Type 0) (refuses : L → ListFault → Type 0) (old now : SearchSides D L) (at lost : ℕ) → IsSearch Does receives old now at lost
-    → (bytes : List ℕ) (device : D) (list : L) (fault : ListFault) → Does now.device (Read at bytes true) device → refuses list fault → StopsSearch Does refuses old (search_sides device list) fault
+    → (bytes : List ℕ) (device : D) (list : L) (fault : ListFault) → Does now.device (Read at bytes true) device → refuses list fault → StopsSearch Does receives refuses old (search_sides device list) fault
 search-stops Does receives refuses old now at lost s bytes device list fault did refused = record {
-  calls = s.calls ++ Read at bytes true ∷ [];
-  made = calls-last Does old.device now.device device s.calls (Read at bytes true) s.made did;
-  order = order-last 0 s.calls at bytes true s.order (omega (arith, s.known));
+  between = now;
+  at = at;
+  lost = lost;
+  bytes = bytes;
+  before = s;
+  last_read = did;
   refused = refused;
 }

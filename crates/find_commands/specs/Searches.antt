@@ -69,9 +69,12 @@ pub record Searches {D L : Type 0} (Does : D → Call → D → Type 0) (receive
   pub whole : IsSearch Does receives old new size counts.lost
   pub counted : counts.read ≡ size - counts.lost
 
--- the search ended early since a finding wasn't received
-pub record StopsSearch {D L : Type 0} (Does : D → Call → D → Type 0) (refuses : L → ListFault → Type 0) (old new : SearchSides D L) (fault : ListFault) : Type 0 where
-  pub calls : List Call
-  pub made : Calls Does old.device calls new.device
-  pub order : AreInOrder 0 calls
+-- A finding wasn't received. All sectors before some sector were searched; then one piece was read, and nothing after it.
+pub record StopsSearch {D L : Type 0} (Does : D → Call → D → Type 0) (receives : L → Finding → L → Type 0) (refuses : L → ListFault → Type 0) (old new : SearchSides D L) (fault : ListFault) : Type 0 where
+  pub between : SearchSides D L
+  pub at : ℕ
+  pub lost : ℕ
+  pub bytes : List ℕ
+  pub before : IsSearch Does receives old between at lost
+  pub last_read : Does between.device (Read at bytes true) new.device
   pub refused : refuses new.list fault

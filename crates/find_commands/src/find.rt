@@ -21,7 +21,7 @@ use std::io::Write;
 ///
 /// - `Stack` if PLACE can't be opened.
 /// - `Lost` or `LostAsSaid` if sectors are lost; what the others show is printed.
-/// - `NoMemory` if memory ran out for the object, or for a finding that it needs.
+/// - `NoMemory` if memory ran out for a finding of the object, or, after the whole search, for the object.
 /// - `Write` if a line can't be written. The search ends.
 pub fn invoke_find<'a, I: Images, W: Write>(
     alloc: Global,
@@ -55,7 +55,7 @@ fn find_on<'a, D: BlockDev, W: Write>(
     find_lines(device, writer)
 }
 
-// PrintsFound a line for each thing that is found on an open device, and the counts.
+// Prints a line for each thing that is found on an open device, and the counts.
 fn find_lines<'a, D: BlockDev, W: Write>(
     device: &mut D,
     writer: &mut Counted<W>,
@@ -70,7 +70,7 @@ fn find_lines<'a, D: BlockDev, W: Write>(
     tell_counts(counts, writer)
 }
 
-// PrintsFound one object of what is found on an open device.
+// Prints one object of what is found on an open device.
 fn find_object<'a, D: BlockDev, W: Write>(
     alloc: Global,
     device: &mut D,

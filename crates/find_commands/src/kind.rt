@@ -1,4 +1,4 @@
-//! The kinds of things that a first sector shows.
+//! The kinds of things that a sector shows.
 ghost use Rattle.std.specs.Prelude.{◌≡◌};
 ghost use Rattle.find_commands.specs.Kinds.{found_name, opener_name};
 
@@ -42,7 +42,7 @@ impl Kind {
         }
     }
 
-    /// Returns the name of the command that opens it: of `dmstack`, or of the system.
+    /// Returns the name of the command for it: of `dmstack`, or of the system.
     pub fn opener(self) -> &'static str
         ensures { result.now ≡ opener_name self }
     {

@@ -1,4 +1,4 @@
-//! FindsThings what its first sectors still show on a disk: partition tables, hash trees, encrypted devices and file systems.
+//! Finds the headers of partition tables, hash trees, encrypted devices and file systems on a disk.
 #![tactic(auto)]
 
 mod fields;

@@ -17,13 +17,13 @@ const ROOM: usize = 65536;
 ///
 /// # Errors
 ///
-/// That of the receiver. Nothing is read after it.
+/// That of the receiver, which ends the search.
 pub fn find_in<D: BlockDev, L: FindingList>(
     device: &mut D,
     list: &mut L,
 ) -> Result<Counts, ListFault>
     ensures ok { IfOk result (Searches (DeviceDoes D.state D.does) L.receives (search_sides device.old list.old) (search_sides device.new list.new) (D.state device.old).size) }
-    ensures err { IfErr result (StopsSearch (DeviceDoes D.state D.does) L.refuses (search_sides device.old list.old) (search_sides device.new list.new)) }
+    ensures err { IfErr result (StopsSearch (DeviceDoes D.state D.does) L.receives L.refuses (search_sides device.old list.old) (search_sides device.new list.new)) }
 {
     let mut room = [0u8; ROOM];
     find_through(device, list, room.as_mut_slice())
@@ -37,7 +37,7 @@ fn find_through<D: BlockDev, L: FindingList>(
 ) -> Result<Counts, ListFault>
     requires { length room.old ≡ 65536 }
     ensures ok { IfOk result (Searches (DeviceDoes D.state D.does) L.receives (search_sides device.old list.old) (search_sides device.new list.new) (D.state device.old).size) }
-    ensures err { IfErr result (StopsSearch (DeviceDoes D.state D.does) L.refuses (search_sides device.old list.old) (search_sides device.new list.new)) }
+    ensures err { IfErr result (StopsSearch (DeviceDoes D.state D.does) L.receives L.refuses (search_sides device.old list.old) (search_sides device.new list.new)) }
 {
     let sectors = device.sectors();
     let mut position = Position::new();

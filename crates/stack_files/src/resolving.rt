@@ -79,9 +79,9 @@ fn resolve_each<'a, I: Images>(
 ///
 /// # Errors
 ///
-/// - `NoMemory` if an allocation was refused.
-/// - `Open` with the path of a disk that can't be opened, and with `NotFound` if the disk has no valid partition table or exactly
-///   one partition isn't so named; with `OtherFault` or `NoMemory` if the table can't be read.
+/// - `NoMemory` if an allocation for the bindings was refused.
+/// - `Open` with the path of a disk and why its partition isn't found: the opener's fault; `NotFound` if there is no valid partition
+///   table, or not exactly one partition of that name; `OtherFault` if the disk failed; `NoMemory` if an allocation was refused.
 pub fn resolve_bindings<'a, I: Images>(
     alloc: Global,
     images: &mut I,

@@ -24,6 +24,7 @@ use Rattle.verity_commands.specs.Surveyed.{SurveyedDevices}
 use Rattle.verity_format.specs.Blocks.{block_at}
 use Rattle.verity_format.proofs.lemmas.SizeLemmas.{block-size}
 use Rattle.update_commands.specs.declared.release.Release.{Release}
+use Rattle.update_commands.specs.Beginnings.{ClearsSynced}
 use Rattle.update_commands.specs.Laws.{EndsUnsealedEarly, HasNoSuper}
 use Rattle.update_commands.specs.Releases.{plan_of}
 use Rattle.update_commands.specs.Updates.{EndsAloud}
@@ -50,6 +51,13 @@ cleared-steady : (old new : Device) → IsCleared old new → IsTrue old.steady 
 cleared-steady old new (inl none) steady = subst IsTrue (sym none.read.same.steady) steady
 cleared-steady old new (inr zeroed) steady =
     subst IsTrue (sym (ap (λ (d : Device). d.steady) zeroed.kept ∙ zeroed.written.same.steady ∙ zeroed.read.same.steady)) steady
+
+-- the sync changes neither
+cleared-kept : (old new : Device) → ClearsSynced old new → IsTrue old.steady → HasNoSuper new × IsTrue new.steady
+cleared-kept old new is steady = (
+  ap (λ (d : Device). begins_super (slice_index_or d.image 0 [])) is.kept ∙ cleared-none old is.cleared_dev is.cleared steady,
+  subst IsTrue (sym (ap (λ (d : Device). d.steady) is.kept)) (cleared-steady old is.cleared_dev is.cleared steady),
+)
 
 -- ---- blocks of a tree after the superblock
 
@@ -137,4 +145,4 @@ module _ (law : OtherSectorsStay) (plan : Plan) (one : plan.tree.shape.start ≡
 pub early-none : OtherSectorsStay → (r : Release) (json : Bool) (w : RepairWorld) (t' : SurveyedDevices) → EndsUnsealedEarly r json w t' → IsTrue w.hash_dev.steady → HasNoSuper t'.hash_dev
 early-none law r json w t' early steady =
     kept-aloud law (plan_of r) refl json _ t' early.old early.new early.failed early.fault early.ends
-    (cleared-none w.hash_dev early.cleared early.begins.cleared steady, cleared-steady w.hash_dev early.cleared early.begins.cleared steady)
+    (cleared-kept w.hash_dev early.cleared early.begins.cleared steady)

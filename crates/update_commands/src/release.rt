@@ -23,7 +23,7 @@ pub(crate) struct Release {
 /// # Errors
 ///
 /// - `Open` if the image can't be opened.
-/// - `Survey` if there is no superblock.
+/// - `Survey` if there is no valid superblock, or it can't be read.
 /// - `Unpinned` if the superblock differs from the pin.
 pub(crate) fn find_release<'a, I: Images>(
     alloc: Global,

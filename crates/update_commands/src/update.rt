@@ -20,7 +20,7 @@ use verity_format::{Superblock, data_sectors};
 /// Runs `update [--progress] [--json] --pin FILE DATA HASH NEWDATA NEWHASH [COPY ..]`: the superblock of NEWHASH is compared with the
 /// pin, and DATA and HASH are made as long as the release needs, before anything is written. Then the superblock of HASH is cleared,
 /// blocks that differ from the release are sought in the copies, in their order, and the superblock is written last, if all blocks
-/// are valid. It prints what `repair` prints, and the counts, or these alone as a JSON object.
+/// are valid and their lines printed. It prints what `repair` prints, and the counts, or these alone as a JSON object.
 ///
 /// # Errors
 ///

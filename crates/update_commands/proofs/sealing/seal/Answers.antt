@@ -1,8 +1,9 @@
 use Rattle.std.proofs.Common.{ℕ, List, ◌/◌, true, ap, inr, subst, ◌∙◌}
 use Rattle.std.proofs.lemmas.Result.{on_err_weaker, on_ok_weaker}
 use Rattle.block_device.specs.Device.{IsWritten, sectors_of, spliced}
+use Rattle.verity_format.proofs.lemmas.DeviceLemmas.{failed-then}
 use Rattle.update_commands.proofs.EndingLemmas.{ended-on}
-use Rattle.update_commands.proofs.SealLemmas.{failed-since, sectors-one}
+use Rattle.update_commands.proofs.SealLemmas.{sectors-one}
 use Rattle.update_commands.proofs.sealing.seal.Goals as goal
 
 pub returns-in_err-write-clause-err : goal.returns-in_err-write-clause-err
@@ -23,4 +24,4 @@ returns-clause-ok g c =
     c.sync.ensures.ok
 
 pub returns-clause-err : goal.returns-clause-err
-returns-clause-err g c = on_err_weaker c.sync.result (λ unsynced. inr (failed-since (g.H.BlockDev.state c.args.hash_dev.now) (g.H.BlockDev.state c.write.new.self) (g.H.BlockDev.state c.sync.new.self) c.in_ok-write.ensures.moved.failures unsynced.failed)) c.sync.ensures.err
+returns-clause-err g c = on_err_weaker c.sync.result (λ unsynced. inr (failed-then (g.H.BlockDev.state c.args.hash_dev.now) (g.H.BlockDev.state c.write.new.self) (g.H.BlockDev.state c.sync.new.self) c.in_ok-write.ensures.moved.failures unsynced.failed)) c.sync.ensures.err
