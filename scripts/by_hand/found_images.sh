@@ -1,5 +1,5 @@
 #!/usr/bin/env bash
-# Compares what `find` prints of images of other programs with their sizes and with blkid's UUIDs.
+# Compares what `find` prints of images of other programs with their sizes, blkid's UUIDs and the segments that cryptsetup dumps.
 #
 # found_images.sh [PROGRAM]: file systems, LUKS2 volumes, verity images and a partition table, each from sector 777 of a disk on, and
 # 64 MiB of random bytes, which show nothing. Needs e2fsprogs, erofs-utils, squashfs-tools, xfsprogs, btrfs-progs, cryptsetup, sgdisk.
@@ -63,6 +63,17 @@ for it in 16384 65536; do
     made 32M cryptsetup -q luksFormat --type luks2 --pbkdf pbkdf2 --pbkdf-force-iterations 1000 --luks2-metadata-size $it \
         --luks2-keyslots-size 1m image "$top/README.md"
     shows luks2:$it luks2-secondary:$it
+    "$program" find --json disk > found.json
+    cryptsetup luksDump --dump-json-metadata image > header.json
+    python3 -c '
+import json
+found = json.load(open("found.json"))["found"][0]["segments"]
+stated = json.load(open("header.json"))["segments"]
+sectors = lambda text: None if text == "dynamic" else int(text) // 512
+wanted = [(int(id), it["encryption"], sectors(it["offset"]), sectors(it["size"]), int(it["iv_tweak"]), it["sector_size"]) for id, it in stated.items()]
+printed = [tuple(it[name] for name in ("id", "encryption", "offset", "size", "iv_tweak", "sector_size")) for it in found]
+assert printed == wanted, (printed, wanted)
+'
 done
 head -c 4194304 /dev/urandom > data
 for it in 512 1024 4096; do

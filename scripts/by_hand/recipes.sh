@@ -31,7 +31,8 @@ appears() {
         for word in "$@"; do
             word=${word#*:} word=${word%%,*}
             case $word in
-            *socket) [ ! -S "$word" ] || return 0 ;;
+            # it is there before it is listened on, which the kernel's list says
+            *socket) [ ! -S "$word" ] || ! grep -q " 00010000 .*[ /]${word##*/}\$" /proc/net/unix || return 0 ;;
             *) [ "$1" != nbdfuse ] || [ ! -s "$2/nbd" ] || return 0 ;;
             esac
         done

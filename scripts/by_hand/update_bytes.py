@@ -99,7 +99,7 @@ def fetched_by_update(program, old, new):
                 raise ValueError("the update ends with another image")
     for name in ("old", "new", "old.tree", "new.tree"):
         os.remove(name)
-    return json.loads(run.stdout)["bytes"]
+    return json.loads(run.stdout)["fetched_bytes"]
 
 
 def check_sums():

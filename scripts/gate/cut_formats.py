@@ -2,7 +2,8 @@
 """Kills a format over an older image at each of its calls, in turn, with a superblock and without one.
 
 cut_formats.py PROGRAM: what a cut leaves is the older image as it was, or a file without a superblock, or the new image as a
-whole. So a superblock is never before a tree that isn't its own.
+whole. So a superblock is never before a tree that isn't its own. The zeros over an old superblock must be synced before anything else
+is written, also those of a format that was killed, and all at the end.
 """
 
 import os
@@ -62,15 +63,33 @@ class Formats:
         if self.run(new):
             raise Unlike(f"{name}: the new image isn't made")
         after = content_of("image")
-        cuts = 0
-        for number, _, _ in self.cutter.cuts(["format", *SIZES, *new], "device", restore):
+        changes, cuts = [], 0
+        for number, call, path in self.cutter.cuts(["format", *SIZES, *new], "device", restore):
+            changes += [call] * (call != "read" and os.path.basename(path) == "image")
             cuts += 1
             left = content_of("image")
             if left not in (before, after) and left[first:first + 8] == SIGNATURE:
                 raise Unlike(f"{name}: killed at call {number}, a superblock is before another tree")
         if content_of("image") != after:
             raise Unlike(f"{name}: a format that isn't cut leaves another image")
-        return cuts
+        if changes[:2] != ["write", "sync"] or changes[-1] != "sync":
+            raise Unlike(f"{name}: not synced after the zeros, or in the end: {changes}")
+        with open("image", "r+b") as it:
+            it.seek(first)
+            it.write(bytes(512))
+        return cuts + self.try_zeros(name, ["format", *SIZES, *new])
+
+    def try_zeros(self, name, words):
+        """Each cut of a format up to its first write, over zeros that a killed one may have left unsynced. It must sync before that."""
+        calls = []
+        while "write" not in calls:
+            met = self.cutter.run(words, "device", len(calls) + 1)[2]
+            if met is None:
+                raise Unlike(f"{name}: nothing is written")
+            calls.append(met[0] if os.path.basename(met[1]) == "image" else "other")
+        if "sync" not in calls:
+            raise Unlike(f"{name}: zeros that a killed format may have left aren't synced")
+        return len(calls)
 
 
 def main():

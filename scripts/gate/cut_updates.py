@@ -4,11 +4,12 @@
 cut_updates.py PROGRAM: older, longer, damaged and missing images, and parts of a disk, are brought to a release. After each cut each
 block must be as it was or as the release has it, and all else as it was. HASH has its old superblock only if no block is changed yet,
 and that of the release only if all blocks are the release's; otherwise it has none. Run again, the update must end with the release,
-and fetch only the blocks that were missing. The zeros over the old superblock must be synced before a block is written, also
+and fetch only the blocks that were missing, or copy them within DATA if HASH still has its old superblock. The zeros over the old superblock must be synced before a block is written, also
 those of an update that was killed, and all blocks before the new superblock is.
 """
 import os
 import random
+import re
 import sys
 import tempfile
 
@@ -27,13 +28,14 @@ BLOCKS = 270
 
 
 class Image:
-    """Data of so many blocks, with other bytes in each block of `changed`, and their superblock and tree."""
+    """Data of so many blocks, with other bytes in each block of `changed`, and their superblock and tree; without the blocks `out`."""
 
-    def __init__(self, sizes, blocks, changed=(), salt=SALT):
+    def __init__(self, sizes, blocks, changed=(), salt=SALT, out=()):
         self.sizes, dice, other = sizes, random.Random(1), random.Random(2)
         content = [dice.randbytes(sizes[0]) for _ in range(blocks)]
         for block in changed:
             content[block] = other.randbytes(sizes[0])
+        content = [it for block, it in enumerate(content) if block not in out]
         self.data, hashes = b"".join(content), bytearray()
         self.root, self.blocks = format_images(self.data, hashes, (*sizes, None, salt), bytes([len(changed)] * 16), True)
         self.hash = bytes(hashes)
@@ -45,8 +47,8 @@ class Image:
 class Update:
     """An update of the images in these files, each whole or a part of a file, with other words after the release's."""
 
-    def __init__(self, name, release, files, words=("data", "hash"), places=((0, None), (0, None)), copies=()):
-        self.name, self.release, self.files = name, release, files
+    def __init__(self, name, release, files, words=("data", "hash"), places=((0, None), (0, None)), copies=(), moved=0):
+        self.name, self.release, self.files, self.moved = name, release, files, moved
         self.paths = [it.partition("@")[0] for it in words]
         self.parts = places
         self.words = ["update", "--pin", "pin", *words, "new.data", "new.hash", *copies]
@@ -108,18 +110,27 @@ class Update:
                     if pair[0] != pair[1] and not any(begin <= at < end for begin, end in within):
                         raise Unlike(f"byte {at} of {path}")
 
+    def has_superblock(self):
+        """Whether HASH has a superblock by which its blocks are listed."""
+        path, (first, _) = self.paths[1], self.parts[1]
+        return os.path.exists(path) and read(path)[first:].startswith(b"verity")
+
     def end(self, cutter, missing):
-        """Runs the update to its end, which fetches the missing blocks."""
+        """Runs the update to its end, which fetches the missing blocks, or copies data blocks that moved. Returns how many it copied."""
+        is_listed = self.has_superblock()
         status, output, _ = cutter.run(self.words)
         tree = Tree(*self.release.sizes, self.release.blocks, 1)
         blocks = self.release.blocks + sum(tree.levels)
         size = sum(map(int.__mul__, missing, self.release.sizes))
-        line = b"kept %d fetched %d bytes %d\n" % (blocks - sum(missing), sum(missing), size)
-        if status or not output.endswith(line):
+        moved = int((re.findall(rb" moved (\d+) ", output) or [0])[-1])
+        line = b"kept %d moved %d fetched %d bytes %d\n" % (
+            blocks - sum(missing), moved, sum(missing) - moved, size - moved * self.release.sizes[0])
+        if status or not output.endswith(line) or moved and not is_listed:
             raise Unlike(f"run again, it ends with the status {status}, {output[-200:]} and not {line}")
         for path, content in self.wanted.items():
             if read(path) != content:
                 raise Unlike(f"run again, it leaves another {path}")
+        return moved
 
     def check_syncs(self, calls):
         """What is written before the superblock is cleared, and before it is written, is synced, as is HASH if it has none."""
@@ -141,6 +152,9 @@ class Update:
     def cut_at_each(self, cutter):
         """An update that is killed at each of its calls, and run again. Returns how many there were."""
         calls = []
+        self.prepare()
+        if self.end(cutter, self.look()) < self.moved:
+            raise Unlike(f"fewer than {self.moved} blocks are copied")
         for _, call, path in cutter.cuts(self.words, "change", self.prepare):
             calls.append((call, os.path.basename(path)))
             self.end(cutter, self.look())
@@ -165,6 +179,11 @@ def updates():
     yield Update("older", release, {"data": old.data, "hash": old.hash})
     yield Update("shorter", release, {"data": short.data, "hash": short.hash})
     yield Update("longer", release, {"data": long.data + b"rest", "hash": long.hash + b"rest"})
+    out = Image((512, 512), BLOCKS, out=(20, 21))
+    yield Update("blocks that moved up", release, {"data": out.data, "hash": out.hash}, moved=BLOCKS - 22)
+    many = Image((512, 512), BLOCKS + 2)
+    few = Image((512, 512), BLOCKS + 2, out=(20, 200))
+    yield Update("blocks that moved down", few, {"data": many.data, "hash": many.hash}, moved=BLOCKS - 20)
     yield Update("other salt", release, {"data": release.data, "hash": Image((512, 512), BLOCKS, salt=b"").hash})
     yield Update("nothing there", release, {})
     yield Update("the release itself", release, {"data": release.data, "hash": release.hash})

@@ -11,7 +11,8 @@ line is refused (`no memory`, or the fault of the right device); and the lines a
 model of scripts/model says over the files as the failure left them, in which each sector holds what it held before that line or
 what the line was to write. (A line `moved` counts what the files were asked for, that line included, so the leaves are files.)
 Another command must name the failure, and answer, when it is repeated, as without one; a format that met one before its sync
-leaves no superblock, and one that met it at its parity (`--fec`) the whole image. If the output fails, standard error must say so,
+leaves no superblock, and one that met it at its parity (`--fec`) the whole image; an assemble leaves a header of a partition table
+only over whole partitions, or over what was there. If the output fails, standard error must say so,
 and a `copy` must have copied all. A `repair` or an `update` may also seek elsewhere what it couldn't read: each block that it names is
 good then, and each other one as it was, and repeated it ends with a whole image. An `update` leaves the release's superblock only
 before all blocks of the release.
@@ -45,9 +46,10 @@ from stack import Fault  # noqa: E402
 FOLDER = f"{TOP}/scripts/gate/failing_calls"
 MOST = 100_000
 FEATURES = features_without([])
-REFUSED_DEVICE = {b"format": (1, b"refused 5 Device"), b"verify": (1, b"refused 10 Device"), b"dump": (1, b"refused 10 Device"),
+REFUSED_DEVICE = {b"format": (1, b"refused 5 Device"), b"assemble": (1, b"refused 5 Device"), b"verify": (1, b"refused 10 Device"), b"dump": (1, b"refused 10 Device"),
                   b"table": (1, b"refused 10 Device"), b"read": (3, b"fault 3 Device %d"), b"write": (3, b"fault 3 Device %d")}
 RECOVERIES = (b"scan", b"copy")
+MEBIBYTE = 1 << 20
 UNWRITTEN = b"dmstack: standard output failed\n"
 
 
@@ -88,8 +90,10 @@ class Case:
         if os.path.exists(f"{self.folder}/before"):
             path = {**os.environ, "PYTHONPATH": f"{TOP}/scripts/model", "PYTHONDONTWRITEBYTECODE": "1"}
             subprocess.run(["bash", f"{self.folder}/before"], cwd=self.start, env=path, check=True)
-        # Refusals of memory that no answer shows: std asks ahead for room for the words, and asks again where it is refused.
-        self.unseen, self.recovery, self.repair = 0, None, None
+        # Refusals of memory that no answer shows: std asks ahead for room for the words, and asks again where it is refused; for
+        # assemble also at `x86-64` behind `root-`, twice, and at `-verity` behind both.
+        self.unseen, self.most_unseen = 0, 4 if self.words[0] == b"assemble" else 1
+        self.recovery, self.repair = None, None
         self.kinds = ["memory", "device", "short", "interrupted"]
         self.kinds += ["input", "text", "output"] * os.path.exists(f"{self.folder}/streams")
         if os.path.exists(f"{self.folder}/kinds"):
@@ -119,7 +123,7 @@ class Case:
         told = b""
         if kind == "output" and os.path.exists(met):
             # The last line, that sectors are lost, is repeated there.
-            told = (self.recovery.lines[-1] + b"\n" if self.recovery else b"") + UNWRITTEN
+            told = (self.recovery.lines[-1] + b"\n" if self.recovery and self.recovery.lost else b"") + UNWRITTEN
         if without_sentence(done.stdout, done.stderr, done.returncode, self.words) != told:
             raise Wrong(f"an error output: {done.stderr[:200]}, in place of {told} and the sentence on what ended the command")
         what = read_file(met).rstrip(b"\n").split(b" ", 3) if os.path.exists(met) else None
@@ -129,7 +133,9 @@ class Case:
 
     def leaves(self):
         """The files that are bound to leaves, and the leaves' names."""
-        words = cut_words(self.words[1:], self.words[0].decode())[1]
+        options, words = cut_words(self.words[1:], self.words[0].decode())
+        if b"disk" in options:
+            return [words[0]], [b"DISK"]
         bound_words = [it.partition(b"=") for it in words if b"=" in it]
         return [file.partition(b":")[2] for _, _, file in bound_words], [name for name, _, _ in bound_words]
 
@@ -246,7 +252,7 @@ def check_files(case, nodes):
 
 def unseen(case):
     case.unseen += 1
-    if case.unseen > 1 and not case.may_keep:
+    if case.unseen > case.most_unseen and not case.may_keep:
         raise Wrong("the answer is that without a failure")
     return None
 
@@ -293,9 +299,22 @@ def check_unfinished(case):
         raise Wrong("there is a superblock")
 
 
+def between_ends(disk):
+    return disk[MEBIBYTE:-MEBIBYTE]
+
+
+def check_table(case):
+    """No header of a partition table is on a disk whose partitions aren't whole."""
+    disk = read_file(f"{case.room}/files/{case.words[-2].decode()}")
+    if b"EFI PART" in (disk[512:520], disk[-512:-504]) and between_ends(disk) not in map(between_ends, (case.image, case.before)):
+        raise Wrong("there is a header over partitions that aren't whole")
+
+
 def behind_the_image(case, kind, what, output):
     """Where a format or a verify with --fec has done what is done without, and met the failure at its parity: the status and the
     output. The parity's calls are all of this kind; a format has left the whole image by then."""
+    if case.words[0] == b"assemble" and kind == "device" and output == b"refused 50 FecDevice\n":
+        return 1, b"refused 50 FecDevice"
     parity = next((it.partition(b"=")[2] for it in case.words if it.startswith(b"--fec=")), None)
     if parity is None:
         return None
@@ -344,6 +363,8 @@ def check_command(case, plain, kind, ran):
             raise Wrong(f"status {status}, {output[-200:]}")
         if case.words[0] == b"format" and what[0] != b"sync" and not behind:
             check_unfinished(case)
+        if case.words[0] == b"assemble":
+            check_table(case)
     again = case.run(again=True)
     if again[:2] != plain[:2]:
         raise Wrong(f"repeated: status {again[1]}, {again[0][-200:]}")
@@ -371,6 +392,8 @@ def check_case(case):
     plain = case.run()
     if case.words[0] == b"format":
         case.image = read_file(f"{case.room}/files/{case.words[-1].decode()}")
+    if case.words[0] == b"assemble":
+        case.before, case.image = (read_file(f"{it}/{case.words[-2].decode()}") for it in (case.start, f"{case.room}/files"))
     if not case.is_session():
         if case.words[0] not in (b"format", *RECOVERIES) and plain[1] != 0:
             raise Wrong(f"without a failure: status {plain[1]}, {plain[0][-200:]}")

@@ -32,6 +32,7 @@ class Recovery:
         self.case, self.lines = case, output.split(b"\n")[:-1]
         runs, sums = runs_of(output)
         self.lost, self.sectors = lost_by(runs), sum(sums)
+        # STACK NAME OUT, or --disk DISK OUT
         self.out = case.words[3].decode() if case.words[0] == b"copy" else ""
         if self.out:
             self.before, self.after = (read_file(f"{it}/{self.out}") for it in (case.start, f"{case.room}/files"))

@@ -60,6 +60,8 @@ class Repair:
             part = slice(first, first + size)
             if source == b"copy" and self.before[self.paths[2 * int(number) + at]][part] != self.whole[at][part]:
                 raise Unlike(f"that copy hasn't the block: {line}")
+            if source == b"from" and self.before[self.paths[0]][int(number) * size:][:size] != self.whole[0][part]:
+                raise Unlike(f"the block isn't there: {line}")
         for name, content in self.before.items():
             if name not in self.paths[:2] and read_file(f"{self.case.room}/files/{name}") != content:
                 raise Unlike(f"{name} is changed")
@@ -114,4 +116,4 @@ class Repair:
 
 
 def is_repaired(line):
-    return line.startswith(b"repaired ")
+    return line.startswith((b"repaired ", b"moved "))

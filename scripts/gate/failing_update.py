@@ -52,6 +52,10 @@ class Update(Repair):
         elif kind == "text":
             good = status == 1 and not mended and rest[:1] != [] and rest[0].startswith(b"refused ")
             states = {self.old}
+        elif kind == "memory" and status == 0:
+            # without memory for the list of the old blocks nothing is copied within DATA
+            unmoved = not any(it.startswith(b"moved ") for it in mended)
+            good, states = unmoved and is_whole and lines == told(self.tree, mended, False), {self.new}
         elif kind == "memory":
             good = status == 1 and rest == [b"no memory"] and self.mended[:len(mended)] == mended
             states = {self.old, CLEARED} if is_untouched else {CLEARED}

@@ -22,24 +22,20 @@ TOP = Path(__file__).resolve().parents[2]
 
 
 def grammar_of(source):
-    """The commands of the table, each with its options; other names of an option aren't counted."""
-    names = {row: name for row, name in re.findall(r'^(?:pub\(crate\) )?const (\w+): OptionRow = OptionRow \{\n\s*name: "([^"]+)"', source, re.M)}
+    """The commands of the table, each with its options and whether they take a value; other names of an option aren't counted."""
+    found = re.findall(r'^(?:pub\(crate\) )?const (\w+): OptionRow = OptionRow \{\n\s*name: "([^"]+)",[^}]*has_value: (\w+)', source, re.M)
+    rows = {row: (name, valued == "true") for row, name, valued in found}
     commands = {}
     for name, options in re.findall(r'CommandRow \{\s*name: "([^"]+)",\s*options: &\[([^\]]*)\]', source):
-        commands[name] = {names[it] for it in re.findall(r"\w+", options)}
+        commands[name] = dict(rows[it] for it in re.findall(r"\w+", options))
     return commands
 
 
-def valued_of(source):
-    """The options of the grammar that take a value."""
-    return set(re.findall(r'OptionRow \{\n\s*name: "([^"]+)",[^}]*has_value: true', source))
-
-
-def completed_wrong(commands, valued, page):
+def completed_wrong(commands, page):
     """What the completion says otherwise than the grammar."""
     told = completion.commands_of(page)
     for name in sorted(commands.keys() | told.keys()):
-        wanted = {f"--{option}": option in valued for option in commands.get(name, ())}
+        wanted = {f"--{option}": valued for option, valued in commands.get(name, {}).items()}
         given = {option: bool(value) for option, value in told.get(name, ())}
         if name not in commands or given != wanted:
             yield f"{name}: the grammar has {wanted}, the completion {given}"
@@ -85,13 +81,13 @@ def main():
     wrong = []
     common = {name.removeprefix("--") for name, _ in completion.COMMON}
     for name in sorted(wanted.keys() | told.keys()):
-        if name not in wanted or name not in told or wanted[name] != told[name] | common:
+        if name not in wanted or name not in told or set(wanted[name]) != told[name] | common:
             wrong.append(f"{name}: the grammar has {wanted.get(name)}, the page {told.get(name)}")
     explained = set(re.findall(r"^\.TP\n\.BI? (?:\\-){2}(\S+)", section_of(text, "OPTIONS"), re.M))
     explained = {name.replace("\\-", "-") for name in explained}
     if explained != set().union(*wanted.values()):
         wrong.append(f"OPTIONS explains {sorted(explained)}")
-    wrong += completed_wrong(wanted, valued_of(grammar), text)
+    wrong += completed_wrong(wanted, text)
     wrong += warnings_of(str(page))
     for line in wrong:
         print(f"manual: {line}")

@@ -1,11 +1,12 @@
 #!/usr/bin/env python3
 """Tries `dmstack nbd` with the NBD clients that are installed.
 
-nbd_clients.py [--no-speed] [PROGRAM]: copies devices out with nbdcopy and qemu-img and compares them, copies an image in through
-a `crypt` line and reads it back by another stack, writes bytes and zeros with qemu-io across the ends of sectors, with FUA too,
-reads a verity volume with one changed block, also by chunks, and single bytes in each strict mode of libnbd, copies each device
-of a stack out by its name, looks at the maps of a sparse stack and of a volume with ignored zeros, that copies of them stay sparse,
-and that reads tell of holes, looks by strace at what is synced when a write with FUA or a flush is answered, makes, fills and checks a file system through a
+nbd_clients.py [--no-speed] [PROGRAM]: copies devices out with nbdcopy and qemu-img and compares them, with 20 clients at once
+(behind socat, and behind systemd-socket-activate), copies an image in through a `crypt` line and reads it back by another
+stack, writes bytes and zeros with qemu-io across the ends of sectors, with FUA too, reads a verity volume with one changed
+block, also by chunks, and single bytes in each strict mode of libnbd, copies each device of a stack out by its name, looks at
+the maps of a sparse stack and of a volume with ignored zeros, that copies of them stay sparse, and that reads tell of holes,
+looks by strace at what is synced when a write with FUA or a flush is answered, makes, fills and checks a file system through a
 `crypt` line, and prints the speed over each kind of line, over four connections and over one, beside nbdkit's and beside
 `scan`'s. What isn't installed, or not allowed (sockets, ptrace, FUSE), is named and left out, and where nothing is left the
 status is 0 too (Debian: libnbd-bin, python3-libnbd, nbdfuse, qemu-utils, socat, nbdkit, strace, e2fsprogs, fuse3).
@@ -15,6 +16,7 @@ import json
 import os
 import random
 import shutil
+import subprocess
 import sys
 import tempfile
 import time
@@ -28,6 +30,7 @@ from nbd_speed import speed  # noqa: E402
 from nbd_syncs import syncs  # noqa: E402
 
 BLOCK = 4096
+CLIENTS = 20
 
 
 def whole(label, words, wanted):
@@ -44,6 +47,20 @@ def whole(label, words, wanted):
         if shutil.which("qemu-img"):
             done = run("qemu-img", "convert", "-f", "raw", "-O", "raw", "nbd:unix:" + uri.split("=")[1], "converted")
             say(f"{label}: qemu-img", done.returncode == 0 and open("converted", "rb").read() == wanted, done.stderr.decode())
+
+
+def clients_at_once(data, words, activated=False):
+    """Clients that all connect at the same time each copy the whole device."""
+    needs("nbdcopy")
+    with Served(words, activated) as uri:
+        copies = [f"copy{it}" for it in range(CLIENTS)]
+        clients = [subprocess.Popen(["nbdcopy", uri, it], stderr=subprocess.DEVNULL) for it in copies]
+        failed = [it.wait() for it in clients if it.wait() != 0]
+        same = sum(os.path.exists(it) and open(it, "rb").read() == data for it in copies)
+        how = "systemd-socket-activate" if activated else "socat"
+        say(f"{CLIENTS} clients at once, by {how}", not failed and same == CLIENTS, f"{same} equal copies")
+    for it in copies:
+        os.remove(it)
 
 
 def each_of_all(data, bindings):
@@ -294,6 +311,8 @@ def main():
     open("linear", "w").write(f"l,,,ro,0 {len(data) // 512} linear D 0")
     attempt(whole, "linear", words_for("linear", "l", verity[0]), data)
     attempt(whole, "verity", words_for("verity", "v", *verity), data)
+    attempt(clients_at_once, data, words_for("verity", "v", *verity))
+    attempt(clients_at_once, data, words_for("verity", "v", *verity), True)
     attempt(each_of_all, data, ["D=ro:" + os.path.abspath("data"), verity[1]])
     attempt(copied_in, data)
     attempt(sparse)

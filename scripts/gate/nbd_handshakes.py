@@ -29,10 +29,10 @@ def handshakes(runner):
             runner.run(f"option {number}", "low", flags(3) + option(number, data) + option(LIST), GREETING + option_reply(number, UNSUPPORTED) + listed)
     for number in (INFO, GO):
         for name in (b"low", b""):
-            for facts in ((), (0,), (3,), (0, 1, 2, 3), (768,), (1, 3), (2,) * 40):
-                sizes = 3 in facts
+            for facts in ((), (0,), (1,), (3,), (0, 1, 2, 3), (256,), (768,), (1, 3), (3, 1, 1), (2,) * 40):
+                sizes, named = 3 in facts, 1 in facts
                 tail, end = (request(READ, 0, 4), reply(data=RAMP[:4])) if number == GO else (option(ABORT), option_reply(ABORT, ACK))
-                runner.run(f"{number} {name} {facts}", "low", flags(3) + option(number, asks(name, *facts)) + tail, GREETING + e.told(number, sizes) + end)
+                runner.run(f"{number} {name} {facts}", "low", flags(3) + option(number, asks(name, *facts)) + tail, GREETING + e.told(number, sizes, named=named) + end)
         for name in (b"lo", b"loww", b"kept", b"\0" * 3):
             runner.run(f"{number} of {name}", "low", flags(3) + option(number, asks(name)) + option(LIST), GREETING + option_reply(number, UNKNOWN) + listed)
         whole = asks(b"low", 3)

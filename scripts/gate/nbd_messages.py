@@ -87,8 +87,10 @@ class Export:
         own = SEND_TRIM | SEND_WRITE_ZEROES if self.writable else READ_ONLY | (CAN_MULTI_CONN if self.shared else 0)
         return FLAGS | own | (SEND_DF if structured else 0)
 
-    def told(self, number, sizes=False, structured=False):
+    def told(self, number, sizes=False, structured=False, named=False):
         out = option_reply(number, REP_INFO, struct.pack(">HQH", 0, len(self.content), self.bits(structured)))
+        if named:
+            out += option_reply(number, REP_INFO, struct.pack(">H", 1) + self.name.encode())
         if sizes:
             out += option_reply(number, REP_INFO, struct.pack(">HIII", 3, 1, 4096, MOST))
         return out + option_reply(number, ACK)

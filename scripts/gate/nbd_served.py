@@ -104,10 +104,10 @@ def wait_until_free(words):
 
 
 class Served:
-    """A Unix socket at which each connection is served by a program of its own."""
+    """A Unix socket at which each connection is served by a program of its own, which socat starts, or systemd's tool."""
 
-    def __init__(self, words):
-        needs("socat")
+    def __init__(self, words, activated=False):
+        needs("systemd-socket-activate" if activated else "socat")
         if not sockets_are_allowed():
             raise Left("no Unix socket can be made")
         self.words = words
@@ -117,10 +117,14 @@ class Served:
         with open(script, "w") as file:
             file.write("#!/bin/sh\nexec " + shlex.join(words) + "\n")
         os.chmod(script, 0o755)
-        self.child = subprocess.Popen(["socat", "-b", "1048576", f"UNIX-LISTEN:{self.path},fork", f"EXEC:{script}"], stderr=subprocess.DEVNULL)
+        # As many clients may wait to be taken as systemd's tool lets wait; of socat alone it would be five.
+        listener = ["socat", "-b", "1048576", f"UNIX-LISTEN:{self.path},fork,backlog=128", f"EXEC:{script}"]
+        if activated:
+            listener = ["systemd-socket-activate", "--accept", "--inetd", "-l", self.path, script]
+        self.child = subprocess.Popen(listener, stderr=subprocess.DEVNULL)
         while not self.listens():
             if self.child.poll() is not None:
-                raise Left("socat doesn't listen")
+                raise Left(f"{listener[0]} doesn't listen")
             time.sleep(0.01)
 
     def listens(self):

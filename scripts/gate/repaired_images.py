@@ -3,7 +3,8 @@
 
 repaired_images.py [--cases N] [--seed S] [PROGRAM]: formats images by veritysetup, with 2 to 24 bytes of parity in a codeword,
 damages blocks of the data, of the tree and of the parity, and repairs them. If data are damaged, those blocks must be restored whose round
-has no more corrupt blocks than a codeword has bytes of parity, and undamaged parity; if only the tree is, all of it. No block may hold
+has no more corrupt blocks than a codeword has bytes of parity, and undamaged parity, and those whose wrong bytes the model corrects; if
+only the tree is, all of it. No block may hold
 other bytes than the formatted ones or the damaged ones, --check may change none, and what ends with the status 0 veritysetup must
 verify, its parity too. Where veritysetup isn't installed it says so, and tries nothing (Debian: cryptsetup-bin).
 """
@@ -16,9 +17,11 @@ import sys
 import tempfile
 
 sys.dont_write_bytecode = True
-sys.path.insert(0, os.path.join(os.path.dirname(os.path.realpath(__file__)), "../lib"))
+HERE = os.path.dirname(os.path.realpath(__file__))
+sys.path[:0] = [f"{HERE}/../lib", f"{HERE}/../model"]
 
 from checks import Checks, add_cases, random_cases  # noqa: E402
+from parity import corrected, covered  # noqa: E402
 
 CHECKS = Checks()
 say = CHECKS.count
@@ -89,10 +92,20 @@ def picked(dice, image):
     return found
 
 
-def comes_back(image, bad, turns):
-    """The corrupt data blocks that parity restores if the tree is undamaged."""
+def comes_back(image, bad, turns, before, writes):
+    """The corrupt data blocks that parity restores if the tree is undamaged, one after another."""
     counts = [sum(it % image.rounds == turn for it in bad) for turn in range(image.rounds)]
-    return sorted(it for it in bad if counts[it % image.rounds] <= image.roots and it % image.rounds not in turns)
+    area, found = bytearray(covered(before["data"], before["hash"], image.block, image.blocks, 1)), []
+    for it in sorted(bad):
+        part = slice(it * image.block, (it + 1) * image.block)
+        good = image.files["data"][part]
+        is_lost = counts[it % image.rounds] > image.roots or it % image.rounds in turns
+        if is_lost and corrected(area, image.block, image.roots, before["parity"], bad, it) != good:
+            continue
+        found.append(it)
+        if writes:
+            area[part] = good
+    return [f"data {it} parity" for it in found]
 
 
 def tried(dice, label):
@@ -111,10 +124,9 @@ def tried(dice, label):
     after = {name: read(name) for name in before}
     judge(label, image, before, after, status)
     if not tree:
-        wanted = comes_back(image, bad, turns)
-        lines = [f"data {it} parity" for it in wanted]
-        say(f"{label}: {len(wanted)} of {len(bad)} blocks are restored", told(printed, "repaired") == lines, printed)
-        say(f"{label}: --check names them", told(looked[1], "repairable") == lines, looked[1])
+        wanted, named = (comes_back(image, bad, turns, before, it) for it in (True, False))
+        say(f"{label}: {len(wanted)} of {len(bad)} blocks are restored", told(printed, "repaired") == wanted, printed)
+        say(f"{label}: --check names them", told(looked[1], "repairable") == named, looked[1])
         say(f"{label}: the status", status == (0 if len(wanted) == len(bad) else 3), str(status))
     elif not bad:
         say(f"{label}: the tree is reconstructed", status == 0, printed)

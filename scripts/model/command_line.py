@@ -6,6 +6,7 @@ from files import WHOLE, Files, Noted, Stop, not_opened
 from images import Drawn, run_diff, run_dump, run_format, run_partitions, run_table, run_verify
 from nbd import Service
 from partitions import part_named
+from places import grow_place, open_place
 from recovery import chart_of, check_size, facts_of as lost_facts, lines_of, looked_up, recovered, with_map
 from repairs import run_repair
 from replies import Json, Octets, ending_object
@@ -14,7 +15,7 @@ from stack import SECTOR, Fault, FileImage, MemoryImage, Stack
 from tables import TextFault, read_stack
 from updates import run_update
 from verity import ImageFault
-from words import (OPTIONS, at_least, binding, bindings, cut_words, exactly, read_cache, read_on_stack, the_number)
+from words import (OPTIONS, at_least, binding, bindings, cut_words, exactly, read_cache, read_on_stack, read_pass, the_number)
 
 DONE, REFUSED, USAGE, FAULT = range(4)
 MOST_OF_A_TEXT = 1024 * 1024
@@ -22,7 +23,7 @@ TARGETS = ("linear", "striped", "zero", "error", "crypt", "verity", "zero_blocks
            "unstriped")
 # Options and forms of words that a program may not have yet; without them they are wrong words.
 FORMS = ("all", "grow", "json", "map", "retries", "differing", "progress", "pass-cache", "parts", "input-stack", "store-file",
-         "exports", "fec", "bound-partitions")
+         "exports", "fec", "bound-partitions", "disk")
 # Commands whose output is data for another program: their refusals go to standard error.
 OUTPUT_IS_DATA = ("cat", "nbd")
 # Commands whose STACK may be `-`, standard input; where that is the client's or the bytes', `-` is a wrong word.
@@ -102,6 +103,17 @@ def loaded(text, bound_words, files, features):
     return stack
 
 
+def disk_stack(disk, features):
+    """The stack of an open disk, whose device `disk` is all of it."""
+    image = FileImage(disk.node, 1, disk.part if disk.part != WHOLE else None)
+    leaves = [Leaf(b"DISK", image.sectors, False)]
+    check_leaves(leaves)
+    stack = Stack(Configuration(leaves), {b"DISK": image})
+    text = b"disk,,,ro,0 %d linear DISK 0;\n" % image.sectors
+    stack.configuration = stack.configuration.after(read_stack(text, features["targets"]))
+    return stack
+
+
 def run_load(options, words, files, _given, features):
     (path,), rest = at_least(words, 1)
     if b"json" in options and b"tree" in options:
@@ -136,12 +148,12 @@ def run_read(options, words, files, _given, features):
     return Session(stack, features).run(name, first, count, None), DONE
 
 
-def run_write(options, words, files, _given, features):
+def run_write(options, words, files, given, features):
     read_cache(options)
     (path, name, first, source), rest = at_least(words, 4)
     first = the_number(first)
     rest, text = begun(path, bindings(rest), files)
-    node = files.content(source)
+    node = given if source == b"-" else files.content(source)
     data = bytes(node[:(MOST_SECTORS + 1) * SECTOR])
     stack = loaded(text, rest, files, features)
     count = -(-len(data) // SECTOR)
@@ -177,18 +189,27 @@ def gone_over(options, name, stack, out, files):
 
 
 def run_scan(options, words, files, _given, features):
-    (path, name), rest, _, _ = read_on_stack(options, words, 2)
+    (path, name), _, rest = read_pass(options, words, 0)
     check_map(options)
     if b"json" in options and b"chart" in options:
         raise Usage
+    if name is None:
+        stack = disk_stack(open_place(files, path, False), features)
+        return gone_over(options, b"disk", stack, None, files)
     rest, text = begun(path, rest, files)
     stack = loaded(text, rest, files, features)
     return gone_over(options, name, stack, None, files)
 
 
 def run_copy(options, words, files, _given, features):
-    (path, name, out_path), rest, _, _ = read_on_stack(options, words, 3)
+    (path, name), (out_path,), rest = read_pass(options, words, 1)
     check_map(options)
+    if name is None:
+        disk = open_place(files, path, False)
+        if b"grow" in options:
+            grow_place(files, out_path, disk.sectors())
+        image = files.image(out_path, True)
+        return gone_over(options, b"disk", disk_stack(disk, features), image, files)
     rest, text = begun(path, rest, files)
     out = files.image(out_path, True)
     stack = loaded(text, rest, files, features)

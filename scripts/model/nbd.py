@@ -11,7 +11,7 @@ EXPORT_NAME, ABORT, LIST, INFO, GO = 1, 2, 3, 6, 7
 STRUCTURED_REPLY, LIST_META_CONTEXT, SET_META_CONTEXT = 8, 9, 10
 ACK, SERVER, INFORMATION, META_CONTEXT = 1, 2, 3, 4
 UNSUPPORTED, INVALID, UNKNOWN, TOO_BIG = (2**31 + kind for kind in (1, 3, 6, 9))
-EXPORT, BLOCK_SIZE = 0, 3
+EXPORT, NAME, BLOCK_SIZE = 0, 1, 3
 HAS_FLAGS, READ_ONLY, SEND_FLUSH, SEND_FUA, SEND_TRIM, SEND_WRITE_ZEROES = 1, 2, 4, 8, 32, 64
 SEND_DF, CAN_MULTI_CONN, SEND_CACHE = 128, 256, 1024
 READ, WRITE, DISCONNECT, FLUSH, TRIM, CACHE, WRITE_ZEROES, BLOCK_STATUS = range(8)
@@ -200,6 +200,8 @@ class Service:
         if device is None:
             return self.tell(option, UNKNOWN)
         self.tell(option, INFORMATION, struct.pack(">H", EXPORT) + self.fields(device))
+        if NAME in facts:
+            self.tell(option, INFORMATION, struct.pack(">H", NAME) + device.name)
         if BLOCK_SIZE in facts:
             sizes = struct.pack(">HIII", BLOCK_SIZE, 1, 4096, MOST_OF_A_REQUEST)
             self.tell(option, INFORMATION, sizes)

@@ -50,6 +50,8 @@ class Recoveries(Sessions):
         device = self.pick(devices[-1:] * 2 + devices) if devices and self.chance(0.97) else None
         name = device.name if device else self.pick([b"none", b"D", b""])
         options = self.pass_options()
+        if self.has("forms", "disk") and self.chance(0.15):
+            return self.bare_disk_run(options)
         if self.chance(0.25):
             return self.stream_run(device, stack, name, words)
         if self.chance(0.4):
@@ -64,6 +66,16 @@ class Recoveries(Sessions):
         if self.has("forms", "differing") and self.chance(0.3):
             options.insert(0, b"--differing")
         return Run([b"copy"] + options + self.stack_words(stack, name) + [out] + words, self.input_stack)
+
+    def bare_disk_run(self, options):
+        """Goes over all of a file, or a part of one, without a stack."""
+        place = self.pick([*self.readable(), b"missing"]) + self.pick([b"", b"", b"", b"@0+1", b"@1+3", b"@2+0", b"#1"])
+        words = [*options, b"--disk"]
+        if self.chance(0.5):
+            return Run([b"scan", *words, place])
+        if self.chance(0.5):
+            words.append(b"--grow")
+        return Run([b"copy", *words, place, self.pick([b"grown", *self.readable()])])
 
     def stack_words(self, stack, name):
         """The stack's file and the device, the text of the first also as standard input."""

@@ -69,8 +69,10 @@ class Updates(Disks):
         old = Planted(self, (new.data_block, new.hash_block, (new.blocks,)))
         old.is_bare, old.salt = False, new.salt if self.chance(0.9) else old.salt
         old.contents = list(new.contents)
+        if self.chance(0.4):
+            old.contents = self.moved(old.contents)
         if kind < 5:
-            old.contents = old.contents[:self.random.randint(1, new.blocks)]
+            old.contents = old.contents[:self.random.randint(1, len(old.contents))]
             old.contents += [self.random.randbytes(new.data_block) for _ in range(self.pick([0, 0, 1, 20]))]
         for _ in range(self.pick([0, 1, 2, 10])):
             old.contents[self.random.randrange(len(old.contents))] = self.random.randbytes(new.data_block)
@@ -84,6 +86,19 @@ class Updates(Disks):
         elif self.chance(0.1):
             hashes[self.pick([0, 5, self.random.randrange(512)])] ^= 1 << self.random.randrange(8)
         return self.older_files(data, hashes)
+
+    def moved(self, contents):
+        """The same blocks, of which a run moved up or down, or two changed their places."""
+        at, count = self.random.randrange(len(contents)), self.pick([1, 1, 2, 5])
+        kind = self.random.randrange(3)
+        if kind == 0:
+            return contents[:at] + contents[at + count:] or contents
+        if kind == 1:
+            return contents[:at] + contents[:count] + contents[at:]
+        other = self.random.randrange(len(contents))
+        contents = list(contents)
+        contents[at], contents[other] = contents[other], contents[at]
+        return contents
 
     def older_files(self, data, hashes):
         """The names of DATA and HASH, which may be longer or shorter, or missing."""

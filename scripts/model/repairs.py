@@ -4,7 +4,7 @@ A hash block that no copy has is reconstructed from the blocks beneath it; if th
 
 from files import Stop
 from images import check_aligned, surveyed, told_root
-from parity import covered, made_again
+from parity import corrected, covered, made_again
 from places import open_place
 from protection import check_parity
 from stack import SECTOR
@@ -55,15 +55,16 @@ class Repair:
         size = self.tree.hash_block
         return self.start + (self.tree.first(height - 1) + index) * size, size
 
-    def lines(self, whole, copies, writes, bad):
+    def lines(self, whole, copies, writes, bad, lowest=0):
         """A line for each block that isn't good and that a copy has; it is written where it may be.
 
-        Those that still aren't good are put into `bad`, each with its digest where it was found nowhere."""
+        Those that still aren't good are put into `bad`, each with its digest where it was found nowhere. Blocks beneath the lowest
+        height are left out; the digests of the next ones that good blocks have are kept."""
         heights = [self.tree.blocks] + self.tree.levels
-        good = {0: self.root}
-        for height in reversed(range(len(heights))):
+        good = self.digests = {0: self.root}
+        for height in reversed(range(lowest, len(heights))):
             at_height, digests = 0 if height == 0 else 1, good
-            good = {}
+            good = self.digests = {}
             for index in range(heights[height]):
                 if index not in digests:
                     continue
@@ -86,6 +87,20 @@ class Repair:
                     slots = self.tree.slots
                     good.update({index * slots + slot: block[32 * slot:][:32] for slot in range(slots)})
 
+    def moves(self, data, listed):
+        """A line for each data block that isn't good and is copied from where the list has it: those that moved up from the last one
+        on, then those that moved down."""
+        for upwards in (True, False):
+            for index in range(self.tree.blocks)[::-1 if upwards else 1]:
+                source = listed.source(self.digests[index], index, upwards) if index in self.digests else None
+                if source is None:
+                    continue
+                (at, size), (source_at, _) = self.place(0, index), self.place(0, source)
+                block, there = block_at(data, source_at, size), block_at(data, at, size)
+                if block and digest(self.salt, block) == self.digests[index] != digest(self.salt, there):
+                    data[at:at + size] = block
+                    yield "moved data %d from %d" % (index, source)
+
     def passes(self, whole, copies, writes, parity):
         """The same, and one for each lost block that parity makes again; anew where one of these was a hash block."""
         while True:
@@ -93,8 +108,8 @@ class Repair:
             yield from self.lines(whole, copies, writes, bad)
             numbers = [self.number(*it[:2]) for it in bad]
             for (height, index, wanted), number in zip(bad, numbers):
-                block = wanted and made_again(self.area(whole), self.tree.data_block, *parity, numbers, number)
-                if not block or digest(self.salt, block) != wanted:
+                block = wanted and self.by_parity(self.area(whole), parity, numbers, number, wanted)
+                if not block:
                     continue
                 yield line_of(height, index, "parity", writes)
                 if writes:
@@ -103,6 +118,13 @@ class Repair:
                     again = again or height > 0
             if not again:
                 return
+
+    def by_parity(self, area, parity, lost, number, wanted):
+        """The block with that digest, from the blocks that aren't lost or by its wrong bytes, or None."""
+        block = made_again(area, self.tree.data_block, *parity, lost, number)
+        if block is None or digest(self.salt, block) != wanted:
+            block = corrected(area, self.tree.data_block, *parity, lost, number)
+        return block if block is not None and digest(self.salt, block) == wanted else None
 
     def area(self, whole):
         """What parity covers, as it stands."""

@@ -21,8 +21,8 @@ OPTIONS = {
     "repair": (*TREE, b"hash-offset", b"root-hash-file", b"no-superblock", b"check", b"fec", b"fec-roots", b"pin"),
     "update": (b"json", b"progress", b"pin"),
     "load": (b"json", b"tree"), "read": (b"cache",), "write": (b"cache",), "session": (b"cache",), "nbd": (b"cache", b"all"),
-    "scan": (b"cache", b"map", b"retries", b"progress", b"json", b"chart"),
-    "copy": (b"cache", b"map", b"retries", b"differing", b"progress"),
+    "scan": (b"cache", b"map", b"retries", b"progress", b"json", b"chart", b"disk"),
+    "copy": (b"cache", b"map", b"retries", b"differing", b"progress", b"disk", b"grow"),
     "cat": (b"cache", b"first", b"count", b"progress"), "store": (b"cache", b"first", b"progress"),
     "partitions": (b"sector-size", b"stack", b"root", b"json", b"pin", b"writable"),
     "diff": (*TREE, b"no-superblock", b"all", b"runs", b"json", b"old-hash-offset", b"hash-offset", b"old-root-hash-file",
@@ -30,7 +30,8 @@ OPTIONS = {
     "manual": (), "version": (),
 }
 OPTIONS = {name: (b"quiet", *options) for name, options in OPTIONS.items()}
-FLAGS = (b"quiet", b"all", b"stack", b"no-superblock", b"grow", b"json", b"differing", b"progress", b"check", b"chart", b"tree", b"writable")
+FLAGS = (b"quiet", b"all", b"stack", b"no-superblock", b"grow", b"json", b"differing", b"progress", b"check", b"chart", b"tree", b"writable",
+         b"disk")
 # veritysetup's names of options that have another here.
 OTHER_NAMES = {b"data-block-size": b"data-block", b"hash-block-size": b"hash-block",
                b"data-blocks": b"blocks", b"fec-device": b"fec"}
@@ -301,6 +302,19 @@ def read_on_stack(options, words, positional):
     the_number(options.get(b"retries", b"0"))
     named, rest = at_least(words, positional)
     return named, bindings(rest), first, count
+
+
+def read_pass(options, words, positional):
+    """What a pass reads, the path of a stack and a name, or a disk and None; the positional words after it; and the bindings."""
+    if b"disk" not in options:
+        if b"grow" in options:
+            raise Usage
+        (path, name, *named), rest, _, _ = read_on_stack(options, words, 2 + positional)
+        return (path, name), named, rest
+    (place, *named), rest, _, _ = read_on_stack(options, words, 1 + positional)
+    if rest:
+        raise Usage
+    return (place, None), named, rest
 
 
 def read_partitions(options, words):

@@ -1,7 +1,6 @@
 -- What a list of calls adds up to.
-use Rattle.std.specs.Prelude.{ℕ, ◌+◌, ◌/◌, ◌≤◌, Bool, true, false, IsTrue, List, [], ◌∷◌, length}
-use Rattle.block_device.specs.Call.{Call, Calls, DeviceDoes, Read, Sync, Write}
-use Rattle.block_device.specs.Device.{Device}
+use Rattle.std.specs.Prelude.{ℕ, ◌+◌, ◌/◌, Bool, true, false, IsTrue, List, [], ◌∷◌, length}
+use Rattle.block_device.specs.Call.{Call, Calls, Read, Sync, Write}
 
 abbrev pub has_succeeded : Call → Bool
 has_succeeded (Read first bytes ok) = ok
@@ -37,9 +36,8 @@ abbrev pub all_written : List Call → ℕ
 all_written [] = 0
 all_written (call ∷ more) = sectors_written call + all_written more
 
--- calls on a device lead from one state of it to another, and they read and write at most so many sectors in all
-pub record DeviceCalls {D : Type 0} (state : D → Device) (does : D → Call → D → Type 0) (reads writes : ℕ) (old new : D) : Type 0 where
+-- calls on a device that are such lead from one state of it to another
+pub record DeviceCalls {D : Type 0} (does : D → Call → D → Type 0) (Are : List Call → Type 0) (old new : D) : Type 0 where
   pub calls : List Call
-  pub reads_few : all_read calls ≤ reads
-  pub writes_few : all_written calls ≤ writes
-  pub made : Calls (DeviceDoes state does) old calls new
+  pub are : Are calls
+  pub made : Calls does old calls new

@@ -1,16 +1,43 @@
 -- Calls of the operating system on files of images, as evidence: no definition here is unfoldable, so code knows each only
 -- from a call of this crate's function that makes the system's call.
-use Rattle.std.specs.Prelude.{ℕ, Bool, List}
+use Rattle.std.specs.Prelude.{◌≡◌, ℕ, Bool, true, List, Result, Ok, Err}
+use Rattle.std.specs.Fs.{new_options, with_read, with_write}
 use Rattle.std.specs.declared.fs.File.{File}
 use Rattle.std.specs.declared.fs.attrs.Metadata.{Metadata}
+use Rattle.std.specs.declared.fs.options.OpenOptions.{OpenOptions}
+use Rattle.std.specs.declared.io.ErrorKind.{ErrorKind}
 use Rattle.block_device.specs.declared.file_calls.FileNumbers.{FileNumbers}
 use Rattle.block_device.specs.declared.open_fault.OpenFault.{OpenFault}
 use Rattle.block_device.specs.declared.seal.Seal.{Seal}
 use Rattle.block_device.specs.Call.{Call}
+use Rattle.block_device.specs.OpenFault.{fault_of}
 
--- the system opened this path as this file, for reading, and for writing too if that is true
-pub Opened : List ℕ → Bool → File → Type 0
-Opened path writable file = Unit {0}
+-- the system was called to open this path by these options, and answered so
+pub OpenedBy : OpenOptions → List ℕ → Result File ErrorKind → Type 0
+OpenedBy options path answer = Unit {0}
+
+-- the options of an image: for reading, and for writing too if that is true; no file is created, emptied or appended to
+abbrev pub options_to_open : Bool → OpenOptions
+options_to_open writable = with_write (with_read new_options true) writable
+
+-- the system opened this path as this file by these options, or it didn't, for this reason
+abbrev pub Opened : List ℕ → Bool → File → Type 0
+Opened path writable file = OpenedBy (options_to_open writable) path (Ok file)
+
+abbrev pub IsOpeningRefused : List ℕ → Bool → OpenFault → Type 0
+IsOpeningRefused path writable fault = (kind : ErrorKind) × OpenedBy (options_to_open writable) path (Err kind) × (fault ≡ fault_of kind)
+
+-- the system was called to seek to the end of an open file, and answered with the number of bytes before it, or refused
+pub SoughtEnd : {S : Type 0} → S → Result ℕ OpenFault → Type 0
+SoughtEnd file answer = Unit {0}
+
+-- the system was asked of the file under that path, and refused, for this reason
+pub IsUnsaidOfPath : List ℕ → OpenFault → Type 0
+IsUnsaidOfPath path fault = Unit {0}
+
+-- the system was asked of an open file, and refused, for this reason
+pub IsUnsaidOfFile : File → OpenFault → Type 0
+IsUnsaidOfFile file fault = Unit {0}
 
 -- the system said this of the file under that path
 pub IsOfPath : List ℕ → Metadata → Type 0
@@ -38,9 +65,21 @@ pub Called : File → Call → File → Type 0
 Called old call new = Unit {0}
 
 -- only the proofs of this crate can name a `Seal`
-pub was-opened : (path : List ℕ) (writable : Bool) (file : File) → Seal → Opened path writable file
-unfolding Opened
-was-opened path writable file seal = tt
+pub was-opened : (options : OpenOptions) (path : List ℕ) (answer : Result File ErrorKind) → Seal → OpenedBy options path answer
+unfolding OpenedBy
+was-opened options path answer seal = tt
+
+pub was-sought : {S : Type 0} (file : S) (answer : Result ℕ OpenFault) → Seal → SoughtEnd file answer
+unfolding SoughtEnd
+was-sought file answer seal = tt
+
+pub was-unsaid-of-path : (path : List ℕ) (fault : OpenFault) → Seal → IsUnsaidOfPath path fault
+unfolding IsUnsaidOfPath
+was-unsaid-of-path path fault seal = tt
+
+pub was-unsaid-of-file : (file : File) (fault : OpenFault) → Seal → IsUnsaidOfFile file fault
+unfolding IsUnsaidOfFile
+was-unsaid-of-file file fault seal = tt
 
 pub was-said-of-path : (path : List ℕ) (metadata : Metadata) → Seal → IsOfPath path metadata
 unfolding IsOfPath

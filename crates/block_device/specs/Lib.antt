@@ -9,9 +9,11 @@ pub mod FileCalls
 pub mod File
 pub mod FileId
 pub mod Identity
+pub mod Unopened
 pub mod LostWrites
 pub mod Memory
 pub mod Any
 pub mod Script
 pub mod Whole
 pub mod Faithful
+pub mod SteadyCalls

@@ -10,12 +10,12 @@ ghost use Rattle.block_device.specs.Identity.{IsToldId};
 ghost use Rattle.block_device.specs.Faithful.{held_by, is_faithful, whole_held};
 
 use crate::file_calls::{
-    lengthen_file, metadata_at, metadata_of, open_at, read_at, sync_all, write_at,
+    end_of, lengthen_file, metadata_at, metadata_of, open_at, read_at, sync_all, write_at,
 };
 use crate::file_lock::FileLock;
 use crate::{BlockDev, DeviceFault, FileId, OpenFault, SyncDev};
 use std::fs::{File, Metadata};
-use std::io::{Seek, SeekFrom};
+use std::io::Seek;
 use std::os::unix::fs::MetadataExt;
 use std::rt::Files;
 
@@ -54,13 +54,15 @@ impl FileDev {
     ghost use Rattle.block_device.specs.FileCalls.{IsOfFile, IsUnlocked, Opened};
     ghost use Rattle.block_device.specs.FileId.{file_id, file_of};
     ghost use Rattle.block_device.specs.Identity.{IsLongEnough, IsOpenedAs};
+    ghost use Rattle.block_device.specs.Unopened.{IsUnopenedImage};
 
     /// Opens the file or block device for reading, and for writing too if `writable` is set. That it is an image, its size and its
     /// identity are what the system reports of it.
     ///
     /// # Errors
     ///
-    /// `OpenFault` by what the system reports; `OtherFault` for anything else, as a directory, a pipe or a character device.
+    /// `OpenFault` by what the system reports: a call failed, or the file is too large; `OtherFault` for anything else, as a
+    /// directory, a pipe or a character device.
     pub fn open<R: Files<File = File>>(
         rt: &R,
         path: &str,
@@ -69,9 +71,11 @@ impl FileDev {
         ensures state { IfOk result (λ f. IsOpened (⟦<FileDev as BlockDev>⟧.state f) writable) }
         ensures image { IfOk result (λ f. (m : Metadata) × IsOfFile (file_of f) m × IsOpenedAs m (⟦<FileDev as BlockDev>⟧.state f).size (file_id f)) }
         ensures opened { IfOk result (λ f. Opened path.now writable (file_of f)) }
+        ensures err { IfErr result (IsUnopenedImage path.now writable) }
     {
         // Opening a pipe would wait for its other end, so what is no image is refused before.
-        if !is_image(&metadata_at(rt, path)?) {
+        let said = metadata_at(rt, path)?;
+        if !is_image(&said) {
             return Err(OpenFault::OtherFault);
         }
         let file = open_at(rt, path, writable)?;
@@ -125,16 +129,6 @@ fn is_image(metadata: &Metadata) -> bool
     ensures { IsTrue result ↔ IsImage (file_type metadata.now) }
 {
     metadata.is_file() || is_block_device(metadata)
-}
-
-// Returns the number of bytes before the end of a seekable file.
-fn end_of<S: Seek>(file: &mut S) -> Result<u64, OpenFault>
-    ensures { IfSome (S.stream_position file.old) (λ at. IfSome (S.stream_bytes file.old) (λ bytes. IfOk result (λ n. n ≡ length bytes))) }
-{
-    match file.seek(SeekFrom::End(0)) {
-        Ok(end) => Ok(end),
-        Err(e) => Err(OpenFault::from(e.kind())),
-    }
 }
 
 // How many whole sectors an open file has: as the system says, or up to a block device's end.

@@ -1,12 +1,13 @@
 //! The calls of the operating system on the file of an image, each with evidence that it was made.
-ghost use Rattle.std.specs.Prelude.{◌<◌, ◌*◌, ◌^◌, IfOk, OnOk};
+ghost use Rattle.std.specs.Prelude.{◌≡◌, ◌<◌, ◌*◌, ◌^◌, length, IfErr, IfOk, IfSome, OnOk};
 ghost use Rattle.std.specs.Fs.{metadata_len};
 ghost use Rattle.block_device.specs.Call.{Read, Sync, Write};
-ghost use Rattle.block_device.specs.FileCalls.{Called, IsLengthened, IsOfFile, IsOfPath, Opened, Told};
+ghost use Rattle.block_device.specs.FileCalls.{Called, IsLengthened, IsOfFile, IsOfPath, IsOpeningRefused, IsUnsaidOfFile, IsUnsaidOfPath, Opened, OpenedBy, SoughtEnd, Told};
 
 use crate::OpenFault;
 use std::fs;
 use std::fs::{File, Metadata, OpenFile, OpenOptions};
+use std::io::{ErrorKind, Seek, SeekFrom};
 use std::os::unix::fs::{FileExt, MetadataExt};
 use std::rt::Files;
 
@@ -27,7 +28,8 @@ pub struct FileNumbers {
 ///
 /// The fault of what the system answered.
 pub fn metadata_at<R: Files>(rt: &R, path: &str) -> Result<Metadata, OpenFault>
-    ensures { IfOk result (λ metadata. IsOfPath path.now metadata) }
+    ensures ok { IfOk result (λ metadata. IsOfPath path.now metadata) }
+    ensures err { IfErr result (IsUnsaidOfPath path.now) }
 {
     match fs::metadata(rt, path) {
         Ok(metadata) => Ok(metadata),
@@ -41,7 +43,8 @@ pub fn metadata_at<R: Files>(rt: &R, path: &str) -> Result<Metadata, OpenFault>
 ///
 /// The fault of what the system answered.
 pub fn metadata_of(file: &File) -> Result<Metadata, OpenFault>
-    ensures { IfOk result (λ metadata. IsOfFile file.now metadata) }
+    ensures ok { IfOk result (λ metadata. IsOfFile file.now metadata) }
+    ensures err { IfErr result (IsUnsaidOfFile file.now) }
 {
     match file.metadata() {
         Ok(metadata) => Ok(metadata),
@@ -67,16 +70,42 @@ pub(crate) fn lengthen_file(
     }
 }
 
+// Opens a file by these options.
+fn open_by<R: Files<File = File>>(
+    rt: &R,
+    options: &mut OpenOptions,
+    path: &str,
+) -> Result<File, ErrorKind>
+    ensures { OpenedBy options.old path.now result }
+{
+    match options.open(rt, path) {
+        Ok(file) => Ok(file),
+        Err(error) => Err(error.kind()),
+    }
+}
+
 // Opens a file for reading, and for writing too if `writable` is true.
 pub(crate) fn open_at<R: Files<File = File>>(
     rt: &R,
     path: &str,
     writable: bool,
 ) -> Result<File, OpenFault>
-    ensures { IfOk result (λ file. Opened path.now writable file) }
+    ensures ok { IfOk result (λ file. Opened path.now writable file) }
+    ensures err { IfErr result (IsOpeningRefused path.now writable) }
 {
-    match OpenOptions::new().read(true).write(writable).open(rt, path) {
+    match open_by(rt, OpenOptions::new().read(true).write(writable), path) {
         Ok(file) => Ok(file),
+        Err(kind) => Err(OpenFault::from(kind)),
+    }
+}
+
+// Returns the number of bytes before the end of a seekable file.
+pub(crate) fn end_of<S: Seek>(file: &mut S) -> Result<u64, OpenFault>
+    ensures bytes { IfSome (S.stream_position file.old) (λ at. IfSome (S.stream_bytes file.old) (λ bytes. IfOk result (λ n. n ≡ length bytes))) }
+    ensures call { SoughtEnd file.old result }
+{
+    match file.seek(SeekFrom::End(0)) {
+        Ok(end) => Ok(end),
         Err(error) => Err(OpenFault::from(error.kind())),
     }
 }

@@ -45,6 +45,10 @@ pub record OptionTexts : Type 0 where
   pub old_root_hash_file : Option (List ℕ)
   pub runs : Option (List ℕ)
   pub retries : Option (List ℕ)
+  -- of `--type`
+  pub kind : Option (List ℕ)
+  pub arch : Option (List ℕ)
+  pub draw_from : Option (List ℕ)
   pub all : Bool
   pub stack : Bool
   pub no_superblock : Bool
@@ -58,6 +62,9 @@ pub record OptionTexts : Type 0 where
   pub tree : Bool
   pub quiet : Bool
   pub writable : Bool
+  -- of `--fec` without a value
+  pub parity : Bool
+  pub disk : Bool
 
 -- what the program's own value says
 abbrev pub text_of : Option (Bor (List ℕ)) → Option (List ℕ)
@@ -90,6 +97,9 @@ option_texts words = record {
   old_root_hash_file = text_of words.old_root_hash_file;
   runs = text_of words.runs;
   retries = text_of words.retries;
+  kind = text_of words.kind;
+  arch = text_of words.arch;
+  draw_from = text_of words.draw_from;
   all = words.all;
   stack = words.stack;
   no_superblock = words.no_superblock;
@@ -103,6 +113,8 @@ option_texts words = record {
   tree = words.tree;
   quiet = words.quiet;
   writable = words.writable;
+  parity = words.parity;
+  disk = words.disk;
 }
 
 -- each value is the one that its text says; if there is no text, it is 4,096 for a block size, and none for the others

@@ -2,6 +2,7 @@
 use Rattle.std.specs.Prelude.{◌&&◌, ℕ, List, codes, Ok, Option, is_some, if◌then◌else◌}
 use Rattle.std.specs.Str.{bytes_eq}
 use Rattle.command_line.specs.FormatOptions.{OptionTexts, text_of}
+use Rattle.command_line.specs.words.Assemble.{AssembleRecord, assemble_record, assemble_said}
 use Rattle.command_line.specs.words.Cat.{CatRecord, cat_record, cat_said}
 use Rattle.command_line.specs.words.Copy.{CopyRecord, copy_record, copy_said}
 use Rattle.command_line.specs.words.Exports.{ExportsRecord, exports_record, exports_said}
@@ -31,7 +32,7 @@ use Rattle.command_line.specs.words.Diff.{DiffRecord, diff_record, diff_said}
 use Rattle.command_line.specs.words.TreeVerify.{TreeVerifyRecord, tree_verify_record, tree_verify_said}
 use Rattle.command_line.specs.words.TreeTable.{TreeTableRecord, tree_table_record, tree_table_said}
 use Rattle.command_line.specs.declared.invocation.Invocation.{Invocation}
-use Rattle.command_line.specs.declared.invocation.Invocation.TheVariants.{Load, Read, Write, Session, Nbd, Exports, Scan, Copy, Cat, Store, Format, Verify, Dump, Table, Partitions, Diff, Repair, Update, Find, VerifyTree, TableTree, FormatFec, VerifyFec, Manual, Version}
+use Rattle.command_line.specs.declared.invocation.Invocation.TheVariants.{Load, Read, Write, Session, Nbd, Exports, Scan, Copy, Cat, Store, Format, Verify, Dump, Table, Partitions, Diff, Repair, Update, Find, Assemble, VerifyTree, TableTree, FormatFec, VerifyFec, Manual, Version}
 
 pub data InvocationRecord : Type 0 where
   load : LoadRecord → InvocationRecord
@@ -54,6 +55,7 @@ pub data InvocationRecord : Type 0 where
   repair : RepairRecord → InvocationRecord
   update : UpdateRecord → InvocationRecord
   find_in_place : FindRecord → InvocationRecord
+  assemble : AssembleRecord → InvocationRecord
   -- `verify --no-superblock`
   verify_tree : TreeVerifyRecord → InvocationRecord
   table_tree : TreeTableRecord → InvocationRecord
@@ -137,6 +139,7 @@ invocation_said name texts words =
     when (pin_allowed texts) (λ a.
     when (root_file_allowed name texts) (λ b.
     if bytes_eq name (codes "repair") then said_as repair (repair_said texts words)
+    else if bytes_eq name (codes "assemble") then said_as assemble (assemble_said texts words)
     else if has_fec_value texts then fec_said name texts words
     else if texts.no_superblock then tree_said name texts words else command_said name texts words))
 
@@ -161,6 +164,7 @@ invocation_record (Diff w) = diff (diff_record w)
 invocation_record (Repair w) = repair (repair_record w)
 invocation_record (Update w) = update (update_record w)
 invocation_record (Find w) = find_in_place (find_record w)
+invocation_record (Assemble w) = assemble (assemble_record w)
 invocation_record (VerifyTree w) = verify_tree (tree_verify_record w)
 invocation_record (TableTree w) = table_tree (tree_table_record w)
 invocation_record (FormatFec w) = format_fec (fec_format_record w)

@@ -9,6 +9,7 @@ pub mod OptionGroups
 pub mod Values
 pub mod RootFiles
 pub mod Positional
+pub mod SourceWords
 pub mod ImageValues
 pub mod ImageCopies
 pub mod PartBindings

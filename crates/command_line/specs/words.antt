@@ -1,3 +1,4 @@
+pub mod Assemble
 pub mod Cat
 pub mod Copy
 pub mod Diff

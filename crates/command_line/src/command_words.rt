@@ -10,6 +10,7 @@ use crate::fault::WordsFault;
 use crate::invocation::Invocation;
 use crate::misuse::{Cause, Misuse, refuse_if};
 use crate::option_words::{OptionWords, has_fec_value};
+use crate::words::assemble::assemble_of;
 use crate::words::cat::cat_of;
 use crate::words::copy::copy_of;
 use crate::words::diff::diff_of;
@@ -58,7 +59,7 @@ pub fn invocation_of<'a>(
     }
 }
 
-// With `--fec` the command is one on parity, and with `--no-superblock` one on a tree that has none.
+// With `--fec FILE` the command is one on parity, and with `--no-superblock` one on a tree that has none.
 #[tactic(auto, unfolding(crate::specs::Invocations::invocation_said))]
 fn said_by<'a>(
     alloc: Global,
@@ -72,6 +73,8 @@ fn said_by<'a>(
     allow_root_file(name, options)?;
     if name == b"repair".as_slice() {
         repair_of(alloc, options, words)
+    } else if name == b"assemble".as_slice() {
+        assemble_of(options, words)
     } else if has_fec_value(options) {
         fec_of(name, options, words)
     } else if options.no_superblock {

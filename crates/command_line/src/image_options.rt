@@ -148,7 +148,7 @@ fn uuid_of<'a>(word: Option<&'a str>) -> Result<Option<[u8; 16]>, Misuse<'a>>
 }
 
 /// Returns the bytes of an identifier in one of its usual forms.
-pub(crate) fn identifier_of(word: &str) -> Option<[u8; 16]>
+pub fn identifier_of(word: &str) -> Option<[u8; 16]>
     ensures { result ≡ parsed word.now }
 {
     match Uuid::try_parse(word) {

@@ -5,6 +5,7 @@ ghost use Rattle.command_line.specs.InvocationBindings.{bindings_in, with_bindin
 ghost use Rattle.command_line.specs.Invocations.{invocation_record};
 
 use crate::bindings::Binding;
+use crate::words::assemble::AssembleWords;
 use crate::words::cat::CatWords;
 use crate::words::copy::CopyWords;
 use crate::words::diff::DiffWords;
@@ -76,6 +77,7 @@ pub enum Invocation<'a> {
     Repair(RepairWords<'a>),
     Update(UpdateWords<'a>),
     Find(FindWords<'a>),
+    Assemble(AssembleWords<'a>),
     /// `verify --no-superblock`
     VerifyTree(TreeVerifyWords<'a>),
     TableTree(TreeTableWords<'a>),
@@ -111,6 +113,7 @@ pub fn bindings_in<'a, 'b>(invocation: &'b Invocation<'a>) -> &'b [Binding<'a>]
         | Invocation::Repair(_)
         | Invocation::Update(_)
         | Invocation::Find(_)
+        | Invocation::Assemble(_)
         | Invocation::VerifyTree(_)
         | Invocation::TableTree(_)
         | Invocation::FormatFec(_)
@@ -174,6 +177,7 @@ pub fn with_bindings<'a>(invocation: Invocation<'a>, bindings: Vec<Binding<'a>>)
         Invocation::Repair(words) => Invocation::Repair(words),
         Invocation::Update(words) => Invocation::Update(words),
         Invocation::Find(words) => Invocation::Find(words),
+        Invocation::Assemble(words) => Invocation::Assemble(words),
         Invocation::VerifyTree(words) => Invocation::VerifyTree(words),
         Invocation::TableTree(words) => Invocation::TableTree(words),
         Invocation::FormatFec(words) => Invocation::FormatFec(words),

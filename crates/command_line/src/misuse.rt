@@ -73,6 +73,8 @@ pub enum Cause {
     NameWithAll,
     /// It needs `--all`.
     WithoutAll,
+    /// It needs `--disk`.
+    WithoutDisk,
     /// It needs `--fec`.
     WithoutFec,
     /// It needs `--stack`, `--root` or `--pin`.

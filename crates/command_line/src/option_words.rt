@@ -31,6 +31,9 @@ pub struct OptionWords<'a> {
     pub old_root_hash_file: Option<&'a str>,
     pub runs: Option<&'a str>,
     pub retries: Option<&'a str>,
+    pub kind: Option<&'a str>,
+    pub arch: Option<&'a str>,
+    pub draw_from: Option<&'a str>,
     pub all: bool,
     pub stack: bool,
     pub no_superblock: bool,
@@ -44,6 +47,8 @@ pub struct OptionWords<'a> {
     pub tree: bool,
     pub quiet: bool,
     pub writable: bool,
+    pub parity: bool,
+    pub disk: bool,
 }
 
 /// Returns whether `--fec` or `--fec-roots` is given.

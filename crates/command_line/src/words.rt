@@ -1,4 +1,5 @@
 //! The options and positional arguments of each command, a file a command.
+pub mod assemble;
 pub mod cat;
 pub mod copy;
 pub mod diff;

@@ -1,5 +1,5 @@
 -- What words say, as clap cuts them.
-use Rattle.std.proofs.Common.{◌≡◌, Bool, List, [], ◌∷◌, length, map, codes, Option, Some, None, Ok, Err, refl, ap, sym, ◌∙◌}
+use Rattle.std.proofs.Common.{◌≡◌, Bool, List, [], ◌∷◌, length, map, codes, Option, Some, None, Ok, Err, refl, ap, sym, inr, ◌∙◌}
 use Rattle.std.specs.Prelude.{option_map, unwrap_or, Box}
 use Rattle.clap.proofs.WalkLemmas.{raw_values-rows}
 use Rattle.clap.specs.Faults.{fault_of}
@@ -22,6 +22,7 @@ use Rattle.command_line.specs.Invocations.{InvocationRecord}
 use Rattle.command_line.specs.Misuses.{MisuseRecord, Reading, said_as, when}
 use Rattle.command_parser.specs.CommandLines.{IsUnread, LineRecord, is_behind_dashes, line_invoked, line_said, line_with, positional_in, said_by_cut, texts_in, unless_refused, with_values}
 use Rattle.command_parser.specs.Grammar.{grammar}
+use Rattle.command_parser.specs.Memory.{IsMemoryEnd}
 use Rattle.command_parser.specs.Unread.{unread, unread_argument}
 
 -- words that clap takes
@@ -80,6 +81,11 @@ pub refused-line : (words : List Text) (options : OptionTexts) (said : Reading I
     → RefusesWords said fault → IsMisuse (λ misuse. line_invoked words ≡ Err misuse) fault
 refused-line words options said (Usage misuse) is refuses = is ∙ ap (said_as (line_with options)) refuses
 refused-line words options said NoMemory is refuses = tt
+
+-- a reader whose allocation was refused
+pub reader-memory : {A : Type 0} (words : List Text) (said : Reading A) (fault : WordsFault) → RefusesWords said fault → IsMemoryEnd words fault
+reader-memory words said (Usage misuse) refuses = tt
+reader-memory words said NoMemory refuses = inr refuses
 
 -- arguments that invoke nothing
 pub line_said-misused : (words : List Text) (fault : WordsFault) → IsMisuse (λ misuse. line_invoked words ≡ Err misuse) fault → IsMisuse (λ misuse. line_said words ≡ Err misuse) fault

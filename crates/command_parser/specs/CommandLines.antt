@@ -44,6 +44,9 @@ texts_in rows = record {
   old_root_hash_file = first_of (codes "old-root-hash-file") rows;
   runs = first_of (codes "runs") rows;
   retries = first_of (codes "retries") rows;
+  kind = first_of (codes "type") rows;
+  arch = first_of (codes "arch") rows;
+  draw_from = first_of (codes "draw-from") rows;
   all = is_there (codes "all") rows;
   stack = is_there (codes "stack") rows;
   no_superblock = is_there (codes "no-superblock") rows;
@@ -57,6 +60,8 @@ texts_in rows = record {
   tree = is_there (codes "tree") rows;
   quiet = is_there (codes "quiet") rows;
   writable = is_there (codes "writable") rows;
+  parity = is_there (codes "fec") rows;
+  disk = is_there (codes "disk") rows;
 }
 
 -- the positional words

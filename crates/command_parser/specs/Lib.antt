@@ -1,5 +1,6 @@
 pub mod Commands
 pub mod Grammar
+pub mod Memory
 pub mod OptionNames
 pub mod Unread
 pub mod CommandLines

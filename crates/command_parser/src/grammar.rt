@@ -7,6 +7,7 @@ ghost use Rattle.clap.specs.declared.builder.command.Command.TheViews.{out-Comma
 ghost use Rattle.command_line.specs.CommandWords.{IsMisuse};
 ghost use Rattle.command_parser.specs.CommandLines.{IsUnread};
 ghost use Rattle.command_parser.specs.Grammar.{command_app, command_text, grammar, option_rule, option_text, positional, program, with_commands, with_options};
+ghost use Rattle.command_parser.specs.Memory.{IsMemoryEnd};
 
 use crate::option_rows::OptionRow;
 use crate::rows::{COMMANDS, CommandRow};
@@ -20,11 +21,12 @@ use std::alloc::{AllocError, Global};
 ///
 /// # Errors
 ///
-/// `Usage` if the arguments aren't a command, or `NoMemory` if an allocation was refused.
+/// `Usage` if the arguments aren't a command, or `NoMemory` if clap ran out of memory.
 pub fn matches_of<'a>(alloc: Global, words: &'a [String]) -> Result<ArgMatches<'a>, WordsFault<'a>>
     ensures taken { IfOk result (λ found. fault_of grammar (map string_bytes words.now) ≡ []) }
     ensures ok { IfOk result (λ found. subcommand_rows_of found ≡ subcommand_of grammar (map string_bytes words.now)) }
     ensures err { IfErr result (IsMisuse (IsUnread (map string_bytes words.now))) }
+    ensures memory { IfErr result (IsMemoryEnd (map string_bytes words.now)) }
 {
     let Ok(command) = all_commands(alloc) else {
         return Err(WordsFault::NoMemory);

@@ -7,6 +7,7 @@ mod option_rows;
 mod option_words;
 mod parser;
 mod rows;
+mod seal;
 mod unread;
 
 pub use parser::{CommandLine, parse};

@@ -140,6 +140,24 @@ pub(crate) const RETRIES: OptionRow = OptionRow {
     has_value: true,
 };
 
+pub(crate) const TYPE: OptionRow = OptionRow {
+    name: "type",
+    others: &[],
+    has_value: true,
+};
+
+pub(crate) const ARCH: OptionRow = OptionRow {
+    name: "arch",
+    others: &[],
+    has_value: true,
+};
+
+pub(crate) const DRAW_FROM: OptionRow = OptionRow {
+    name: "draw-from",
+    others: &[],
+    has_value: true,
+};
+
 pub(crate) const STACK: OptionRow = OptionRow {
     name: "stack",
     others: &[],
@@ -208,6 +226,19 @@ pub(crate) const TREE: OptionRow = OptionRow {
 
 pub(crate) const WRITABLE: OptionRow = OptionRow {
     name: "writable",
+    others: &[],
+    has_value: false,
+};
+
+/// Parity in a partition of the disk that `assemble` makes.
+pub(crate) const PARITY: OptionRow = OptionRow {
+    name: "fec",
+    others: &[],
+    has_value: false,
+};
+
+pub(crate) const DISK: OptionRow = OptionRow {
+    name: "disk",
     others: &[],
     has_value: false,
 };

@@ -35,6 +35,9 @@ pub fn option_words<'a>(found: &ArgMatches<'a>) -> OptionWords<'a>
         old_root_hash_file: value(found, "old-root-hash-file"),
         runs: value(found, "runs"),
         retries: value(found, "retries"),
+        kind: value(found, "type"),
+        arch: value(found, "arch"),
+        draw_from: value(found, "draw-from"),
         all: is_there(found, "all"),
         stack: is_there(found, "stack"),
         no_superblock: is_there(found, "no-superblock"),
@@ -48,6 +51,8 @@ pub fn option_words<'a>(found: &ArgMatches<'a>) -> OptionWords<'a>
         tree: is_there(found, "tree"),
         quiet: is_there(found, "quiet"),
         writable: is_there(found, "writable"),
+        parity: is_there(found, "fec"),
+        disk: is_there(found, "disk"),
     }
 }
 

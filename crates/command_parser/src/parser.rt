@@ -2,6 +2,7 @@
 ghost use Rattle.std.specs.Prelude.{◌≡◌, map, string_bytes, Ok, Err, IfOk, IfErr};
 ghost use Rattle.command_line.specs.CommandWords.{IsMisuse};
 ghost use Rattle.command_parser.specs.CommandLines.{is_behind_dashes, line_invoked, line_record, line_said};
+ghost use Rattle.command_parser.specs.Memory.{IsMemoryEnd};
 
 use crate::grammar::matches_of;
 use crate::option_words::option_words;
@@ -20,10 +21,11 @@ pub struct CommandLine<'a> {
 /// # Errors
 ///
 /// - `Usage` with the misused argument, if the arguments are no command or an option has no valid value.
-/// - `NoMemory` if an allocation was refused.
+/// - `NoMemory` if clap ran out of memory, or another allocation was refused.
 pub fn parse<'a>(alloc: Global, words: &'a [String]) -> Result<CommandLine<'a>, WordsFault<'a>>
     ensures ok { IfOk result (λ line. line_said (map string_bytes words.now) ≡ Ok (line_record line)) }
     ensures err { IfErr result (IsMisuse (λ misuse. line_said (map string_bytes words.now) ≡ Err misuse)) }
+    ensures memory { IfErr result (IsMemoryEnd (map string_bytes words.now)) }
 {
     let line = invoked_line(alloc, words)?;
     match options_of(alloc, &line.options) {
@@ -36,6 +38,7 @@ pub fn parse<'a>(alloc: Global, words: &'a [String]) -> Result<CommandLine<'a>, 
 fn invoked_line<'a>(alloc: Global, words: &'a [String]) -> Result<CommandLine<'a>, WordsFault<'a>>
     ensures ok { IfOk result (λ line. line_invoked (map string_bytes words.now) ≡ Ok (line_record line)) }
     ensures err { IfErr result (IsMisuse (λ misuse. line_invoked (map string_bytes words.now) ≡ Err misuse)) }
+    ensures memory { IfErr result (IsMemoryEnd (map string_bytes words.now)) }
 {
     let matches = matches_of(alloc, words)?;
     let Some((name, found)) = matches.subcommand() else {

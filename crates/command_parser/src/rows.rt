@@ -1,9 +1,9 @@
 //! The commands with their options, a row each.
 use crate::option_rows::{
-    ALL, BLOCKS, CACHE, CHART, CHECK, COUNT, DATA_BLOCK, DIFFERING, FEC, FEC_ROOTS, FIRST, GROW,
-    HASH_BLOCK, HASH_OFFSET, JSON, LINUX, MAP, NAME, NO_SUPERBLOCK, OLD_HASH_OFFSET, OLD_PIN,
-    OLD_ROOT_HASH_FILE, OptionRow, PIN, PROGRESS, QUIET, RETRIES, ROOT, ROOT_HASH_FILE, RUNS, SALT,
-    SECTOR_SIZE, STACK, TREE, UUID, WRITABLE,
+    ALL, ARCH, BLOCKS, CACHE, CHART, CHECK, COUNT, DATA_BLOCK, DIFFERING, DISK, DRAW_FROM, FEC,
+    FEC_ROOTS, FIRST, GROW, HASH_BLOCK, HASH_OFFSET, JSON, LINUX, MAP, NAME, NO_SUPERBLOCK,
+    OLD_HASH_OFFSET, OLD_PIN, OLD_ROOT_HASH_FILE, OptionRow, PARITY, PIN, PROGRESS, QUIET, RETRIES,
+    ROOT, ROOT_HASH_FILE, RUNS, SALT, SECTOR_SIZE, STACK, TREE, TYPE, UUID, WRITABLE,
 };
 
 /// A command: its name, and the options that may precede its positional words.
@@ -14,7 +14,7 @@ pub struct CommandRow {
 }
 
 /// All commands.
-pub static COMMANDS: [CommandRow; 20] = [
+pub static COMMANDS: [CommandRow; 21] = [
     CommandRow {
         name: "format",
         options: &[
@@ -99,6 +99,10 @@ pub static COMMANDS: [CommandRow; 20] = [
         options: &[QUIET, JSON],
     },
     CommandRow {
+        name: "assemble",
+        options: &[QUIET, TYPE, ARCH, PARITY, SECTOR_SIZE, DRAW_FROM, PIN],
+    },
+    CommandRow {
         name: "load",
         options: &[QUIET, JSON, TREE, LINUX],
     },
@@ -120,11 +124,11 @@ pub static COMMANDS: [CommandRow; 20] = [
     },
     CommandRow {
         name: "scan",
-        options: &[QUIET, CACHE, MAP, RETRIES, PROGRESS, JSON, CHART],
+        options: &[QUIET, CACHE, MAP, RETRIES, PROGRESS, JSON, CHART, DISK],
     },
     CommandRow {
         name: "copy",
-        options: &[QUIET, CACHE, DIFFERING, MAP, RETRIES, PROGRESS],
+        options: &[QUIET, CACHE, DIFFERING, MAP, RETRIES, PROGRESS, DISK, GROW],
     },
     CommandRow {
         name: "cat",

@@ -1,4 +1,6 @@
+pub mod lemmas
 mod PartLemmas
 mod WindowCallLemmas
 mod PutLemmas
 mod DifferingCallLemmas
+mod CopyLemmas

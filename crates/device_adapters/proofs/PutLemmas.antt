@@ -42,7 +42,7 @@ bytes-stand image first n bytes each inside e =
 pub stand-bytes : (image : List (List ℕ)) (first n : ℕ) (bytes : List ℕ) → length bytes ≡ 512 * n → run_of image first n ≡ sectors_of n bytes → concat (run_of image first n) ≡ bytes
 stand-bytes image first n bytes size e = ap concat e ∙ concat-sectors_of n bytes ∙ take_all (512 * n) bytes (omega (arith, size))
 
-same-device : {a b c : Device} → IsSameDevice a b → IsSameDevice b c → IsSameDevice a c
+pub same-device : {a b c : Device} → IsSameDevice a b → IsSameDevice b c → IsSameDevice a c
 same-device p q = record { size = q.size ∙ p.size; may_write = q.may_write ∙ p.may_write; steady = q.steady ∙ p.steady; never_fails = λ h. q.never_fails (p.never_fails h) }
 
 -- ---- one block

@@ -1,5 +1,6 @@
 pub mod Parts
 pub mod Windows
+pub mod Copying
 pub mod Differing
 pub mod DifferingCalls
 pub mod Watching

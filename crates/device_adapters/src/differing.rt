@@ -1,11 +1,10 @@
 //! A device that writes only blocks that differ.
 ghost use Rattle.std.specs.Prelude.{◌≡◌, ◌+◌, false, length, is_ok, IsOk, IsTrue, OnErr, OnOk};
 ghost use Rattle.block_device.specs.Call.{DeviceDoes, Sync, Write};
-ghost use Rattle.block_device.specs.CallList.{DeviceCalls, sectors_read, sectors_written};
 ghost use Rattle.block_device.specs.Calls.{DeviceFails, DeviceFailsToSync, DevicePuts, DeviceSyncs, DeviceWrites, SyncsInner};
 ghost use Rattle.block_device.specs.Counters.{capped-fits};
 ghost use Rattle.block_device.specs.Device.{IsInside, capped};
-ghost use Rattle.device_adapters.specs.DifferingCalls.{LeavesStanding};
+ghost use Rattle.device_adapters.specs.DifferingCalls.{DifferingDoes, LeavesStanding};
 ghost use Rattle.device_adapters.specs.Differing.{differing};
 
 use crate::put::put_blocks;
@@ -44,7 +43,7 @@ impl<D: BlockDev> BlockDev for Differing<D> {
 
     ghost gives = { λ d first bytes. D.gives d.inner first bytes };
 
-    ghost does = { λ old call new. DeviceCalls D.state D.does (sectors_read call + sectors_written call) (sectors_written call) old.inner new.inner };
+    ghost does = { λ old call new. DifferingDoes (DeviceDoes D.state D.does) old.inner call new.inner };
 
     ghost whole = { λ d. record { length = (D.whole d.inner).length; sectors = (D.whole d.inner).sectors } };
 

@@ -1,8 +1,9 @@
 //! Devices over another device: a part of it, one that writes only sectors that differ, and one that reports its
-//! reads as progress.
+//! reads as progress; and copies of devices.
 #![tactic(auto)]
 
 mod beside;
+mod copying;
 mod differing;
 mod part;
 mod progress;
@@ -13,6 +14,7 @@ mod watchers;
 mod window;
 
 pub use beside::Beside;
+pub use copying::copy_sectors;
 pub use differing::Differing;
 pub use part::{OutsideDevice, Part};
 pub use progress::{NoProgress, Progress};

@@ -1,8 +1,9 @@
 //! Writing bytes only if they differ.
 ghost use Rattle.std.specs.Prelude.{◌≡◌, ◌+◌, ◌*◌, ◌/◌, ◌≤◌, length, is_ok, IsOk, IsTrue, OnErr, OnOk};
+ghost use Rattle.block_device.specs.Call.{DeviceDoes};
 ghost use Rattle.block_device.specs.CallList.{DeviceCalls};
 ghost use Rattle.block_device.specs.Device.{HasFailed, IsInside, IsWhole, failures_after};
-ghost use Rattle.device_adapters.specs.DifferingCalls.{LeavesStanding, PutsOn};
+ghost use Rattle.device_adapters.specs.DifferingCalls.{BlockCalls, DifferingWrite, LeavesStanding, PutsOn};
 ghost use Rattle.device_adapters.specs.Differing.{KeepsOutside};
 
 use block_device::{BlockDev, DeviceFault};
@@ -24,7 +25,7 @@ fn put_block<D: BlockDev>(
     ensures sure { IsTrue (D.state device.old).never_fails → IsOk result }
     ensures fault { OnErr result (HasFailed (D.state device.old) (D.state device.new)) }
     ensures same { OnOk result (LeavesStanding D.state device.old device.new first bytes.now) }
-    ensures calls { DeviceCalls D.state D.does (length bytes.now / 512) (length bytes.now / 512) device.old device.new }
+    ensures calls { DeviceCalls (DeviceDoes D.state D.does) (BlockCalls first bytes.now (is_ok result)) device.old device.new }
 {
     device.read(first, room)?;
     if *room == *bytes {
@@ -46,7 +47,7 @@ pub(crate) fn put_blocks<D: BlockDev>(
     ensures sure { IsTrue (D.state device.old).never_fails → IsOk result }
     ensures fault { OnErr result (HasFailed (D.state device.old) (D.state device.new)) }
     ensures same { OnOk result (LeavesStanding D.state device.old device.new first bytes.now) }
-    ensures calls { DeviceCalls D.state D.does (length bytes.now / 512) (length bytes.now / 512) device.old device.new }
+    ensures calls { DeviceCalls (DeviceDoes D.state D.does) (DifferingWrite first bytes.now (is_ok result)) device.old device.new }
 {
     // This call gives the proof the largest size of a device.
     let _fits = device.sectors();

@@ -9,4 +9,6 @@ pub mod SumLemmas
 pub mod AskingLemmas
 pub mod GivenLemmas
 pub mod GivenParityLemmas
+pub mod WithinLemmas
+pub mod CorrectingLemmas
 pub mod lemmas

@@ -45,6 +45,14 @@ AsksKept sought ok data_state hash_state parity_state d h p d' h' p' =
     AreAskedFor (data_blocks * (l.block / 512)) (hash_blocks * (l.block / 512)) (l.roots * (l.block / 512)) ok
     (data_state d) (hash_state h) (parity_state p) (data_state d') (hash_state h') (parity_state p')
 
+-- at most n sectors of each of two devices were read
+pub record AreReadWithin (n : ℕ) (data_dev hash_dev data_dev' hash_dev' : Device) : Type 0 where
+  pub data_most : data_dev'.reads ≤ data_dev.reads + n
+  pub hash_most : hash_dev'.reads ≤ hash_dev.reads + n
+
+abbrev pub ReadsWithin : {D H : Type 0} → ℕ → (D → Device) → (H → Device) → D → H → D → H → Type 0
+ReadsWithin n data_state hash_state d h d' h' = AreReadWithin n (data_state d) (hash_state h) (data_state d') (hash_state h')
+
 -- ---- parts of the call
 
 -- the number of sectors of covered block j on the data device, and on the hash device

@@ -8,3 +8,4 @@ pub mod Asking
 pub mod Given
 pub mod GivenRestored
 pub mod GivenParity
+pub mod Correcting

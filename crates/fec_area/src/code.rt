@@ -11,6 +11,15 @@ pub(crate) struct Code<'a> {
     pub products: &'a [Products],
 }
 
+/// A block that may have wrong bytes: its round, its position in the round's codewords, and its index among the covered blocks.
+#[derive(Clone, Copy)]
+pub(crate) struct Suspect<'a> {
+    pub code: Code<'a>,
+    pub round: u64,
+    pub place: usize,
+    pub index: u64,
+}
+
 /// The lost blocks of a round, by their positions in its codewords.
 #[derive(Clone, Copy)]
 pub(crate) struct Gap<'a> {

@@ -4,6 +4,7 @@
 
 mod checking;
 mod code;
+mod correcting;
 mod covered;
 pub mod laws;
 mod layout;
@@ -12,6 +13,7 @@ mod round;
 mod writing;
 
 pub use checking::check_parity;
+pub use correcting::correct_block;
 pub use layout::Layout;
 pub use restoring::{LostBlock, RestoreFault, restore_block};
 pub use writing::{ParityFault, write_parity};

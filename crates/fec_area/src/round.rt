@@ -1,7 +1,7 @@
 //! A round of codewords, summed position by position: its parity, or its lost blocks.
-ghost use Rattle.std.specs.Prelude.{◌≡◌, ◌+◌, ◌*◌, ◌<◌, ◌-◌, IsOk, OnOk, OnErr, EachIndex, is_ok, length, slice_index};
+ghost use Rattle.std.specs.Prelude.{◌≡◌, ◌+◌, ◌*◌, ◌/◌, ◌<◌, ◌-◌, IsOk, OnOk, OnErr, EachIndex, is_ok, length, slice_index};
 ghost use Rattle.block_device.specs.Call.{DeviceDoes};
-ghost use Rattle.fec_area.specs.Asking.{AsksAt, AsksPlace, AsksRound, is_among};
+ghost use Rattle.fec_area.specs.Asking.{AsksAt, AsksPlace, AsksRound, ReadsWithin, is_among};
 ghost use Rattle.fec_area.specs.Given.{GivesKept, GivesParity, GivesPlace, GivesRestored};
 ghost use Rattle.fec_area.specs.Layouts.{code_rounds};
 ghost use Rattle.fec_area.specs.Rounds.{Adds, AddsKept, BothNeverFail, CanAdd, CanAddKept, CanRestore, CanSum, CountsFailures, NeitherFails, OneFails, OnlyReadsCovered, Restores, SumsUp};
@@ -27,6 +27,8 @@ pub(crate) fn sum_parity<D: BlockDev, H: BlockDev>(
     ensures parity { OnOk result (SumsUp code.now (D.state data_dev.old) (H.state hash_dev.old) round parity.new) }
     ensures err { OnErr result (OneFails D.state H.state data_dev.old hash_dev.old data_dev.new hash_dev.new) }
     ensures given { GivesParity (DeviceDoes D.state D.does) (DeviceDoes H.state H.does) code.now.layout.now round parity.new data_dev.old hash_dev.old data_dev.new hash_dev.new (is_ok result) }
+    ensures most { ReadsWithin ((255 - code.now.layout.now.roots) * (code.now.layout.now.block / 512)) D.state H.state data_dev.old hash_dev.old data_dev.new hash_dev.new }
+    ensures counted { CountsFailures D.state H.state data_dev.old hash_dev.old data_dev.new hash_dev.new }
 {
     let count = code.layout.roots;
     parity.fill(0);

@@ -1,5 +1,5 @@
 -- Commands that end early.
-use Rattle.std.proofs.Common.{◌≡◌, ℕ, Bool, List, Option, Result, Ok, Err, refl, sym, subst}
+use Rattle.std.proofs.Common.{◌≡◌, ℕ, Bool, List, Option, None, Result, Ok, Err, refl, sym, subst}
 use Rattle.std.specs.Prelude.{IfErr, IsErrAnd}
 use Rattle.image_commands.proofs.lemmas.EndingLemmas.{quiet as image-quiet}
 use Rattle.image_commands.specs.declared.fault.ImageFault.{ImageFault}
@@ -16,6 +16,7 @@ use Rattle.command_line.specs.declared.fault.WordsFault.TheVariants as words
 use Rattle.verity_commands.specs.Endings.{IsUnsaid, IsVerityQuiet, words_ending}
 use Rattle.fec_commands.specs.declared.fault.FecFault.{FecFault}
 use Rattle.fec_commands.specs.declared.fault.FecFault.TheVariants as fec
+use Rattle.fec_commands.specs.Growing.{needed_in, needed_of}
 use Rattle.fec_commands.specs.Verifying.{IsFecQuiet}
 
 pub verity-quiet : (fault : VerityFault) (bytes : Option (List ℕ)) → IsVerityQuiet fault bytes bytes
@@ -36,6 +37,11 @@ err-from (Err e) P fault is holds = subst P (sym is) holds
 -- what holds of a result's fault, where that is known
 pub at-fault : {T E : Type 0} (r : Result T E) (P : E → Type 0) (fault : E) → r ≡ Err fault → IfErr r P → P fault
 at-fault {T} {E} r P fault is holds = subst (λ (x : Result T E). IfErr x P) is holds
+
+-- what holds of a fault that isn't for want of sectors in the parity file
+pub err-enough : {T : Type 0} (r : Result T FecFault) (P Q : FecFault → Type 0) → needed_of r ≡ None → ((fault : FecFault) → needed_in fault ≡ None → P fault → Q fault) → IfErr r P → IfErr r Q
+err-enough (Ok done) P Q enough f holds = tt
+err-enough (Err fault) P Q enough f holds = f fault enough holds
 
 -- an option that states no value
 pub unsaid : (texts : OptionTexts) (fault : WordsFault) → RefusesWords (options_read texts) fault → IsUnsaid texts (words_ending fault)

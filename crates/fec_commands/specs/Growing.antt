@@ -1,5 +1,5 @@
 -- `format --grow --fec`: the parity file is created if it doesn't exist, and extended if it has too few sectors.
-use Rattle.std.specs.Prelude.{◌≡◌, ◌⊎◌, ℕ, Bool, true, false, List}
+use Rattle.std.specs.Prelude.{◌≡◌, ◌⊎◌, ℕ, Bool, true, false, List, Option, Some, None, Result, Ok, Err}
 use Rattle.fec_area.specs.declared.writing.ParityFault.TheVariants.{TooSmall}
 use Rattle.image_files.specs.declared.opening.UnopenedFile.{UnopenedFile}
 use Rattle.block_device.specs.Device.{Device}
@@ -14,6 +14,15 @@ use Rattle.fec_commands.specs.FecFaults.{unopened}
 use Rattle.command_line.specs.declared.fec_file.FecFile.{FecFile}
 use Rattle.command_line.specs.FecFiles.{FecRecord, fec_record}
 use Rattle.fec_commands.specs.Protecting.{IsProtectEnd, ProtectsImage}
+
+-- how many sectors the parity file must have, if a command ended because it has fewer
+abbrev pub needed_in : FecFault → Option ℕ
+needed_in (Parity (TooSmall needed)) = Some needed
+needed_in fault = None
+
+abbrev pub needed_of : {T : Type 0} → Result T FecFault → Option ℕ
+needed_of (Ok done) = None
+needed_of (Err fault) = needed_in fault
 
 -- the file couldn't be extended to so many sectors, and the command ends in this fault
 pub record EndsUngrown {S D : Type 0} (w : Calls S D) (path : List ℕ) (sectors : ℕ) (fault : FecFault) : Type 0 where
@@ -48,10 +57,11 @@ abbrev pub Protects : {S D : Type 0} → TreeSource → Bool → Calls S D → T
 Protects source true w places fec = GrowsThen w fec (λ v. ProtectsImage source v places fec) ⊎ GrowsTwiceThen source w places fec (λ v. ProtectsImage source v places fec)
 Protects source false w places fec = ProtectsImage source w places fec
 
+-- Why there is no parity. With `--grow` a file that has too few sectors is extended, so that this isn't the end of the first trial.
 abbrev pub IsProtectionEnd : {S D : Type 0} → TreeSource → Bool → Calls S D → TwoPlaces → FecRecord → FecFault → Type 0
 IsProtectionEnd source true w places fec fault =
     EndsUngrown w fec.path 0 fault ⊎ (FailsToGrowParity source w places fec fault
-    ⊎ (GrowsThen w fec (λ v. IsProtectEnd source v places fec fault) ⊎ GrowsTwiceThen source w places fec (λ v. IsProtectEnd source v places fec fault)))
+    ⊎ (((needed_in fault ≡ None) × GrowsThen w fec (λ v. IsProtectEnd source v places fec fault)) ⊎ GrowsTwiceThen source w places fec (λ v. IsProtectEnd source v places fec fault)))
 IsProtectionEnd source false w places fec fault = IsProtectEnd source w places fec fault
 
 -- why there is no parity, by the program's arguments and the opener before and after

@@ -1,10 +1,10 @@
 //! Writes the parity of a verity image to a file, which is created, or extended if it has too few sectors.
-ghost use Rattle.std.specs.Prelude.{◌≡◌, true, Err, IfErr, IfSome, OnOk};
+ghost use Rattle.std.specs.Prelude.{◌≡◌, true, None, Err, IfErr, IfNone, IfSome, OnOk};
 ghost use Rattle.image_files.specs.Opener.{calls};
 ghost use Rattle.fec_area.specs.declared.writing.ParityFault.TheVariants as parity_fault;
 ghost use Rattle.fec_commands.specs.declared.fault.FecFault.TheVariants as fec_fault;
 ghost use Rattle.fec_commands.specs.Finding.{CanMake, FailsToMake};
-ghost use Rattle.fec_commands.specs.Growing.{FailsToProtect, Protects};
+ghost use Rattle.fec_commands.specs.Growing.{FailsToProtect, Protects, needed_of};
 ghost use Rattle.fec_commands.specs.Images.{Does};
 ghost use Rattle.fec_commands.specs.Layings.{IsRoots};
 
@@ -33,7 +33,8 @@ pub(crate) fn check_path<'a, I: Images>(
 
 // How many sectors the parity file must have, if writing failed because it has fewer.
 fn needed_by(tried: &Result<(), FecFault<'_>>) -> Option<u64>
-    ensures { IfSome result (λ needed. tried.now ≡ Err (fec_fault.Parity (parity_fault.TooSmall needed))) }
+    ensures some { IfSome result (λ needed. tried.now ≡ Err (fec_fault.Parity (parity_fault.TooSmall needed))) }
+    ensures none { IfNone result (needed_of tried.now ≡ None) }
 {
     match tried {
         Err(FecFault::Parity(ParityFault::TooSmall { needed })) => Some(*needed),

@@ -20,3 +20,5 @@ pub use fault::FecFault;
 pub use fault_text::{fec_status, say_fec_fault};
 pub use formatting::invoke_format_fec;
 pub use invoke::invoke_verify_fec;
+pub use needed::parity_of;
+pub use protect::write_synced;

@@ -78,8 +78,9 @@ fn said_shape(wanted: &WantedTree, data_sectors: u64) -> Option<Shape>
     }
 }
 
-// How many sectors the parity takes of an image with a tree of that shape, on a hash device of so many sectors.
-fn parity_of(shape: &Shape, hash_sectors: u64, roots: u32) -> Option<u64>
+/// Returns how many sectors the parity takes of an image with a tree of that shape, on a hash device of so many sectors, or `None` if
+/// its data and hash blocks have different sizes.
+pub fn parity_of(shape: &Shape, hash_sectors: u64, roots: u32) -> Option<u64>
     requires roots { IsRoots roots }
     requires small { hash_sectors ≤ 2 ^ 54 }
     ensures some { IfSome result (TakesSectors shape.now hash_sectors roots) }

@@ -79,8 +79,12 @@ fn protect_behind<'a, D: BlockDev + Drop, H: BlockDev + Drop, P: SyncDev>(
     Ok(())
 }
 
-// Writes the parity, and syncs it.
-fn write_synced<D: BlockDev, H: BlockDev, P: SyncDev>(
+/// Writes the parity of an image, and syncs it.
+///
+/// # Errors
+///
+/// Those of `write_parity`, or `Device` if the sync failed.
+pub fn write_synced<D: BlockDev, H: BlockDev, P: SyncDev>(
     alloc: Global,
     layout: &Layout,
     data_dev: &mut D,

@@ -16,7 +16,8 @@ use Rattle.find_commands.specs.declared.finding.Finding.{Finding}
 use Rattle.find_commands.specs.declared.listing.KeptFindings.{KeptFindings}
 use Rattle.find_commands.specs.declared.listing.ListFault.{ListFault}
 use Rattle.find_commands.specs.declared.listing.ListFault.TheVariants as list_fault
-use Rattle.find_commands.specs.Commands.{FindsThings, IsFoundLinesEnd, IsFoundObjectEnd, Printing, PrintsFound, PrintsWhole, SeenDoes, found_lines_text, list_end, printing, found_whole_text}
+use Rattle.find_commands.specs.Areas.{StatesLine}
+use Rattle.find_commands.specs.Commands.{FindsThings, IsFoundLinesEnd, IsFoundObjectEnd, Printing, PrintsFound, PrintsObject, PrintsWhole, SeenDoes, found_lines_text, list_end, printing, found_whole_text}
 use Rattle.find_commands.specs.Findings.{findings_from}
 use Rattle.find_commands.specs.Lines.{finding_line, found_lines}
 use Rattle.find_commands.specs.Searches.{Receives, Searches, SearchSides, read_counts, shown}
@@ -116,3 +117,16 @@ pub kept-found : {D : Type 0} (state : D → Device) (does : D → Call → D �
 kept-found state does old new counts none s =
     finds-of state does KeepsFinding old new counts s new.list.findings.items
     (keeps-all old.list new.list (findings_from 0 (shown s.whole.calls)) s.whole.received ∙ ap (λ (l : List Finding). l ++ findings_from 0 (shown s.whole.calls)) none)
+
+-- the object was printed
+pub prints-object : {D : Type 0} (state : D → Device) (device searched device' : D) (old new : Option (List ℕ)) (found listed : List Finding) (counts : Counts) (line text : List ℕ) → FindsThings state device searched found counts
+    → listed ≡ found → StatesLine state searched listed device' counts line → text ≡ line → Appends old new text → PrintsObject state (printing device device' old new) counts
+prints-object state device searched device' old new found listed counts line text finds same states is printed = record {
+  searched = searched;
+  found = found;
+  shown = states.shown;
+  finds = finds;
+  are = states.are ∙ same;
+  segments = states.finds;
+  text_is = subst (λ (t : List ℕ). Appends old new t) (is ∙ states.line_is) printed;
+}

@@ -1,3 +1,4 @@
+mod AreaLemmas
 mod EndingLemmas
 mod FieldLemmas
 mod ObjectLemmas

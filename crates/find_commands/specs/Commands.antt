@@ -1,11 +1,12 @@
 -- What `find` prints, and how it ends early.
-use Rattle.std.specs.Prelude.{◌≡◌, ◌⊎◌, ℕ, ◌<◌, ◌++◌, Bool, true, false, List, length, Option}
+use Rattle.std.specs.Prelude.{◌≡◌, ◌⊎◌, ℕ, ◌<◌, ◌++◌, Bool, true, false, List, length, map, Option}
 use Rattle.std.specs.Io.KnownBytes.{Appends}
 use Rattle.allocation.specs.Refusal.{IsOutOfMemory}
 use Rattle.block_device.specs.Call.{Call, Calls, IsCall}
 use Rattle.block_device.specs.Device.{Device}
 use Rattle.program_io.specs.Counted.{CountedRecord}
 use Rattle.program_io.specs.JsonLines.{json_line}
+use Rattle.serde_json.specs.Data.{Data}
 use Rattle.command_line.specs.declared.words.find.FindWords.{FindWords}
 use Rattle.command_line.specs.words.Find.{FindRecord, find_record}
 use Rattle.image_files.specs.declared.placed_image.PlacedImage.{PlacedImage}
@@ -19,6 +20,7 @@ use Rattle.scan_commands.specs.declared.recovering_fault.RecoveringFault.TheVari
 use Rattle.find_commands.specs.declared.finding.Finding.{Finding}
 use Rattle.find_commands.specs.declared.listing.ListFault.{ListFault}
 use Rattle.find_commands.specs.declared.listing.ListFault.TheVariants as list_fault
+use Rattle.find_commands.specs.Areas.{FindsEach, SeeksSome}
 use Rattle.find_commands.specs.Findings.{findings_from}
 use Rattle.find_commands.specs.Lines.{found_lines}
 use Rattle.find_commands.specs.Objects.{found_json}
@@ -53,23 +55,33 @@ pub record PrintsFound {D : Type 0} (state : D → Device) (text : List Finding 
   pub finds : FindsThings state o.device o.device' found counts
   pub text_is : Appends o.printed o.printed' (text found counts)
 
--- the lines; with the counts; and the object
+-- The object was printed: after the search of the device, the segments of its LUKS2 headers were sought.
+pub record PrintsObject {D : Type 0} (state : D → Device) (o : Printing D) (counts : Counts) : Type 0 where
+  pub searched : D
+  pub found : List Finding
+  pub shown : List (Finding × Data)
+  pub finds : FindsThings state o.device searched found counts
+  pub are : map (λ s. s.0) shown ≡ found
+  pub segments : FindsEach state searched shown o.device'
+  pub text_is : Appends o.printed o.printed' (json_line (found_json shown counts))
+
+-- the lines; with the counts
 abbrev pub found_lines_text : List Finding → Counts → List ℕ
 found_lines_text found counts = found_lines found
 
 abbrev pub found_whole_text : List Finding → Counts → List ℕ
 found_whole_text found counts = found_lines found ++ counts_text counts.read 0
 
-abbrev pub found_object_text : List Finding → Counts → List ℕ
-found_object_text found counts = json_line (found_json found counts)
-
 -- no sector is lost
 abbrev pub PrintsWhole : {D : Type 0} → (D → Device) → (List Finding → Counts → List ℕ) → Printing D → Type 0
 PrintsWhole state text o = (counts : Counts) × (counts.lost ≡ 0) × PrintsFound state text o counts
 
+abbrev pub PrintsWholeObject : {D : Type 0} → (D → Device) → Printing D → Type 0
+PrintsWholeObject state o = (counts : Counts) × (counts.lost ≡ 0) × PrintsObject state o counts
+
 -- sectors are lost
-abbrev pub PrintsLossy : {D : Type 0} → (D → Device) → (List Finding → Counts → List ℕ) → Printing D → Type 0
-PrintsLossy state text o = (counts : Counts) × (0 < counts.lost) × PrintsFound state text o counts
+abbrev pub PrintsLossyObject : {D : Type 0} → (D → Device) → Printing D → Type 0
+PrintsLossyObject state o = (counts : Counts) × (0 < counts.lost) × PrintsObject state o counts
 
 -- with these counts, which the end of the command prints
 pub record LosesSome {D : Type 0} (state : D → Device) (o : Printing D) (read lost : ℕ) : Type 0 where
@@ -78,10 +90,11 @@ pub record LosesSome {D : Type 0} (state : D → Device) (o : Printing D) (read 
   pub prints : PrintsFound state found_lines_text o counts
   pub are : (read ≡ counts.read) × (lost ≡ counts.lost)
 
--- nothing was printed: room for a finding was refused, or all was found and memory ran out for the object
+-- Nothing was printed: room for a finding was refused, or a search found all, and memory ran out for the object, maybe before all
+-- segments were sought.
 pub record LacksFindMemory {D : Type 0} (state : D → Device) (o : Printing D) : Type 0 where
   pub quiet : o.printed' ≡ o.printed
-  pub cause : IsOutOfMemory 1 ⊎ ((found : List Finding) × (counts : Counts) × FindsThings state o.device o.device' found counts)
+  pub cause : IsOutOfMemory 1 ⊎ ((found : List Finding) × (counts : Counts) × (searched : D) × FindsThings state o.device searched found counts × SeeksSome state searched found o.device')
 
 -- how a search ends early, or with lost sectors
 abbrev pub IsFoundLinesEnd : {D : Type 0} → (D → Device) → Printing D → Bool → RecoveringFault → Type 0
@@ -90,7 +103,7 @@ IsFoundLinesEnd state o failed Write = failed ≡ true
 IsFoundLinesEnd state o failed fault = ⊥
 
 abbrev pub IsFoundObjectEnd : {D : Type 0} → (D → Device) → Printing D → Bool → RecoveringFault → Type 0
-IsFoundObjectEnd state o failed LostAsSaid = PrintsLossy state found_object_text o
+IsFoundObjectEnd state o failed LostAsSaid = PrintsLossyObject state o
 IsFoundObjectEnd state o failed NoMemory = LacksFindMemory state o
 IsFoundObjectEnd state o failed Write = failed ≡ true
 IsFoundObjectEnd state o failed fault = ⊥
@@ -104,7 +117,7 @@ list_end list_fault.Write = Write
 
 abbrev pub PrintsFoundForm : {D : Type 0} → Bool → (D → Device) → Printing D → Type 0
 PrintsFoundForm false state o = PrintsWhole state found_whole_text o
-PrintsFoundForm true state o = PrintsWhole state found_object_text o
+PrintsFoundForm true state o = PrintsWholeObject state o
 
 abbrev pub IsFoundEnd : {D : Type 0} → Bool → (D → Device) → Printing D → Bool → RecoveringFault → Type 0
 IsFoundEnd false state o failed fault = IsFoundLinesEnd state o failed fault
@@ -141,7 +154,7 @@ abbrev pub EndsFoundLines : {D W : Type 0} → (D → Device) → D → D → (W
 EndsFoundLines state device device' contents writer writer' = IsFoundLinesEnd state (printing device device' (contents writer.inner) (contents writer'.inner)) writer'.failed
 
 abbrev pub PrintsFoundObject : {D W : Type 0} → (D → Device) → D → D → (W → Option (List ℕ)) → CountedRecord W → CountedRecord W → Type 0
-PrintsFoundObject state device device' contents writer writer' = PrintsWhole state found_object_text (printing device device' (contents writer.inner) (contents writer'.inner))
+PrintsFoundObject state device device' contents writer writer' = PrintsWholeObject state (printing device device' (contents writer.inner) (contents writer'.inner))
 
 abbrev pub EndsFoundObject : {D W : Type 0} → (D → Device) → D → D → (W → Option (List ℕ)) → CountedRecord W → CountedRecord W → RecoveringFault → Type 0
 EndsFoundObject state device device' contents writer writer' = IsFoundObjectEnd state (printing device device' (contents writer.inner) (contents writer'.inner)) writer'.failed

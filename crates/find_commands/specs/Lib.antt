@@ -2,7 +2,10 @@ pub mod Fields
 pub mod Kinds
 pub mod Signatures
 pub mod Findings
+pub mod Luks
+pub mod CryptLines
 pub mod Lines
 pub mod Objects
+pub mod Areas
 pub mod Searches
 pub mod Commands

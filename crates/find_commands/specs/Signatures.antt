@@ -1,6 +1,6 @@
 -- What a sector of 512 bytes shows, by its own bytes alone: the first of these kinds whose signature it has. A signature counts at
 -- the beginning of any sector.
-use Rattle.std.specs.Prelude.{ℕ, ◌%◌, ◌+◌, ◌==◌, ◌&&◌, not, nat_le, nat_lt, Bool, List, [], ◌∷◌, ◌++◌, codes, is_some, slice_range, Option, Some, None, if◌then◌else◌}
+use Rattle.std.specs.Prelude.{ℕ, ◌%◌, ◌==◌, ◌&&◌, not, nat_le, nat_lt, Bool, List, [], ◌∷◌, ◌++◌, codes, is_some, slice_range, Option, Some, None, if◌then◌else◌}
 use Rattle.std.specs.Int.{is_power_of_two}
 use Rattle.std.specs.Str.{bytes_eq}
 use Rattle.partition_table.specs.Fields.{number32, number64}

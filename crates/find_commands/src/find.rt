@@ -70,7 +70,8 @@ fn find_lines<'a, D: BlockDev, W: Write>(
     tell_counts(counts, writer)
 }
 
-// Prints one object of what is found on an open device.
+// Prints one object of what is found on an open device, with the segments of LUKS2 volumes. Their JSON areas are read after the
+// search.
 fn find_object<'a, D: BlockDev, W: Write>(
     alloc: Global,
     device: &mut D,
@@ -84,7 +85,7 @@ fn find_object<'a, D: BlockDev, W: Write>(
         Ok(counts) => counts,
         Err(fault) => return Err(list_end(fault)),
     };
-    let line = found_line(alloc, kept.findings.as_slice(), counts)?;
+    let line = found_line(alloc, device, kept.findings.as_slice(), counts)?;
     writer.put(line.as_bytes())?;
     if counts.lost > 0 {
         return Err(RecoveringFault::LostAsSaid);

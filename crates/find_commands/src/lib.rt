@@ -1,16 +1,20 @@
 //! Finds the headers of partition tables, hash trees, encrypted devices and file systems on a disk.
 #![tactic(auto)]
 
+mod area;
+mod crypt_line;
 mod fields;
 mod find;
 mod finding;
 mod kind;
 mod line;
 mod listing;
+mod luks;
 mod object;
 mod piece;
 mod search;
 mod sectors;
+mod segments;
 mod signatures;
 
 pub use find::invoke_find;

@@ -1,59 +1,100 @@
 //! Findings as a JSON object.
-ghost use Rattle.std.specs.Prelude.{◌≡◌, string_bytes, IfOk};
-ghost use Rattle.program_io.specs.JsonLines.{json_line};
+ghost use Rattle.std.specs.Prelude.{◌≡◌, ◌++◌, ◌∷◌, [], map, string_bytes, IfOk, OnOk};
 ghost use Rattle.serde_json.specs.Data.{array};
 ghost use Rattle.serde_json.specs.View.{items_of, view};
-ghost use Rattle.find_commands.specs.Objects.{finding_json, findings_json, found_json, stated_json, uuid_json};
+ghost use Rattle.find_commands.specs.Areas.{SeeksSome, StatesFindings, StatesFound, StatesLine};
+ghost use Rattle.find_commands.specs.Objects.{counted_json, finding_json, stated_json, uuid_json};
 
 use crate::finding::Finding;
+use crate::segments::find_segments;
+use allocation::push;
+use block_device::BlockDev;
 use program_io::line_of;
 use serde_json::{Value, json};
 use stack_recovery::Counts;
 use std::alloc::{AllocError, Global};
 use uuid::Uuid;
 
-/// Returns the line of the object: `{"found":[..],"lost":N,"read":N}` with
-/// `{"blocks":N,"kind":NAME,"offset":N,"opener":NAME,"size":N,"uuid":TEXT}` for each finding.
+/// Reads the JSON areas of the LUKS2 headers among the findings, and returns the line of the object:
+/// `{"found":[..],"lost":N,"read":N}` with
+/// `{"blocks":N,"kind":NAME,"offset":N,"opener":NAME,"segments":[..],"size":N,"uuid":TEXT}` for each finding.
 ///
 /// # Errors
 ///
 /// `AllocError` if an allocation was refused.
-#[tactic(auto, using(crate::proofs::ObjectLemmas::plain_found))]
-pub(crate) fn found_line(
+pub(crate) fn found_line<D: BlockDev>(
     alloc: Global,
+    device: &mut D,
     findings: &[Finding],
     counts: Counts,
 ) -> Result<String, AllocError>
-    ensures { IfOk result (λ line. string_bytes line ≡ json_line (found_json findings.now counts)) }
+    ensures calls { SeeksSome D.state device.old findings.now device.new }
+    ensures ok { IfOk result (λ line. StatesLine D.state device.old findings.now device.new counts (string_bytes line)) }
 {
-    let value = found_value(alloc, findings, counts)?;
+    let value = found_value(alloc, device, findings, counts)?;
     line_of(alloc, &value)
 }
 
+fn found_value<D: BlockDev>(
+    alloc: Global,
+    device: &mut D,
+    findings: &[Finding],
+    counts: Counts,
+) -> Result<Value, AllocError>
+    ensures calls { SeeksSome D.state device.old findings.now device.new }
+    ensures ok { IfOk result (λ value. StatesFound D.state device.old findings.now device.new counts (view value)) }
+{
+    let values = finding_values(alloc, device, findings)?;
+    counted_value(alloc, array_value(values), counts)
+}
+
 // Returns the object, its members in the order of their keys.
-fn found_value(alloc: Global, findings: &[Finding], counts: Counts) -> Result<Value, AllocError>
-    ensures { IfOk result (λ value. view value ≡ found_json findings.now counts) }
+fn counted_value(alloc: Global, found: Value, counts: Counts) -> Result<Value, AllocError>
+    ensures { IfOk result (λ value. view value ≡ counted_json (view found) counts) }
 {
     let Counts { read, lost } = counts;
-    let found = findings_value(alloc, findings)?;
     json!(in alloc; {"found": found, "lost": lost, "read": read})
 }
 
-// Returns the array of the findings.
-fn findings_value(alloc: Global, findings: &[Finding]) -> Result<Value, AllocError>
-    ensures { IfOk result (λ value. view value ≡ array (items_of (findings_json findings.now))) }
+fn array_value(values: Vec<Value>) -> Value
+    ensures { view result ≡ array (items_of (map view values.items)) }
+{
+    Value::Array(values)
+}
+
+// Returns the objects of the findings.
+fn finding_values<D: BlockDev>(
+    alloc: Global,
+    device: &mut D,
+    findings: &[Finding],
+) -> Result<Vec<Value>, AllocError>
+    ensures calls { SeeksSome D.state device.old findings.now device.new }
+    ensures ok { IfOk result (λ values. StatesFindings D.state device.old findings.now device.new (map view values.items)) }
 {
     let mut values = Vec::new(alloc);
     'findings: for finding in findings {
-        let value = finding_value(alloc, finding)?;
-        values.push(value)?;
+        let segments = find_segments(alloc, device, finding)?;
+        add_finding(alloc, &mut values, finding, segments)?;
     }
-    Ok(Value::Array(values))
+    Ok(values)
+}
+
+fn add_finding(
+    alloc: Global,
+    values: &mut Vec<Value>,
+    finding: &Finding,
+    segments: Value,
+) -> Result<(), AllocError>
+    ensures { OnOk result (map view values.new.items ≡ map view values.old.items ++ finding_json finding.now (view segments) ∷ []) }
+{
+    let value = finding_value(alloc, finding, segments)?;
+    push(values, value)?;
+    Ok(())
 }
 
 // Returns the object of a finding, its members in the order of their keys.
-fn finding_value(alloc: Global, finding: &Finding) -> Result<Value, AllocError>
-    ensures { IfOk result (λ value. view value ≡ finding_json finding.now) }
+fn finding_value(alloc: Global, finding: &Finding, segments: Value) -> Result<Value, AllocError>
+    ensures { IfOk result (λ value. view value ≡ finding_json finding.now (view segments)) }
 {
     let blocks = number_value(finding.blocks);
     let size = number_value(finding.size);
@@ -63,12 +104,14 @@ fn finding_value(alloc: Global, finding: &Finding) -> Result<Value, AllocError>
         "kind": finding.kind.name(),
         "offset": finding.offset,
         "opener": finding.kind.opener(),
+        "segments": segments,
         "size": size,
         "uuid": uuid
     })
 }
 
-fn number_value(number: Option<u64>) -> Value
+/// Returns a number as a value; null if there is none.
+pub(crate) fn number_value(number: Option<u64>) -> Value
     ensures { view result ≡ stated_json number }
 {
     match number {

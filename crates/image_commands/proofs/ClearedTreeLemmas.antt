@@ -1,7 +1,7 @@
 -- Trees made on a device on which an old superblock was cleared.
 use Rattle.std.proofs.Common.{◌≡◌, ◌+◌, ◌*◌, ◌/◌, ℕ, IsTrue, List, ◌++◌, length, drop, ap, subst, sym, ◌∙◌, arith, inl, inr, None}
 use Rattle.std.proofs.Math.Nat.{zero-mul}
-use Rattle.block_device.specs.Device.{Device, IsSameDevice, spliced}
+use Rattle.block_device.specs.Device.{Device, IsSameDevice, spliced, synced}
 use Rattle.block_device.specs.Whole.{length-sectors_of}
 use Rattle.verity_format.specs.declared.formatting.FormatFault.{FormatFault}
 use Rattle.verity_format.specs.declared.tree.VerityTree.{VerityTree}
@@ -16,16 +16,18 @@ use Rattle.image_commands.specs.Clearing.{IsCleared}
 use Rattle.image_commands.specs.ClearedTrees.{IsClearedEnd, IsKeptBehind, IsMadeCleared, IsTreeCleared, IsTreeUncleared, IsUnfinishedTree, sectors_alone}
 use Rattle.image_commands.proofs.ClearingLemmas.{drop-cleared, drop-more}
 
+-- a sync changes only what is dirty
+same-kept : (old mid new : Device) → IsSameDevice old mid → new ≡ synced mid → IsSameDevice old new
+same-kept old mid new same kept = record {
+  size = ap (λ (d : Device). d.size) kept ∙ same.size;
+  may_write = ap (λ (d : Device). d.may_write) kept ∙ same.may_write;
+  steady = ap (λ (d : Device). d.steady) kept ∙ same.steady;
+  never_fails = λ sure. subst IsTrue (sym (ap (λ (d : Device). d.never_fails) kept)) (same.never_fails sure);
+}
+
 same-cleared : (old new : Device) → IsCleared old new → IsSameDevice old new
-same-cleared old new (inl none) = none.read.same
-same-cleared old new (inr zeroed) =
-    let both : IsSameDevice old zeroed.written_dev = same-then zeroed.read.same zeroed.written.same in
-    record {
-      size = ap (λ (d : Device). d.size) zeroed.kept ∙ both.size;
-      may_write = ap (λ (d : Device). d.may_write) zeroed.kept ∙ both.may_write;
-      steady = ap (λ (d : Device). d.steady) zeroed.kept ∙ both.steady;
-      never_fails = λ sure. subst IsTrue (sym (ap (λ (d : Device). d.never_fails) zeroed.kept)) (both.never_fails sure);
-    }
+same-cleared old new (inl none) = same-kept old none.read_dev new none.read.same none.kept
+same-cleared old new (inr zeroed) = same-kept old zeroed.written_dev new (same-then zeroed.read.same zeroed.written.same) zeroed.kept
 
 same-tree_cleared : (n : ℕ) (old new : Device) → IsTreeCleared n old new → IsSameDevice old new
 same-tree_cleared n old new (inl none) = subst (IsSameDevice old) (sym none.1) (same-none old)

@@ -12,12 +12,12 @@ use Rattle.image_commands.specs.Clearing.{HandsClearing, HandsFewer, IsCleared}
 
 -- a device stays steady
 pub steady-cleared : (old new : Device) → IsCleared old new → new.steady ≡ old.steady
-steady-cleared old new (inl none) = none.read.same.steady
+steady-cleared old new (inl none) = ap (λ (d : Device). d.steady) none.kept ∙ none.read.same.steady
 steady-cleared old new (inr zeroed) = ap (λ (d : Device). d.steady) zeroed.kept ∙ zeroed.written.same.steady ∙ zeroed.read.same.steady
 
 -- after the first sector nothing changes
 pub drop-cleared : (old new : Device) → IsCleared old new → IsTrue old.steady → drop 1 new.image ≡ drop 1 old.image
-drop-cleared old new (inl none) steady = ap (drop 1) (none.read.image steady)
+drop-cleared old new (inl none) steady = ap (λ (d : Device). drop 1 d.image) none.kept ∙ ap (drop 1) (none.read.image steady)
 drop-cleared old new (inr zeroed) steady =
     ap (λ (d : Device). drop 1 d.image) zeroed.kept
     ∙ zeroed.written.after (subst IsTrue (sym zeroed.read.same.steady) steady)
@@ -46,9 +46,9 @@ true-from_not true h = refl
 true-from_not false h = cc
 
 -- a clearing that failed in its read or its write
-pub fewer-ended : {H : Type 0} (does : H → Call → H → Type 0) (old new : H) {T E : Type 0} (P : E → Type 0) (r : Result T E) → IsErrAnd r P → HandsFewer does old new false → HandsClearing does old new (is_ok r)
+pub fewer-ended : {H : Type 0} (does : H → Call → H → Type 0) (old new : H) {T E : Type 0} (P : E → Type 0) (r : Result T E) → IsErrAnd r P → HandsFewer does old new → HandsClearing does old new (is_ok r)
 fewer-ended does old new P (Ok done) ended fewer = absurd ended
-fewer-ended does old new P (Err fault) ended fewer = inr fewer
+fewer-ended does old new P (Err fault) ended fewer = inr (inr (refl, fewer))
 
 -- what holds of calls that ended early holds of the result that hands the fault on
 pub ended-on : {T E : Type 0} {X : Type 0} (r : Result T E) → X → OnErr r X

@@ -10,12 +10,15 @@ use Rattle.verity_format.specs.Verifying.{IsFirstSector}
 abbrev pub begins_super : List ℕ → Bool
 begins_super sector = bytes_eq (take 8 sector) signature
 
--- the first sector doesn't begin as a superblock does, and nothing was written
+-- The first sector doesn't begin as a superblock does, and nothing was written. The device was synced, since zeros of an earlier run
+-- may not be on the medium yet.
 pub record HasNone (old new : Device) : Type 0 where
   pub sector : List ℕ
+  pub read_dev : Device
   pub first : IsFirstSector old sector
   pub other : begins_super sector ≡ false
-  pub read : IsRead old 1 true new
+  pub read : IsRead old 1 true read_dev
+  pub kept : new ≡ synced read_dev
 
 -- it does: zeros were written in its place and put on the medium, before anything else
 pub record IsZeroed (old new : Device) : Type 0 where
@@ -47,11 +50,11 @@ pub record HandsZeros {H : Type 0} (does : H → Call → H → Type 0) (old new
   pub begins : begins_super sector ≡ true
   pub made : Calls does old (Read 0 sector true ∷ Write 0 (filled_sector 0) true ∷ Sync ok ∷ []) new
 
--- the first sector was read and doesn't begin so, and nothing was written
-pub record HandsNone {H : Type 0} (does : H → Call → H → Type 0) (old new : H) : Type 0 where
+-- the first sector was read and doesn't begin so, and the device was synced. `ok` is whether the sync ended well.
+pub record HandsNone {H : Type 0} (does : H → Call → H → Type 0) (old new : H) (ok : Bool) : Type 0 where
   pub sector : List ℕ
   pub other : begins_super sector ≡ false
-  pub made : Calls does old (Read 0 sector true ∷ []) new
+  pub made : Calls does old (Read 0 sector true ∷ Sync ok ∷ []) new
 
 -- the write of the zeros failed, and nothing was synced
 pub record HandsFailedWrite {H : Type 0} (does : H → Call → H → Type 0) (old new : H) : Type 0 where
@@ -59,11 +62,10 @@ pub record HandsFailedWrite {H : Type 0} (does : H → Call → H → Type 0) (o
   pub begins : begins_super sector ≡ true
   pub made : Calls does old (Read 0 sector true ∷ Write 0 (filled_sector 0) false ∷ []) new
 
--- fewer calls: nothing had to be cleared; or, if the clearing failed, the read or the write did
-abbrev pub HandsFewer : {H : Type 0} → (H → Call → H → Type 0) → H → H → Bool → Type 0
-HandsFewer does old new true = HandsNone does old new
-HandsFewer does old new false = ((sector : List ℕ) × Calls does old (Read 0 sector false ∷ []) new) ⊎ HandsFailedWrite does old new
+-- the read or the write failed, and nothing was synced
+abbrev pub HandsFewer : {H : Type 0} → (H → Call → H → Type 0) → H → H → Type 0
+HandsFewer does old new = ((sector : List ℕ) × Calls does old (Read 0 sector false ∷ []) new) ⊎ HandsFailedWrite does old new
 
 -- `ok` is whether the clearing ended well
 abbrev pub HandsClearing : {H : Type 0} → (H → Call → H → Type 0) → H → H → Bool → Type 0
-HandsClearing does old new ok = HandsZeros does old new ok ⊎ HandsFewer does old new ok
+HandsClearing does old new ok = HandsZeros does old new ok ⊎ (HandsNone does old new ok ⊎ ((ok ≡ false) × HandsFewer does old new))

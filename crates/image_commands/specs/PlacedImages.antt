@@ -23,7 +23,7 @@ use Rattle.image_commands.specs.Endings.{IsCommonEnd, IsUnopened, IsVerifyEnd}
 use Rattle.image_pin.specs.Finding.{IsNoTree, ReadsSuper, is_aligned}
 use Rattle.image_commands.specs.Finding.{no_tree_fault}
 use Rattle.image_commands.specs.Places.{IsPartState, behind, tree_start}
-use Rattle.image_commands.specs.SuperblockJson.{dump_text}
+use Rattle.image_commands.specs.SuperblockJson.{RefusesDump, dump_text}
 use Rattle.image_commands.specs.TableLines.{placed_line}
 
 -- the superblock that begins at that sector was read, and a text of it written; it has the values of the pin, if there is one, and
@@ -66,17 +66,24 @@ pub record RefusesLine (first : ℕ) (data_name hash_name : List ℕ) (trusted :
   pub super_read : ReadsSuper (behind device first) first trusted.pin super
   pub refused : IsOutOfMemory (line_room super data_name hash_name trusted.root (tree_start first super.hash_block 1))
 
+-- the superblock was read, and memory for its text in that form ran out
+pub record RefusesDumpOf (first : ℕ) (form : DumpForm) (device : Device) : Type 0 where
+  pub super : SuperRecord
+  pub sector : List ℕ
+  pub super_read : IsReadFrom (behind device first) sector super
+  pub refused : RefusesDump form
+
 pub record EndsPlacedSuper {S D : Type 0} (w : Calls S D) (path : List ℕ) (first : ℕ) (pin : Option Pin) (memory : Device → Type 0) (failed : Bool) (fault : ImageFault) : Type 0 where
   pub image : PlacedImage D
   pub opened : OpensPlace w path false image
   pub ends : IsPlacedSuperEnd (IsPartState w.state) (memory (w.state image.device)) (w.state image.device) first pin failed fault
 
-pub record EndsPlacedDump {S D : Type 0} (w : Calls S D) (path : List ℕ) (first : ℕ) (memory : Type 0) (failed : Bool) (fault : ImageFault) : Type 0 where
+pub record EndsPlacedDump {S D : Type 0} (w : Calls S D) (path : List ℕ) (first : ℕ) (memory : Device → Type 0) (failed : Bool) (fault : ImageFault) : Type 0 where
   pub image : PlacedImage D
   pub opened : OpensPlace w path false image
-  pub ends : IsPlacedDumpEnd (IsPartState w.state) memory (w.state image.device) first failed fault
+  pub ends : IsPlacedDumpEnd (IsPartState w.state) (memory (w.state image.device)) (w.state image.device) first failed fault
 
-abbrev pub IsDumpImageEnd : {S D : Type 0} → Calls S D → List ℕ → ℕ → Type 0 → Bool → ImageFault → Type 0
+abbrev pub IsDumpImageEnd : {S D : Type 0} → Calls S D → List ℕ → ℕ → (Device → Type 0) → Bool → ImageFault → Type 0
 IsDumpImageEnd w path first memory failed fault = IsUnopened (RefusesPlace w path false) fault ⊎ EndsPlacedDump w path first memory failed fault
 
 abbrev pub IsPlacedImageEnd : {S D : Type 0} → Calls S D → List ℕ → ℕ → Option Pin → (Device → Type 0) → Bool → ImageFault → Type 0
@@ -96,7 +103,7 @@ PrintsLineAt relations state images images' contents writer writer' place name w
 abbrev pub FailsToPrintAt : {S D W : Type 0} → Opener S D → (D → Device) → S → S → CountedRecord W → HashPlace → Option Pin → (Device → Type 0) → ImageFault → Type 0
 FailsToPrintAt relations state images images' writer' place pin memory = IsPlacedImageEnd (calls relations state images images') place.path.now place.first pin memory writer'.failed
 
-abbrev pub FailsToDumpAt : {S D W : Type 0} → Opener S D → (D → Device) → S → S → CountedRecord W → HashPlace → Type 0 → ImageFault → Type 0
+abbrev pub FailsToDumpAt : {S D W : Type 0} → Opener S D → (D → Device) → S → S → CountedRecord W → HashPlace → (Device → Type 0) → ImageFault → Type 0
 FailsToDumpAt relations state images images' writer' place memory = IsDumpImageEnd (calls relations state images images') place.path.now place.first memory writer'.failed
 
 -- room for the line of these words was refused

@@ -7,8 +7,8 @@ use block_device::{DeviceFault, SyncDev};
 
 const SIGNATURE: &[u8] = b"verity\0\0";
 
-/// Writes zeros over the first sector if it begins as a superblock does, and syncs the device. So if the tree is
-/// written only in part after it, no superblock precedes that part.
+/// Writes zeros over the first sector if it begins as a superblock does, and syncs the device in both cases: zeros of an earlier
+/// run that was killed may not be durable yet. So if the tree is written only in part after it, no superblock precedes that part.
 ///
 /// # Errors
 ///
@@ -23,7 +23,7 @@ pub fn clear_superblock<H: SyncDev>(hash_dev: &mut H) -> Result<(), DeviceFault>
     let mut sector = [0u8; 512];
     hash_dev.read(0, &mut sector)?;
     if &sector[..8] != SIGNATURE {
-        return Ok(());
+        return hash_dev.sync();
     }
     hash_dev.write(0, &[0u8; 512])?;
     hash_dev.sync()

@@ -28,7 +28,11 @@ pub struct MadeImage {
 
 /// Formats the hash device over the data device, and syncs it. A superblock that was stored there is cleared first, unless the
 /// format is refused.
-pub(crate) fn make<D: BlockDev, H: SyncDev>(
+///
+/// # Errors
+///
+/// The fault of the format, or `Device` if a device failed.
+pub fn make<D: BlockDev, H: SyncDev>(
     alloc: Global,
     data_dev: &mut D,
     hash_dev: &mut H,
@@ -71,8 +75,12 @@ pub fn say_made<W: Write>(writer: &mut Counted<W>, made: &MadeImage) -> Result<(
     say_blocks(writer, made.blocks)
 }
 
-/// The options with a salt and an identifier. One generator gives what is missing.
-pub(crate) fn given_or_drawn<'a, G: Generators>(
+/// Returns the options with a salt and an identifier. One generator gives what is missing.
+///
+/// # Errors
+///
+/// `Random` if something is missing and there are no random bytes.
+pub fn given_or_drawn<'a, G: Generators>(
     generators: &mut G,
     options: ImageOptions,
 ) -> Result<FormatOptions, ImageFault<'a>>

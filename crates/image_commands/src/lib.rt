@@ -30,7 +30,7 @@ mod watching;
 pub use clearing::clear_superblock;
 pub use comparing::{ImagePair, compare, place_parts};
 pub use fault::ImageFault;
-pub use format::{MadeImage, say_made};
+pub use format::{MadeImage, given_or_drawn, make, say_made};
 pub use paths::{ImagePaths, TwoImages, open_two};
 pub use pin_file::{check_other_file, check_root_path, pin_of_image, read_pin, write_root};
 pub use placed::{dump_placed, table_placed};
@@ -42,7 +42,7 @@ pub use root_file::read_root;
 pub use table::LineWords;
 pub use tree_format::{make_tree, say_tree};
 pub use tree_line::print_tree_line;
-pub use tree_place::{given_options, unnamed};
+pub use tree_place::{given_options, tree_of, unnamed};
 pub use tree_source::{
     NoSource, SoughtTree, TreeSource, bytes_to_read, may_seek, seek_tree, stored_source,
 };

@@ -1,9 +1,8 @@
 //! The commands `dump` and `table`.
 ghost use Rattle.std.specs.Prelude.{IfErr, OnOk};
 ghost use Rattle.image_commands.specs.Endings.{IsQuiet};
-ghost use Rattle.image_commands.specs.PlacedImages.{DumpsImageAt, FailsToDumpAt, FailsToPrintAt, IsPlacedDumpEnd, IsPlacedSuperEnd, PrintsLineAt, RefusesLineOf, SaysFieldsAt, SaysLineAt};
+ghost use Rattle.image_commands.specs.PlacedImages.{DumpsImageAt, FailsToDumpAt, FailsToPrintAt, IsPlacedDumpEnd, IsPlacedSuperEnd, PrintsLineAt, RefusesDumpOf, RefusesLineOf, SaysFieldsAt, SaysLineAt};
 ghost use Rattle.image_commands.specs.Places.{IsPartState};
-ghost use Rattle.image_commands.specs.SuperblockJson.{RefusesDump};
 
 use crate::fault::ImageFault;
 use crate::line::say_line;
@@ -28,7 +27,7 @@ use verity_format::read_superblock;
 ///
 /// - `Open` if HASH can't be opened.
 /// - `Verify` if there is no superblock at that sector, or the device failed.
-/// - `NoMemory` if memory for the object or the pin was refused.
+/// - `NoMemory` if the superblock was read and memory for the object or the pin was refused.
 /// - `Write` if a line can't be written.
 #[tactic(auto, using(crate::proofs::lemmas::EndingLemmas::quiet))]
 pub fn dump_placed<'a, I: Images, W: Write>(
@@ -39,7 +38,7 @@ pub fn dump_placed<'a, I: Images, W: Write>(
     writer: &mut Counted<W>,
 ) -> Result<(), ImageFault<'a>>
     ensures ok { OnOk result (DumpsImageAt I.relations I.Dev.state images.old images.new W.contents writer.old writer.new place.entry form) }
-    ensures err { IfErr result (FailsToDumpAt I.relations I.Dev.state images.old images.new writer.new place.entry (RefusesDump form)) }
+    ensures err { IfErr result (FailsToDumpAt I.relations I.Dev.state images.old images.new writer.new place.entry (RefusesDumpOf place.entry.first form)) }
     ensures quiet { IfErr result (λ fault. IsQuiet fault (W.contents writer.old.inner) (W.contents writer.new.inner)) }
 {
     let HashPlace { path, first } = place;
@@ -56,7 +55,7 @@ fn dump_behind<'a, H: BlockDev + Drop, W: Write>(
     writer: &mut Counted<W>,
 ) -> Result<(), ImageFault<'a>>
     ensures ok { OnOk result (SaysFieldsAt H.state hash_dev W.contents writer.old writer.new first form) }
-    ensures err { IfErr result (IsPlacedDumpEnd (IsPartState H.state) (RefusesDump form) (H.state hash_dev) first writer.new.failed) }
+    ensures err { IfErr result (IsPlacedDumpEnd (IsPartState H.state) (RefusesDumpOf first form (H.state hash_dev)) (H.state hash_dev) first writer.new.failed) }
     ensures quiet { IfErr result (λ fault. IsQuiet fault (W.contents writer.old.inner) (W.contents writer.new.inner)) }
 {
     let mut window = Window::<H, Brand>::behind(hash_dev, first);

@@ -7,7 +7,11 @@ use command_line::ImageOptions;
 use verity_format::{FormatFault, FormatOptions, Superblock, given_blocks};
 
 /// Returns the tree with these options over a data device of so many sectors, as a superblock that is written nowhere.
-pub(crate) fn tree_of(options: FormatOptions, sectors: u64) -> Result<Superblock, FormatFault>
+///
+/// # Errors
+///
+/// `Shape` if the options state no valid shape.
+pub fn tree_of(options: FormatOptions, sectors: u64) -> Result<Superblock, FormatFault>
     ensures ok { IfOk result (HasShape (superblock_with options sectors)) }
     ensures err { IfErr result (HasNoShape (superblock_with options sectors)) }
 {

@@ -1,7 +1,13 @@
 -- Evidence of calls on files, for the proofs of this crate alone.
-use Rattle.std.proofs.Common.{Bool, true, false, List, Option, None, Some, inl, inr}
+use Rattle.std.proofs.Common.{◌≡◌, ℕ, Bool, true, false, List, Option, None, Some, Result, Ok, Err, inl, inr, subst, sym}
+use Rattle.std.specs.Prelude.{IfErr, IsErrAnd, OnErr}
+use Rattle.block_device.specs.declared.file.FileDev.{FileDev}
 use Rattle.block_device.specs.declared.file_id.FileId.{FileId}
-use Rattle.image_files.specs.FileLocks.{Locks, LocksAtMost}
+use Rattle.block_device.specs.declared.open_fault.OpenFault.{OpenFault}
+use Rattle.block_device.specs.FileCalls.{Opened}
+use Rattle.block_device.specs.FileId.{file_of}
+use Rattle.block_device.specs.Unopened.{IsUnopenedImage}
+use Rattle.image_files.specs.FileLocks.{IsNoLock, IsUnopenedFile, Locks, LocksAtMost}
 use Rattle.image_files.specs.ImageCalls.{ImageCall, WasMade, was-made}
 use Rattle.image_files.specs.SystemFiles.{SystemCall, WasAsked, was-asked}
 use Rattle.image_files.specs.declared.seal.Seal.TheVariants.{Files}
@@ -17,3 +23,19 @@ pub locks_at_most : (writable : Bool) (id : Option FileId) (old new : List FileI
 locks_at_most false id old new same = inl same
 locks_at_most true None old new same = inl same
 locks_at_most true (Some id) old new more = inr (id, more)
+
+-- a file that was opened, and isn't locked
+pub unlocked : {T : Type 0} (result : Result T OpenFault) (path : List ℕ) (writable : Bool) (fault : OpenFault) (device : FileDev) → IsErrAnd result (λ e. e ≡ fault) → Opened path writable (file_of device) → IsNoLock device fault
+    → IfErr result (IsUnopenedFile path writable)
+unlocked (Ok done) path writable fault device is opened why = tt
+unlocked (Err e) path writable fault device is opened why = inr (device, opened, subst (IsNoLock device) (sym is) why)
+
+-- a file that wasn't opened
+pub not-opened : {T : Type 0} (result : Result T OpenFault) (path : List ℕ) (writable : Bool) (fault : OpenFault) → IsErrAnd result (λ e. e ≡ fault) → IsUnopenedImage path writable fault → IfErr result (IsUnopenedFile path writable)
+not-opened (Ok done) path writable fault is why = tt
+not-opened (Err e) path writable fault is why = inl (subst (IsUnopenedImage path writable) (sym is) why)
+
+-- what holds if a call failed
+pub holds-on-err : {T E : Type 0} {X : Type 0} (result : Result T E) → X → OnErr result X
+holds-on-err (Ok done) holds = tt
+holds-on-err (Err fault) holds = holds

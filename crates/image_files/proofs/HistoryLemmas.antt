@@ -10,7 +10,7 @@ use Rattle.image_files.specs.Opener.{Opener}
 use Rattle.image_files.specs.Promises.{Files}
 
 -- the opener after n of its calls
-abbrev value-at : {S D : Type 0} (o : Opener S D) (old : S) (calls : List (ImageCall D)) (new : S) → AreMade o old calls new → ℕ → S
+abbrev pub value-at : {S D : Type 0} (o : Opener S D) (old : S) (calls : List (ImageCall D)) (new : S) → AreMade o old calls new → ℕ → S
 value-at o old [] new made n = old
 value-at o old (call ∷ rest) new made zero = old
 value-at o old (call ∷ rest) new made (suc n) = value-at o made.between rest new made.rest n
@@ -19,7 +19,7 @@ value-first : {S D : Type 0} (o : Opener S D) (old : S) (calls : List (ImageCall
 value-first o old [] new made = refl
 value-first o old (call ∷ rest) new made = refl
 
-made-at : {S D : Type 0} (o : Opener S D) (old : S) (calls : List (ImageCall D)) (new : S) (made : AreMade o old calls new) (n : ℕ) (call : ImageCall D) → slice_get calls n ≡ Some call
+pub made-at : {S D : Type 0} (o : Opener S D) (old : S) (calls : List (ImageCall D)) (new : S) (made : AreMade o old calls new) (n : ℕ) (call : ImageCall D) → slice_get calls n ≡ Some call
     → IsMade o (value-at o old calls new made n) call (value-at o old calls new made (suc n))
 made-at o old [] new made n call is = absurd (none-some call is)
 made-at {S} {D} o old (c ∷ rest) new made zero call is =

@@ -1,1 +1,2 @@
 pub mod OverwriteLemmas
+pub mod ShownLemmas

@@ -1,13 +1,14 @@
 -- Which files an opener has locked: each that it opened for writing, once.
-use Rattle.std.specs.Prelude.{◌≡◌, ◌⊎◌, ◌++◌, Bool, List, [], ◌∷◌, Option, None, Some, if◌then◌else◌}
+use Rattle.std.specs.Prelude.{◌≡◌, ◌⊎◌, ◌++◌, ℕ, Bool, List, [], ◌∷◌, Option, None, Some, if◌then◌else◌}
 use Rattle.std.specs.List.{list_any}
 use Rattle.allocation.specs.Refusal.{IsOutOfMemory}
 use Rattle.block_device.specs.declared.file.FileDev.{FileDev}
 use Rattle.block_device.specs.declared.file_id.FileId.{FileId}
 use Rattle.block_device.specs.declared.open_fault.OpenFault.{OpenFault}
 use Rattle.block_device.specs.declared.open_fault.OpenFault.TheVariants.{InUse, NoMemory}
-use Rattle.block_device.specs.FileCalls.{IsUnlocked}
+use Rattle.block_device.specs.FileCalls.{IsUnlocked, Opened}
 use Rattle.block_device.specs.FileId.{file_of}
+use Rattle.block_device.specs.Unopened.{IsUnopenedImage}
 use Rattle.image_files.specs.OneFile.{is_one_file}
 
 abbrev pub is_locked : List FileId → FileId → Bool
@@ -37,3 +38,7 @@ IsUnkept fault = (fault ≡ NoMemory) × IsOutOfMemory 1
 -- why a file isn't locked
 abbrev pub IsNoLock : FileDev → OpenFault → Type 0
 IsNoLock device fault = IsLockRefused device fault ⊎ IsUnkept fault
+
+-- why no file is opened and locked: it isn't opened, or was, and isn't locked
+abbrev pub IsUnopenedFile : List ℕ → Bool → OpenFault → Type 0
+IsUnopenedFile path writable fault = IsUnopenedImage path writable fault ⊎ ((device : FileDev) × Opened path writable (file_of device) × IsNoLock device fault)

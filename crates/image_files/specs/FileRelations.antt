@@ -1,5 +1,5 @@
 -- What a proof sees of images in files: no clause of the library says which file a path leads to, nor what it holds.
-use Rattle.std.specs.Prelude.{◌≡◌, ◌≢◌, ◌⊎◌, ◌*◌, ◌%◌, ◌↔◌, ℕ, Bool, true, IsTrue, List, Option, None, Result, Ok, Err, IfOk, codes}
+use Rattle.std.specs.Prelude.{◌≡◌, ◌≢◌, ◌⊎◌, ◌*◌, ◌%◌, ◌↔◌, ℕ, Bool, true, IsTrue, List, Option, None, Result, Ok, Err, IfErr, IfOk, OnErr, codes}
 use Rattle.std.specs.Fs.{file_type, metadata_len, IsFile}
 use Rattle.std.specs.declared.fs.File.{File}
 use Rattle.std.specs.declared.fs.attrs.Metadata.{Metadata}
@@ -7,7 +7,7 @@ use Rattle.block_device.specs.declared.file_id.FileId.{FileId}
 use Rattle.block_device.specs.declared.open_fault.OpenFault.{OpenFault}
 use Rattle.block_device.specs.Device.{Device}
 use Rattle.block_device.specs.File.{IsOpened}
-use Rattle.block_device.specs.FileCalls.{IsOfFile, IsOfPath, Opened}
+use Rattle.block_device.specs.FileCalls.{IsOfFile, IsOfPath, IsUnsaidOfPath, Opened}
 use Rattle.block_device.specs.Identity.{IsLongEnough, IsToldId}
 use Rattle.device_adapters.specs.declared.part.Part.{Part}
 use Rattle.device_adapters.specs.Parts.{LiesInside}
@@ -16,10 +16,10 @@ use Rattle.image_files.specs.declared.images.FileText.{FileText}
 use Rattle.image_files.specs.declared.images.OpenImage.{OpenImage}
 use Rattle.image_files.specs.Calls.{FileRelations}
 use Rattle.image_files.specs.Drafts.{Replaces, Tries}
-use Rattle.image_files.specs.FileLocks.{Locks, LocksAtMost}
+use Rattle.image_files.specs.FileLocks.{IsUnopenedFile, Locks, LocksAtMost}
 use Rattle.image_files.specs.ImageCalls.{WasMade, Open, OpenPart, Narrow, ReadText, Close, ClosePart, Grow, Measure, Compare, Replace, TryReplace}
 use Rattle.image_files.specs.NewFiles.{FailsToMake, Makes}
-use Rattle.image_files.specs.OnePlace.{ResolvesAtMost}
+use Rattle.image_files.specs.OnePlace.{IsPlaceUnknown, ResolvesAtMost}
 use Rattle.image_files.specs.Opener.{Opener}
 use Rattle.image_files.specs.declared.texts.ReplaceFault.{ReplaceFault}
 
@@ -112,15 +112,15 @@ EndsInPart path (Err fault) = Unit {0}
 -- opener, so none says that nothing changed.
 abbrev pub file_relations : {S D C F : Type 0} → FileView S D C F → Opener S D
 file_relations {D = D} view = record {
-  opens = λ old path writable outcome new. WasMade old (Open path writable outcome) new × CallsNothing view old new × LocksFile view writable outcome old new × OpensFile (λ image. IsOpenFile view image path writable) outcome;
+  opens = λ old path writable outcome new. WasMade old (Open path writable outcome) new × CallsNothing view old new × LocksFile view writable outcome old new × OpensFile (λ image. IsOpenFile view image path writable) outcome × IfErr outcome (IsUnopenedFile path writable);
   opens_part = λ old path writable part outcome new. WasMade old (OpenPart path writable part outcome) new × CallsNothing view old new × LocksFile view writable outcome old new × OpensFile (λ image. IsOpenPart view image path writable part) outcome;
   narrows = λ old device part narrowed new. WasMade old (Narrow device part narrowed) new × CallsNothing view old new × LocksNoMore view old new × IsNarrowedFile view device part narrowed;
   tells = λ old path most outcome new. WasMade {D = D} old (ReadText path most outcome) new × CallsNothing view old new × LocksNoMore view old new × IfOk outcome (IsTextOf (view.read path) path);
   takes = λ old path device new. WasMade old (Close path device) new × CallsNothing view old new × LocksNoMore view old new;
   takes_part = λ old path part device new. WasMade old (ClosePart path part device) new × CallsNothing view old new × LocksNoMore view old new;
   grows = λ old path sectors outcome new. WasMade {D = D} old (Grow path sectors outcome) new × LocksAtMost (view.locked old) (view.locked new) × Grows view.relations (view.calls old) path sectors outcome (view.calls new);
-  measures = λ old path outcome new. WasMade {D = D} old (Measure path outcome) new × CallsNothing view old new × LocksNoMore view old new × EndsInPart path outcome;
-  compares = λ old path other outcome new. WasMade {D = D} old (Compare path other outcome) new × LocksNoMore view old new × ResolvesAtMost view.relations (view.calls old) path other (view.calls new);
+  measures = λ old path outcome new. WasMade {D = D} old (Measure path outcome) new × CallsNothing view old new × LocksNoMore view old new × EndsInPart path outcome × IfErr outcome (IsUnsaidOfPath path);
+  compares = λ old path other outcome new. WasMade {D = D} old (Compare path other outcome) new × LocksNoMore view old new × ResolvesAtMost view.relations (view.calls old) path other (view.calls new) × OnErr outcome (IsPlaceUnknown view.relations (view.calls old) path other (view.calls new));
   replaces = λ old path bytes outcome new. WasMade {D = D} old (Replace path bytes outcome) new × LocksNoMore view old new × Replaces view.relations (view.calls old) path bytes outcome (view.calls new);
   tries = λ old path outcome new. WasMade {D = D} old (TryReplace path outcome) new × LocksNoMore view old new × Tries view.relations (view.calls old) path outcome (view.calls new);
 }

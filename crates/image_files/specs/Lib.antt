@@ -20,3 +20,4 @@ pub mod Drafts
 pub mod NewFiles
 pub mod Sizes
 pub mod SystemFiles
+pub mod SystemShows

@@ -1,7 +1,7 @@
 -- What files hold while an opener is used: a premise of who reads the commands' clauses of files. It is taken of one history of
 -- calls (`specs/Histories`): `at` is what is under each path after so many of its calls. For every history files exist that change by
--- its calls (`specs/FileLaws`). That calls show them (`ShowsFiles`) is assumed: no contract of the standard library says it. A file's
--- bytes count as changed when its device is closed, so no device may be opened over bytes that were written and not yet closed.
+-- its calls (`specs/FileLaws`). Calls show them (`ShowsFiles`) if the system's do (`specs/SystemShows`), which no contract of the standard
+-- library says. A file's bytes count as changed when its device is closed, so no device may be opened over bytes that were written and not yet closed.
 use Rattle.std.specs.Prelude.{◌≡◌, ◌+◌, ◌-◌, ◌*◌, ◌/◌, ◌%◌, ◌≤◌, ◌==◌, ◌++◌, ◌&&◌, if◌then◌else◌, ℕ, Bool, true, false, not, IsSome, List, length, take, drop, replicate, Option, Some, None, Result, Ok}
 use Rattle.block_device.specs.declared.file_id.FileId.{FileId}
 use Rattle.block_device.specs.declared.open_fault.OpenFault.{OpenFault}
@@ -71,8 +71,7 @@ pub record ShowsFiles {S D : Type 0} (o : Opener S D) (state : D → Device) (at
   pub opened_part : (old new : S) (path : List ℕ) (writable : Bool) (part : Part) (image : OpenImage D) → o.opens_part old path writable part (Ok image) new
       → (file : FileRecord) × (at old path ≡ Some file) × (image.id ≡ file.id) × HoldsPart (state image.device) part file
   pub steady_part : (old new : S) (path : List ℕ) (writable : Bool) (part : Part) (image : OpenImage D) → o.opens_part old path writable part (Ok image) new → (state image.device).steady ≡ true
-  -- a part of an open device, also of one that isn't steady, is steady while nobody else writes that part
-  pub steady_narrowed : (old new : S) (device narrowed : D) (part : Part) → o.narrows old device part narrowed new → (state narrowed).steady ≡ true
+  pub steady_narrowed : (old new : S) (device narrowed : D) (part : Part) → o.narrows old device part narrowed new → (state device).steady ≡ true → (state narrowed).steady ≡ true
   -- a text is the first bytes of the file, if there is one: the standard input is none, nor is a pipe
   pub told : (old new : S) (path : List ℕ) (most : ℕ) (text : FileText) (file : FileRecord) → o.tells old path most (Ok text) new → at old path ≡ Some file
       → (text.id ≡ file.id) × (text.bytes.items ≡ take most file.bytes)

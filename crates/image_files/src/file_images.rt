@@ -4,7 +4,7 @@ ghost use Rattle.block_device.specs.Any.{any_id, any_opened};
 ghost use Rattle.block_device.specs.File.{IsOpened};
 ghost use Rattle.block_device.specs.FileCalls.{Opened};
 ghost use Rattle.block_device.specs.FileId.{file_id, file_of};
-ghost use Rattle.image_files.specs.FileLocks.{Locks, LocksAtMost};
+ghost use Rattle.image_files.specs.FileLocks.{IsUnopenedFile, Locks, LocksAtMost};
 ghost use Rattle.image_files.specs.Sizes.{IsSized, any_sized};
 
 use crate::calls::FileCalls;
@@ -61,6 +61,7 @@ fn open_file<R: Files<File = File>>(
     ensures size { IfOk result (λ f. IsSized f (⟦<FileDev as BlockDev>⟧.state f).size) }
     ensures locked { IfOk result (λ f. Locks writable (file_id f) locks.old.files.items locks.new.files.items × Opened path.now writable (file_of f)) }
     ensures same { OnErr result (locks.new.files.items ≡ locks.old.files.items) }
+    ensures err { IfErr result (IsUnopenedFile path.now writable) }
 {
     let file = FileDev::open(rt, path, writable)?;
     if writable {

@@ -1,7 +1,9 @@
 //! Whether two paths lead to one place.
-ghost use Rattle.std.specs.Prelude.{◌≡◌, true, IfErr, IfOk};
+ghost use Rattle.std.specs.Prelude.{◌≡◌, true, Err, IfErr, IfOk, OnErr};
+ghost use Rattle.block_device.specs.FileCalls.{IsUnsaidOfPath};
 ghost use Rattle.block_device.specs.declared.open_fault.OpenFault.TheVariants as open_fault;
-ghost use Rattle.image_files.specs.OnePlace.{Resolves, ResolvesAtMost};
+ghost use Rattle.image_files.specs.OnePlace.{IsPlaceUnknown, Resolves, ResolvesAtMost};
+ghost use Rattle.image_files.specs.declared.texts.ReplaceFault.TheVariants as replace_fault;
 
 use crate::calls::FileCalls;
 use crate::one_file::is_one_file;
@@ -14,7 +16,7 @@ use std::rt::Files;
 ///
 /// # Errors
 ///
-/// `NoMemory`.
+/// `NoMemory` if a call that resolves a path, or one on the folder of a resolved path, ran out of memory.
 pub fn is_one_place<R: Files, C: FileCalls>(
     rt: &R,
     calls: &mut C,
@@ -23,6 +25,7 @@ pub fn is_one_place<R: Files, C: FileCalls>(
 ) -> Result<bool, OpenFault>
     ensures equal { IfOk result (λ one. path.now ≡ other.now → one ≡ true) }
     ensures err { IfErr result (λ fault. fault ≡ open_fault.NoMemory) }
+    ensures cause { OnErr result (IsPlaceUnknown C.relations calls.old path.now other.now calls.new) }
     ensures calls { ResolvesAtMost C.relations calls.old path.now other.now calls.new }
 {
     if path == other {
@@ -49,6 +52,7 @@ pub fn is_one_place<R: Files, C: FileCalls>(
 /// `NoMemory`.
 pub fn target_of<C: FileCalls>(calls: &mut C, path: &str) -> Result<Option<String>, OpenFault>
     ensures err { IfErr result (λ fault. fault ≡ open_fault.NoMemory) }
+    ensures cause { OnErr result (C.relations.resolves calls.old path.now (Err replace_fault.NoMemory) calls.new) }
     ensures calls { Resolves C.relations calls.old path.now calls.new }
 {
     match calls.resolve(path) {
@@ -60,7 +64,8 @@ pub fn target_of<C: FileCalls>(calls: &mut C, path: &str) -> Result<Option<Strin
 
 // Which file or folder is under a path, if the system says so.
 fn id_at<R: Files>(rt: &R, path: &str) -> Result<Option<FileId>, OpenFault>
-    ensures { IfErr result (λ fault. fault ≡ open_fault.NoMemory) }
+    ensures err { IfErr result (λ fault. fault ≡ open_fault.NoMemory) }
+    ensures cause { OnErr result (IsUnsaidOfPath path.now open_fault.NoMemory) }
 {
     match metadata_at(rt, path) {
         Ok(metadata) => Ok(FileId::of(&metadata)),

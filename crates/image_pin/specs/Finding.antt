@@ -1,11 +1,12 @@
 -- The superblock of a hash image that begins at a sector of its file, and the tree after it.
-use Rattle.std.specs.Prelude.{◌≡◌, ◌⊎◌, ℕ, ◌/◌, ◌%◌, ◌==◌, nat_lt, Bool, true, false, List, Option, Some, None, if◌then◌else◌}
+use Rattle.std.specs.Prelude.{◌≡◌, ◌⊎◌, ℕ, ◌/◌, ◌%◌, ◌==◌, nat_lt, Bool, true, false, List, Option, Some, None, Result, Ok, Err, if◌then◌else◌}
+use Rattle.block_device.specs.Call.{Call}
 use Rattle.block_device.specs.Device.{Device}
 use Rattle.image_pin.specs.declared.mismatch.Mismatch.{Mismatch}
 use Rattle.image_pin.specs.declared.pin.Pin.{Pin}
 use Rattle.image_pin.specs.declared.pinned.PinnedFault.{PinnedFault}
 use Rattle.image_pin.specs.declared.pinned.PinnedFault.TheVariants as pinned
-use Rattle.image_pin.specs.PinnedReads.{ReadsUnpinned, mismatch_of}
+use Rattle.image_pin.specs.PinnedReads.{GivesNoPinned, GivesPinned, ReadsUnpinned, mismatch_of}
 use Rattle.verity_format.specs.Superblock.{SuperRecord}
 use Rattle.verity_format.specs.Verifying.{IsReadCause, IsReadFrom}
 use Rattle.image_pin.specs.declared.finding.NoTree.{NoTree}
@@ -53,3 +54,22 @@ IsNoTree hash_dev first pin hash_dev' (Unpinned mismatch) = (may_begin pin first
 abbrev pub unpinned_tree : PinnedFault → NoTree
 unpinned_tree (pinned.Unread fault) = Unread fault
 unpinned_tree (pinned.Unpinned mismatch) = Unpinned mismatch
+
+-- ---- calls
+
+-- a superblock of the pin was read, by one call, and no hash block begins at its sector
+pub record GivesUnaligned {H : Type 0} (does : H → Call → H → Type 0) (old : H) (first : ℕ) (pin : Option Pin) (new : H) : Type 0 where
+  pub super : SuperRecord
+  pub given : GivesPinned does old pin super new
+  pub unaligned : is_aligned first super.hash_block ≡ false
+
+-- at most one call if there is no tree: none if by the pin no hash block begins there
+abbrev pub GivesNoTree : {H : Type 0} → (H → Call → H → Type 0) → H → ℕ → Option Pin → H → NoTree → Type 0
+GivesNoTree does old first pin new (Unread fault) = GivesNoPinned does old pin new (pinned.Unread fault)
+GivesNoTree does old first pin new Unaligned = ((may_begin pin first ≡ false) × (new ≡ old)) ⊎ GivesUnaligned does old first pin new
+GivesNoTree does old first pin new (Unpinned mismatch) = GivesNoPinned does old pin new (pinned.Unpinned mismatch)
+
+-- all calls of finding a tree
+abbrev pub CallsTree : {H : Type 0} → (H → Call → H → Type 0) → H → ℕ → Option Pin → H → Result SuperRecord NoTree → Type 0
+CallsTree does old first pin new (Ok super) = GivesPinned does old pin super new × (is_aligned first super.hash_block ≡ true)
+CallsTree does old first pin new (Err fault) = GivesNoTree does old first pin new fault

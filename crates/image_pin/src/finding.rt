@@ -1,7 +1,8 @@
 //! The superblock of a hash image, read once.
 ghost use Rattle.std.specs.Prelude.{◌≡◌, IfErr, IfOk, OnOk};
+ghost use Rattle.block_device.specs.Call.{DeviceDoes};
 ghost use Rattle.verity_format.specs.Blocks.{IsFullRead, IsOnlyRead};
-ghost use Rattle.image_pin.specs.Finding.{IsNoTree, ReadsSuper, is_aligned, may_begin};
+ghost use Rattle.image_pin.specs.Finding.{CallsTree, IsNoTree, ReadsSuper, is_aligned, may_begin};
 
 use crate::mismatch::Mismatch;
 use crate::pin::Pin;
@@ -50,6 +51,7 @@ pub fn find_tree<H: BlockDev>(
     ensures ok { IfOk result (ReadsSuper (H.state hash_dev.old) first pin.now) }
     ensures full { OnOk result (IsFullRead (H.state hash_dev.old) 1 (H.state hash_dev.new)) }
     ensures err { IfErr result (IsNoTree (H.state hash_dev.old) first pin.now (H.state hash_dev.new)) }
+    ensures calls { CallsTree (DeviceDoes H.state H.does) hash_dev.old first pin.now hash_dev.new result }
 {
     if !may_begin(pin, first) {
         return Err(NoTree::Unaligned);

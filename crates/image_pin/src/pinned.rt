@@ -1,7 +1,8 @@
 //! Superblocks that are read and compared with a pin.
 ghost use Rattle.std.specs.Prelude.{◌≡◌, IfErr, IfOk};
+ghost use Rattle.block_device.specs.Call.{DeviceDoes};
 ghost use Rattle.verity_format.specs.Blocks.{IsOnlyRead};
-ghost use Rattle.image_pin.specs.PinnedReads.{IsPinnedCause, ReadsPinned, mismatch_of};
+ghost use Rattle.image_pin.specs.PinnedReads.{CallsPinned, IsPinnedCause, ReadsPinned, mismatch_of};
 
 use crate::mismatch::{Mismatch, check_superblock};
 use crate::pin::Pin;
@@ -44,6 +45,7 @@ pub fn read_pinned<H: BlockDev>(
     ensures read { IsOnlyRead (H.state hash_dev.old) (H.state hash_dev.new) }
     ensures ok { IfOk result (ReadsPinned (H.state hash_dev.old) pin.now (H.state hash_dev.new)) }
     ensures err { IfErr result (IsPinnedCause (H.state hash_dev.old) pin.now (H.state hash_dev.new)) }
+    ensures calls { CallsPinned (DeviceDoes H.state H.does) hash_dev.old pin.now hash_dev.new result }
 {
     let superblock = match read_superblock(hash_dev) {
         Ok(superblock) => superblock,

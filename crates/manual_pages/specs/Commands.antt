@@ -2,7 +2,7 @@
 use Rattle.std.specs.Prelude.{ℕ, List, [], ◌∷◌, codes, find, Option}
 use Rattle.std.specs.Str.{bytes_eq}
 use Rattle.manual_pages.specs.declared.command.Command.{Command}
-use Rattle.manual_pages.specs.declared.commands.TheConstants.{CAT_USAGE, COPY_USAGE, DIFF_USAGE, DUMP_USAGE, FIND_USAGE, FORMAT_USAGE, LOAD_USAGE, MANUAL_USAGE, NBD_USAGE, PARTITIONS_USAGE, READ_USAGE, REPAIR_USAGE, SCAN_USAGE, SESSION_USAGE, STORE_USAGE, TABLE_USAGE, UPDATE_USAGE, VERIFY_USAGE, VERSION_USAGE, WRITE_USAGE}
+use Rattle.manual_pages.specs.declared.commands.TheConstants.{ASSEMBLE_USAGE, CAT_USAGE, COPY_USAGE, DIFF_USAGE, DUMP_USAGE, FIND_USAGE, FORMAT_USAGE, LOAD_USAGE, MANUAL_USAGE, NBD_USAGE, PARTITIONS_USAGE, READ_USAGE, REPAIR_USAGE, SCAN_USAGE, SESSION_USAGE, STORE_USAGE, TABLE_USAGE, UPDATE_USAGE, VERIFY_USAGE, VERSION_USAGE, WRITE_USAGE}
 
 -- a command's name, and how it is called
 pub record CommandRecord : Type 0 where
@@ -33,6 +33,7 @@ commands =
     command_text (codes "repair") REPAIR_USAGE.now ∷
     command_text (codes "update") UPDATE_USAGE.now ∷
     command_text (codes "partitions") PARTITIONS_USAGE.now ∷
+    command_text (codes "assemble") ASSEMBLE_USAGE.now ∷
     command_text (codes "find") FIND_USAGE.now ∷
     command_text (codes "diff") DIFF_USAGE.now ∷
     command_text (codes "manual") MANUAL_USAGE.now ∷

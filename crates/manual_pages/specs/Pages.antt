@@ -2,7 +2,7 @@
 use Rattle.std.specs.Prelude.{ℕ, ◌++◌, List, [], ◌∷◌, codes, find, Option}
 use Rattle.std.specs.Str.{bytes_eq}
 use Rattle.manual_pages.specs.declared.page.Page.{Page}
-use Rattle.manual_pages.specs.declared.pages.TheConstants.{PROGRAM_PAGE, CAT_PAGE, COPY_PAGE, DIFF_PAGE, DUMP_PAGE, FIND_PAGE, FORMAT_PAGE, LOAD_PAGE, MANUAL_PAGE, NBD_PAGE, PARTITIONS_PAGE, READ_PAGE, REPAIR_PAGE, SCAN_PAGE, SESSION_PAGE, STORE_PAGE, TABLE_PAGE, UPDATE_PAGE, VERIFY_PAGE, VERSION_PAGE, WRITE_PAGE}
+use Rattle.manual_pages.specs.declared.pages.TheConstants.{PROGRAM_PAGE, ASSEMBLE_PAGE, CAT_PAGE, COPY_PAGE, DIFF_PAGE, DUMP_PAGE, FIND_PAGE, FORMAT_PAGE, LOAD_PAGE, MANUAL_PAGE, NBD_PAGE, PARTITIONS_PAGE, READ_PAGE, REPAIR_PAGE, SCAN_PAGE, SESSION_PAGE, STORE_PAGE, TABLE_PAGE, UPDATE_PAGE, VERIFY_PAGE, VERSION_PAGE, WRITE_PAGE}
 
 -- a command's name, or an empty one for the page of the program; and what is printed
 pub record PageRecord : Type 0 where
@@ -39,6 +39,7 @@ image_pages =
     page_text (codes "repair") REPAIR_PAGE.now ∷
     page_text (codes "update") UPDATE_PAGE.now ∷
     page_text (codes "partitions") PARTITIONS_PAGE.now ∷
+    page_text (codes "assemble") ASSEMBLE_PAGE.now ∷
     page_text (codes "find") FIND_PAGE.now ∷
     page_text (codes "diff") DIFF_PAGE.now ∷
     page_text (codes "manual") MANUAL_PAGE.now ∷

@@ -44,6 +44,7 @@ pub fn cause_text(cause: Cause) -> &'static str
         Cause::WithTree => "not with --tree",
         Cause::NameWithAll => "no device name goes with --all",
         Cause::WithoutAll => "only with --all",
+        Cause::WithoutDisk => "only with --disk",
         Cause::WithoutFec => "only with --fec",
         Cause::WithoutStack => "only with --stack, --root or --pin",
     }

@@ -13,10 +13,10 @@ const SESSION_USAGE: &str = "dmstack session [--cache N] BINDING...";
 const NBD_USAGE: &str = "dmstack nbd [--cache N] [--all] STACK NAME BINDING...";
 
 const SCAN_USAGE: &str =
-    "dmstack scan [--cache N] [--map FILE] [--retries N] [--progress] [--json] [--chart] STACK NAME BINDING...";
+    "dmstack scan [--cache N] [--map FILE] [--retries N] [--progress] [--json] [--chart] [--disk] STACK NAME BINDING...";
 
 const COPY_USAGE: &str =
-    "dmstack copy [--cache N] [--differing] [--map FILE] [--retries N] [--progress] STACK NAME OUT BINDING...";
+    "dmstack copy [--cache N] [--differing] [--map FILE] [--retries N] [--progress] [--disk] [--grow] STACK NAME OUT BINDING...";
 
 const CAT_USAGE: &str =
     "dmstack cat [--cache N] [--first N] [--count N] [--progress] STACK NAME BINDING...";
@@ -44,6 +44,9 @@ const UPDATE_USAGE: &str =
 const PARTITIONS_USAGE: &str =
     "dmstack partitions [--sector-size 512|4096] [--json] [--stack] [--root ROOT] [--pin FILE] [--writable] IMAGE";
 
+const ASSEMBLE_USAGE: &str =
+    "dmstack assemble [--type TYPE] [--arch ARCH] [--fec] [--sector-size 512|4096] [--draw-from SEED] [--pin FILE] OUT DATA";
+
 const FIND_USAGE: &str = "dmstack find [--json] PLACE";
 
 const DIFF_USAGE: &str =
@@ -54,7 +57,7 @@ const MANUAL_USAGE: &str = "dmstack manual [COMMAND]";
 const VERSION_USAGE: &str = "dmstack version";
 
 /// All commands.
-pub static COMMANDS: [Command; 20] = [
+pub static COMMANDS: [Command; 21] = [
     Command {
         name: "load",
         usage: LOAD_USAGE,
@@ -118,6 +121,10 @@ pub static COMMANDS: [Command; 20] = [
     Command {
         name: "partitions",
         usage: PARTITIONS_USAGE,
+    },
+    Command {
+        name: "assemble",
+        usage: ASSEMBLE_USAGE,
     },
     Command {
         name: "find",

@@ -28,6 +28,10 @@ export_fields e terms = bytes64 e.size ++ (bytes16 (transmission_flags e terms.s
 abbrev pub export_info : ExportRecord → Terms → List ℕ
 export_info e terms = bytes16 0 ++ (bytes64 e.size ++ bytes16 (transmission_flags e terms.structured))
 
+-- INFO_NAME: the export's name, which a client that sent the empty name learns by it
+abbrev pub name_info : ExportRecord → List ℕ
+name_info e = bytes16 1 ++ e.name
+
 -- INFO_BLOCK_SIZE: the minimum, preferred and maximum size of a request; a request may begin and end at any byte
 abbrev pub size_info : List ℕ
 size_info = bytes16 3 ++ (bytes32 1 ++ (bytes32 4096 ++ bytes32 most_length))
@@ -48,19 +52,23 @@ wanted_in content = drop (6 + big_endian32 content 0) content
 abbrev pub is_info : List ℕ → Bool
 is_info content = nat_le 6 (length content) && (nat_le (big_endian32 content 0 + 6) (length content) && (length content == big_endian32 content 0 + 6 + 2 * big_endian16 content (4 + big_endian32 content 0)))
 
--- the client requests the block sizes
-abbrev pub wants_sizes : List ℕ → Bool
-wants_sizes [] = false
-wants_sizes (a ∷ []) = false
-wants_sizes (a ∷ b ∷ more) = ((a == 0) && (b == 3)) || wants_sizes more
+-- the client requests the information of that type
+abbrev pub wants_info : ℕ → List ℕ → Bool
+wants_info kind [] = false
+wants_info kind (a ∷ []) = false
+wants_info kind (a ∷ b ∷ more) = ((a == 0) && (b == kind)) || wants_info kind more
+
+-- the name, if the client requests it
+unfoldable pub wanted_name : ExportRecord → ℕ → List ℕ → List ℕ
+wanted_name e option wanted = if wants_info 1 wanted then reply_head option 3 (length e.name + 2) ++ name_info e else []
 
 -- the block sizes, if the client requests them
-abbrev pub wanted_sizes : ℕ → List ℕ → List ℕ
-wanted_sizes option wanted = if wants_sizes wanted then reply_head option 3 14 ++ size_info else []
+unfoldable pub wanted_sizes : ℕ → List ℕ → List ℕ
+wanted_sizes option wanted = if wants_info 3 wanted then reply_head option 3 14 ++ size_info else []
 
 -- the replies to INFO and GO for an existing export
 abbrev pub told : ExportRecord → Terms → ℕ → List ℕ → List ℕ
-told e terms option wanted = reply_head option 3 12 ++ (export_info e terms ++ (wanted_sizes option wanted ++ acknowledged option))
+told e terms option wanted = reply_head option 3 12 ++ (export_info e terms ++ ((wanted_name e option wanted ++ wanted_sizes option wanted) ++ acknowledged option))
 
 -- the replies for the export at an index; without an export the reply is ERR_UNKNOWN
 abbrev pub told_at : List ExportRecord → Terms → ℕ → Option ℕ → List ℕ → List ℕ

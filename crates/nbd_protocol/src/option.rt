@@ -67,6 +67,7 @@ fn say_info<W: Write>(
     option: u32,
     content: &[u8],
 ) -> Result<(), WriteFault>
+    requires { HaveShortNames exports.now }
     ensures { Writes W.contents writer.old writer.new (info_by exports.now terms option content.now) result }
 {
     if !is_info(content) {
@@ -83,7 +84,8 @@ fn say_asked<W: Write>(
     option: u32,
     content: &[u8],
 ) -> Result<(), WriteFault>
-    requires { is_info content.now ≡ true }
+    requires info { is_info content.now ≡ true }
+    requires names { HaveShortNames exports.now }
     ensures { Writes W.contents writer.old writer.new (told_in_by exports.now terms option content.now) result }
 {
     match asked(exports, name_in(content)) {

@@ -1,9 +1,9 @@
 //! Writes the replies to options.
-ghost use Rattle.std.specs.Prelude.{◌≡◌, flat_map};
+ghost use Rattle.std.specs.Prelude.{◌≡◌, ◌++◌, flat_map};
 ghost use Rattle.program_io.specs.Counted.{Writes};
 ghost use Rattle.nbd_protocol.specs.Exports.{HaveShortNames, HasShortName, export_record, export_records};
 ghost use Rattle.nbd_protocol.specs.OptionReplies.{acknowledged, refused, reply_head, reply_magic};
-ghost use Rattle.nbd_protocol.specs.Handshake.{export_fields, export_info, list_reply, many_zeros, name_field, server_reply, size_info, told_by, wanted_sizes, wants_sizes};
+ghost use Rattle.nbd_protocol.specs.Handshake.{export_fields, export_info, list_reply, many_zeros, name_field, name_info, server_reply, size_info, told_by, wanted_name, wanted_sizes, wants_info};
 
 use crate::export::Export;
 use crate::header::MOST_LENGTH;
@@ -22,6 +22,11 @@ const ACKNOWLEDGED: u32 = 1;
 const SERVER: u32 = 2;
 
 const INFO: u32 = 3;
+
+// The types of information.
+const NAME: u8 = 1;
+
+const BLOCK_SIZE: u8 = 3;
 
 /// The error reply to an option.
 #[derive(Clone, Copy, Debug, PartialEq, Eq)]
@@ -139,22 +144,63 @@ fn say_sizes<W: Write>(writer: &mut Counted<W>) -> Result<(), WriteFault>
     put32(writer, MOST_LENGTH)
 }
 
+// Writes the data of INFO_NAME: the export's name.
+fn say_name_info<W: Write>(writer: &mut Counted<W>, export: &Export<'_>) -> Result<(), WriteFault>
+    ensures { Writes W.contents writer.old writer.new (name_info (export_record export.now)) result }
+{
+    put16(writer, 1)?;
+    writer.put(export.name)
+}
+
+// Writes the export's name if the client requested it.
+#[tactic(auto, unfolding(crate::specs::Handshake::wanted_name))]
+fn say_wanted_name<W: Write>(
+    writer: &mut Counted<W>,
+    export: &Export<'_>,
+    option: u32,
+    wanted: &[u8],
+) -> Result<(), WriteFault>
+    requires { HasShortName (export_record export.now) }
+    ensures { Writes W.contents writer.old writer.new (wanted_name (export_record export.now) option wanted.now) result }
+{
+    if !wants_info(wanted, NAME) {
+        return Ok(());
+    }
+    say_head(writer, option, INFO, export.name.len() as u32 + 2)?;
+    say_name_info(writer, export)
+}
+
 // Writes the block sizes if the client requested them.
-fn say_wanted<W: Write>(
+#[tactic(auto, unfolding(crate::specs::Handshake::wanted_sizes))]
+fn say_wanted_sizes<W: Write>(
     writer: &mut Counted<W>,
     option: u32,
     wanted: &[u8],
 ) -> Result<(), WriteFault>
     ensures { Writes W.contents writer.old writer.new (wanted_sizes option wanted.now) result }
 {
-    if !wants_sizes(wanted) {
+    if !wants_info(wanted, BLOCK_SIZE) {
         return Ok(());
     }
     say_head(writer, option, INFO, 14)?;
     say_sizes(writer)
 }
 
-/// Writes the replies to INFO and GO for an existing export: its size and flags, the block sizes if requested, and ACK.
+// Writes the name and the block sizes, each if the client requested it.
+fn say_wanted<W: Write>(
+    writer: &mut Counted<W>,
+    export: &Export<'_>,
+    option: u32,
+    wanted: &[u8],
+) -> Result<(), WriteFault>
+    requires { HasShortName (export_record export.now) }
+    ensures { Writes W.contents writer.old writer.new (wanted_name (export_record export.now) option wanted.now ++ wanted_sizes option wanted.now) result }
+{
+    say_wanted_name(writer, export, option, wanted)?;
+    say_wanted_sizes(writer, option, wanted)
+}
+
+/// Writes the replies to INFO and GO for an existing export: its size and flags, its name and the block sizes if requested, and ACK.
 ///
 /// # Errors
 ///
@@ -166,21 +212,22 @@ pub(crate) fn say_told<W: Write>(
     option: u32,
     wanted: &[u8],
 ) -> Result<(), WriteFault>
+    requires { HasShortName (export_record export.now) }
     ensures { Writes W.contents writer.old writer.new (told_by export.now terms option wanted.now) result }
 {
     say_head(writer, option, INFO, 12)?;
     say_export_info(writer, export, terms)?;
-    say_wanted(writer, option, wanted)?;
+    say_wanted(writer, export, option, wanted)?;
     acknowledge(writer, option)
 }
 
-// Whether the client requested the block sizes.
-fn wants_sizes(wanted: &[u8]) -> bool
-    ensures { result ≡ wants_sizes wanted.now }
+// Whether the client requested the information of that type.
+fn wants_info(wanted: &[u8], kind: u8) -> bool
+    ensures { result ≡ wants_info kind wanted.now }
 {
     let mut rest = wanted;
     'facts: while let [high, low, more @ ..] = rest {
-        if *high == 0 && *low == 3 {
+        if *high == 0 && *low == kind {
             return true;
         }
         rest = more;

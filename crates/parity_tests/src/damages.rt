@@ -18,7 +18,7 @@ pub(crate) struct Damage {
 // Case 0 has 300 data blocks, case 3 has 232, case 8 has 500, case 12 has 216 and case 13 has 217; the hash blocks follow, from
 // the top one on. There are two rounds, of the blocks with even and with odd numbers; three in case 8, and one in case 12. A
 // codeword has two bytes of parity, eight in case 3, and 24 in cases 12 and 13.
-pub(crate) static DAMAGES: [Damage; 18] = [
+pub(crate) static DAMAGES: [Damage; 21] = [
     // an intact image, and data blocks
     Damage {
         case: 0,
@@ -186,6 +186,37 @@ pub(crate) static DAMAGES: [Damage; 18] = [
             51, 52, 53, 54,
         ],
         told: "unknown 16 16\nchanged 32 23\nhash 0 1\n",
+    },
+    // a hash block above ones that aren't known to be lost, up to half as many as a codeword has bytes of parity, and one wrong byte more
+    Damage {
+        case: 3,
+        lost: &[234, 16],
+        copied: &[],
+        spoiled: &[],
+        write: true,
+        lines: "repaired hash 0 1 parity\nrepaired data 16 parity\n",
+        still: &[],
+        told: "",
+    },
+    Damage {
+        case: 3,
+        lost: &[234, 16, 18, 20],
+        copied: &[],
+        spoiled: &[],
+        write: true,
+        lines: "repaired hash 0 1 parity\nrepaired data 16 parity\nrepaired data 18 parity\nrepaired data 20 parity\n",
+        still: &[],
+        told: "",
+    },
+    Damage {
+        case: 3,
+        lost: &[234, 16, 18, 20],
+        copied: &[],
+        spoiled: &[0],
+        write: true,
+        lines: "",
+        still: &[234, 16, 18, 20],
+        told: "unknown 16 16\nhash 0 1\n",
     },
     // overwritten parity, and overwritten parity of one of two rounds
     Damage {

@@ -1,6 +1,5 @@
 mod KindLemmas
 mod EndingLemmas
-mod EntryLemmas
 mod LoadLemmas
 mod NameLemmas
 mod NoteLemmas

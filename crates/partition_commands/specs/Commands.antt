@@ -61,9 +61,9 @@ IsLabelEnd memory old new size failed fault = ⊥
 abbrev pub IsLinesEnd : Device → Device → SectorSize → Bool → PartitionsFault → Type 0
 IsLinesEnd old new size failed fault = IsLabelEnd (IsOutOfMemory name_room) old new size failed fault
 
--- of an object: JSON values grow within `serde_json`, which makes no evidence
+-- of an object: the table was found, and memory ran out within `serde_json`, which makes no evidence
 abbrev pub IsObjectEnd : Device → Device → SectorSize → Bool → PartitionsFault → Type 0
-IsObjectEnd old new size failed fault = IsLabelEnd (Unit {0}) old new size failed fault
+IsObjectEnd old new size failed fault = IsLabelEnd ((table : PartitionTable) × IsSizedTable old new size table) old new size failed fault
 
 -- a table was found, and a partition ends past the end of the device
 pub record EndsOutside (old new : Device) (size : SectorSize) : Type 0 where

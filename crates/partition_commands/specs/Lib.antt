@@ -4,6 +4,7 @@ pub mod Invocations
 pub mod Kinds
 pub mod Lines
 pub mod Loads
+pub mod NamedKinds
 pub mod Names
 pub mod Objects
 pub mod Parts

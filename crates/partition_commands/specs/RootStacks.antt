@@ -7,7 +7,7 @@ use Rattle.verity_format.specs.Superblock.{SuperRecord, shape_of}
 use Rattle.partition_commands.specs.declared.root.ImagePartitions.{ImagePartitions}
 use Rattle.partition_commands.specs.Loads.{stack_room}
 use Rattle.image_files.specs.Partitions.{part_of}
-use Rattle.partition_commands.specs.Stacks.{entry_text, linear_line}
+use Rattle.stack_files.specs.DiskEntries.{entry_text, linear_line}
 
 -- the data blocks, checked by the tree: `root`
 unfoldable pub root_entry : SuperRecord → List ℕ → List ℕ

@@ -12,7 +12,7 @@ use Rattle.partition_table.specs.declared.sector_size.SectorSize.{SectorSize}
 use Rattle.verity_format.specs.Blocks.{IsOnlyRead}
 use Rattle.partition_commands.specs.Kinds.{is_signature_type}
 use Rattle.partition_commands.specs.Parts.{is_within}
-use Rattle.partition_commands.specs.Stacks.{entry_text, linear_line}
+use Rattle.stack_files.specs.DiskEntries.{entry_text, linear_line}
 
 -- a part of that type may hold a signature: it has a sector, and ends on the device
 unfoldable pub may_hold : Device → Part → List ℕ → Bool

@@ -1,62 +1,12 @@
-//! The entries of stack texts, each of one line.
-ghost use Rattle.std.specs.Prelude.{false, ◌≡◌, ◌≤◌, ◌+◌, ◌++◌, IfErr, OnOk, codes, decimal, length};
+//! The entry of the device `root` in stack texts.
+ghost use Rattle.std.specs.Prelude.{false, ◌≡◌, ◌≤◌, ◌+◌, ◌++◌, IfErr, OnOk, codes, length};
 ghost use Rattle.allocation.specs.Asked.{asked};
-ghost use Rattle.dm_table.specs.Names.{most_name};
+ghost use Rattle.stack_files.specs.DiskEntries.{entry_text};
 ghost use Rattle.partition_commands.specs.Loads.{stack_room};
-ghost use Rattle.partition_commands.specs.Stacks.{entry_text, flags_text, linear_line};
 
 use allocation::{OutOfMemory, append};
-use device_adapters::Part;
-use itoa::Buffer;
-
-/// Appends the entry of a device of that name over a part of the leaf DISK.
-#[tactic(auto, unfolding(crate::specs::Stacks::entry_text))]
-pub(crate) fn push_linear_entry(
-    text: &mut Vec<u8>,
-    writable: bool,
-    name: &[u8],
-    part: Part,
-) -> Result<(), OutOfMemory>
-    requires { length name.now ≤ most_name }
-    ensures ok { OnOk result (text.new.items ≡ text.old.items ++ entry_text writable name.now (linear_line part)) }
-    ensures err { IfErr result (λ e. asked e ≤ stack_room) }
-{
-    append(text, name)?;
-    append(text, flags_text(writable).as_bytes())?;
-    push_linear(text, part)?;
-    append(text, b";\n")?;
-    Ok(())
-}
-
-fn flags_text(writable: bool) -> &'static str
-    ensures { result.now ≡ flags_text writable }
-{
-    if writable { ",,,rw," } else { ",,,ro," }
-}
-
-#[tactic(auto, unfolding(crate::specs::Stacks::linear_line))]
-fn push_linear(text: &mut Vec<u8>, part: Part) -> Result<(), OutOfMemory>
-    ensures ok { OnOk result (text.new.items ≡ text.old.items ++ linear_line part) }
-    ensures err { IfErr result (λ e. asked e ≤ stack_room) }
-{
-    append(text, b"0 ")?;
-    push_number(text, part.count)?;
-    append(text, b" linear DISK ")?;
-    push_number(text, part.first)?;
-    Ok(())
-}
-
-fn push_number(text: &mut Vec<u8>, number: u64) -> Result<(), OutOfMemory>
-    ensures ok { OnOk result (text.new.items ≡ text.old.items ++ decimal number) }
-    ensures err { IfErr result (λ e. asked e ≤ stack_room) }
-{
-    let mut digits = Buffer::new();
-    append(text, digits.format(number).as_bytes())?;
-    Ok(())
-}
 
 /// Appends the entry of a read-only device `root` with that line.
-#[tactic(auto, unfolding(crate::specs::Stacks::entry_text))]
 pub(crate) fn push_root(text: &mut Vec<u8>, line: &[u8]) -> Result<(), OutOfMemory>
     ensures ok { OnOk result (text.new.items ≡ text.old.items ++ entry_text false (codes "root") line.now) }
     ensures err { IfErr result (λ e. asked e ≤ stack_room + length line.now) }

@@ -8,7 +8,6 @@ ghost use Rattle.partition_commands.specs.Objects.{object_text};
 ghost use Rattle.partition_commands.specs.Stacks.{partition_entry, stack_text};
 ghost use Rattle.partition_commands.specs.Warnings.{notes_of};
 
-use crate::entries::push_linear_entry;
 use crate::loading::say_loadable;
 use crate::object::table_line;
 use crate::parts::are_within;
@@ -21,6 +20,7 @@ use block_device::BlockDev;
 use image_files::{Images, open_image, part_of};
 use partition_table::{Partition, SectorSize};
 use program_io::Counted;
+use stack_files::push_linear_entry;
 use stack_loader::MOST_DEVICES;
 use std::alloc::Global;
 use std::io::Write;
@@ -75,7 +75,7 @@ fn list_partitions<'a, D: BlockDev, W: Write, E: Write>(
 ///
 /// - `Open` if the image can't be opened.
 /// - `Refused` if it has no good table.
-/// - `NoMemory` if memory for the object was refused.
+/// - `NoMemory` if a table was found and memory for the object ran out.
 /// - `Write` if the line can't be written.
 pub fn object_of_image<'a, I: Images, W: Write, E: Write>(
     alloc: Global,

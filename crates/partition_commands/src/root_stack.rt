@@ -10,7 +10,7 @@ ghost use Rattle.partition_commands.specs.RootCommands.{FailsToFindPinned, Fails
 ghost use Rattle.partition_commands.specs.RootStacks.{is_unfit, root_room, root_stack_text};
 ghost use Rattle.partition_commands.specs.Warnings.{notes_of};
 
-use crate::entries::{push_linear_entry, push_root};
+use crate::entries::push_root;
 use crate::loading::say_loadable;
 use crate::parts::is_within;
 use crate::signatures::{find_signature, push_signature};
@@ -23,6 +23,7 @@ use image_files::{Images, open_image, part_of};
 use image_pin::{Pin, PinnedFault, TrustedRoot, read_pinned};
 use partition_table::SectorSize;
 use program_io::Counted;
+use stack_files::push_linear_entry;
 use std::alloc::Global;
 use std::io::Write;
 use std::marker::Brand;

@@ -4,7 +4,6 @@ ghost use Rattle.allocation.specs.Asked.{asked};
 ghost use Rattle.partition_commands.specs.Loads.{stack_room};
 ghost use Rattle.partition_commands.specs.Signatures.{Holds, Seeks, may_hold, names_root, signature_entry};
 
-use crate::entries::push_linear_entry;
 use crate::kinds::is_signature_type;
 use crate::parts::is_within;
 use allocation::OutOfMemory;
@@ -12,6 +11,7 @@ use block_device::BlockDev;
 use device_adapters::Part;
 use image_files::part_of;
 use partition_table::{Partition, SectorSize};
+use stack_files::push_linear_entry;
 use tree_shape::Digest;
 
 /// Returns the first partition that holds the signature of a root hash: its type is one of a signature, and its first sector names

@@ -2,6 +2,7 @@
 -- its entries.
 use Rattle.std.specs.Prelude.{◌≡◌, ◌⊎◌, ℕ, ◌*◌, Bool, true, false, List, take, Option, Some, None, Result, Ok, Err}
 use Rattle.block_device.specs.Call.{Call, Read}
+use Rattle.block_device.specs.Device.{Device}
 use Rattle.partition_table.specs.declared.copy.TableCopy.{TableCopy}
 use Rattle.partition_table.specs.declared.header.Header.{Header}
 use Rattle.partition_table.specs.declared.mbr.Mbr.{Mbr}
@@ -9,6 +10,8 @@ use Rattle.partition_table.specs.declared.mbr.Mbr.TheVariants.{Unread}
 use Rattle.partition_table.specs.declared.read_fault.ReadFault.{ReadFault}
 use Rattle.partition_table.specs.declared.read_fault.ReadFault.TheVariants.{Device as DeviceFailed, NoMemory, Table}
 use Rattle.partition_table.specs.declared.sector_size.Disk.{Disk}
+use Rattle.partition_table.specs.declared.sector_size.SectorSize.{SectorSize}
+use Rattle.partition_table.specs.declared.sector_size.SectorSize.TheVariants.{Bytes4096, Bytes512}
 use Rattle.partition_table.specs.declared.table.DamagedCopies.{DamagedCopies}
 use Rattle.partition_table.specs.declared.table.FoundCopies.{FoundCopies}
 use Rattle.partition_table.specs.declared.table.NoTable.{NoTable}
@@ -16,11 +19,11 @@ use Rattle.partition_table.specs.declared.table.NoTable.TheVariants.{TooSmall, D
 use Rattle.partition_table.specs.declared.table.PartitionTable.{PartitionTable}
 use Rattle.partition_table.specs.declared.table.Source.{Source}
 use Rattle.partition_table.specs.declared.table.Source.TheVariants.{Both, Differ, Primary, Backup}
-use Rattle.partition_table.specs.Disks.{unit_of}
+use Rattle.partition_table.specs.Disks.{disk_of, unit_of}
 use Rattle.partition_table.specs.Headers.{array_bytes, header_fault, table_header}
 use Rattle.partition_table.specs.Mbrs.{mbr_of}
 use Rattle.partition_table.specs.Partitions.{array_fault, partitions_in}
-use Rattle.partition_table.specs.Tables.{backup_sector, primary_sector}
+use Rattle.partition_table.specs.Tables.{backup_sector, may_hide_table, primary_sector}
 
 -- a read from that sector of the disk on
 abbrev pub read_at : Disk → ℕ → List ℕ → Bool → Call
@@ -129,3 +132,22 @@ abbrev pub CallsOfTable : {D : Type 0} → (D → Call → D → Type 0) → Dis
 CallsOfTable does disk old new (Ok table) = CallsTable does disk old new table
 CallsOfTable does disk old new (Err TooSmall) = new ≡ old
 CallsOfTable does disk old new (Err (Damaged primary backup)) = CallsCopies does disk old new (Some primary) (Some backup)
+
+-- both copies for sectors of 512 bytes were read, or the disk is too small, and there is no such table; then the table with
+-- sectors of 4,096 bytes was read
+pub record CallsBothSizes {D : Type 0} (state : D → Device) (does : D → Call → D → Type 0) (old new : D) (fault : NoTable) (result : Result PartitionTable NoTable) : Type 0 where
+  pub mid : D
+  pub first : CallsOfTable does (disk_of (state old) Bytes512) old mid (Err fault)
+  pub sure : may_hide_table fault ≡ false
+  pub second : CallsOfTable does (disk_of (state mid) Bytes4096) mid new result
+
+-- the table with sectors of 512 bytes was read, or both were
+abbrev pub CallsOfEither : {D : Type 0} → (D → Device) → (D → Call → D → Type 0) → D → D → Result PartitionTable NoTable → Type 0
+CallsOfEither state does old new (Ok table) = CallsTable does (disk_of (state old) Bytes512) old new table ⊎ ((fault : NoTable) × CallsBothSizes state does old new fault (Ok table))
+CallsOfEither state does old new (Err fault) =
+    ((may_hide_table fault ≡ true) × CallsOfTable does (disk_of (state old) Bytes512) old new (Err fault)) ⊎ ((other : NoTable) × CallsBothSizes state does old new fault (Err other))
+
+-- by the size of sectors that is looked for
+abbrev pub CallsOfSized : {D : Type 0} → (D → Device) → (D → Call → D → Type 0) → SectorSize → D → D → Result PartitionTable NoTable → Type 0
+CallsOfSized state does Bytes4096 old new result = CallsOfTable does (disk_of (state old) Bytes4096) old new result
+CallsOfSized state does Bytes512 old new result = CallsOfEither state does old new result

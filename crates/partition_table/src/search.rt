@@ -1,6 +1,8 @@
 //! Search for the partition table of a device of unknown sector size.
 ghost use Rattle.std.specs.Prelude.{◌+◌, IfErr, IfOk};
+ghost use Rattle.block_device.specs.Call.{DeviceDoes};
 ghost use Rattle.partition_table.specs.Reads.{IsReadAtMost};
+ghost use Rattle.partition_table.specs.TableCalls.{CallsOfEither, CallsOfSized};
 ghost use Rattle.partition_table.specs.Tables.{IsEitherTable, IsNoEitherTable, IsNoSizedTable, IsSizedTable, found_reads};
 
 use crate::{NoTable, PartitionTable, SectorSize, read_table};
@@ -9,7 +11,7 @@ use std::alloc::Global;
 
 /// Returns the partition table of a device with sectors of size `size`. If that is 512 bytes, both copies were read and
 /// there is no such table, returns the one with sectors of 4,096 bytes. If both exist, the table with sectors of 512
-/// bytes is returned.
+/// bytes is returned. The calls are those of `read_table` for each size that is looked for.
 ///
 /// # Errors
 ///
@@ -21,6 +23,7 @@ pub fn find_table<D: BlockDev>(
 ) -> Result<PartitionTable, NoTable>
     ensures read { IsReadAtMost (D.state device.old) found_reads (D.state device.new) }
     ensures ok { IfOk result (IsSizedTable (D.state device.old) (D.state device.new) size) }
+    ensures calls { CallsOfSized D.state (DeviceDoes D.state D.does) size device.old device.new result }
     ensures err { IfErr result (IsNoSizedTable (D.state device.old) (D.state device.new) size) }
 {
     match size {
@@ -33,6 +36,7 @@ pub fn find_table<D: BlockDev>(
 fn find_either<D: BlockDev>(alloc: Global, device: &mut D) -> Result<PartitionTable, NoTable>
     ensures read { IsReadAtMost (D.state device.old) found_reads (D.state device.new) }
     ensures ok { IfOk result (IsEitherTable (D.state device.old) (D.state device.new)) }
+    ensures calls { CallsOfEither D.state (DeviceDoes D.state D.does) device.old device.new result }
     ensures err { IfErr result (IsNoEitherTable (D.state device.old) (D.state device.new)) }
 {
     match read_table(alloc, device, SectorSize::Bytes512) {

@@ -1,6 +1,7 @@
 -- Laws that hold for every code.
 use Rattle.std.specs.Prelude.{◌≡◌, ℕ, ◌+◌, ◌<◌, ◌≤◌, List, ◌++◌, length, slice_index, EachIndex}
 use Rattle.reed_solomon.specs.Code.{IsCodeword}
+use Rattle.reed_solomon.specs.Correcting.{IsCorrected}
 use Rattle.reed_solomon.specs.Restoring.{AgreesOutside}
 
 -- every message of bytes has parity bytes that complete it to a codeword
@@ -12,3 +13,7 @@ EveryMessageHasParity = (parity : ℕ) → (message : List ℕ) → 0 < parity �
 abbrev pub CodewordsAreApart : Type 0
 CodewordsAreApart = (parity : ℕ) → (lost v w : List ℕ) → length lost ≤ parity → EachIndex lost (λ k. slice_index lost k < 255)
     → IsCodeword parity v → IsCodeword parity w → AgreesOutside lost v w → v ≡ w
+
+-- at most one codeword differs from a word at no more than half as many positions as there are parity bytes
+abbrev pub NearCodewordsAreEqual : Type 0
+NearCodewordsAreEqual = (parity : ℕ) → (word v w : List ℕ) → IsCorrected parity word v → IsCorrected parity word w → v ≡ w

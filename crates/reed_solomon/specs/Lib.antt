@@ -4,4 +4,5 @@ pub mod Restoring
 pub mod Factors
 pub mod Encoding
 pub mod Products
+pub mod Correcting
 pub mod Laws

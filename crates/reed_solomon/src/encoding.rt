@@ -9,7 +9,7 @@ ghost use Rattle.reed_solomon.specs.Encoding.{IsGenerator, shifted_sum_at};
 use crate::field::{multiply, power};
 
 /// Returns the sum of `shifted` times x and `scaled` times `scale`.
-fn shifted_sum(shifted: &[u8; 25], scaled: &[u8; 25], scale: u8) -> [u8; 25]
+pub(crate) fn shifted_sum(shifted: &[u8; 25], scaled: &[u8; 25], scale: u8) -> [u8; 25]
     ensures len { length result ≡ 25 }
     ensures value { (k : ℕ) → k < 25 → slice_index result k ≡ shifted_sum_at shifted.now scaled.now scale k }
 {

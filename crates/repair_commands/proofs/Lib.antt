@@ -5,3 +5,4 @@ mod MendLemmas
 mod PairLemmas
 mod ScanLemmas
 mod TellingLemmas
+mod ValidLemmas

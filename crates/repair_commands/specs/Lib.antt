@@ -3,6 +3,7 @@ pub mod Commands
 pub mod Copies
 pub mod Endings
 pub mod FoundTrees
+pub mod Laws
 pub mod Mends
 pub mod OnlyRead
 pub mod Openings

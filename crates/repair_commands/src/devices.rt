@@ -41,7 +41,7 @@ pub fn repair_devices<'a, D: SyncDev + Drop, H: SyncDev + Drop, C: BlockDev + Dr
 }
 
 /// Returns the two devices of an image, after its repair.
-pub(crate) fn devices_of<D: BlockDev, H: BlockDev, C: BlockDev + Drop>(
+pub fn devices_of<D: BlockDev, H: BlockDev, C: BlockDev + Drop>(
     image: DamagedImage<D, H, C>,
 ) -> (D, H)
     ensures data { D.state result.0 ≡ image.world.data_dev }

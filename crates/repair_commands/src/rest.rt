@@ -137,8 +137,8 @@ fn say_all_good<W: Write>(writer: &mut Counted<W>, count: u64) -> Result<(), Wri
     say_totals(writer, totals)
 }
 
-// Returns the command's fault for a repair that ended early.
-fn fault_of<'a>(fault: RepairFault) -> TreeFault<'a>
+/// Returns the command's fault for a repair that ended early.
+pub fn fault_of<'a>(fault: RepairFault) -> TreeFault<'a>
     ensures { result ≡ ending_fault fault }
 {
     match fault {

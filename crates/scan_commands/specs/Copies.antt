@@ -13,9 +13,9 @@ use Rattle.scan_commands.specs.Passes.{Moving, Passes, StopsPass, moving, retrie
 use Rattle.rescue_map.specs.declared.kind.MapKind.TheVariants as map_kind
 use Rattle.stack_rules.specs.Names.{mapped, size}
 use Rattle.stack_engine.specs.Stacks.{StackRecord}
-use Rattle.stack_files.specs.declared.device.NamedDevice.{NamedDevice}
-use Rattle.stack_files.specs.NamedDevices.{DevicePlace, DeviceWords, FailsToFindOutput, FindsOutput, words_for}
-use Rattle.stack_files.specs.declared.stack_file.StackFile.{StackFile}
+use Rattle.stack_files.specs.DeviceSources.{FailsToFindSourceOutput, FindsSourceOutput, SourceWords, source_words}
+use Rattle.stack_files.specs.NamedDevices.{DevicePlace}
+use Rattle.stack_files.specs.declared.device_source.DeviceSource.{DeviceSource}
 use Rattle.stack_recovery.specs.declared.recovery.Counts.{Counts}
 use Rattle.stack_recovery.specs.Listings.{Listed}
 use Rattle.stack_recovery.specs.Recoveries.{sides}
@@ -27,20 +27,20 @@ use Rattle.scan_commands.specs.declared.recovering_fault.RecoveringFault.TheVari
 use Rattle.scan_commands.specs.Counting.{IsPassEnd, IsRecoveryStackless, listed_by}
 use Rattle.scan_commands.specs.Reports.{IsUnreported, Reports}
 
--- a device of a stack file over bindings, the image to copy to, whether only sectors that differ are written, the path of the map
+-- a device of a stack file over bindings or a disk, the image to copy to, whether only sectors that differ are written, the path of the map
 -- file, if there is one, and how many times lost sectors are read again
 pub record CopyWords : Type 0 where
-  pub words : DeviceWords
+  pub words : SourceWords
   pub out : List ℕ
   pub differing : Bool
   pub map : Option (List ℕ)
   pub retries : ℕ
 
-abbrev pub copy_words : DeviceWords → List ℕ → Bool → Option (List ℕ) → ℕ → CopyWords
+abbrev pub copy_words : SourceWords → List ℕ → Bool → Option (List ℕ) → ℕ → CopyWords
 copy_words words out differing map retries = record { words = words; out = out; differing = differing; map = map; retries = retries }
 
-abbrev pub words_to_copy : StackFile → CopyPlan → CopyWords
-words_to_copy file plan = copy_words (words_for file plan.device) plan.out.now plan.differing (option_map (λ p. p.now) plan.map) plan.retries
+abbrev pub words_to_copy : DeviceSource → CopyPlan → CopyWords
+words_to_copy source plan = copy_words (source_words source) plan.out.now plan.differing (option_map (λ p. p.now) plan.map) plan.retries
 
 -- OUT's device as the pass sees it: with `--differing` a device that reads before it writes, and counts its own calls
 abbrev pub IsOutputSeenAs : Bool → Device → Device → Type 0
@@ -91,7 +91,7 @@ pub record Copies {S D : Type 0} (w : Calls S D) (words : CopyWords) (before : L
   pub left : StackRecord
   pub between : S
   pub behind : S
-  pub found : FindsOutput (record w { new = between }) words.words words.out at image
+  pub found : FindsSourceOutput (record w { new = between }) words.words words.out at image
   pub copied : CopiesTo words.differing (record w { old = between; new = behind }) words.map (retried at.d words.retries) (moving (sides at.stack (w.state image.device) before) (sides left (w.state image') told)) counts
   pub back : w.relations.takes behind words.out image' w.new
 
@@ -103,7 +103,7 @@ pub record StopsCopy {S D : Type 0} (w : Calls S D) (words : CopyWords) (before 
   pub left : StackRecord
   pub between : S
   pub behind : S
-  pub found : FindsOutput (record w { new = between }) words.words words.out at image
+  pub found : FindsSourceOutput (record w { new = between }) words.words words.out at image
   pub stops : IsPassEnd (EndsCopying words.differing (record w { old = between; new = behind }) words.map (retried at.d words.retries) (moving (sides at.stack (w.state image.device) before) (sides left (w.state image') told))) fault
   pub back : w.relations.takes behind words.out image' w.new
 
@@ -117,15 +117,15 @@ IsOutputTooSmall image sectors (OutputTooSmall needed) = (needed ≡ sectors) ×
 IsOutputTooSmall image sectors fault = ⊥
 
 -- the image has no room for the device
-pub record FindsNoRoom {S D : Type 0} (w : Calls S D) (words : DeviceWords) (out : List ℕ) (fault : RecoveringFault) : Type 0 where
+pub record FindsNoRoom {S D : Type 0} (w : Calls S D) (words : SourceWords) (out : List ℕ) (fault : RecoveringFault) : Type 0 where
   pub at : DevicePlace
   pub image : OpenImage D
-  pub found : FindsOutput w words out at image
+  pub found : FindsSourceOutput w words out at image
   pub small : IsOutputTooSmall (w.state image.device) (size at.stack.config (mapped at.d)) fault
 
 -- the image has no room, or there is no such device
-abbrev pub IsOutputUncopied : {S D : Type 0} → Calls S D → DeviceWords → List ℕ → RecoveringFault → Type 0
-IsOutputUncopied w words out fault = IsRecoveryStackless (FailsToFindOutput w words out) fault ⊎ FindsNoRoom w words out fault
+abbrev pub IsOutputUncopied : {S D : Type 0} → Calls S D → SourceWords → List ℕ → RecoveringFault → Type 0
+IsOutputUncopied w words out fault = IsRecoveryStackless (FailsToFindSourceOutput w words out) fault ⊎ FindsNoRoom w words out fault
 
 -- nothing is printed if the copy doesn't begin
 abbrev pub IsCopyEnd : {S D : Type 0} → Calls S D → CopyWords → Option (List ℕ) → Option (List ℕ) → Bool → RecoveringFault → Type 0
@@ -135,8 +135,8 @@ IsCopyEnd w words old new failed fault =
 -- ---- in terms of the arguments of a call
 
 -- there is no such device, or no image with room for it
-abbrev pub FailsTo : {S D : Type 0} → Opener S D → (D → Device) → S → S → StackFile → NamedDevice → List ℕ → RecoveringFault → Type 0
-FailsTo relations state old new file device out = IsOutputUncopied (calls relations state old new) (words_for file device) out
+abbrev pub FailsTo : {S D : Type 0} → Opener S D → (D → Device) → S → S → DeviceSource → List ℕ → RecoveringFault → Type 0
+FailsTo relations state old new source out = IsOutputUncopied (calls relations state old new) (source_words source) out
 
 -- for an open device, with the writer of the lines
 module _ {S D E O T : Type 0} (relations : Opener S D) (state : D → Device) (seen : O → Device) (contents : T → Option (List ℕ)) (images images' : S) (old new : Passing E O) (writer writer' : CountedRecord T) (plan : CopyPlan) where

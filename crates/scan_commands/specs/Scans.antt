@@ -7,9 +7,10 @@ use Rattle.scan_commands.specs.declared.passing.Passing.{Passing}
 use Rattle.scan_commands.specs.MapFiles.{map_at}
 use Rattle.scan_commands.specs.Passes.{Moving, Passes, StopsPass, moving, retried_of}
 use Rattle.rescue_map.specs.declared.kind.MapKind.TheVariants as map_kind
-use Rattle.stack_files.specs.NamedDevices.{DevicePlace, DeviceWords, FailsToFindDevice, FindsDevice, words_for}
+use Rattle.stack_files.specs.DeviceSources.{FailsToFindSource, FindsSource, SourceWords, source_words}
+use Rattle.stack_files.specs.NamedDevices.{DevicePlace}
 use Rattle.stack_engine.specs.Stacks.{StackRecord}
-use Rattle.stack_files.specs.declared.stack_file.StackFile.{StackFile}
+use Rattle.stack_files.specs.declared.device_source.DeviceSource.{DeviceSource}
 use Rattle.stack_recovery.specs.declared.discard.Discard.{Discard}
 use Rattle.stack_recovery.specs.declared.recovery.Counts.{Counts}
 use Rattle.stack_recovery.specs.Listings.{Listed}
@@ -21,19 +22,19 @@ use Rattle.scan_commands.specs.declared.scan.ScanPlan.{ScanPlan}
 use Rattle.scan_commands.specs.Counting.{IsPassEnd, IsRecoveryStackless}
 use Rattle.scan_commands.specs.Reports.{IsUnreported, Reports}
 
--- a device of a stack file over bindings, the path of its map file, if there is one, how many times lost sectors are read again, and
+-- a device of a stack file over bindings or a disk, the path of its map file, if there is one, how many times lost sectors are read again, and
 -- the form of the report
 pub record ScanWords : Type 0 where
-  pub words : DeviceWords
+  pub words : SourceWords
   pub map : Option (List ℕ)
   pub retries : ℕ
   pub form : ReportForm
 
-abbrev pub scan_words : DeviceWords → Option (List ℕ) → ℕ → ReportForm → ScanWords
+abbrev pub scan_words : SourceWords → Option (List ℕ) → ℕ → ReportForm → ScanWords
 scan_words words map retries form = record { words = words; map = map; retries = retries; form = form }
 
-abbrev pub words_to_scan : StackFile → ScanPlan → ScanWords
-words_to_scan file plan = scan_words (words_for file plan.device) (option_map (λ p. p.now) plan.map) plan.retries plan.form
+abbrev pub words_to_scan : DeviceSource → ScanPlan → ScanWords
+words_to_scan source plan = scan_words (source_words source) (option_map (λ p. p.now) plan.map) plan.retries plan.form
 
 -- the device was scanned, with a scan's map if there is one
 pub record Scans {S D : Type 0} (w : Calls S D) (words : ScanWords) (before : Listed) (counts : Counts) (told : Listed) : Type 0 where
@@ -42,7 +43,7 @@ pub record Scans {S D : Type 0} (w : Calls S D) (words : ScanWords) (before : Li
   pub out' : Device
   pub left : StackRecord
   pub between : S
-  pub found : FindsDevice (record w { new = between }) words.words at
+  pub found : FindsSource (record w { new = between }) words.words at
   pub passed : Passes (record w { old = between }) (map_at words.map map_kind.Scan) (retried at.d words.retries) (moving (sides at.stack out before) (sides left out' told)) counts
 
 -- the scan began and ended early; the device that it copies to never fails
@@ -52,7 +53,7 @@ pub record StopsScan {S D : Type 0} (w : Calls S D) (words : ScanWords) (before 
   pub out' : Device
   pub left : StackRecord
   pub between : S
-  pub found : FindsDevice (record w { new = between }) words.words at
+  pub found : FindsSource (record w { new = between }) words.words at
   pub sure : IsTrue out.never_fails
   pub stops : IsPassEnd (StopsPass (record w { old = between }) (map_at words.map map_kind.Scan) (retried at.d words.retries) (moving (sides at.stack out before) (sides left out' told))) fault
 
@@ -63,7 +64,7 @@ PrintsScan w words old new = Reports (Scans w words) words.form old new
 -- there is no such device, and nothing is printed; or the scan ended early, or sectors are lost or not all is printed
 abbrev pub IsScanEnd : {S D : Type 0} → Calls S D → ScanWords → Option (List ℕ) → Option (List ℕ) → Bool → RecoveringFault → Type 0
 IsScanEnd w words old new failed fault =
-    ((new ≡ old) × IsRecoveryStackless (FailsToFindDevice w words.words) fault) ⊎ IsUnreported (StopsScan w words) (Scans w words) words.form old new failed fault
+    ((new ≡ old) × IsRecoveryStackless (FailsToFindSource w words.words) fault) ⊎ IsUnreported (StopsScan w words) (Scans w words) words.form old new failed fault
 
 -- ---- in terms of the arguments of a call, for an open device
 

@@ -16,23 +16,22 @@ use device_adapters::{Differing, Progress};
 use image_files::{Images, OpenImage};
 use program_io::Counted;
 use rescue_map::MapKind;
-use stack_files::{NamedDevice, StackFile};
+use stack_files::DeviceSource;
 use stack_recovery::Counts;
 use std::alloc::Global;
 use std::io::Write;
 
-/// The device to be copied, the path of the image to copy to, whether only sectors that differ are written, the path of the map
-/// file, if there is one, and how many times lost sectors are read again.
+/// The path of the image to copy to, whether only sectors that differ are written, the path of the map file, if there is one, and
+/// how many times lost sectors are read again.
 #[derive(Clone, Copy, Debug, PartialEq, Eq)]
 pub struct CopyPlan<'a> {
-    pub device: NamedDevice<'a>,
     pub out: &'a str,
     pub differing: bool,
     pub map: Option<&'a str>,
     pub retries: u64,
 }
 
-/// Copies the readable sectors of a device of a stack file to an image. The image is synced and closed before the counts are
+/// Copies the readable sectors of a device of a stack file, or of a disk, to an image. The image is synced and closed before the counts are
 /// printed.
 ///
 /// With a map file, only sectors that the map doesn't mark as read are copied, and the map file is kept as a copy's map. A
@@ -48,15 +47,15 @@ pub struct CopyPlan<'a> {
 pub fn copy_device<'a, I: Images, W: Write, P: Progress>(
     alloc: Global,
     images: &mut I,
-    file: StackFile<'a, '_>,
+    source: DeviceSource<'a, '_>,
     plan: CopyPlan<'a>,
     writer: &mut Counted<W>,
     progress: &mut P,
 ) -> Result<(), RecoveringFault<'a>>
-    ensures ok { OnOk result (PrintedBy W.contents writer.old writer.new (PrintsCopy (calls I.relations I.Dev.state images.old images.new) (words_to_copy file.entry plan.entry))) }
-    ensures err { IfErr result (EndsPrintedBy W.contents writer.old writer.new (IsCopyEnd (calls I.relations I.Dev.state images.old images.new) (words_to_copy file.entry plan.entry))) }
+    ensures ok { OnOk result (PrintedBy W.contents writer.old writer.new (PrintsCopy (calls I.relations I.Dev.state images.old images.new) (words_to_copy source.entry plan.entry))) }
+    ensures err { IfErr result (EndsPrintedBy W.contents writer.old writer.new (IsCopyEnd (calls I.relations I.Dev.state images.old images.new) (words_to_copy source.entry plan.entry))) }
 {
-    let (stack, device, image) = open_with_room(alloc, images, file, plan.device, plan.out)?;
+    let (stack, device, image) = open_with_room(alloc, images, source, plan.out)?;
     let OpenImage { device: out, id: _ } = image;
     let retries = plan.retries;
     let passing = Passing {

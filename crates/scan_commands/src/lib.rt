@@ -1,4 +1,4 @@
-//! Scans and copies a stack file's device, with or without a map file. It also formats devices and lost sectors as
+//! Scans and copies a stack file's device or a disk, with or without a map file. It also formats devices and lost sectors as
 //! lines of JSON, and devices as a tree.
 #![tactic(auto)]
 

@@ -16,22 +16,21 @@ use device_adapters::Progress;
 use image_files::Images;
 use program_io::Counted;
 use rescue_map::MapKind;
-use stack_files::{NamedDevice, StackFile, open_device};
+use stack_files::{DeviceSource, open_source};
 use stack_recovery::{Discard, KeptRuns};
 use std::alloc::Global;
 use std::io::Write;
 
-/// The device to be scanned, the path of its map file, if there is one, how many times lost sectors are read again, and the form of
+/// The path of the map file of the device to be scanned, if there is one, how many times lost sectors are read again, and the form of
 /// the report.
 #[derive(Clone, Copy, Debug, PartialEq, Eq)]
 pub struct ScanPlan<'a> {
-    pub device: NamedDevice<'a>,
     pub map: Option<&'a str>,
     pub retries: u64,
     pub form: ReportForm,
 }
 
-/// Reads a device of a stack file over the bindings, and reports which sectors are lost. With a map file, only sectors that the
+/// Reads a device of a stack file over the bindings, or a disk, and reports which sectors are lost. With a map file, only sectors that the
 /// map doesn't mark as read are read, and the map file is kept as a scan's map.
 ///
 /// # Errors
@@ -44,15 +43,15 @@ pub struct ScanPlan<'a> {
 pub fn scan_device<'a, I: Images, W: Write, P: Progress>(
     alloc: Global,
     images: &mut I,
-    file: StackFile<'a, '_>,
+    source: DeviceSource<'a, '_>,
     plan: ScanPlan<'a>,
     writer: &mut Counted<W>,
     progress: &mut P,
 ) -> Result<(), RecoveringFault<'a>>
-    ensures ok { OnOk result (PrintedBy W.contents writer.old writer.new (PrintsScan (calls I.relations I.Dev.state images.old images.new) (words_to_scan file.entry plan.entry))) }
-    ensures err { IfErr result (EndsPrintedBy W.contents writer.old writer.new (IsScanEnd (calls I.relations I.Dev.state images.old images.new) (words_to_scan file.entry plan.entry))) }
+    ensures ok { OnOk result (PrintedBy W.contents writer.old writer.new (PrintsScan (calls I.relations I.Dev.state images.old images.new) (words_to_scan source.entry plan.entry))) }
+    ensures err { IfErr result (EndsPrintedBy W.contents writer.old writer.new (IsScanEnd (calls I.relations I.Dev.state images.old images.new) (words_to_scan source.entry plan.entry))) }
 {
-    let (stack, device) = open_device(alloc, images, file, plan.device)?;
+    let (stack, device) = open_source(alloc, images, source)?;
     let out = Discard::new(stack.config().sectors(device));
     let retries = plan.retries;
     let mut passing = Passing {

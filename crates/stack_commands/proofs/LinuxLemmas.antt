@@ -18,6 +18,6 @@ linux-taken true config done checked = checked
 linux-taken false config done checked = tt
 
 -- ends of what follows it
-pub late-end : {A B C : Type 0} → A ⊎ C → A ⊎ (B ⊎ C)
-late-end (inl a) = inl a
-late-end (inr c) = inr (inr c)
+pub late-end : {A B C T : Type 0} → T → A ⊎ C → (T × A) ⊎ (B ⊎ C)
+late-end taken (inl a) = inl (taken, a)
+late-end taken (inr c) = inr (inr c)

@@ -2,7 +2,7 @@
 use Rattle.std.specs.Io.KnownBytes.{Appends}
 use Rattle.std.specs.Prelude.{◌≡◌, ◌⊎◌, ◌≢◌, ℕ, Bool, true, false, codes, List, [], None, Ok, Option, Some, unwrap_or}
 use Rattle.command_line.specs.FormatOptions.{OptionTexts}
-use Rattle.command_line.specs.Invocations.{InvocationRecord, cat, copy, diff, dump, exports, find_in_place, format, format_fec, load, manual, nbd, partitions, read, repair, scan, session, store, table, table_tree, update, verify, verify_fec, verify_tree, version, write}
+use Rattle.command_line.specs.Invocations.{InvocationRecord, assemble, cat, copy, diff, dump, exports, find_in_place, format, format_fec, load, manual, nbd, partitions, read, repair, scan, session, store, table, table_tree, update, verify, verify_fec, verify_tree, version, write}
 use Rattle.command_line.specs.words.Cat.{CatRecord}
 use Rattle.command_line.specs.words.Copy.{CopyRecord}
 use Rattle.command_line.specs.words.Exports.{ExportsRecord}
@@ -20,6 +20,8 @@ use Rattle.fec_commands.specs.Commands.{IsVerifyFecEnd, VerifiesFec}
 use Rattle.fec_commands.specs.Formatting.{FormatsFec, IsFormatFecEnd}
 use Rattle.manual_pages.specs.Pages.{PageRecord, page_of}
 use Rattle.manual_pages.specs.Versions.{version_text}
+use Rattle.assemble_commands.specs.Commands.{AssemblesDisk}
+use Rattle.assemble_commands.specs.Ends.{IsAssembleEnd}
 use Rattle.find_commands.specs.Commands.{FindsInPlace, IsFindEnd}
 use Rattle.partition_commands.specs.declared.fault.PartitionsFault.{PartitionsFault}
 use Rattle.partition_commands.specs.Invocations.{IsFormQuiet, IsListingEnd, ListsPartitions}
@@ -37,7 +39,7 @@ use Rattle.transfer_commands.specs.StoredFiles.{FileWords, IsFileEnd, PrintsFile
 use Rattle.transfer_commands.specs.Streaming.{IsBytesEnd, IsStoringEnd, PrintsBytes, PrintsStored}
 use Rattle.stack_commands.specs.ManyExports.{IsExportsEnd, ServesExports}
 use Rattle.stack_commands.specs.ServiceLog.{Exchange, exchange}
-use Rattle.stack_commands.specs.StackCommands.{IsClientEnd, IsListEnd, IsReadEnd, IsServeEnd, IsWriteEnd, PrintsDevices, PrintsReply, PrintsWritten, ServesClient, ServesSession, ServesWell, device_on, on}
+use Rattle.stack_commands.specs.StackCommands.{IsClientEnd, IsListEnd, IsReadEnd, IsServeEnd, IsWriteEnd, PrintsDevices, PrintsReply, PrintsWritten, ServesClient, ServesSession, ServesWell, device_on, on, source_on}
 use Rattle.verity_commands.specs.Formatting.{FormatsAt, IsSaidFormatEnd}
 use Rattle.verity_commands.specs.Placed.{DumpsAt, IsDumpEnd, IsTableEnd, PrintsEntry}
 use Rattle.verity_commands.specs.Trees.{IsTableTreeEnd, PrintsTreeEntry}
@@ -125,7 +127,7 @@ IsStoreCommandEnd w s old new failed fault = BySource s
 -- ---- a whole device
 
 abbrev pub scanned : ScanRecord → ScanWords
-scanned s = scan_words (device_on s.stack s.name s.cache s.bindings) s.map s.retries s.form
+scanned s = scan_words (source_on s.source s.cache false s.bindings) s.map s.retries s.form
 
 abbrev pub ScansSectors : {S D : Type 0} → Calls S D → ScanRecord → Option (List ℕ) → Option (List ℕ) → Type 0
 ScansSectors w s old new = PrintsScan w (scanned s) old new
@@ -134,7 +136,7 @@ abbrev pub IsScanWordsEnd : {S D : Type 0} → Calls S D → ScanRecord → Opti
 IsScanWordsEnd w s old new failed fault = IsRecoveringEnd (IsScanEnd w (scanned s) old new failed) fault
 
 abbrev pub copied : CopyRecord → CopyWords
-copied c = copy_words (device_on c.stack c.name c.cache c.bindings) c.out c.differing c.map c.retries
+copied c = copy_words (source_on c.source c.cache c.grow c.bindings) c.out c.differing c.map c.retries
 
 abbrev pub CopiesSectors : {S D : Type 0} → Calls S D → CopyRecord → Option (List ℕ) → Option (List ℕ) → Type 0
 CopiesSectors w c old new = PrintsCopy w (copied c) old new
@@ -193,6 +195,7 @@ Succeeds texts (diff d) u = ComparesImages texts u.images d u.old.output u.new.o
 Succeeds texts (repair r) u = RepairsImage texts u.images r u.old.output u.new.output
 Succeeds texts (update p) u = UpdatesImage u.images p u.old.output u.new.output
 Succeeds texts (find_in_place f) u = FindsInPlace u.images f u.old.output u.new.output
+Succeeds texts (assemble a) u = AssemblesDisk u.images u.drawing a u.old.output u.new.output
 Succeeds texts (verify_tree v) u = ChecksTree texts u.images v u.old.output u.new.output
 Succeeds texts (table_tree t) u = PrintsTreeEntry texts u.images t u.old.output u.new.output
 Succeeds texts (format_fec f) u = FormatsFec texts u.images u.drawing f u.old.output u.new.output
@@ -221,6 +224,7 @@ FailsCommand texts (diff d) u failed fault = IsComparingEnd texts u.images d u.o
 FailsCommand texts (repair r) u failed fault = IsRepairWordsEnd texts u.images r u.old.output u.new.output failed fault
 FailsCommand texts (update p) u failed fault = IsUpdateWordsEnd u.images p u.old.output u.new.output failed fault
 FailsCommand texts (find_in_place f) u failed fault = IsRecoveringEnd (IsFindEnd u.images f u.old.output u.new.output failed) fault
+FailsCommand texts (assemble a) u failed fault = IsFecEnd (IsAssembleEnd u.images u.drawing a u.old.output u.new.output failed) fault
 FailsCommand texts (verify_tree v) u failed fault = IsCheckTreeEnd texts u.images v u.old.output u.new.output failed fault
 FailsCommand texts (table_tree t) u failed fault = IsVerityEnd (IsTableTreeEnd texts u.images t u.old.output u.new.output failed) fault
 FailsCommand texts (format_fec f) u failed fault = IsFecEnd (IsFormatFecEnd texts u.images u.drawing f u.old.output u.new.output failed) fault

@@ -28,12 +28,15 @@ use Rattle.stack_session.specs.Texts.{reply_text, written_text}
 use Rattle.stack_commands.specs.declared.fault.CommandFault.{CommandFault}
 use Rattle.stack_commands.specs.declared.fault.CommandFault.TheVariants.{Faults, Io, Linux, NoMemory, Service, Session, Stack}
 use Rattle.command_line.specs.Bindings.{BindingRecord}
+use Rattle.command_line.specs.SourceWords.{SourceRecord, on_disk, on_stack}
 use Rattle.command_line.specs.declared.list_form.ListForm.{ListForm}
 use Rattle.command_line.specs.declared.list_form.ListForm.TheVariants.{Object}
 use Rattle.stack_files.specs.declared.stack_fault.StackFault.{StackFault}
 use Rattle.stack_files.specs.declared.stack_fault.StackFault.TheVariants.{NoSuchDevice}
 use Rattle.stack_files.specs.BareLeaves.{FailsToStand, StandsOnLeaves}
 use Rattle.stack_files.specs.Closings.{GivesBack}
+use Rattle.stack_files.specs.DeviceSources.{SourceWords, of_disk, of_stack}
+use Rattle.stack_files.specs.Disks.{disk_at}
 use Rattle.stack_files.specs.NamedDevices.{DeviceWords, device_words}
 use Rattle.stack_files.specs.StacksOfTexts.{Configures, FailsToLoadFile, Loads}
 use Rattle.stack_files.specs.OpenStacks.{StackWords}
@@ -46,6 +49,11 @@ on stack bindings = record { stack = stack; bindings = bindings }
 
 abbrev pub device_on : List ℕ → List ℕ → ℕ → List BindingRecord → DeviceWords
 device_on stack name cache bindings = device_words (on stack bindings) name cache
+
+-- a device of a stack, or a disk
+abbrev pub source_on : SourceRecord → ℕ → Bool → List BindingRecord → SourceWords
+source_on (on_stack stack name) cache grow bindings = of_stack (device_on stack name cache bindings)
+source_on (on_disk place) cache grow bindings = of_disk (disk_at place cache grow)
 
 -- ---- `load`
 
@@ -66,7 +74,7 @@ IsLinuxEnd linux config (Linux refusal) = (linux ≡ true) × (linux_refusal con
 IsLinuxEnd linux config NoMemory = (linux ≡ true) × IsOutOfMemory (length config.devices)
 IsLinuxEnd linux config fault = ⊥
 
--- the object isn't made, as memory ran out; its library gives no evidence of that
+-- the object isn't made, since memory ran out; its library makes no evidence of that
 abbrev pub IsObjectUnmade : ListForm → CommandFault → Type 0
 IsObjectUnmade Object fault = fault ≡ NoMemory
 IsObjectUnmade form fault = ⊥
@@ -82,7 +90,7 @@ pub record PrintsDevices {S D : Type 0} (form : ListForm) (linux : Bool) (w : Ca
 pub record FailsToListDevices {S D : Type 0} (form : ListForm) (linux : Bool) (w : Calls S D) (words : StackWords) (failed : Bool) (fault : CommandFault) : Type 0 where
   pub config : Configuration
   pub made : Configures w words config
-  pub why : IsObjectUnmade form fault ⊎ (IsLinuxEnd linux config fault ⊎ IsReplyUnwritten failed fault)
+  pub why : (IsTaken linux config × IsObjectUnmade form fault) ⊎ (IsLinuxEnd linux config fault ⊎ IsReplyUnwritten failed fault)
 
 -- that, or the text makes none
 abbrev pub IsListEnd : {S D : Type 0} → ListForm → Bool → Calls S D → StackWords → Bool → CommandFault → Type 0

@@ -2,6 +2,7 @@
 use Rattle.std.specs.Prelude.{◌≡◌, ℕ, List, Some, Err}
 use Rattle.command_line.specs.Misuses.{misuse_record}
 use Rattle.command_parser.specs.CommandLines.{line_said}
+use Rattle.command_parser.specs.Memory.{IsLineOutOfMemory}
 use Rattle.stack_commands.specs.declared.fault.CommandFault.{CommandFault}
 use Rattle.stack_commands.specs.declared.fault.CommandFault.TheVariants.{NoMemory, Recovering, Request, Stack, Stream, Trees, Usage, Verity}
 use Rattle.program_io.specs.Streams.{Streams}
@@ -15,10 +16,10 @@ use Rattle.transfer_commands.specs.declared.stream_fault.StreamFault.{StreamFaul
 use Rattle.verity_commands.specs.declared.tree_fault.TreeFault.{TreeFault}
 use Rattle.verity_commands.specs.declared.verity_fault.VerityFault.{VerityFault}
 
--- the fault is `Usage` with the argument that the words misuse, or memory ran out
+-- the fault is `Usage` with the argument that the words misuse, or memory ran out while they were read
 abbrev pub IsUsageEnd : List (List ℕ) → CommandFault → Type 0
 IsUsageEnd words (Usage (Some misuse)) = line_said words ≡ Err (misuse_record misuse)
-IsUsageEnd words NoMemory = Unit {0}
+IsUsageEnd words NoMemory = IsLineOutOfMemory words
 IsUsageEnd words fault = ⊥
 
 -- a command on stacks ended so before it had one

@@ -4,16 +4,16 @@ ghost use Rattle.stack_commands.specs.Contexts.{DoesCopy, EndsCopy};
 
 use crate::context::Context;
 use crate::fault::CommandFault;
-use crate::words::stack_file;
+use crate::words::device_source;
 use command_line::CopyWords;
 use device_adapters::Progress;
 use image_files::Images;
 use scan_commands::{CopyPlan, copy_device};
-use stack_files::NamedDevice;
 use std::alloc::Global;
 use std::io::Write;
 
-/// `copy [--cache N] [--differing] [--map FILE] [--retries N] [--progress] STACK NAME OUT BINDING...`: copies the readable sectors of a device.
+/// `copy [--cache N] [--differing] [--map FILE] [--retries N] [--progress] (STACK NAME OUT BINDING... | --disk [--grow] DISK OUT)`:
+/// copies the readable sectors of a device.
 ///
 /// # Errors
 ///
@@ -31,8 +31,8 @@ pub fn invoke_copy<'a, I: Images, W: Write, P: Progress>(
     let CopyWords {
         cache,
         differing,
-        stack,
-        name,
+        grow,
+        source,
         out,
         bindings,
         map,
@@ -42,14 +42,12 @@ pub fn invoke_copy<'a, I: Images, W: Write, P: Progress>(
     if is_shown {
         progress.begin();
     }
-    let file = stack_file(stack, &bindings);
-    let device = NamedDevice { name, cache };
+    let read = device_source(source, cache, grow, &bindings);
     let plan = CopyPlan {
-        device,
         out,
         differing,
         map,
         retries,
     };
-    Ok(copy_device(alloc, images, file, plan, writer, progress)?)
+    Ok(copy_device(alloc, images, read, plan, writer, progress)?)
 }

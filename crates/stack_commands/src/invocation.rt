@@ -21,6 +21,7 @@ use crate::tree_verify::check_tree;
 use crate::update::update_image;
 use crate::verify::check_image;
 use crate::write::invoke_write;
+use assemble_commands::invoke_assemble;
 use command_line::Invocation;
 use command_parser::CommandLine;
 use device_adapters::{Progress, Watchers};
@@ -117,6 +118,9 @@ pub fn invoke<'a, I: Images, G: Generators + Progress + Watchers, S: Read, W: Wr
             update_image(alloc, Context { images, writer }, generators, &words)
         }
         Invocation::Find(words) => Ok(invoke_find(alloc, images, &words, writer)?),
+        Invocation::Assemble(words) => {
+            Ok(invoke_assemble(alloc, images, generators, &words, writer)?)
+        }
         Invocation::VerifyTree(words) => {
             check_tree(
                 alloc,

@@ -4,17 +4,16 @@ ghost use Rattle.stack_commands.specs.Contexts.{DoesScan, EndsScan};
 
 use crate::context::Context;
 use crate::fault::CommandFault;
-use crate::words::stack_file;
+use crate::words::device_source;
 use command_line::ScanWords;
 use device_adapters::Progress;
 use image_files::Images;
 use scan_commands::{ScanPlan, scan_device};
-use stack_files::NamedDevice;
 use std::alloc::Global;
 use std::io::Write;
 
-/// `scan [--cache N] [--map FILE] [--retries N] [--progress] [--json | --chart] STACK NAME BINDING...`: reports which sectors of a device are
-/// lost.
+/// `scan [--cache N] [--map FILE] [--retries N] [--progress] [--json | --chart] (STACK NAME BINDING... | --disk DISK)`: reports which
+/// sectors of a device are lost.
 ///
 /// # Errors
 ///
@@ -31,8 +30,7 @@ pub fn invoke_scan<'a, I: Images, W: Write, P: Progress>(
     let Context { images, writer } = context;
     let ScanWords {
         cache,
-        stack,
-        name,
+        source,
         bindings,
         map,
         retries,
@@ -42,13 +40,7 @@ pub fn invoke_scan<'a, I: Images, W: Write, P: Progress>(
     if is_shown {
         progress.begin();
     }
-    let file = stack_file(stack, &bindings);
-    let device = NamedDevice { name, cache };
-    let plan = ScanPlan {
-        device,
-        map,
-        retries,
-        form,
-    };
-    Ok(scan_device(alloc, images, file, plan, writer, progress)?)
+    let read = device_source(source, cache, false, &bindings);
+    let plan = ScanPlan { map, retries, form };
+    Ok(scan_device(alloc, images, read, plan, writer, progress)?)
 }

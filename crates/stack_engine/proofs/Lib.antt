@@ -27,3 +27,4 @@ pub mod RunBytesLemmas
 pub mod RefusedLemmas
 pub mod SyncCallLemmas
 pub mod DirtyLemmas
+pub mod KernelWordLemmas

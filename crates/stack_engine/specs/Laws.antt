@@ -1,5 +1,5 @@
 -- Laws of what a stack means and of what is answered.
-use Rattle.std.specs.Prelude.{◌≡◌, ◌≢◌, ℕ, ◌+◌, ◌-◌, ◌<◌, ◌*◌, ◌/◌, IsTrue, if◌then◌else◌, List, [], ◌++◌, map, All, Contains, Some, Result, Ok}
+use Rattle.std.specs.Prelude.{◌≡◌, ◌≢◌, ◌↔◌, ℕ, ◌+◌, ◌-◌, ◌<◌, ◌*◌, ◌/◌, false, IsTrue, if◌then◌else◌, List, [], ◌++◌, map, All, Contains, Some, Result, Ok}
 use Rattle.std.specs.List.{slice_index_or, concat}
 use Rattle.sha2.specs.Sha256.{sha256}
 use Rattle.hash_tree.specs.declared.difference.Place.{Place}
@@ -10,21 +10,25 @@ use Rattle.hash_tree.specs.Laws.{AreBlocks}
 use Rattle.tree_shape.specs.Shape.{area_blocks}
 use Rattle.hash_tree.specs.Tree.{root, area}
 use Rattle.dm_table.specs.declared.table.Line.{Line}
+use Rattle.dm_table.specs.declared.table.Target.{Target}
 use Rattle.dm_table.specs.declared.table.Target.TheVariants.{Verity as verity_target}
+use Rattle.dm_table.specs.declared.verity.CorruptionMode.TheVariants.{Fail}
 use Rattle.dm_table.specs.declared.verity.Verity.{Verity}
 use Rattle.stack_rules.specs.declared.lower.Lower.{Lower}
+use Rattle.stack_meaning.specs.declared.fault.Fault.{Fault}
 use Rattle.stack_meaning.specs.declared.fault.IoFault.{IoFault}
 use Rattle.stack_rules.specs.Lines.{line_at}
 use Rattle.stack_rules.specs.Names.{mapped}
-use Rattle.stack_rules.specs.Records.{Configuration}
+use Rattle.stack_rules.specs.Records.{Configuration, DeviceRecord}
 use Rattle.stack_rules.specs.Rules.{IsLoaded}
+use Rattle.stack_rules.specs.RulesOf.{rules_of}
 use Rattle.stack_rules.specs.Trees.{tree_of, line_data_sectors, block_sectors, zero_block}
 use Rattle.stack_meaning.specs.Blocks.{hash_sectors, is_ignored}
 use Rattle.stack_meaning.specs.Found.{FoundRecord}
 use Rattle.stack_meaning.specs.Leaves.{steady_images, AreSteady}
 use Rattle.stack_meaning.specs.LeavesBeneath.{leaves_beneath}
 use Rattle.stack_meaning.specs.May.{MayBe}
-use Rattle.stack_meaning.specs.Meaning.{content_part, sector, said_by_name}
+use Rattle.stack_meaning.specs.Meaning.{content_part, line_said, sector, said_by_name}
 use Rattle.stack_meaning.specs.Outcomes.{Images, AreWhole, Outcome, span, part, zero_sector}
 use Rattle.stack_meaning.specs.Reading.{Answers}
 use Rattle.stack_lines.specs.Touches.{leaves_of}
@@ -143,6 +147,42 @@ ForgedSectorsCollide = (c : Configuration) → IsLoaded c → (d first n : ℕ) 
 abbrev pub IgnoredBlocksCollide : Type 0
 IgnoredBlocksCollide = (v : Verity) (block : List ℕ) → IsTrue (is_ignored v (digest v.salt block)) → block ≢ zero_block v
     → IsSha256Collision (v.salt ++ block) (v.salt ++ zero_block v)
+
+-- ---- words for the kernel alone
+
+-- the line without the words that say what the kernel does on corruption, and where it verifies
+abbrev pub without_kernel_words : Verity → Verity
+without_kernel_words v = record v { corruption = Fail; in_tasklet = false }
+
+abbrev pub target_without : Target → Target
+target_without (verity_target v) = verity_target (without_kernel_words v)
+target_without target = target
+
+abbrev pub line_without : Line → Line
+line_without line = record line { target = target_without line.target }
+
+abbrev pub device_without : DeviceRecord → DeviceRecord
+device_without x = record x { table = map line_without x.table }
+
+-- the stack without these words
+abbrev pub stack_without : Configuration → Configuration
+stack_without c = record c { devices = map device_without c.devices }
+
+-- each sector of a device means what it means in the stack without these words
+abbrev pub KernelWordsChangeNoSector : Type 0
+KernelWordsChangeNoSector = (c : Configuration) (images : Images) (lower : Lower) (s : ℕ) → sector (stack_without c) images lower s ≡ sector c images lower s
+
+-- Sector s of line l of device d with either target: it means the same, whatever the leaves hold, and whatever they return it may
+-- have the same bytes with the same chains, and the same faults.
+pub record MeansTheSame (c : Configuration) (d l s : ℕ) (target other : Target) : Type 0 where
+  pub means : (images : Images) → (line_said (said_by_name c) d l target s).means images ≡ (line_said (said_by_name c) d l other s).means images
+  pub may : (chains : List FoundRecord) (bytes : List ℕ) → (line_said (said_by_name c) d l target s).may chains bytes ↔ (line_said (said_by_name c) d l other s).may chains bytes
+  pub meets : (fault : Fault) → (line_said (said_by_name c) d l target s).meets fault ↔ (line_said (said_by_name c) d l other s).meets fault
+
+-- A line has the rules and costs of the line without these words, and each of its sectors means what that line's does.
+abbrev pub KernelWordsChangeNoLine : Type 0
+KernelWordsChangeNoLine = (v : Verity) → (rules_of (verity_target (without_kernel_words v)) ≡ rules_of (verity_target v))
+    × ((c : Configuration) (d l s : ℕ) → MeansTheSame c d l s (verity_target (without_kernel_words v)) (verity_target v))
 
 -- ---- hash blocks that are kept
 

@@ -1,6 +1,6 @@
 //! Laws of the definitions: each function's contract is the law, and its call gives it.
 ghost use Rattle.stack_engine.specs.Dirty.{ReadsKeepDirty, WritesMakeDirty};
-ghost use Rattle.stack_engine.specs.Laws.{FormattedDataIsRead, IgnoredBlocksCollide, SpansStandOnLeaves, AnsweredChainsAreGood, ForgedAnswersCollide, ForgedBytesCollide, ForgedSectorsCollide, OtherLeavesChangeNoAnswer, WrittenLeavesAreForgotten};
+ghost use Rattle.stack_engine.specs.Laws.{FormattedDataIsRead, IgnoredBlocksCollide, KernelWordsChangeNoLine, KernelWordsChangeNoSector, SpansStandOnLeaves, AnsweredChainsAreGood, ForgedAnswersCollide, ForgedBytesCollide, ForgedSectorsCollide, OtherLeavesChangeNoAnswer, WrittenLeavesAreForgotten};
 
 use block_device::BlockDev;
 use hash_tree::laws::{forged_blocks_collide, formed_chains_are_good};
@@ -18,6 +18,18 @@ pub fn formatted_data_is_read()
 /// inputs of one SHA-256 digest.
 pub fn ignored_blocks_collide()
     ensures { IgnoredBlocksCollide }
+{}
+
+/// A `verity` line has the rules and costs of the line without the words that say what the kernel does on corruption
+/// (`restart_on_corruption`, `panic_on_corruption`) and where it verifies (`try_verify_in_tasklet`). A sector of it means the
+/// same, and may have the same bytes with the same chains, and the same faults, whatever the leaves return.
+pub fn kernel_words_change_no_line()
+    ensures { KernelWordsChangeNoLine }
+{}
+
+/// Each sector of a device means what it means in the stack whose lines are without these words.
+pub fn kernel_words_change_no_sector()
+    ensures { KernelWordsChangeNoSector }
 {}
 
 /// A span of a device depends on the images of the leaves beneath it alone.

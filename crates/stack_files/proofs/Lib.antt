@@ -1,3 +1,4 @@
+pub mod lemmas
 pub mod LeafClosingLemmas
 pub mod OpeningLemmas
 pub mod ResolvingLemmas
@@ -5,3 +6,4 @@ pub mod ClosingLemmas
 pub mod ConfigurationLemmas
 pub mod DeviceLemmas
 pub mod StackLemmas
+pub mod DiskLemmas

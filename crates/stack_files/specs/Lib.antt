@@ -4,6 +4,9 @@ pub mod OpenStacks
 pub mod BareLeaves
 pub mod Closings
 pub mod Configuration
+pub mod DeviceSources
+pub mod DiskEntries
+pub mod Disks
 pub mod Endings
 pub mod NamedDevices
 pub mod Resolving

@@ -44,7 +44,7 @@ pub fn open_device<'a, I: Images>(
 /// # Errors
 ///
 /// The faults of `open_device`; `Open` also if the image can't be opened, or is the stack file.
-pub fn open_device_and_output<'a, I: Images>(
+pub(crate) fn open_device_and_output<'a, I: Images>(
     alloc: Global,
     images: &mut I,
     file: StackFile<'a, '_>,

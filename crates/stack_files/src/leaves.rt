@@ -21,7 +21,8 @@ pub struct OpenLeaves<D> {
 }
 
 impl<D: BlockDev + Drop> OpenLeaves<D> {
-    fn new(alloc: Global) -> OpenLeaves<D>
+    /// Returns no backing devices.
+    pub(crate) fn new(alloc: Global) -> OpenLeaves<D>
         ensures served { ServeLeaves result.leaves.items (map D.state result.devices.items) }
         ensures none { (result.leaves.items ≡ []) × (result.devices.items ≡ []) }
     {
@@ -31,8 +32,12 @@ impl<D: BlockDev + Drop> OpenLeaves<D> {
         }
     }
 
-    // Adds a device with a name.
-    fn bind(&mut self, alloc: Global, name: &str, device: D) -> Result<(), OutOfMemory>
+    /// Adds a device with a name.
+    ///
+    /// # Errors
+    ///
+    /// `OutOfMemory` if an allocation for the name or of room for one device fails.
+    pub(crate) fn bind(&mut self, alloc: Global, name: &str, device: D) -> Result<(), OutOfMemory>
         requires { ServeLeaves self.old.leaves.items (map D.state self.old.devices.items) }
         ensures served { OnOk result (ServeLeaves self.new.leaves.items (map D.state self.new.devices.items)) }
         ensures more { OnOk result ((names_in self.new.leaves.items ≡ names_in self.old.leaves.items ++ name.now ∷ []) × (self.new.devices.items ≡ self.old.devices.items ++ device ∷ [])) }

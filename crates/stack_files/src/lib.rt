@@ -1,10 +1,13 @@
 //! The stack that a stack file makes over the images of its bindings: resolves partitions, opens the images, loads the text, finds
-//! a device by name, and closes the images.
+//! a device by name, and closes the images. Also the stack of a disk without a stack file.
 #![tactic(auto)]
 
 mod closing;
 mod configuration;
 mod device;
+mod device_source;
+mod disk;
+mod disk_entries;
 mod leaf_closing;
 mod leaves;
 mod opening_fault;
@@ -16,7 +19,10 @@ mod stack_file;
 
 pub use closing::{close_stack, sync_and_close};
 pub use configuration::{configuration_of, open_configuration};
-pub use device::{NamedDevice, find_device, open_device, open_device_and_output};
+pub use device::{NamedDevice, find_device, open_device};
+pub use device_source::{DeviceSource, open_source, open_source_and_output};
+pub use disk::DiskPlace;
+pub use disk_entries::push_linear_entry;
 pub use leaves::OpenLeaves;
 pub use opening_fault::OpeningFault;
 pub use resolving::resolve_bindings;

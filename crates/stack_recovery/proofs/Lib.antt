@@ -6,6 +6,7 @@ mod LongestLemmas
 mod LostRunLemmas
 mod GrowthLemmas
 mod HandingLemmas
+mod LeafReadLemmas
 mod MeantLemmas
 mod PieceLemmas
 mod RetryLemmas

@@ -4,6 +4,7 @@ pub mod Deadlines
 pub mod FirstPasses
 pub mod Handing
 pub mod Laws
+pub mod LeafReads
 pub mod Listings
 pub mod LostRuns
 pub mod PieceLimits

@@ -6,8 +6,9 @@ ghost use Rattle.std.specs.Option.{ForSome, is_some};
 ghost use Rattle.rescue_map.specs.Maps.{marks};
 ghost use Rattle.rescue_map.specs.Aheads.{marks_ahead};
 ghost use Rattle.stack_recovery.specs.Handing.{HandsOverPart, HandsOverUntil};
+ghost use Rattle.stack_recovery.specs.LeafReads.{CopiesAll, CopiesOver};
 ghost use Rattle.stack_recovery.specs.Losses.{ListsLost, NotesLost, StopsInPiece, TalliesLost};
-ghost use Rattle.stack_recovery.specs.Recoveries.{EndsEarlyBy, GoesOverBy, AreMarksNoted, parties};
+ghost use Rattle.stack_recovery.specs.Recoveries.{EndsEarlyBy, GoesOverBy, AreMarksNoted, counted_sectors, parties};
 ghost use Rattle.stack_recovery.specs.Retries.{retried, retried_by};
 ghost use Rattle.stack_recovery.specs.TwoPasses.{EndsRecovery, HandsPasses, HandsPassesPart, RecoversBy};
 ghost use Rattle.runs.specs.Runs.{run};
@@ -73,6 +74,7 @@ pub fn recover<D: BlockDev, O: BlockDev, L: Listing>(
     ensures err { IfErr result (EndsRecovery O.state L.told (retried d.0 0) (parties stack.old out.old listing.old) (parties stack.new out.new listing.new)) }
     ensures handed { OnOk result (HandsPasses (DeviceDoes O.state O.does) (retried d.0 0) (parties stack.old out.old listing.old) (parties stack.new out.new listing.new)) }
     ensures stopped { IfErr result (HandsPassesPart (DeviceDoes O.state O.does) (retried d.0 0) (parties stack.old out.old listing.old) (parties stack.new out.new listing.new)) }
+    ensures called { CopiesAll D.state D.does (DeviceDoes O.state O.does) d.0 stack.old out.old stack.new out.new result }
 {
     let plan = RecoveryPlan {
         device: d,
@@ -103,6 +105,7 @@ pub fn recover_with<D: BlockDev, O: BlockDev, L: Listing, P: Progress>(
     ensures err { IfErr result (EndsRecovery O.state L.told (retried_by plan) (parties stack.old out.old listing.old) (parties stack.new out.new listing.new)) }
     ensures handed { OnOk result (HandsPasses (DeviceDoes O.state O.does) (retried_by plan) (parties stack.old out.old listing.old) (parties stack.new out.new listing.new)) }
     ensures stopped { IfErr result (HandsPassesPart (DeviceDoes O.state O.does) (retried_by plan) (parties stack.old out.old listing.old) (parties stack.new out.new listing.new)) }
+    ensures called { CopiesAll D.state D.does (DeviceDoes O.state O.does) plan.device.0 stack.old out.old stack.new out.new result }
 {
     let d = plan.device;
     let first = DevicePass {
@@ -142,6 +145,7 @@ pub(crate) fn go_over<D: BlockDev, O: BlockDev, L: Listing, P: Progress>(
     ensures noted { OnOk result (is_some noted.new ≡ is_some noted.old) }
     ensures handed { IfOk result (HandsOverUntil (DeviceDoes O.state O.does) pass (marks_ahead ahead.entry) (parties stack.old out.old listing.old) noted.new (parties stack.new out.new listing.new)) }
     ensures stopped { IfErr result (HandsOverPart (DeviceDoes O.state O.does) (marks_ahead ahead.entry) pass.device.0 (parties stack.old out.old listing.old) (parties stack.new out.new listing.new)) }
+    ensures called { CopiesOver D.state D.does (DeviceDoes O.state O.does) (marks_ahead ahead.entry) pass.device.0 stack.old out.old stack.new out.new result (λ counts. counted_sectors counts) }
 {
     // The call provides the bound on a device's sectors.
     let _fits = out.sectors();
@@ -182,6 +186,7 @@ fn go_over_by<D: BlockDev, O: BlockDev, L: Listing, P: Progress>(
     ensures noted { OnOk result (is_some noted.new ≡ is_some noted.old) }
     ensures handed { IfOk result (HandsOverUntil (DeviceDoes O.state O.does) pass (marks_ahead ahead.entry) (parties stack.old out.old listing.old) noted.new (parties stack.new out.new listing.new)) }
     ensures stopped { IfErr result (HandsOverPart (DeviceDoes O.state O.does) (marks_ahead ahead.entry) pass.device.0 (parties stack.old out.old listing.old) (parties stack.new out.new listing.new)) }
+    ensures called { CopiesOver D.state D.does (DeviceDoes O.state O.does) (marks_ahead ahead.entry) pass.device.0 stack.old out.old stack.new out.new result (λ counts. counted_sectors counts) }
 {
     let d = pass.device;
     let sectors = stack.config().sectors(d);

@@ -4,7 +4,8 @@ ghost use Rattle.block_device.specs.Call.{DeviceDoes};
 ghost use Rattle.stack_rules.specs.Names.{mapped, size};
 ghost use Rattle.rescue_map.specs.Maps.{marks};
 ghost use Rattle.stack_recovery.specs.Handing.{HandsOverPart, RescueHands};
-ghost use Rattle.stack_recovery.specs.Recoveries.{EndsRescue, RescuesBy, parties};
+ghost use Rattle.stack_recovery.specs.LeafReads.{CopiesOver};
+ghost use Rattle.stack_recovery.specs.Recoveries.{EndsRescue, RescuesBy, counted_sectors, parties};
 
 use crate::deadline::DevicePass;
 use crate::fault::RecoveryFault;
@@ -47,6 +48,7 @@ pub fn rescue<D: BlockDev, O: BlockDev, L: Listing, P: Progress>(
     ensures err { IfErr result (EndsRescue O.state L.told (marks map.now) pass.device.0 (parties stack.old out.old listing.old) (parties stack.new out.new listing.new)) }
     ensures handed { IfOk result (RescueHands (DeviceDoes O.state O.does) (marks map.now) pass.device.0 (parties stack.old out.old listing.old) (parties stack.new out.new listing.new)) }
     ensures stopped { IfErr result (HandsOverPart (DeviceDoes O.state O.does) (marks map.now) pass.device.0 (parties stack.old out.old listing.old) (parties stack.new out.new listing.new)) }
+    ensures called { CopiesOver D.state D.does (DeviceDoes O.state O.does) (marks map.now) pass.device.0 stack.old out.old stack.new out.new result (λ rescued. counted_sectors rescued.counts) }
 {
     let mut noted = Some(Map::new(alloc));
     let ahead = Ahead::of_map(map);

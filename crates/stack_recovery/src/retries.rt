@@ -3,6 +3,7 @@ ghost use Rattle.std.specs.Prelude.{◌≡◌, ◌≤◌, ◌<◌, length, IsTru
 ghost use Rattle.block_device.specs.Call.{DeviceDoes};
 ghost use Rattle.stack_rules.specs.Names.{mapped, size};
 ghost use Rattle.rescue_map.specs.Maps.{marks};
+ghost use Rattle.stack_recovery.specs.LeafReads.{CopiesAll};
 ghost use Rattle.stack_recovery.specs.Retries.{EndsReadingAgainBy, HandsAgainBy, HandsAgainPart, ReadsAgainBy, after_pass, retried_by};
 
 use crate::deadline::DevicePass;
@@ -40,6 +41,7 @@ pub(crate) fn read_again<D: BlockDev, O: BlockDev, P: Progress>(
     ensures err { IfErr result (EndsReadingAgainBy O.state (retried_by plan) (after_pass stack.old out.old map) stack.new out.new) }
     ensures handed { IfOk result (HandsAgainBy (DeviceDoes O.state O.does) (retried_by plan) (after_pass stack.old out.old map) stack.new out.new) }
     ensures stopped { IfErr result (HandsAgainPart (DeviceDoes O.state O.does) (retried_by plan) (after_pass stack.old out.old map) stack.new out.new) }
+    ensures called { CopiesAll D.state D.does (DeviceDoes O.state O.does) plan.device.0 stack.old out.old stack.new out.new result }
 {
     let mut left = map;
     let mut passes = 0;

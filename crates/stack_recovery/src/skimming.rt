@@ -5,6 +5,7 @@ ghost use Rattle.stack_rules.specs.Names.{mapped, size};
 ghost use Rattle.rescue_map.specs.Aheads.{marks_ahead};
 ghost use Rattle.rescue_map.specs.Maps.{marks};
 ghost use Rattle.stack_recovery.specs.FirstPasses.{EndsSkimBy, HandsSkimsPart, HandsSkimsUntil, SkimsBy, has_more, transfer};
+ghost use Rattle.stack_recovery.specs.LeafReads.{CopiesOver};
 ghost use Rattle.stack_recovery.specs.declared.fault.RecoveryFault.TheVariants as recovery_fault;
 
 use crate::deadline::{DevicePass, pass_end};
@@ -52,6 +53,7 @@ pub fn skim<D: BlockDev, O: BlockDev, P: Progress>(
     ensures err { IfErr result (EndsSkimBy O.state true (marks map.now) pass.device.0 (transfer stack.old out.old) (transfer stack.new out.new)) }
     ensures handed { IfOk result (HandsSkimsUntil (DeviceDoes O.state O.does) (marks map.now) pass.device.0 (transfer stack.old out.old) (transfer stack.new out.new)) }
     ensures stopped { IfErr result (HandsSkimsPart (DeviceDoes O.state O.does) (marks map.now) pass.device.0 (transfer stack.old out.old) (transfer stack.new out.new)) }
+    ensures called { CopiesOver D.state D.does (DeviceDoes O.state O.does) (marks map.now) pass.device.0 stack.old out.old stack.new out.new result (λ made. length (marks made)) }
 {
     skim_ahead(alloc, stack, pass, out, Ahead::of_map(map), progress)
 }
@@ -73,6 +75,7 @@ pub(crate) fn skim_ahead<D: BlockDev, O: BlockDev, P: Progress>(
     ensures err { IfErr result (EndsSkimBy O.state (has_more ahead.entry.rest.now) (marks_ahead ahead.entry) pass.device.0 (transfer stack.old out.old) (transfer stack.new out.new)) }
     ensures handed { IfOk result (HandsSkimsUntil (DeviceDoes O.state O.does) (marks_ahead ahead.entry) pass.device.0 (transfer stack.old out.old) (transfer stack.new out.new)) }
     ensures stopped { IfErr result (HandsSkimsPart (DeviceDoes O.state O.does) (marks_ahead ahead.entry) pass.device.0 (transfer stack.old out.old) (transfer stack.new out.new)) }
+    ensures called { CopiesOver D.state D.does (DeviceDoes O.state O.does) (marks_ahead ahead.entry) pass.device.0 stack.old out.old stack.new out.new result (λ made. length (marks made)) }
 {
     // The call provides the bound on a device's sectors.
     let _fits = out.sectors();
@@ -104,6 +107,7 @@ fn skim_by<D: BlockDev, O: BlockDev, P: Progress>(
     ensures err { IfErr result (EndsSkimBy O.state (has_more ahead.entry.rest.now) (marks_ahead ahead.entry) pass.device.0 (transfer stack.old out.old) (transfer stack.new out.new)) }
     ensures handed { OnOk result (HandsSkimsUntil (DeviceDoes O.state O.does) (marks_ahead ahead.entry) pass.device.0 (transfer stack.old out.old) (transfer stack.new out.new) map.new) }
     ensures stopped { IfErr result (HandsSkimsPart (DeviceDoes O.state O.does) (marks_ahead ahead.entry) pass.device.0 (transfer stack.old out.old) (transfer stack.new out.new)) }
+    ensures called { CopiesOver D.state D.does (DeviceDoes O.state O.does) (marks_ahead ahead.entry) pass.device.0 stack.old out.old stack.new out.new result (λ done. length (marks map.new)) }
 {
     let sectors = stack.config().sectors(pass.device);
     let most = most_skip(sectors);

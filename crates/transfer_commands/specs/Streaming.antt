@@ -11,7 +11,10 @@ use Rattle.transfer_commands.specs.declared.device_out.Wanted.{Wanted}
 use Rattle.transfer_commands.specs.declared.input.StorePlace.{StorePlace}
 use Rattle.transfer_commands.specs.declared.output.SectorRange.{SectorRange}
 use Rattle.transfer_commands.specs.Cats.{CatSide, IsCat, IsCatEnd, cat_side}
+use Rattle.transfer_commands.specs.Filling.{IsBroken}
 use Rattle.transfer_commands.specs.Stores.{IsStoreEnd, StoreSide, Stores, store_side}
+use Rattle.transfer_commands.specs.declared.stream_fault.StoreCause.{StoreCause}
+use Rattle.transfer_commands.specs.declared.stream_fault.StoreCause.TheVariants as cause
 use Rattle.transfer_commands.specs.declared.stream_fault.StreamFault.{StreamFault}
 use Rattle.transfer_commands.specs.declared.stream_fault.StreamFault.TheVariants.{Cat, Stack, Store, Write}
 use Rattle.transfer_commands.specs.StreamTexts.{stored_text}
@@ -106,6 +109,16 @@ pub record PrintsStored {S D : Type 0} (w : Calls S D) (words : DeviceWords) (fi
 abbrev pub IsStoreFault : ℕ → StorePlace → StoreSide → StoreSide → StreamFault → Type 0
 IsStoreFault d place old new (Store fault) = IsStoreEnd d place old new (Unit {0}) fault
 IsStoreFault d place old new fault = ⊥
+
+-- if the cause is the input, this holds of it
+abbrev pub IfInputCause : Type 0 → StoreCause → Type 0
+IfInputCause broken cause.Read = broken
+IfInputCause broken other = Unit {0}
+
+-- if a store ended because of its input, the reader is broken
+abbrev pub BlamesReader : {R : Type 0} → CountedRecord R → StreamFault → Type 0
+BlamesReader reader (Store fault) = IfInputCause (IsBroken reader) fault.cause
+BlamesReader reader fault = Unit {0}
 
 -- not all bytes were stored, and the images were closed
 pub record FailsToStore {S D : Type 0} (w : Calls S D) (words : DeviceWords) (first : ℕ) (old new : Streams) (fault : StreamFault) : Type 0 where

@@ -1,7 +1,7 @@
 //! Writes the bytes of a reader to a stack file's device.
 ghost use Rattle.std.specs.Prelude.{OnOk, IfErr};
 ghost use Rattle.image_files.specs.Opener.{calls};
-ghost use Rattle.transfer_commands.specs.Streaming.{IsTargetEnd, StoresTarget, ends};
+ghost use Rattle.transfer_commands.specs.Streaming.{BlamesReader, IsTargetEnd, StoresTarget, ends};
 
 use crate::input::{StorePlace, store};
 use crate::stream_fault::StreamFault;
@@ -40,6 +40,7 @@ pub fn store_device<'a, I: Images, S: Read, W: Write, P: Progress>(
 ) -> Result<(), StreamFault<'a>>
     ensures ok { OnOk result (StoresTarget (calls I.relations I.Dev.state images.old images.new) file.entry target.entry S.remaining W.contents (ends reader.old writer.old) (ends reader.new writer.new)) }
     ensures err { IfErr result (IsTargetEnd (calls I.relations I.Dev.state images.old images.new) file.entry target.entry S.remaining W.contents (ends reader.old writer.old) (ends reader.new writer.new)) }
+    ensures broken { IfErr result (BlamesReader reader.new) }
 {
     let Target { name, first, cache } = target;
     let device = NamedDevice { name, cache };

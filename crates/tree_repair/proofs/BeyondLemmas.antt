@@ -37,6 +37,15 @@ vain-beyond j p h i t more sure (inl off) = inl off
 vain-beyond j p h i t more sure (inr (k, (at, inl unmade))) = inr (k, (at, unmade-beyond j p h i t k more sure unmade))
 vain-beyond j p h i t more sure (inr (k, (at, inr other))) = inr (k, (at, inr (inr other)))
 
+-- what was read after it changes nothing of that
+beyond-read : (j : Job) (p : PathRecord) (h i : ℕ) (t : Trial) (m : RepairWorld) (q : Device)
+    → IsUncovered j.tree.shape t.layout h i ⊎ ((k : ℕ) × (IsCoveredAt j.tree.shape t.layout h i k × IsRoundBeyond j p h i (trial t.layout t.lost t.w m t.parity_dev q) k))
+    → IsUncovered j.tree.shape t.layout h i ⊎ ((k : ℕ) × (IsCoveredAt j.tree.shape t.layout h i k × IsRoundBeyond j p h i t k))
+beyond-read j p h i t m q (inl off) = inl off
+beyond-read j p h i t m q (inr (k, (at, inl many))) = inr (k, (at, inl many))
+beyond-read j p h i t m q (inr (k, (at, inr (inl small)))) = inr (k, (at, inr (inl small)))
+beyond-read j p h i t m q (inr (k, (at, inr (inr made)))) = inr (k, (at, inr (inr (record { bytes = made.bytes; other = made.other; made = made.made }))))
+
 -- how a trial ends, after a reading
 pub record IsEnded (j : Job) (h i : ℕ) (t : Trial) : Type 0 where
   pub a : RepairWorld
@@ -53,8 +62,12 @@ tried-ended j h i t false sure behind =
         outcome = inr (inr (inr (record {
           p = along.p;
           way = along.way;
-          vain = vain-beyond j along.p h i (record t { w = behind.between }) (counting-read behind.between t.w' t.parity_dev t.parity_dev' behind.tried.0.image behind.tried.0.parity)
-              (none-right t.w behind.between t.w' t.parity_dev t.parity_dev t.parity_dev' (counting-read t.w behind.between t.parity_dev t.parity_dev behind.read (parity-none t.parity_dev)) sure) along.vain;
+          vain =
+              let v = along.vain in
+              beyond-read j along.p h i (trial t.layout t.lost behind.between t.w' t.parity_dev t.parity_dev') v.between v.parity_between
+              (vain-beyond j along.p h i (trial t.layout t.lost behind.between v.between t.parity_dev v.parity_between) (counting-read behind.between v.between t.parity_dev v.parity_between v.first.image v.first.parity)
+              (none-left behind.between v.between t.w' t.parity_dev v.parity_between t.parity_dev' (counting-read v.between t.w' v.parity_between t.parity_dev' v.rest.image v.rest.parity)
+              (none-right t.w behind.between t.w' t.parity_dev t.parity_dev t.parity_dev' (counting-read t.w behind.between t.parity_dev t.parity_dev behind.read (parity-none t.parity_dev)) sure)) v.vain);
         })));
       }
       | inr good ↦ record { a = behind.between; read = behind.read; outcome = inr (inl good) }

@@ -32,12 +32,12 @@ use Rattle.tree_repair.proofs.LawLemmas.{formed-chain, way-good}
 
 -- ---- the blocks of a chain
 
-length-path : (s : ShapeRecord) (salt : List ℕ) (ds : List (List ℕ)) (n i : ℕ) → length (path_to s salt ds n i) ≡ n
+pub length-path : (s : ShapeRecord) (salt : List ℕ) (ds : List (List ℕ)) (n i : ℕ) → length (path_to s salt ds n i) ≡ n
 length-path s salt ds zero i = refl
 length-path s salt ds (suc l) i = ap suc (length-path s salt ds l i)
 
 -- beneath all hash blocks is the content
-content-below : (path : List (List ℕ)) (content : List ℕ) (d : ℕ) → length path ≤ d → chain_block_below path content d ≡ content
+pub content-below : (path : List (List ℕ)) (content : List ℕ) (d : ℕ) → length path ≤ d → chain_block_below path content d ≡ content
 content-below [] content d few = refl
 content-below (b ∷ path) content zero few = absurd (omega (arith, few))
 content-below (b ∷ path) content (suc d) few = content-below path content d (omega (arith, few))

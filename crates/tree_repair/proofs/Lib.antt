@@ -20,6 +20,7 @@ mod KeepLemmas
 mod BlockCheckLemmas
 mod LosingLemmas
 mod MakeLemmas
+mod MoveLemmas
 mod NoneLostLemmas
 mod NumberLemmas
 mod OnceLemmas
@@ -27,6 +28,7 @@ mod OutcomeLemmas
 mod OverLemmas
 mod ParityLemmas
 mod ParityBillLemmas
+mod CorrectBillLemmas
 mod ParityPassLemmas
 mod PassLemmas
 mod PieceLemmas
@@ -47,6 +49,7 @@ mod TryLemmas
 mod UnfailedLemmas
 mod UnknownLemmas
 mod UnusedEntryLemmas
+mod ValidLemmas
 mod VerifiedPathLemmas
 mod VisitLemmas
 mod WayLemmas

@@ -156,8 +156,22 @@ module _ (j : Job) (l : Layout) (some all : List ℕ) (alike : (index : ℕ) →
 
   tried-alike : (h i : ℕ) (w w' : RepairWorld) (p p' : Device) (back : Bool) → IsTried j h i (trial l some w w' p p') back → IsTried j h i (trial l all w w' p p') back
   tried-alike h i w w' p p' true tried = tried
-  tried-alike h i w w' p p' false (left, inl vain) =
-      (record { image = left.image; parity = left.parity }, inl (record { p = vain.p; way = vain.way; vain = vain-alike vain.p h i w w' p p' vain.vain }))
+  tried-alike h i w w' p p' false (left, inl vain) = (
+    record { image = left.image; parity = left.parity },
+    inl (record {
+      p = vain.p;
+      way = vain.way;
+      vain =
+          let v = vain.vain in
+          record {
+            between = v.between;
+            parity_between = v.parity_between;
+            first = record { image = v.first.image; parity = v.first.parity };
+            rest = record { image = v.rest.image; parity = v.rest.parity };
+            vain = vain-alike vain.p h i w v.between p v.parity_between v.vain;
+          };
+    }),
+  )
   tried-alike h i w w' p p' false (left, inr good) = (record { image = left.image; parity = left.parity }, inr good)
 
   sought-alike : (h i : ℕ) (w w' : RepairWorld) (p p' : Device) (found back : Bool) → IsSoughtAt j h i (trial l some w w' p p') found back → IsSoughtAt j h i (trial l all w w' p p') found back

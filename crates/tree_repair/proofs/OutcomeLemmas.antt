@@ -23,7 +23,8 @@ use Rattle.tree_repair.proofs.ApartLemmas.{above-from}
 use Rattle.tree_repair.proofs.ExcuseLemmas.{counted-left, counted-right, passed-for, runs-own}
 use Rattle.tree_repair.proofs.RunLemmas.{runs-then, world-none}
 use Rattle.tree_repair.proofs.StandLemmas.{IsReady, image-ready, lost-or, runs-keep, runs-ready, runs-stand, stands-beside}
-use Rattle.tree_repair.proofs.WayLemmas.{each-or, hash-block, way-stands, ways-agree}
+use Rattle.tree_repair.proofs.WayLemmas.{hash-block, way-stands, ways-agree}
+use Rattle.tree_repair.proofs.lemmas.EachLemmas.{each-or}
 
 -- ---- among more visits
 

@@ -11,7 +11,7 @@ use Rattle.verity_format.specs.Blocks.{AreOnlyRead, IsOnlyRead}
 use Rattle.verity_format.specs.Image.{data_sectors}
 use Rattle.tree_repair.specs.AccessBudgets.{Bill, LeavesWorld, block_read, nothing_due, pass_over, reading}
 use Rattle.tree_repair.specs.Bounds.{AreReadAtMost, area_block_sectors}
-use Rattle.tree_repair.specs.ParityBounds.{IsAskedAlone, IsAskedWithin, IsReplacedOnce, ParityBill, along_bill, kept_bill, parity_bill, put_bill, round_bill}
+use Rattle.tree_repair.specs.ParityBounds.{IsAskedAlone, IsAskedWithin, IsReplacedOnce, ParityBill, along_bill, kept_bill, parity_bill, put_bill, round_bill, tries_bill}
 use Rattle.tree_repair.specs.Runs.{size_at}
 use Rattle.tree_repair.specs.Worlds.{RepairWorld, repair_world}
 use Rattle.tree_repair.proofs.BillLemmas.{at_most-left, at_most-none}
@@ -152,18 +152,18 @@ asked-round l valid lost index ok w d' h' p p' read parity asked =
       hash_copies = at_most-none w.hash_copies 0;
     }
 
-two-more : (r k : ℕ) → r ≤ 24 → (255 - r) * k + (k + k) ≡ (257 - r) * k
+two-more : (r k : ℕ) → r ≤ 24 → (511 - 2 * r) * k + (k + k) ≡ (513 - 2 * r) * k
 two-more r k few =
-    let next : 257 - r ≡ suc (suc (255 - r)) = omega (arith, few) in
-    let parts : suc (suc (255 - r)) * k ≡ (255 - r) * k + (k + k) = grind arith in
+    let next : 513 - 2 * r ≡ suc (suc (511 - 2 * r)) = omega (arith, few) in
+    let parts : suc (suc (511 - 2 * r)) * k ≡ (511 - 2 * r) * k + (k + k) = grind arith in
     sym (ap (λ (n : ℕ). n * k) next ∙ parts)
 
 -- and then the block itself
-pub asked-along : {w x y : RepairWorld} {p q r : Device} (l : Layout) → IsLayout l → (n : ℕ) → l.block ≡ n → IsAskedWithin (round_bill l) w x p q → IsAskedWithin (kept_bill (n / 512)) x y q r → IsAskedWithin (along_bill l) w y p r
+pub asked-along : {w x y : RepairWorld} {p q r : Device} (l : Layout) → IsLayout l → (n : ℕ) → l.block ≡ n → IsAskedWithin (tries_bill l) w x p q → IsAskedWithin (kept_bill (n / 512)) x y q r → IsAskedWithin (along_bill l) w y p r
 asked-along l valid n same first last =
     let k : ℕ = l.block / 512 in
     let size : k ≡ n / 512 = ap (λ (m : ℕ). m / 512) same in
-    let sum : (255 - l.roots) * k + (k + k) ≡ (257 - l.roots) * k = two-more l.roots k valid.few in
+    let sum : (511 - 2 * l.roots) * k + (k + k) ≡ (513 - 2 * l.roots) * k = two-more l.roots k valid.few in
     asked-more (along_bill l) (asked-then first last) (record {
       data_reads = omega (arith, sum, size);
       hash_reads = omega (arith, sum, size);
@@ -175,9 +175,9 @@ asked-along l valid n same first last =
     })
 
 -- it wasn't put
-pub asked-round_alone : {w x : RepairWorld} {p q : Device} (l : Layout) → IsLayout l → IsAskedWithin (round_bill l) w x p q → IsAskedWithin (along_bill l) w x p q
-asked-round_alone l valid first =
-    let sum : (255 - l.roots) * (l.block / 512) + (l.block / 512 + l.block / 512) ≡ (257 - l.roots) * (l.block / 512) = two-more l.roots (l.block / 512) valid.few in
+pub asked-tries_alone : {w x : RepairWorld} {p q : Device} (l : Layout) → IsLayout l → IsAskedWithin (tries_bill l) w x p q → IsAskedWithin (along_bill l) w x p q
+asked-tries_alone l valid first =
+    let sum : (511 - 2 * l.roots) * (l.block / 512) + (l.block / 512 + l.block / 512) ≡ (513 - 2 * l.roots) * (l.block / 512) = two-more l.roots (l.block / 512) valid.few in
     asked-more (along_bill l) first (record {
       data_reads = omega (arith, sum);
       hash_reads = omega (arith, sum);
@@ -209,7 +209,7 @@ module _ (s : ShapeRecord) (l : Layout) where
   way_reads = levels s * (s.hash_block / 512)
 
   abbrev around_reads : ℕ
-  around_reads = (257 - l.roots) * (l.block / 512)
+  around_reads = (513 - 2 * l.roots) * (l.block / 512)
 
   pub work-then : {w x y : RepairWorld} {p q r : Device} (u v t a b c m n k : ℕ) → u + v ≡ t → a + b ≡ c → m + n ≡ k
       → IsAskedWithin (parity_bill s l u a m) w x p q → IsAskedWithin (parity_bill s l v b n) x y q r → IsAskedWithin (parity_bill s l t c k) w y p r
@@ -217,7 +217,7 @@ module _ (s : ShapeRecord) (l : Layout) where
       asked-more (parity_bill s l t c k) (asked-then one two) (record {
         data_reads = steps-sum a b c ((levels s + 3) * data_sectors s) m n k around_reads e f;
         hash_reads = first-sum u v t a b c ((2 * levels s + 1) * area_block_sectors s) m n k (way_reads + around_reads) d e f;
-        parity_reads = one-sum m n k (l.roots * (l.block / 512)) f;
+        parity_reads = one-sum m n k (2 * (l.roots * (l.block / 512))) f;
         data_writes = steps-sum a b c (data_sectors s) m n k (l.block / 512) e f;
         hash_writes = steps-sum a b c (area_block_sectors s) m n k (l.block / 512) e f;
         data_sought = one-sum a b c (data_sectors s) e;
@@ -229,7 +229,7 @@ module _ (s : ShapeRecord) (l : Layout) where
   work-more u a m n one few =
       let around : m * around_reads ≤ n * around_reads = mul-le-mul_right around_reads few in
       let far : m * (way_reads + around_reads) ≤ n * (way_reads + around_reads) = mul-le-mul_right (way_reads + around_reads) few in
-      let parity : m * (l.roots * (l.block / 512)) ≤ n * (l.roots * (l.block / 512)) = mul-le-mul_right (l.roots * (l.block / 512)) few in
+      let parity : m * (2 * (l.roots * (l.block / 512))) ≤ n * (2 * (l.roots * (l.block / 512))) = mul-le-mul_right (2 * (l.roots * (l.block / 512))) few in
       let block : m * (l.block / 512) ≤ n * (l.block / 512) = mul-le-mul_right (l.block / 512) few in
       asked-more (parity_bill s l u a n) one (record {
         data_reads = omega (arith, around);

@@ -5,6 +5,7 @@ use Rattle.std.proofs.lemmas.Bool.{false≢true}
 use Rattle.block_device.specs.Device.{Device, IsInside}
 use Rattle.fec_area.specs.declared.layout.Layout.{Layout}
 use Rattle.fec_area.specs.Layouts.{IsOfData, IsOfHash, IsOffHash}
+use Rattle.fec_area.specs.Correcting.{IsCorrectCause}
 use Rattle.fec_area.specs.Restoring.{IsOtherCause, IsRestoreCause}
 use Rattle.fec_area.specs.declared.restoring.RestoreFault.{RestoreFault}
 use Rattle.fec_area.specs.declared.restoring.RestoreFault.TheVariants as restore
@@ -63,6 +64,10 @@ lacks-lost l index w w' p p' fault (Err given) lost sure cause = tt
 pub refusal-from : (l : Layout) (lost : List ℕ) (index : ℕ) (d h p d' h' p' : Device) (fault : RestoreFault) (r : Result Bool RepairFault) → EndsRefused fault r → IsRestoreCause l lost index d h p d' h' p' fault → IfErr r IsRefusal
 refusal-from l lost index d h p d' h' p' fault (Ok back) is cause = tt
 refusal-from l lost index d h p d' h' p' fault (Err given) is cause = (is.0, (subst (λ (f : RestoreFault). IsRestoreCause l lost index d h p d' h' p' f) is.1 cause).1)
+
+pub refusal-corrected : (l : Layout) (d h p d' h' p' : Device) (fault : RestoreFault) (r : Result Bool RepairFault) → EndsRefused fault r → IsCorrectCause l d h p d' h' p' fault → IfErr r IsRefusal
+refusal-corrected l d h p d' h' p' fault (Ok back) is cause = tt
+refusal-corrected l d h p d' h' p' fault (Err given) is cause = (is.0, (subst (λ (f : RestoreFault). IsCorrectCause l d h p d' h' p' f) is.1 cause).1)
 
 -- ---- which covered block a block is
 

@@ -6,7 +6,8 @@ use Rattle.fec_area.specs.declared.layout.Layout.{Layout}
 use Rattle.fec_area.specs.declared.restoring.LostBlock.{LostBlock}
 use Rattle.fec_area.specs.declared.restoring.RestoreFault.{RestoreFault}
 use Rattle.fec_area.specs.declared.restoring.RestoreFault.TheVariants.{TooManyLost, TooSmall, Device as DeviceFailed, NoMemory}
-use Rattle.fec_area.specs.Given.{GivenBlock, Gives, data_read, data_reads, hash_read, hash_reads}
+use Rattle.fec_area.specs.Correcting.{ReadsRound}
+use Rattle.fec_area.specs.Given.{GivenBlock, Gives, data_read, data_reads, hash_read, hash_reads, round_indices}
 use Rattle.fec_area.specs.GivenRestored.{GivesLost, RestoresOver, StopsRestoring, kept_indices}
 use Rattle.fec_area.specs.Restoring.{IsRestoredBy}
 use Rattle.tree_repair.specs.RepairCalls.{AreRepairCalls, IsNoWrite, MakesRepairCalls}
@@ -61,6 +62,12 @@ module _ {D H : Type 0} (asks : D → Call → D → Type 0) (does : H → Call 
       valid = are-more IsNoWrite (hash_reads l given.blocks) (hash_read l given.last false) true (hash-all l given.blocks) (hash-one l given.last false);
     },
   )
+
+  -- all blocks of a round and one of them again
+  pub read-corrected : (l : Layout) (round index : ℕ) (ok : Bool) → ReadsRound asks does l round index d h d' h' ok → AreRead
+  read-corrected l round index true given = read-given l (round_indices l round ++ index ∷ []) (λ x y. Unit {0}) true given
+  read-corrected l round index false (inl same) = read-none same.0 same.1
+  read-corrected l round index false (inr first) = read-given l (round_indices l round ++ index ∷ []) (λ x y. Unit {0}) false first
 
   module _ {P : Type 0} (reads : P → Call → P → Type 0) (sought : LostBlock) (bytes : List ℕ) (p p' : P) where
     read-lost : (ok : Bool) → GivesLost asks does reads sought bytes d h p d' h' p' ok → AreRead

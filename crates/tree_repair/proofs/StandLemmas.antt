@@ -37,7 +37,7 @@ pub record IsReady (s : ShapeRecord) (w : RepairWorld) : Type 0 where
 roomy-then : (n : ℕ) (a b : Device) → IsRoomy n a → IsSameDevice a b → length b.image ≡ length a.image → IsRoomy n b
 roomy-then n a b ready same long = record { steady = steady-then same ready.steady; room = omega (arith, ready.room, long) }
 
-own-ready : (s : ShapeRecord) (h : ℕ) (w : RepairWorld) → IsReady s w → IsRoomy (end_at s h) (own h w)
+pub own-ready : (s : ShapeRecord) (h : ℕ) (w : RepairWorld) → IsReady s w → IsRoomy (end_at s h) (own h w)
 own-ready s zero w ready = ready.data_ready
 own-ready s (suc l) w ready = ready.hash_ready
 

@@ -15,7 +15,7 @@ use Rattle.tree_path.proofs.lemmas.PathLemmas.{is_same-cases}
 use Rattle.tree_repair.specs.declared.bad.BadBlock.{BadBlock}
 use Rattle.tree_repair.specs.Parity.{IsCoveredAt, IsPlacedAndRead}
 use Rattle.tree_repair.specs.Runs.{Job}
-use Rattle.tree_repair.specs.ParitySearches.{AreCovered, AreSought, IsCoveredOr, IsMadeOrVain, IsSought, IsSoughtAt, IsTried, Trial, is_hash_back, listed_number, trial}
+use Rattle.tree_repair.specs.ParitySearches.{AreCovered, AreSought, IsCoveredOr, IsFoundOrVain, IsMadeOrVain, IsSought, IsSoughtAt, IsTried, Trial, is_hash_back, listed_number, trial}
 use Rattle.tree_repair.specs.Worlds.{IsParityRead, IsWorldRead, RepairWorld}
 use Rattle.tree_repair.proofs.RunLemmas.{world-then}
 
@@ -25,6 +25,19 @@ pub made-or : (j : Job) (p : PathRecord) (h i : ℕ) (t : Trial) (k : ℕ) (byte
     → same ≡ bytes_eq (digest j.tree.salt bytes) (digest_on p i h) → IsMadeOrVain j p h i t same
 made-or j p h i t k bytes true at made is = tt
 made-or j p h i t k bytes false at made is = λ place. inr (k, (at, inr (record { bytes = bytes; other = is_same-cases (digest j.tree.salt bytes) (digest_on p i h) false is; made = made })))
+
+-- what wasn't made was looked for by wrong bytes, and found or not
+pub found-or : {E : Type 0} (j : Job) (p : PathRecord) (h i : ℕ) (l : Layout) (lost : List ℕ) (w a w' : RepairWorld) (q b q' : Device) (r : Result Bool E) → IsMadeOrVain j p h i (trial l lost w a q b) false
+    → IsWorldRead w a → IsParityRead q b → IsWorldRead a w' → IsParityRead b q' → IfOk r (IsFoundOrVain j p h i (trial l lost w w' q q'))
+found-or j p h i l lost w a w' q b q' (Ok true) vain read parity more parity_more = tt
+found-or j p h i l lost w a w' q b q' (Ok false) vain read parity more parity_more = λ place. record {
+  between = a;
+  parity_between = b;
+  first = record { image = read; parity = parity };
+  rest = record { image = more; parity = parity_more };
+  vain = vain place;
+}
+found-or j p h i l lost w a w' q b q' (Err e) vain read parity more parity_more = tt
 
 -- what was written came back, or is there
 pub tried-placed : {E : Type 0} (j : Job) (h i : ℕ) (l : Layout) (lost : List ℕ) (w a w' : RepairWorld) (p p' : Device) (bytes : List ℕ) (r : Result Bool E) → IsWorldRead w a → IsParityRead p p' → IfOk r (IsPlacedAndRead j h i bytes a w')

@@ -1,5 +1,5 @@
 -- A data block is good if it and all hash blocks above it are, each by a way of its own.
-use Rattle.std.proofs.Common.{◌≡◌, ◌≤◌, ◌<◌, ◌+◌, ◌-◌, ℕ, zero, suc, List, None, refl, sym, ap, ◌∙◌, subst, arith, inl, inr, ◌⊎◌, add-one}
+use Rattle.std.proofs.Common.{◌≡◌, ◌≤◌, ◌<◌, ◌+◌, ◌-◌, ℕ, zero, suc, List, None, refl, sym, ap, ◌∙◌, arith, inl, inr, ◌⊎◌, add-one}
 use Rattle.std.proofs.lemmas.Bool.{cases_lt}
 use Rattle.tree_shape.specs.Digests.{digest}
 use Rattle.tree_shape.specs.Shape.{ShapeRecord, levels}
@@ -13,6 +13,7 @@ use Rattle.tree_repair.specs.Runs.{Job}
 use Rattle.tree_repair.specs.Standing.{LeftGoodWaysStand, StandsGood, standing_bytes}
 use Rattle.tree_repair.specs.Worlds.{RepairWorld}
 use Rattle.tree_repair.proofs.StandLemmas.{left-good-stand}
+use Rattle.tree_repair.proofs.lemmas.EachLemmas.{each-or}
 
 -- ---- two ways to one block
 
@@ -51,20 +52,6 @@ stored-by t p image i h way same =
     (λ low. same (omega (arith, low, ap levels way.is.shape_is)) ∙ ap (λ (s : ShapeRecord). stored_block s image h i) (sym way.is.shape_is))
     ∙ ap (λ (s : ShapeRecord). stored_digest s p.root image i h) way.is.shape_is
     ∙ ap (λ (r : List ℕ). stored_digest t.shape r image i h) way.is.root_is
-
--- what holds of each number below one, or something else does
-pub each-or : (P : ℕ → Type 0) (C : Type 0) (n : ℕ) → ((l : ℕ) → l < n → P l ⊎ C) → ((l : ℕ) → l < n → P l) ⊎ C
-each-or P C zero each = inl (λ l low. absurd (omega (arith, low)))
-each-or P C (suc n) each = elim (each-or P C n (λ l low. each l (omega (arith, low)))) [
-  | inr other ↦ inr other
-  | inl below ↦ elim (each n (omega arith)) [
-    | inr other ↦ inr other
-    | inl here ↦ inl (λ l low. elim (cases_lt l n) [
-      | inl less ↦ below l less
-      | inr not ↦ let at : n ≡ l = omega (arith, low, not) in subst P at here
-    ])
-  ]
-]
 
 -- ---- blocks that all are good
 

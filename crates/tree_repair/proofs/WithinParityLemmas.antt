@@ -23,7 +23,7 @@ use Rattle.tree_repair.specs.Parity.{IsCoveredAt}
 use Rattle.tree_repair.specs.Passes.{IsPass, bad_of}
 use Rattle.tree_repair.specs.Repairs.{job_of}
 use Rattle.tree_repair.specs.Runs.{Job, Visit, VisitsAll, size_at}
-use Rattle.tree_repair.specs.ParitySearches.{IsBlockUnmade, IsCutOff, IsLeft, IsMadeOther, IsOffPlace, IsSoughtAt, IsTriedBehind, IsVain, Trial, trial}
+use Rattle.tree_repair.specs.ParitySearches.{IsBlockUnmade, IsCutOff, IsLeft, IsMadeOther, IsOffPlace, IsSoughtAt, IsTriedBehind, IsVain, IsVainFirst, Trial, trial}
 use Rattle.tree_repair.specs.WithinParity.{FormerImage, HasTreeSizes, IsDamaged, IsFormerOf, IsTrialSettled, IsParityKept, IsRoundPast, IsSettledWithin, IsSoughtWithin, IsSureRepair, IsUnreached, LostBlocksWithinParityComeBack, Stage, stage}
 use Rattle.tree_repair.specs.Worlds.{IsImageUnfailed, IsWorldRead, RepairWorld}
 use Rattle.tree_repair.proofs.ApartLemmas.{above-same}
@@ -201,28 +201,35 @@ module _ (form : FormedChainsAreGood) (j : Job) (valid : IsShape j.tree.shape) (
           holds-then : HoldsParity j.tree.shape l f a x.q
           holds-then = holds-later j valid l f (x.earlier ++ []) pass.behind a p x.q runs-to x.parity_read.read (sure-before j x.later pass.behind a w' rest sure-behind) holds-behind
 
-          unmade-past : (k : ℕ) → IsCoveredAt j.tree.shape l h x.beside k → IsBlockUnmade tr k → IsRoundPast j f st tr h x.beside
-          unmade-past k at (TooManyLost count, (of, (is, many, unasked))) = record { k = k; at = at; known = known-at k at; past = inl (rw (sym is) many) }
-          unmade-past k at (TooSmall needed, (of, (is, small, unasked))) = record { k = k; at = at; known = known-at k at; past = inr (inl (rw (sym is) small)) }
-          unmade-past k at (DeviceFailed, (of, failed)) =
-              absurd (none-failed a x.b x.q x.q' (counting-read a x.b x.q x.q' left.image left.parity) (none-right x.a a x.b x.q x.q x.q' (counting-read x.a a x.q x.q read (parity-none x.q)) none-tried) failed)
-          unmade-past k at (NoMemory, (of, unasked)) = absurd of
+          -- from the other blocks of its round
+          module _ (m : RepairWorld) (s : Device) (first : IsLeft (trial l lost a m x.q s)) (last : IsLeft (trial l lost m x.b s x.q')) where
+            none-first : HaveCountedNone a m x.q s
+            none-first =
+                none-left a m x.b x.q s x.q' (counting-read m x.b s x.q' last.image last.parity)
+                (none-right x.a a x.b x.q x.q x.q' (counting-read x.a a x.q x.q read (parity-none x.q)) none-tried)
 
-          hidden-past : (k : ℕ) → IsCoveredAt j.tree.shape l h x.beside k → IsUnknownBeside f tr k → IsRoundPast j f st tr h x.beside
-          hidden-past k at u = record {
+            unmade-past : (k : ℕ) → IsCoveredAt j.tree.shape l h x.beside k → IsBlockUnmade (trial l lost a m x.q s) k → IsRoundPast j f st tr h x.beside
+            unmade-past k at (TooManyLost count, (of, (is, many, unasked))) = record { k = k; at = at; known = known-at k at; past = inl (rw (sym is) many) }
+            unmade-past k at (TooSmall needed, (of, (is, small, unasked))) = record { k = k; at = at; known = known-at k at; past = inr (inl (rw (sym is) small)) }
+            unmade-past k at (DeviceFailed, (of, failed)) = absurd (none-failed a m x.q s (counting-read a m x.q s first.image first.parity) none-first failed)
+            unmade-past k at (NoMemory, (of, unasked)) = absurd of
+
+          hidden-past : (m : RepairWorld) (s : Device) (k : ℕ) → IsCoveredAt j.tree.shape l h x.beside k → IsUnknownBeside f (trial l lost a m x.q s) k → IsRoundPast j f st tr h x.beside
+          hidden-past m s k at u = record {
             k = k;
             at = at;
             known = known-at k at;
             past = inr (inr (record { n = u.n; beside = u.beside; unknown = u.unknown; damaged = u.damaged; unreached = unreached (x.earlier ++ []) x.later a u.n runs-to rest u.unknown u.damaged }));
           }
 
-          vain-past : (way_path : PathRecord) → IsWay j.tree x.beside h way_path → IsVain j way_path h x.beside tr
+          vain-past : (way_path : PathRecord) → IsWay j.tree x.beside h way_path → (v : IsVainFirst j way_path h x.beside tr) → IsVain j way_path h x.beside (trial l lost a v.between x.q v.parity_between)
               → (IsOffPlace j.tree.shape l h x.beside ⊎ IsRoundPast j f st tr h x.beside) ⊎ Collide j.tree.salt
-          vain-past way_path way (inl (inl size)) = absurd (size (size-is h))
-          vain-past way_path way (inl (inr off)) = inl (inl off)
-          vain-past way_path way (inr (k, (at, inl unmade))) = inl (inr (unmade-past k at unmade))
-          vain-past way_path way (inr (k, (at, inr other))) = elim (other-unknown tr way_path h x.beside k holds-then at way other) [
-            | inl unknown ↦ inl (inr (hidden-past k at unknown))
+          vain-past way_path way v (inl (inl size)) = absurd (size (size-is h))
+          vain-past way_path way v (inl (inr off)) = inl (inl off)
+          vain-past way_path way v (inr (k, (at, inl unmade))) =
+              inl (inr (unmade-past v.between v.parity_between (record { image = v.first.image; parity = v.first.parity }) (record { image = v.rest.image; parity = v.rest.parity }) k at unmade))
+          vain-past way_path way v (inr (k, (at, inr other))) = elim (other-unknown (trial l lost a v.between x.q v.parity_between) way_path h x.beside k holds-then at way other) [
+            | inl unknown ↦ inl (inr (hidden-past v.between v.parity_between k at unknown))
             | inr clash ↦ inr clash
           ]
 
@@ -230,7 +237,7 @@ module _ (form : FormedChainsAreGood) (j : Job) (valid : IsShape j.tree.shape) (
       tried-within true behind = inl (within behind.between behind.read (inl behind.tried.0))
       tried-within false behind = elim behind.tried.1 [
         | inr good ↦ inl (within behind.between behind.read (inr (behind.tried.0.image, inl good)))
-        | inl along ↦ elim (vain-past behind.between behind.read behind.tried.0 along.p along.way along.vain) [
+        | inl along ↦ elim (vain-past behind.between behind.read behind.tried.0 along.p along.way along.vain along.vain.vain) [
           | inl vain ↦ inl (within behind.between behind.read (inr (behind.tried.0.image, inr (record { p = along.p; way = along.way; vain = vain }))))
           | inr clash ↦ inr clash
         ]

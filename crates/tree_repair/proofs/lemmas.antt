@@ -1,2 +1,4 @@
 -- What callers may cite.
+pub mod EachLemmas
 pub mod SameLemmas
+pub mod SteadyLemmas

@@ -24,8 +24,10 @@ pub mod Flaws
 pub mod Coverage
 pub mod Passes
 pub mod Notes
+pub mod Moves
 pub mod Standing
 pub mod Failures
 pub mod Outcomes
 pub mod Beyond
 pub mod WithinParity
+pub mod Valid

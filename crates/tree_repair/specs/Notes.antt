@@ -11,9 +11,9 @@ use Rattle.tree_repair.specs.Jobs.{job}
 use Rattle.tree_repair.specs.Passes.{Notes}
 use Rattle.tree_repair.specs.Worlds.{RepairWorld}
 
--- the blocks of all heights
-abbrev pub NotesAll : {W T : Type 0} → (W → Option (List ℕ)) → Repair → RepairWorld → RepairWorld → BadBlocks → BadBlocks → CountedRecord W → CountedRecord W → Result T RepairFault → Type 0
-NotesAll contents r w w' a b old new result = Notes contents (job r) (IsFromUp r.shape 0) w w' a b old new result
+-- the blocks from a height up
+abbrev pub NotesFrom : {W T : Type 0} → (W → Option (List ℕ)) → Repair → ℕ → RepairWorld → RepairWorld → BadBlocks → BadBlocks → CountedRecord W → CountedRecord W → Result T RepairFault → Type 0
+NotesFrom contents r low w w' a b old new result = Notes contents (job r) (IsFromUp r.shape low) w w' a b old new result
 
 -- the blocks of a height
 abbrev pub NotesHeight : {W T : Type 0} → (W → Option (List ℕ)) → Repair → ℕ → RepairWorld → RepairWorld → BadBlocks → BadBlocks → CountedRecord W → CountedRecord W → Result T RepairFault → Type 0

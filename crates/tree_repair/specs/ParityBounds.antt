@@ -46,13 +46,14 @@ pub record IsAskedWithin (b : ParityBill) (w w' : RepairWorld) (p p' : Device) :
   pub hash_copies : AreReadAtMost w.hash_copies b.hash_sought w'.hash_copies
 
 -- The accesses for so many superblocks, passes, and blocks sought by parity. For a sought block these sectors are read: the
--- path to it on the hash device; on each device at most the other blocks of its round and the block itself, once more to read
--- it back; and the parity of the round. The block may be written.
+-- path to it on the hash device; on each device at most the other blocks of its round and then, if these don't give it, all blocks
+-- of the round and the block itself; the block, once more to read it back; and the parity of the round, at most twice. The block may
+-- be written.
 abbrev pub parity_bill : ShapeRecord → Layout → ℕ → ℕ → ℕ → ParityBill
 parity_bill s l superblocks passes sought = record {
-  data_reads = passes * ((levels s + 3) * data_sectors s) + sought * ((257 - l.roots) * (l.block / 512));
-  hash_reads = superblocks + passes * ((2 * levels s + 1) * area_block_sectors s) + sought * (levels s * (s.hash_block / 512) + (257 - l.roots) * (l.block / 512));
-  parity_reads = sought * (l.roots * (l.block / 512));
+  data_reads = passes * ((levels s + 3) * data_sectors s) + sought * ((513 - 2 * l.roots) * (l.block / 512));
+  hash_reads = superblocks + passes * ((2 * levels s + 1) * area_block_sectors s) + sought * (levels s * (s.hash_block / 512) + (513 - 2 * l.roots) * (l.block / 512));
+  parity_reads = sought * (2 * (l.roots * (l.block / 512)));
   data_writes = passes * data_sectors s + sought * (l.block / 512);
   hash_writes = passes * area_block_sectors s + sought * (l.block / 512);
   data_sought = passes * data_sectors s;
@@ -90,21 +91,45 @@ round_bill l = record {
   hash_sought = 0;
 }
 
--- both together
+-- all blocks of a round, their parity and one block again were read
+abbrev pub correct_bill : Layout → ParityBill
+correct_bill l = record {
+  data_reads = (256 - l.roots) * (l.block / 512);
+  hash_reads = (256 - l.roots) * (l.block / 512);
+  parity_reads = l.roots * (l.block / 512);
+  data_writes = 0;
+  hash_writes = 0;
+  data_sought = 0;
+  hash_sought = 0;
+}
+
+-- these two
+abbrev pub tries_bill : Layout → ParityBill
+tries_bill l = record {
+  data_reads = (511 - 2 * l.roots) * (l.block / 512);
+  hash_reads = (511 - 2 * l.roots) * (l.block / 512);
+  parity_reads = 2 * (l.roots * (l.block / 512));
+  data_writes = 0;
+  hash_writes = 0;
+  data_sought = 0;
+  hash_sought = 0;
+}
+
+-- all together
 abbrev pub along_bill : Layout → ParityBill
 along_bill l = record {
-  data_reads = (257 - l.roots) * (l.block / 512);
-  hash_reads = (257 - l.roots) * (l.block / 512);
-  parity_reads = l.roots * (l.block / 512);
+  data_reads = (513 - 2 * l.roots) * (l.block / 512);
+  hash_reads = (513 - 2 * l.roots) * (l.block / 512);
+  parity_reads = 2 * (l.roots * (l.block / 512));
   data_writes = l.block / 512;
   hash_writes = l.block / 512;
   data_sought = 0;
   hash_sought = 0;
 }
 
--- a block of a height was restored or not; a restored block has the size of the covered blocks
-abbrev pub IsMadeWithin : {E : Type 0} → ShapeRecord → Layout → ℕ → RepairWorld → RepairWorld → Device → Device → Result Bool E → Type 0
-IsMadeWithin s l h w w' p p' result = IsAskedWithin (round_bill l) w w' p p' × IfOk result (λ made. IsTrue made → l.block ≡ size_at s h)
+-- a block of a height was restored or not, by at most these accesses; a restored block has the size of the covered blocks
+abbrev pub IsMadeWithin : {E : Type 0} → ParityBill → ShapeRecord → Layout → ℕ → RepairWorld → RepairWorld → Device → Device → Result Bool E → Type 0
+IsMadeWithin b s l h w w' p p' result = IsAskedWithin b w w' p p' × IfOk result (λ made. IsTrue made → l.block ≡ size_at s h)
 
 -- ---- which blocks are sought
 

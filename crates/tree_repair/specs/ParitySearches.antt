@@ -101,6 +101,25 @@ abbrev pub IsVain : Job → PathRecord → ℕ → ℕ → Trial → Type 0
 IsVain j p h i t = IsUncovered j.tree.shape t.layout h i
     ⊎ ((k : ℕ) × (IsCoveredAt j.tree.shape t.layout h i k × (IsBlockUnmade t k ⊎ IsMadeOther j.tree.salt (digest_on p i h) t k)))
 
+-- nothing was written: the image and the parity were only read
+pub record IsLeft (t : Trial) : Type 0 where
+  pub image : IsWorldRead t.w t.w'
+  pub parity : IsParityRead t.parity_dev t.parity_dev'
+
+-- the other blocks and the parity don't give the block that a path leads to; then wrong bytes were looked for, and the devices were
+-- only read
+pub record IsVainFirst (j : Job) (p : PathRecord) (h i : ℕ) (t : Trial) : Type 0 where
+  pub between : RepairWorld
+  pub parity_between : Device
+  pub first : IsLeft (record t { w' = between; parity_dev' = parity_between })
+  pub rest : IsLeft (record t { w = between; parity_dev = parity_between })
+  pub vain : IsVain j p h i (record t { w' = between; parity_dev' = parity_between })
+
+-- the block is restored, or parity doesn't have it, even if wrong bytes are looked for
+abbrev pub IsFoundOrVain : Job → PathRecord → ℕ → ℕ → Trial → Bool → Type 0
+IsFoundOrVain j p h i t true = Unit {0}
+IsFoundOrVain j p h i t false = IsPlace j.tree.shape h i → IsVainFirst j p h i t
+
 -- the block is restored, or parity doesn't have it
 abbrev pub IsMadeOrVain : Job → PathRecord → ℕ → ℕ → Trial → Bool → Type 0
 IsMadeOrVain j p h i t true = Unit {0}
@@ -119,18 +138,13 @@ pub record IsBroughtBack (j : Job) (h i : ℕ) (w w' : RepairWorld) : Type 0 whe
 pub record IsVainAlong (j : Job) (h i : ℕ) (t : Trial) : Type 0 where
   pub p : PathRecord
   pub way : IsWay j.tree i h p
-  pub vain : IsVain j p h i t
+  pub vain : IsVainFirst j p h i t
 
 -- the block is valid on its device by now
 pub record IsGoodBehind (j : Job) (h i : ℕ) (w : RepairWorld) : Type 0 where
   pub between : RepairWorld
   pub read : IsWorldRead w between
   pub good : IsGoodNow j h i between
-
--- nothing was written: the image and the parity were only read
-pub record IsLeft (t : Trial) : Type 0 where
-  pub image : IsWorldRead t.w t.w'
-  pub parity : IsParityRead t.parity_dev t.parity_dev'
 
 -- a block to which verified hash blocks lead was sought by parity, and restored or not
 abbrev pub IsTried : Job → ℕ → ℕ → Trial → Bool → Type 0

@@ -21,7 +21,7 @@ use Rattle.tree_repair.specs.Passes.{EndsInPass, IsPass}
 use Rattle.tree_repair.specs.RepairCalls.{HandsTo, IsPlaceWrite}
 use Rattle.tree_repair.specs.Runs.{size_at}
 use Rattle.tree_repair.specs.Sources.{due}
-use Rattle.tree_repair.specs.ParitySearches.{HasSought, IsMadeOrVain, IsSought, IsTried, Trial, trial}
+use Rattle.tree_repair.specs.ParitySearches.{HasSought, IsFoundOrVain, IsMadeOrVain, IsSought, IsTried, Trial, trial}
 use Rattle.tree_repair.specs.Worlds.{ImageRecord, RepairWorld}
 
 -- ---- how often devices are accessed
@@ -38,9 +38,9 @@ TriesWithin state r l bad w w' old new = IsAskedWithin (parity_bill r.shape l.la
 abbrev pub SeeksWithin : {P : Type 0} → (P → Device) → Repair → Layout → List BadBlock → RepairWorld → RepairWorld → P → P → Type 0
 SeeksWithin state r l blocks w w' old new = IsAskedWithin (parity_bill r.shape l 0 0 (sought_among blocks)) w w' (state old) (state new)
 
--- at most as often as the restoring of a block takes; a restored block has the size of the covered blocks
-abbrev pub MakesWithin : {P E : Type 0} → (P → Device) → Missing → Losses → RepairWorld → RepairWorld → P → P → Result Bool E → Type 0
-MakesWithin state m l w w' old new result = IsMadeWithin m.repair.now.shape l.layout m.place.height w w' (state old) (state new) result
+-- at most this often, to restore a block; a restored block has the size of the covered blocks
+abbrev pub MakesWithin : {P E : Type 0} → (P → Device) → ParityBill → Missing → Losses → RepairWorld → RepairWorld → P → P → Result Bool E → Type 0
+MakesWithin state b m l w w' old new result = IsMadeWithin b m.repair.now.shape l.layout m.place.height w w' (state old) (state new) result
 
 -- ---- blocks
 
@@ -85,6 +85,10 @@ AreGoodFor m bytes = AreGoodAt m.repair.now m.path.now m.place bytes
 -- the block is restored, or parity doesn't have it
 abbrev pub MakesMissing : {P E : Type 0} → (P → Device) → Missing → Losses → RepairWorld → RepairWorld → P → P → Result Bool E → Type 0
 MakesMissing state m l w w' old new result = IfOk result (IsMadeOrVain (job m.repair.now) m.path.now m.place.height m.place.index (trial_by state l w w' old new))
+
+-- the block is restored from the blocks that aren't lost, or corrected, or parity doesn't have it
+abbrev pub MakesBytes : {P E : Type 0} → (P → Device) → Missing → Losses → RepairWorld → RepairWorld → P → P → Result Bool E → Type 0
+MakesBytes state m l w w' old new result = IfOk result (IsFoundOrVain (job m.repair.now) m.path.now m.place.height m.place.index (trial_by state l w w' old new))
 
 -- the block's bytes are written if it is corrupt
 abbrev pub IsMissingPut : Missing → List ℕ → RepairWorld → RepairWorld → Bool → Type 0

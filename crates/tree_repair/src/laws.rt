@@ -3,6 +3,7 @@ ghost use Rattle.tree_repair.specs.Beyond.{WhatStaysLostIsBeyondParity};
 ghost use Rattle.tree_repair.specs.UnreadBlocks.{BlocksArePassedByForCause, BlocksAreTouchedForCause, GoodBlocksAreLeftAlone, IntactBlocksAreLeftAlone, UnreadBlocksAreCounted};
 ghost use Rattle.tree_repair.specs.Laws.{MendedBlocksAreFormatted, MendedBlocksAreGood, NoHashBlockIsLost, OtherSectorsStay};
 ghost use Rattle.tree_repair.specs.Standing.{LeftGoodBlocksAreFormatted, LeftGoodBlocksStand, LeftGoodWaysStand, RepairsWriteAll};
+ghost use Rattle.tree_repair.specs.Valid.{ValidImagesAreFormatted};
 ghost use Rattle.tree_repair.specs.WithinParity.{DamagedBlocksWithinParityComeBack, DataUnderWholeTreeComeBack, FormattedBlocksStay, FormattedEntriesAreZero, FormattedImagesAreFormer, LaidOutParityCoversTheTree, LostBlocksWithinParityComeBack, NoBlockStaysLostWithinParity};
 
 use hash_tree::laws::formed_chains_are_good;
@@ -84,6 +85,14 @@ pub fn left_good_blocks_are_formatted()
 pub fn left_good_ways_stand()
     ensures { LeftGoodWaysStand }
 {}
+
+/// An image whose blocks are all valid stores any data whose tree has this root, and that tree, or two different inputs have one
+/// digest.
+pub fn valid_images_are_formatted()
+    ensures { ValidImagesAreFormatted }
+{
+    formed_chains_are_good()
+}
 
 /// With parity, if no device counted a failure, for each block of the tree one of these holds: it was valid or found when the last
 /// pass came to it; parity restored it; a hash block above it is corrupt; parity doesn't cover it or can't restore it.

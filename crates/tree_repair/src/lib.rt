@@ -4,6 +4,7 @@
 #![tactic(auto)]
 
 mod bad;
+mod correcting;
 mod covered;
 mod fault;
 mod good_row;
@@ -11,8 +12,11 @@ mod image;
 mod keeping;
 pub mod laws;
 mod levels;
+mod listed;
+mod listing;
 mod losses;
 mod mending;
+mod moving;
 mod outcome;
 mod parity;
 mod passes;
@@ -27,7 +31,10 @@ mod visiting;
 
 pub use fault::RepairFault;
 pub use image::DamagedImage;
+pub use listed::ListedBlocks;
+pub use listing::list_blocks;
 pub use mending::Mended;
+pub use moving::move_blocks;
 pub use outcome::Outcome;
 pub use passes::repair_with_parity;
 pub use repair::{Plan, repair_image};

@@ -5,7 +5,7 @@ ghost use Rattle.fec_area.specs.Layouts.{IsLaidOn, covered_blocks};
 ghost use Rattle.tree_shape.specs.Digests.{digest};
 ghost use Rattle.tree_shape.specs.Shape.{levels};
 ghost use Rattle.tree_repair.specs.Jobs.{job};
-ghost use Rattle.tree_repair.specs.ParityBounds.{TellsCame, along_bill, round_bill};
+ghost use Rattle.tree_repair.specs.ParityBounds.{TellsCame, along_bill, round_bill, tries_bill};
 ghost use Rattle.tree_repair.specs.Passes.{AreBack};
 ghost use Rattle.tree_repair.specs.Parity.{IsBack};
 ghost use Rattle.tree_repair.specs.RepairCalls.{ReadsBoth, wrote_all};
@@ -13,9 +13,10 @@ ghost use Rattle.tree_repair.specs.RunCalls.{MakesRepair};
 ghost use Rattle.tree_repair.specs.Runs.{CanRun, IsRefusal, IsWriterCause, Ran};
 ghost use Rattle.tree_repair.specs.ParitySearches.{IsOfTree, is_hash_back};
 ghost use Rattle.tree_repair.specs.Worlds.{IsParityRead, IsWorldRead};
-ghost use Rattle.tree_repair.specs.Searching.{AreGoodFor, AsksWithin, IsInTree, IsReached, LacksBlock, MakesMissing, MakesWithin, SeeksBlock, SeeksEach, SeeksWithin, TellsMissing, TellsPlace, TriesMissing, TriesWithin, missing_size};
+ghost use Rattle.tree_repair.specs.Searching.{AreGoodFor, AsksWithin, IsInTree, IsReached, LacksBlock, MakesBytes, MakesMissing, MakesWithin, SeeksBlock, SeeksEach, SeeksWithin, TellsMissing, TellsPlace, TriesMissing, TriesWithin, missing_size};
 
 use crate::bad::BadBlock;
+use crate::correcting::correct_again;
 use crate::covered::{covered_at, covered_of, is_place};
 use crate::fault::{RepairFault, unrestored};
 use crate::image::DamagedImage;
@@ -161,11 +162,38 @@ fn restore_missing<D: BlockDev, H: BlockDev, C: BlockDev, P: BlockDev, W: Write>
     let mut read = zeros(repair.alloc, size)?;
     let bytes = made.as_mut_slice();
     let block = read.as_mut_slice();
-    let back = make_again(missing, losses, image, parity, bytes)?;
+    let back = make_bytes(missing, losses, image, parity, bytes)?;
     if !back {
         return Ok(false);
     }
     put_restored(missing, image, bytes, block, writer, kept)
+}
+
+// Restores the bytes of a block from the blocks that aren't lost or, if these don't give them, corrects wrong bytes of its round.
+// Returns whether they have the digest that its parent stores.
+fn make_bytes<D: BlockDev, H: BlockDev, C: BlockDev, P: BlockDev>(
+    missing: &Missing<'_>,
+    losses: &Losses,
+    image: &mut DamagedImage<D, H, C>,
+    parity: &mut P,
+    bytes: &mut [u8],
+) -> Result<bool, RepairFault>
+    requires laid { IsLaidOn losses.now.layout image.old.world.data_dev image.old.world.hash_dev }
+    requires way { IsReached missing.now }
+    requires size { length bytes.old ≡ missing_size missing.now }
+    ensures read { IsWorldRead image.old.world image.new.world }
+    ensures parity { IsParityRead (P.state parity.old) (P.state parity.new) }
+    ensures good { IfOk result (λ made. IsTrue made → AreGoodFor missing.now bytes.new) }
+    ensures vain { MakesBytes P.state missing.now losses.now image.old.world image.new.world parity.old parity.new result }
+    ensures within { MakesWithin P.state (tries_bill losses.now.layout) missing.now losses.now image.old.world image.new.world parity.old parity.new result }
+    ensures err { IfErr result IsRefusal }
+    ensures called { ReadsBoth (DeviceDoes D.state D.does) (DeviceDoes H.state H.does) image.old image.new }
+{
+    let back = make_again(missing, losses, image, parity, bytes)?;
+    if !back {
+        return correct_again(missing, losses, image, parity, bytes);
+    }
+    Ok(true)
 }
 
 // Restores the bytes of a block by parity, and returns whether they have the digest that its parent stores.
@@ -183,7 +211,7 @@ fn make_again<D: BlockDev, H: BlockDev, C: BlockDev, P: BlockDev>(
     ensures parity { IsParityRead (P.state parity.old) (P.state parity.new) }
     ensures good { IfOk result (λ made. IsTrue made → AreGoodFor missing.now bytes.new) }
     ensures vain { MakesMissing P.state missing.now losses.now image.old.world image.new.world parity.old parity.new result }
-    ensures within { MakesWithin P.state missing.now losses.now image.old.world image.new.world parity.old parity.new result }
+    ensures within { MakesWithin P.state (round_bill losses.now.layout) missing.now losses.now image.old.world image.new.world parity.old parity.new result }
     ensures err { IfErr result IsRefusal }
     ensures called { ReadsBoth (DeviceDoes D.state D.does) (DeviceDoes H.state H.does) image.old image.new }
 {

@@ -116,7 +116,7 @@ fn run_pass<D: BlockDev, H: BlockDev, C: BlockDev, P: BlockDev, W: Write>(
     ensures handed { MakesRepair (DeviceDoes D.state D.does) (DeviceDoes H.state H.does) (job repair.now) (wrote_all result) image.old image.new }
 {
     let mut bad = BadBlocks::new(repair.alloc, true);
-    repair_heights(repair, image, &mut bad, writer)?;
+    repair_heights(repair, 0, image, &mut bad, writer)?;
     let came = restore_bad(repair, layout, bad.noted(), image, parity, writer)?;
     let tree = came.tree;
     let all = bad.is_whole(came.all, repair.write);

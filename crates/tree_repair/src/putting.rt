@@ -73,8 +73,8 @@ pub(crate) fn put_restored<D: BlockDev, H: BlockDev, C: BlockDev, W: Write>(
     Ok(true)
 }
 
-// Writes the bytes of a block, unless the block is valid on its device.
-fn put_block<D: BlockDev, H: BlockDev, C: BlockDev>(
+/// Writes the bytes of a block, unless the block is valid on its device.
+pub(crate) fn put_block<D: BlockDev, H: BlockDev, C: BlockDev>(
     missing: &Missing<'_>,
     image: &mut DamagedImage<D, H, C>,
     bytes: &[u8],

@@ -217,8 +217,9 @@ fn read_data<D: BlockDev>(shape: &Shape, number: u64, data_dev: &mut D, block: &
     data_dev.read(first, block).is_ok()
 }
 
+/// Reads a hash block without verifying it, and returns whether it could be read.
 #[tactic(auto, unfolding(verity_format::specs::Blocks::block_at))]
-fn read_hash<H: BlockDev>(
+pub(crate) fn read_hash<H: BlockDev>(
     shape: &Shape,
     level: u32,
     number: u64,

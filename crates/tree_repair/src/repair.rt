@@ -1,12 +1,13 @@
 //! Repairs an image from the root down.
-ghost use Rattle.std.specs.Prelude.{◌≡◌, ◌≤◌, ◌^◌, IfErr, IfOk, OnOk, false};
+ghost use Rattle.std.specs.Prelude.{◌≡◌, ◌≤◌, ◌+◌, ◌^◌, IfErr, IfOk, OnOk, false};
 ghost use Rattle.block_device.specs.Call.{DeviceDoes};
+ghost use Rattle.tree_shape.specs.Shape.{levels};
 ghost use Rattle.tree_repair.specs.AccessBudgets.{LeavesWorld, nothing_due, pass_over};
 ghost use Rattle.tree_repair.specs.Bounds.{IsRepairWithin};
 ghost use Rattle.tree_repair.specs.Jobs.{job};
 ghost use Rattle.tree_repair.specs.ParityBounds.{LeavesNoted, image_blocks};
 ghost use Rattle.tree_repair.specs.Outcomes.{IsOutcomeOf, StandsFrom};
-ghost use Rattle.tree_repair.specs.Notes.{NotesAll};
+ghost use Rattle.tree_repair.specs.Notes.{NotesFrom};
 ghost use Rattle.tree_repair.specs.RepairCalls.{wrote_all};
 ghost use Rattle.tree_repair.specs.Repairs.{GoesPast, IsAllowed, IsGoneOver, IsRepair, IsUnrepaired, LiesOn, job_of};
 ghost use Rattle.tree_repair.specs.RunCalls.{MakesRepair};
@@ -68,7 +69,7 @@ pub fn repair_image<D: BlockDev, H: BlockDev, C: BlockDev, W: Write>(
     check_room(image, &plan.tree.shape)?;
     let repair = repair_of(alloc, plan, false);
     let mut bad = BadBlocks::new(alloc, false);
-    repair_heights(&repair, image, &mut bad, writer)?;
+    repair_heights(&repair, 0, image, &mut bad, writer)?;
     let blocks = repair.shape.blocks();
     let good = bad.is_none();
     let sure = before.none_since(image);
@@ -108,26 +109,28 @@ pub(crate) fn check_room<D: BlockDev, H: BlockDev, C: BlockDev>(
     Ok(())
 }
 
-/// Repairs all heights, from the top down to the data.
+/// Repairs the heights from the top down to the lowest one: down to the data if that is 0, the tree alone if it is 1.
 pub(crate) fn repair_heights<D: BlockDev, H: BlockDev, C: BlockDev, W: Write>(
     repair: &Repair,
+    lowest: u32,
     image: &mut DamagedImage<D, H, C>,
     bad: &mut BadBlocks,
     writer: &mut Counted<W>,
 ) -> Result<(), RepairFault>
-    requires { CanRun (job repair.now) image.old.world }
-    ensures notes { NotesAll W.contents repair.now image.old.world image.new.world bad.old bad.new writer.old writer.new result }
+    requires can { CanRun (job repair.now) image.old.world }
+    requires low { lowest ≤ levels repair.now.shape + 1 }
+    ensures notes { NotesFrom W.contents repair.now lowest image.old.world image.new.world bad.old bad.new writer.old writer.new result }
     ensures told { IfErr result (IsWriterCause writer.new) }
     ensures asked { LeavesWorld (pass_over repair.now.shape) nothing_due image.old.world image.new.world }
     ensures few { OnOk result (LeavesNoted (image_blocks repair.now.shape) 0 bad.old bad.new) }
-    ensures whole { OnOk result (StandsFrom (job repair.now) 0 image.old.world image.new.world) }
+    ensures whole { OnOk result (StandsFrom (job repair.now) lowest image.old.world image.new.world) }
     ensures handed { MakesRepair (DeviceDoes D.state D.does) (DeviceDoes H.state H.does) (job repair.now) (wrote_all result) image.old image.new }
 {
     let mut room = zeros(repair.alloc, ROOM)?;
     let memory = room.as_mut_slice();
     let levels = repair.shape.levels();
     let mut height = levels + 1;
-    'heights: while height > 0 {
+    'heights: while height > lowest {
         height -= 1;
         repair_height(repair, height, image, memory, bad, writer)?;
     }

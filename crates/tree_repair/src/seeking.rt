@@ -1,11 +1,11 @@
 //! Finds the bytes of a block by their digest.
-ghost use Rattle.std.specs.Prelude.{◌≡◌, ◌≤◌, ◌/◌, ◌%◌, ◌+◌, ◌<◌, ◌^◌, false, IfNone, IfSome, IsTrue, length, map};
+ghost use Rattle.std.specs.Prelude.{◌≡◌, ◌≤◌, ◌/◌, ◌%◌, ◌+◌, ◌<◌, ◌^◌, false, true, IfNone, IfSome, IsTrue, length, map};
 ghost use Rattle.block_device.specs.Call.{DeviceDoes};
 ghost use Rattle.block_device.specs.Device.{IsInside};
 ghost use Rattle.verity_format.specs.Blocks.{IsOnlyRead};
 ghost use Rattle.tree_path.specs.Steps.{HasReadAtMost};
 ghost use Rattle.tree_repair.specs.Bounds.{AreReadAtMost};
-ghost use Rattle.tree_repair.specs.RepairCalls.{IsReadOnce};
+ghost use Rattle.tree_repair.specs.RepairCalls.{IsNoWrite, IsReadOnce, MakesRepairCalls};
 ghost use Rattle.tree_repair.specs.Sources.{AreEachRead, AreInNone, FindsBad, FindsNone, HasCopy, HasNoCopy, IsThere, due};
 
 use block_device::BlockDev;
@@ -35,7 +35,7 @@ pub(crate) fn is_there<B: BlockDev>(
 }
 
 /// Returns the same as `is_there`, and `false` if the device ends before the block's end.
-fn has<B: BlockDev>(
+pub(crate) fn has<B: BlockDev>(
     device: &mut B,
     first: u64,
     salt: &Salt,
@@ -50,9 +50,12 @@ fn has<B: BlockDev>(
     ensures none { result ≡ false → FindsNone B.state device.old device.new first (due salt.now digest.now block.old) }
     ensures asked { HasReadAtMost (B.state device.old) (length block.old / 512) (B.state device.new) }
     ensures counted { (B.state device.old).failures ≤ (B.state device.new).failures }
+    ensures called { MakesRepairCalls (DeviceDoes B.state B.does) IsNoWrite true device.old device.new }
 {
     let sectors = (block.len() / 512) as u64;
-    if device.sectors() < first + sectors {
+    let end = first + sectors;
+    let size = device.sectors();
+    if size < end {
         return false;
     }
     is_there(device, first, salt, digest, block)

@@ -2,7 +2,6 @@
 use Rattle.std.proofs.Common.{◌≡◌, ◌<◌, ◌≤◌, ◌/◌, ap, arith, inl, inr, ◌∙◌}
 use Rattle.block_device.specs.Device.{Device}
 use Rattle.image_commands.specs.Clearing.{IsCleared}
-use Rattle.update_commands.specs.Beginnings.{ClearsSynced}
 use Rattle.tree_shape.specs.Shape.{IsShape}
 use Rattle.verity_format.specs.Image.{image_sectors}
 use Rattle.verity_format.specs.Superblock.{SuperRecord, shape_of}
@@ -15,9 +14,6 @@ image-some s valid =
     omega (arith, least)
 
 -- what may be written may be written after a clearing
-may_write-cleared : (old new : Device) → IsCleared old new → new.may_write ≡ old.may_write
-may_write-cleared old new (inl none) = none.read.same.may_write
+pub may_write-cleared : (old new : Device) → IsCleared old new → new.may_write ≡ old.may_write
+may_write-cleared old new (inl none) = ap (λ (d : Device). d.may_write) none.kept ∙ none.read.same.may_write
 may_write-cleared old new (inr zeroed) = ap (λ (d : Device). d.may_write) zeroed.kept ∙ zeroed.written.same.may_write ∙ zeroed.read.same.may_write
-
-pub may_write-synced : (old new : Device) → ClearsSynced old new → new.may_write ≡ old.may_write
-may_write-synced old new is = ap (λ (d : Device). d.may_write) is.kept ∙ may_write-cleared old is.cleared_dev is.cleared

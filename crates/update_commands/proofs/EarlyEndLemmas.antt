@@ -1,5 +1,5 @@
 -- A superblock that is cleared stays so in a repair, since no block of the tree has the first sector.
-use Rattle.std.proofs.Common.{◌≡◌, ◌≤◌, ◌+◌, ◌*◌, ◌/◌, ℕ, zero, suc, Bool, true, false, IsTrue, List, [], ◌∷◌, Option, None, Some, ap, arith, inl, inr, refl, subst, sym, ◌∙◌}
+use Rattle.std.proofs.Common.{◌≡◌, ◌≤◌, ◌+◌, ◌*◌, ◌/◌, ◌⊎◌, ℕ, zero, suc, Bool, true, false, IsTrue, List, [], ◌∷◌, Option, None, Some, ap, arith, inl, inr, refl, subst, sym, ◌∙◌}
 use Rattle.std.specs.List.{slice_index_or}
 use Rattle.std.proofs.Math.Nat.{mul-le-mul_right}
 use Rattle.std.proofs.lemmas.List.{append-nil}
@@ -14,6 +14,7 @@ use Rattle.tree_repair.specs.declared.outcome.Outcome.{Outcome}
 use Rattle.tree_repair.specs.declared.outcome.Outcome.TheVariants.{Partly, Whole}
 use Rattle.tree_repair.specs.declared.repair.Plan.{Plan}
 use Rattle.tree_repair.specs.Laws.{AreOff, IsOffTree, OtherSectorsStay}
+use Rattle.tree_repair.specs.Moves.{MovesBlocks}
 use Rattle.tree_repair.specs.Repairs.{IsUnrepairedBy, Repairs, job_of}
 use Rattle.tree_repair.specs.Runs.{Job, Visit}
 use Rattle.tree_repair.specs.Worlds.{RepairWorld}
@@ -24,10 +25,10 @@ use Rattle.verity_commands.specs.Surveyed.{SurveyedDevices}
 use Rattle.verity_format.specs.Blocks.{block_at}
 use Rattle.verity_format.proofs.lemmas.SizeLemmas.{block-size}
 use Rattle.update_commands.specs.declared.release.Release.{Release}
-use Rattle.update_commands.specs.Beginnings.{ClearsSynced}
-use Rattle.update_commands.specs.Laws.{EndsUnsealedEarly, HasNoSuper}
+use Rattle.update_commands.specs.Laws.{EndsUnrepaired, EndsUnsealedEarly, HasNoSuper}
+use Rattle.update_commands.specs.Moving.{MovesAloud, MovesListed}
 use Rattle.update_commands.specs.Releases.{plan_of}
-use Rattle.update_commands.specs.Updates.{EndsAloud}
+use Rattle.update_commands.specs.Updates.{EndsAloud, EndsMoving, with_cleared}
 
 -- ---- the cleared sector
 
@@ -37,9 +38,10 @@ unfolding block_at
 first-sector [] = refl
 first-sector (sector ∷ more) = append-nil sector
 
-pub cleared-none : (old new : Device) → IsCleared old new → IsTrue old.steady → HasNoSuper new
+cleared-none : (old new : Device) → IsCleared old new → IsTrue old.steady → HasNoSuper new
 cleared-none old new (inl none) steady =
-    ap (λ (image : List (List ℕ)). begins_super (slice_index_or image 0 [])) (none.read.image steady)
+    ap (λ (d : Device). begins_super (slice_index_or d.image 0 [])) none.kept
+    ∙ ap (λ (image : List (List ℕ)). begins_super (slice_index_or image 0 [])) (none.read.image steady)
     ∙ ap begins_super (sym (none.first steady ∙ first-sector old.image))
     ∙ none.other
 cleared-none old new (inr zeroed) steady =
@@ -47,17 +49,13 @@ cleared-none old new (inr zeroed) steady =
     ∙ ap (λ (image : List (List ℕ)). begins_super (slice_index_or image 0 [])) (zeroed.zeros (subst IsTrue (sym zeroed.read.same.steady) steady))
     ∙ refl
 
-cleared-steady : (old new : Device) → IsCleared old new → IsTrue old.steady → IsTrue new.steady
-cleared-steady old new (inl none) steady = subst IsTrue (sym none.read.same.steady) steady
+pub cleared-steady : (old new : Device) → IsCleared old new → IsTrue old.steady → IsTrue new.steady
+cleared-steady old new (inl none) steady = subst IsTrue (sym (ap (λ (d : Device). d.steady) none.kept ∙ none.read.same.steady)) steady
 cleared-steady old new (inr zeroed) steady =
     subst IsTrue (sym (ap (λ (d : Device). d.steady) zeroed.kept ∙ zeroed.written.same.steady ∙ zeroed.read.same.steady)) steady
 
--- the sync changes neither
-cleared-kept : (old new : Device) → ClearsSynced old new → IsTrue old.steady → HasNoSuper new × IsTrue new.steady
-cleared-kept old new is steady = (
-  ap (λ (d : Device). begins_super (slice_index_or d.image 0 [])) is.kept ∙ cleared-none old is.cleared_dev is.cleared steady,
-  subst IsTrue (sym (ap (λ (d : Device). d.steady) is.kept)) (cleared-steady old is.cleared_dev is.cleared steady),
-)
+cleared-kept : (old new : Device) → IsCleared old new → IsTrue old.steady → HasNoSuper new × IsTrue new.steady
+cleared-kept old new is steady = (cleared-none old new is steady, cleared-steady old new is steady)
 
 -- ---- blocks of a tree after the superblock
 
@@ -140,9 +138,27 @@ module _ (law : OtherSectorsStay) (plan : Plan) (one : plan.tree.shape.start ≡
   kept-aloud true w t' old new failed fault ((unheard, ends), quiet) kept = kept-early true w t' None None unheard fault ends kept
   kept-aloud false w t' old new failed fault ends kept = kept-early true w t' old new failed fault ends kept
 
+  -- with the moves before it
+  kept-blocks : (w w' : RepairWorld) (old new : Option (List ℕ)) → MovesBlocks plan w w' old new → Kept w → Kept w'
+  kept-blocks w w' old new moves kept = kept-repaired true moves.mid w' None None None moves.moved (kept-repaired true w moves.mid old moves.between None moves.tree kept)
+
+  kept-moves : (json : Bool) (w w' : RepairWorld) (old new : Option (List ℕ)) → MovesAloud json plan w w' old new → Kept w → Kept w'
+  kept-moves true w w' old new moves kept = kept-blocks w w' None None moves.0 kept
+  kept-moves false w w' old new moves kept = kept-blocks w w' old new moves kept
+
+  kept-moved : (json : Bool) (w w' : RepairWorld) (old new : Option (List ℕ)) → MovesListed json plan w w' old new → Kept w → Kept w'
+  kept-moved json w w' old new (inl unmoved) kept = subst Kept (sym unmoved.same) kept
+  kept-moved json w w' old new (inr moves) kept = kept-moves json w w' old new moves kept
+
 -- ---- an update
+
+kept-ends : OtherSectorsStay → (r : Release) (json : Bool) (w : RepairWorld) (t' : SurveyedDevices) (fault : TreeFault) → EndsMoving r w t' fault ⊎ EndsUnrepaired r json w t' fault → Kept w → HasNoSuper t'.hash_dev
+kept-ends law r json w t' fault (inl ends) kept =
+    subst (λ (t : SurveyedDevices). HasNoSuper t.hash_dev) (sym ends.same) (kept-unrepaired law (plan_of r) refl true w ends.behind None None ends.cause ends.fails kept).0
+kept-ends law r json w t' fault (inr ends) kept =
+    kept-aloud law (plan_of r) refl json ends.moved t' ends.between ends.new ends.failed fault ends.ends (kept-moved law (plan_of r) refl json w ends.moved ends.old ends.between ends.moves kept)
 
 pub early-none : OtherSectorsStay → (r : Release) (json : Bool) (w : RepairWorld) (t' : SurveyedDevices) → EndsUnsealedEarly r json w t' → IsTrue w.hash_dev.steady → HasNoSuper t'.hash_dev
 early-none law r json w t' early steady =
-    kept-aloud law (plan_of r) refl json _ t' early.old early.new early.failed early.fault early.ends
-    (cleared-kept w.hash_dev early.cleared early.begins.cleared steady)
+    kept-ends law r json (with_cleared w early.cleared) t' early.fault early.ends
+    (cleared-kept early.looked early.cleared early.begins.cleared (subst IsTrue (sym early.read.same.steady) steady))

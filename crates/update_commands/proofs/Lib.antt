@@ -2,6 +2,8 @@ pub mod BeginningLemmas
 pub mod CountLemmas
 pub mod EarlyEndLemmas
 pub mod EndingLemmas
+pub mod FinishedLemmas
+pub mod PinnedDataLemmas
 pub mod SealLemmas
 pub mod TargetLemmas
 pub mod UpdateLemmas

@@ -1,6 +1,6 @@
 -- The beginning of an update: the superblock is cleared.
 use Rattle.std.specs.Prelude.{◌≡◌, ◌⊎◌, ◌<◌, ◌≤◌}
-use Rattle.block_device.specs.Device.{Device, IsUnsynced, synced}
+use Rattle.block_device.specs.Device.{Device}
 use Rattle.image_commands.specs.Clearing.{IsCleared, IsUncleared}
 use Rattle.tree_survey.specs.declared.fault.SurveyFault.TheVariants.{Image}
 use Rattle.verity_commands.specs.declared.tree_fault.TreeFault.{TreeFault}
@@ -9,28 +9,11 @@ use Rattle.verity_format.specs.declared.verifying.VerifyFault.TheVariants.{Devic
 use Rattle.verity_format.specs.Image.{data_sectors, image_sectors}
 use Rattle.verity_format.specs.Superblock.{SuperRecord, shape_of}
 
--- The first sector doesn't begin as a superblock does, or zeros were written in its place. The device was synced in both cases, since
--- zeros of an earlier update may not be on the medium yet.
-pub record ClearsSynced (old new : Device) : Type 0 where
-  pub cleared_dev : Device
-  pub cleared : IsCleared old cleared_dev
-  pub kept : new ≡ synced cleared_dev
-
--- that was done, but the sync failed
-pub record IsClearedUnsynced (old new : Device) : Type 0 where
-  pub cleared_dev : Device
-  pub cleared : IsCleared old cleared_dev
-  pub unsynced : IsUnsynced cleared_dev new
-
--- the first sector couldn't be read, or not be cleared, or the device not be synced; no other sector was written
-abbrev pub FailsToClear : Device → Device → Type 0
-FailsToClear old new = IsUncleared old new ⊎ IsClearedUnsynced old new
-
--- The data blocks, and hash block 0 and the tree, fit on the devices, and the superblock was cleared.
+-- The data blocks, and hash block 0 and the tree, fit on the devices. A superblock was cleared, and the hash device synced in any case.
 pub record Begins (s : SuperRecord) (data_dev hash_dev hash_dev' : Device) : Type 0 where
   pub data_fits : data_sectors (shape_of s) ≤ data_dev.size
   pub hash_fits : image_sectors (shape_of s) ≤ hash_dev.size
-  pub cleared : ClearsSynced hash_dev hash_dev'
+  pub cleared : IsCleared hash_dev hash_dev'
 
 -- they don't fit, and nothing was written
 pub record LacksRoom (s : SuperRecord) (data_dev hash_dev hash_dev' : Device) (fault : TreeFault) : Type 0 where
@@ -40,7 +23,7 @@ pub record LacksRoom (s : SuperRecord) (data_dev hash_dev hash_dev' : Device) (f
 
 -- they do, and the hash device failed
 pub record EndsUncleared (hash_dev hash_dev' : Device) (fault : TreeFault) : Type 0 where
-  pub uncleared : FailsToClear hash_dev hash_dev'
+  pub uncleared : IsUncleared hash_dev hash_dev'
   pub is : fault ≡ Survey (Image DeviceFailed)
 
 abbrev pub IsUnbegun : SuperRecord → Device → Device → Device → TreeFault → Type 0

@@ -1,4 +1,4 @@
--- How many blocks an update kept and fetched.
+-- How many blocks an update kept, moved and fetched.
 use Rattle.std.specs.Prelude.{◌≡◌, ◌⊎◌, ℕ, ◌+◌, ◌-◌, ◌*◌, Bool, true, false, List, ◌++◌, codes, decimal, None, Option}
 use Rattle.std.specs.Io.KnownBytes.{Appends}
 use Rattle.block_device.specs.Device.{Device, capped}
@@ -12,6 +12,7 @@ use Rattle.verity_commands.specs.declared.tree_fault.TreeFault.TheVariants.{Surv
 use Rattle.verity_format.specs.declared.verifying.VerifyFault.TheVariants.{NoMemory}
 use Rattle.verity_format.specs.Formatting.{given_blocks}
 use Rattle.update_commands.specs.declared.counts.Counts.{Counts}
+use Rattle.update_commands.specs.declared.counts.Tally.{Tally}
 use Rattle.update_commands.specs.declared.counts.Written.{Written}
 
 -- the sectors that two devices count as written
@@ -23,20 +24,26 @@ abbrev pub all_blocks : ShapeRecord → ℕ
 all_blocks shape = capped (shape.blocks + area_blocks shape)
 
 -- the blocks that were written between two states of the counters
-abbrev pub fetched_blocks : ShapeRecord → Written → Written → ℕ
-fetched_blocks shape a b = capped (given_blocks None shape.data_block (b.of_data - a.of_data) + given_blocks None shape.hash_block (b.of_hash - a.of_hash))
+abbrev pub written_blocks : ShapeRecord → Written → Written → ℕ
+written_blocks shape a b = capped (given_blocks None shape.data_block (b.of_data - a.of_data) + given_blocks None shape.hash_block (b.of_hash - a.of_hash))
 
 -- the bytes that were written
-abbrev pub fetched_bytes : Written → Written → ℕ
-fetched_bytes a b = capped (capped ((b.of_data - a.of_data) + (b.of_hash - a.of_hash)) * 512)
+abbrev pub written_bytes : Written → Written → ℕ
+written_bytes a b = capped (capped ((b.of_data - a.of_data) + (b.of_hash - a.of_hash)) * 512)
 
--- the blocks that weren't written were kept
-abbrev pub counts_of : ShapeRecord → Written → Written → Counts
-counts_of shape a b = record { kept = all_blocks shape - fetched_blocks shape a b; fetched = fetched_blocks shape a b; bytes = fetched_bytes a b }
+-- The blocks that weren't written were kept. Those that were written were fetched, without the data blocks that were copied within the
+-- data device.
+abbrev pub counts_of : ShapeRecord → Tally → Written → Counts
+counts_of shape tally b = record {
+  kept = all_blocks shape - written_blocks shape tally.before b;
+  moved = tally.moved;
+  fetched = written_blocks shape tally.before b - tally.moved;
+  bytes = written_bytes tally.before b - capped (tally.moved * shape.data_block);
+}
 
--- `kept N fetched N bytes N`
+-- `kept N moved N fetched N bytes N`
 unfoldable pub counts_text : Counts → List ℕ
-counts_text c = codes "kept " ++ (decimal c.kept ++ (codes " fetched " ++ (decimal c.fetched ++ (codes " bytes " ++ (decimal c.bytes ++ codes "\n")))))
+counts_text c = codes "kept " ++ (decimal c.kept ++ (codes " moved " ++ (decimal c.moved ++ (codes " fetched " ++ (decimal c.fetched ++ (codes " bytes " ++ (decimal c.bytes ++ codes "\n")))))))
 
 abbrev pub counts_json : Counts → Data
 counts_json c =
@@ -44,7 +51,8 @@ counts_json c =
     (member (codes "fetched") (number (unsigned c.fetched))
     (member (codes "fetched_bytes") (number (unsigned c.bytes))
     (member (codes "kept") (number (unsigned c.kept))
-    no_members)))
+    (member (codes "moved") (number (unsigned c.moved))
+    no_members))))
 
 -- as a line, or with `--json` as an object
 abbrev pub counts_said : Bool → Counts → List ℕ

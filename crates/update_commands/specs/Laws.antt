@@ -1,29 +1,40 @@
 -- The superblock after an update that ended early.
-use Rattle.std.specs.Prelude.{◌≡◌, ℕ, Bool, false, IsTrue, List, [], Option}
+use Rattle.std.specs.Prelude.{◌≡◌, ◌⊎◌, ℕ, Bool, false, IsTrue, List, [], Option}
 use Rattle.std.specs.List.{slice_index_or}
 use Rattle.block_device.specs.Device.{Device}
 use Rattle.image_commands.specs.Clearing.{begins_super}
 use Rattle.tree_repair.specs.Worlds.{RepairWorld}
 use Rattle.verity_commands.specs.declared.tree_fault.TreeFault.{TreeFault}
 use Rattle.verity_commands.specs.Surveyed.{SurveyedDevices}
+use Rattle.verity_format.specs.Blocks.{IsOnlyRead}
 use Rattle.update_commands.specs.declared.release.Release.{Release}
 use Rattle.update_commands.specs.Beginnings.{Begins}
+use Rattle.update_commands.specs.Moving.{MovesListed}
 use Rattle.update_commands.specs.Releases.{plan_of}
-use Rattle.update_commands.specs.Updates.{EndsAloud, with_cleared}
+use Rattle.update_commands.specs.Updates.{EndsAloud, EndsMoving, with_cleared}
 
 -- the first sector of the device doesn't begin as a superblock does
 abbrev pub HasNoSuper : Device → Type 0
 HasNoSuper device = begins_super (slice_index_or device.image 0 []) ≡ false
 
--- the superblock was cleared, and then the repair ended early, or not all blocks are valid
-pub record EndsUnsealedEarly (r : Release) (json : Bool) (w : RepairWorld) (t' : SurveyedDevices) : Type 0 where
-  pub cleared : Device
+-- the moves were made, and the repair ended early, or not all blocks are valid
+pub record EndsUnrepaired (r : Release) (json : Bool) (w : RepairWorld) (t' : SurveyedDevices) (fault : TreeFault) : Type 0 where
+  pub moved : RepairWorld
   pub old : Option (List ℕ)
+  pub between : Option (List ℕ)
   pub new : Option (List ℕ)
   pub failed : Bool
+  pub moves : MovesListed json (plan_of r) w moved old between
+  pub ends : EndsAloud json (plan_of r) moved t' between new failed fault
+
+-- the superblock was cleared, and then the moves or the repair ended early, or not all blocks are valid
+pub record EndsUnsealedEarly (r : Release) (json : Bool) (w : RepairWorld) (t' : SurveyedDevices) : Type 0 where
+  pub looked : Device
+  pub cleared : Device
   pub fault : TreeFault
-  pub begins : Begins r.superblock w.data_dev w.hash_dev cleared
-  pub ends : EndsAloud json (plan_of r) (with_cleared w cleared) t' old new failed fault
+  pub read : IsOnlyRead w.hash_dev looked
+  pub begins : Begins r.superblock w.data_dev looked cleared
+  pub ends : EndsMoving r (with_cleared w cleared) t' fault ⊎ EndsUnrepaired r json (with_cleared w cleared) t' fault
 
 -- a steady hash device has no superblock then
 abbrev pub EarlyEndsLeaveNoSuperblock : Type 0

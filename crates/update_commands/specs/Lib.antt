@@ -1,8 +1,10 @@
 pub mod Beginnings
 pub mod Commands
 pub mod Counts
+pub mod Finished
 pub mod Growing
 pub mod Laws
+pub mod Moving
 pub mod Orders
 pub mod Releases
 pub mod Seals

@@ -3,7 +3,9 @@ use Rattle.std.specs.Prelude.{◌≡◌, ◌⊎◌, ℕ, Bool, true, false, List
 use Rattle.std.specs.Io.KnownBytes.{Appends}
 use Rattle.block_device.specs.Device.{Device}
 use Rattle.program_io.specs.Counted.{CountedRecord}
-use Rattle.repair_commands.specs.Commands.{EndsOnDevices, RepairsDevices}
+use Rattle.repair_commands.specs.Commands.{EndsOnDevices, RepairsDevices, devices_in}
+use Rattle.repair_commands.specs.Endings.{ending_fault}
+use Rattle.tree_repair.specs.declared.fault.RepairFault.{RepairFault}
 use Rattle.tree_repair.specs.declared.repair.Plan.{Plan}
 use Rattle.tree_repair.specs.Worlds.{RepairWorld, repair_world}
 use Rattle.tree_survey.specs.declared.fault.SurveyFault.TheVariants.{Image}
@@ -11,12 +13,15 @@ use Rattle.verity_commands.specs.declared.tree_fault.TreeFault.{TreeFault}
 use Rattle.verity_commands.specs.declared.tree_fault.TreeFault.TheVariants.{Survey}
 use Rattle.verity_commands.specs.Surveyed.{SurveyedDevices, surveyed_devices}
 use Rattle.verity_format.specs.declared.verifying.VerifyFault.TheVariants.{Device as DeviceFailed}
+use Rattle.verity_format.specs.Blocks.{IsOnlyRead}
 use Rattle.verity_format.specs.Superblock.{SuperRecord, shape_of}
 use Rattle.update_commands.specs.declared.counts.Counts.{Counts}
+use Rattle.update_commands.specs.declared.counts.Tally.{Tally}
 use Rattle.update_commands.specs.declared.devices.Target.{Target}
 use Rattle.update_commands.specs.declared.release.Release.{Release}
 use Rattle.update_commands.specs.Beginnings.{Begins, IsUnbegun}
 use Rattle.update_commands.specs.Counts.{IsUncounted, counts_of, counts_said, written_to}
+use Rattle.update_commands.specs.Moving.{FailsToMove, MovesListed}
 use Rattle.update_commands.specs.Releases.{plan_of}
 use Rattle.update_commands.specs.Seals.{IsSealed, IsUnsealed}
 
@@ -66,18 +71,18 @@ pub record EndsUncounted (s : SuperRecord) (json : Bool) (hash_dev hash_dev' : D
 abbrev pub IsUnfinished : SuperRecord → Bool → Device → Device → Option (List ℕ) → Option (List ℕ) → Bool → TreeFault → Type 0
 IsUnfinished s json hash_dev hash_dev' old new failed fault = EndsUnsealed hash_dev hash_dev' old new fault ⊎ EndsUncounted s json hash_dev hash_dev' failed fault
 
--- ---- after the superblock was cleared
+-- ---- after the moves
 
--- the counts of the blocks that were written from one state of two devices to another
-abbrev pub counts_between : Release → RepairWorld → SurveyedDevices → Counts
-counts_between r w t = counts_of (shape_of r.superblock) (written_to w.data_dev w.hash_dev) (written_to t.data_dev t.hash_dev)
+-- the counts of the blocks that were written, up to a state of two devices
+abbrev pub counts_since : Release → Tally → SurveyedDevices → Counts
+counts_since r tally t = counts_of (shape_of r.superblock) tally (written_to t.data_dev t.hash_dev)
 
 -- All blocks were found or written valid, and synced. Then the superblock was written and synced, and the counts were printed.
-pub record UpdatesBegun (r : Release) (json : Bool) (w : RepairWorld) (t' : SurveyedDevices) (old new : Option (List ℕ)) : Type 0 where
+pub record UpdatesMoved (r : Release) (json : Bool) (tally : Tally) (w : RepairWorld) (t' : SurveyedDevices) (old new : Option (List ℕ)) : Type 0 where
   pub mended : SurveyedDevices
   pub between : Option (List ℕ)
   pub repairs : RepairsAloud json (plan_of r) w mended old between
-  pub finishes : Finishes r.superblock (counts_between r w mended) json mended.hash_dev t'.hash_dev between new
+  pub finishes : Finishes r.superblock (counts_since r tally mended) json mended.hash_dev t'.hash_dev between new
   pub data_is : t'.data_dev ≡ mended.data_dev
 
 -- all blocks were found or written valid, and the rest couldn't be done
@@ -89,8 +94,40 @@ pub record EndsRepaired (r : Release) (json : Bool) (w : RepairWorld) (t' : Surv
   pub data_is : t'.data_dev ≡ mended.data_dev
 
 -- that, or the repair ended early, or not all blocks are valid, and the superblock wasn't written
+abbrev pub EndsMoved : Release → Bool → RepairWorld → SurveyedDevices → Option (List ℕ) → Option (List ℕ) → Bool → TreeFault → Type 0
+EndsMoved r json w t' old new failed fault = EndsAloud json (plan_of r) w t' old new failed fault ⊎ EndsRepaired r json w t' old new failed fault
+
+-- ---- after the superblock was cleared
+
+-- what was counted of an update from some state on, when so many blocks were copied
+abbrev pub tally_from : RepairWorld → ℕ → Tally
+tally_from w moved = record { before = written_to w.data_dev w.hash_dev; moved = moved }
+
+-- data blocks that moved were copied, and then the image was brought to the release
+pub record UpdatesBegun (r : Release) (json : Bool) (w : RepairWorld) (t' : SurveyedDevices) (old new : Option (List ℕ)) : Type 0 where
+  pub moved : RepairWorld
+  pub count : ℕ
+  pub between : Option (List ℕ)
+  pub moves : MovesListed json (plan_of r) w moved old between
+  pub updates : UpdatesMoved r json (tally_from w count) moved t' between new
+
+-- the moves ended early, and the superblock wasn't written
+pub record EndsMoving (r : Release) (w : RepairWorld) (t' : SurveyedDevices) (fault : TreeFault) : Type 0 where
+  pub behind : RepairWorld
+  pub cause : RepairFault
+  pub fails : FailsToMove (plan_of r) w behind cause
+  pub is : fault ≡ ending_fault cause
+  pub same : t' ≡ devices_in behind
+
+-- the moves were made, and what came after them ended early
+pub record EndsBehindMoves (r : Release) (json : Bool) (w : RepairWorld) (t' : SurveyedDevices) (old new : Option (List ℕ)) (failed : Bool) (fault : TreeFault) : Type 0 where
+  pub moved : RepairWorld
+  pub between : Option (List ℕ)
+  pub moves : MovesListed json (plan_of r) w moved old between
+  pub ends : EndsMoved r json moved t' between new failed fault
+
 abbrev pub EndsBegun : Release → Bool → RepairWorld → SurveyedDevices → Option (List ℕ) → Option (List ℕ) → Bool → TreeFault → Type 0
-EndsBegun r json w t' old new failed fault = EndsAloud json (plan_of r) w t' old new failed fault ⊎ EndsRepaired r json w t' old new failed fault
+EndsBegun r json w t' old new failed fault = EndsMoving r w t' fault ⊎ EndsBehindMoves r json w t' old new failed fault
 
 -- ---- the update
 
@@ -98,23 +135,29 @@ EndsBegun r json w t' old new failed fault = EndsAloud json (plan_of r) w t' old
 abbrev pub with_cleared : RepairWorld → Device → RepairWorld
 with_cleared w cleared = record w { hash_dev = cleared }
 
--- The release fits on the devices, and the superblock was cleared and synced before anything else. Then the image was brought to the
--- release, and the superblock written last.
+-- The old tree was read, the release fits on the devices, and the superblock was cleared and synced before anything else. Then the image
+-- was brought to the release, and the superblock written last.
 pub record UpdatesDevices (r : Release) (json : Bool) (w : RepairWorld) (t' : SurveyedDevices) (old new : Option (List ℕ)) : Type 0 where
+  pub looked : Device
   pub cleared : Device
-  pub begins : Begins r.superblock w.data_dev w.hash_dev cleared
+  pub read : IsOnlyRead w.hash_dev looked
+  pub begins : Begins r.superblock w.data_dev looked cleared
   pub updates : UpdatesBegun r json (with_cleared w cleared) t' old new
 
 -- the release doesn't fit, or the superblock couldn't be cleared; nothing else was written, and nothing printed
 pub record EndsUnbegun (r : Release) (w : RepairWorld) (t' : SurveyedDevices) (old new : Option (List ℕ)) (fault : TreeFault) : Type 0 where
-  pub unbegun : IsUnbegun r.superblock w.data_dev w.hash_dev t'.hash_dev fault
+  pub looked : Device
+  pub read : IsOnlyRead w.hash_dev looked
+  pub unbegun : IsUnbegun r.superblock w.data_dev looked t'.hash_dev fault
   pub data_is : t'.data_dev ≡ w.data_dev
   pub quiet : new ≡ old
 
 -- the superblock was cleared and synced, and then the update ended early
 pub record EndsCleared (r : Release) (json : Bool) (w : RepairWorld) (t' : SurveyedDevices) (old new : Option (List ℕ)) (failed : Bool) (fault : TreeFault) : Type 0 where
+  pub looked : Device
   pub cleared : Device
-  pub begins : Begins r.superblock w.data_dev w.hash_dev cleared
+  pub read : IsOnlyRead w.hash_dev looked
+  pub begins : Begins r.superblock w.data_dev looked cleared
   pub ends : EndsBegun r json (with_cleared w cleared) t' old new failed fault
 
 abbrev pub EndsUpdate : Release → Bool → RepairWorld → SurveyedDevices → Option (List ℕ) → Option (List ℕ) → Bool → TreeFault → Type 0
@@ -141,6 +184,14 @@ AreRepairedSilently data_state hash_state w plan d h = RepairsSilently plan w (s
 
 abbrev pub AreUnrepairedSilently : {D H : Type 0} → (D → Device) → (H → Device) → RepairWorld → Plan → D → H → TreeFault → Type 0
 AreUnrepairedSilently data_state hash_state w plan d h fault = EndsSilently plan w (surveyed_devices (data_state d) (hash_state h)) fault
+
+abbrev pub AreMovedUpdated : {D H W : Type 0} → (D → Device) → (H → Device) → RepairWorld → Tally → Release → Bool → D → H → (W → Option (List ℕ)) → CountedRecord W → CountedRecord W → Type 0
+AreMovedUpdated data_state hash_state w tally r json d h contents before behind =
+    UpdatesMoved r json tally w (surveyed_devices (data_state d) (hash_state h)) (contents before.inner) (contents behind.inner)
+
+abbrev pub AreMovedUnupdated : {D H W : Type 0} → (D → Device) → (H → Device) → RepairWorld → Release → Bool → D → H → (W → Option (List ℕ)) → CountedRecord W → CountedRecord W → TreeFault → Type 0
+AreMovedUnupdated data_state hash_state w r json d h contents before behind =
+    EndsMoved r json w (surveyed_devices (data_state d) (hash_state h)) (contents before.inner) (contents behind.inner) behind.failed
 
 abbrev pub AreBegunUpdated : {D H C W : Type 0} → (D → Device) → (H → Device) → (C → Device) → Target D H C → Release → Bool → D → H → (W → Option (List ℕ)) → CountedRecord W → CountedRecord W → Type 0
 AreBegunUpdated data_state hash_state copy_state t r json d h contents before behind =

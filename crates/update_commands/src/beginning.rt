@@ -1,8 +1,8 @@
 //! The beginning of an update: the superblock is cleared.
-ghost use Rattle.std.specs.Prelude.{◌<◌, IfErr, IsTrue, OnErr, OnOk};
-ghost use Rattle.update_commands.specs.Beginnings.{Begins, ClearsSynced, FailsToClear, IsUnbegun};
+ghost use Rattle.std.specs.Prelude.{IfErr, IsTrue, OnOk};
+ghost use Rattle.update_commands.specs.Beginnings.{Begins, IsUnbegun};
 
-use block_device::{BlockDev, DeviceFault, SyncDev};
+use block_device::{BlockDev, SyncDev};
 use image_commands::clear_superblock;
 use tree_survey::SurveyFault;
 use verity_commands::TreeFault;
@@ -35,20 +35,8 @@ pub(crate) fn begin<'a, D: BlockDev, H: SyncDev>(
     if hash_size < hash_needed {
         return Err(TreeFault::Survey(SurveyFault::Image(VerifyFault::TooSmall)));
     }
-    match clear(hash_dev) {
+    match clear_superblock(hash_dev) {
         Ok(()) => Ok(()),
         Err(_) => Err(TreeFault::Survey(SurveyFault::Image(VerifyFault::Device))),
     }
-}
-
-// Clears the superblock, and syncs the device even if there was none: of an update that was killed the zeros may not be on the
-// medium yet.
-fn clear<H: SyncDev>(hash_dev: &mut H) -> Result<(), DeviceFault>
-    requires some { 0 < (H.state hash_dev.old).size }
-    requires allowed { IsTrue (H.state hash_dev.old).may_write }
-    ensures ok { OnOk result (ClearsSynced (H.state hash_dev.old) (H.state hash_dev.new)) }
-    ensures err { OnErr result (FailsToClear (H.state hash_dev.old) (H.state hash_dev.new)) }
-{
-    clear_superblock(hash_dev)?;
-    hash_dev.sync()
 }

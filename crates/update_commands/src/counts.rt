@@ -1,4 +1,4 @@
-//! How many blocks an update kept and fetched.
+//! How many blocks an update kept, moved and fetched.
 ghost use Rattle.std.specs.Prelude.{◌≡◌, string_bytes, true, IfErr, IfOk, OnOk};
 ghost use Rattle.program_io.specs.Counted.{Writes};
 ghost use Rattle.program_io.specs.JsonLines.{json_line};
@@ -22,11 +22,20 @@ pub(crate) struct Written {
     pub of_hash: u64,
 }
 
-/// How many blocks of an image were valid where they are stored, how many were written, and how many bytes these have. Data blocks
-/// and hash blocks are counted.
+/// What was counted before blocks were sought in the copies: the sectors that were written before the update, and the data blocks that
+/// were copied within the data device.
+#[derive(Clone, Copy)]
+pub(crate) struct Tally {
+    pub before: Written,
+    pub moved: u64,
+}
+
+/// How many blocks of an image were valid where they are stored, how many were copied from another place of it, how many were fetched,
+/// and how many bytes these have. Data blocks and hash blocks are counted.
 #[derive(Clone, Copy)]
 pub(crate) struct Counts {
     pub kept: u64,
+    pub moved: u64,
     pub fetched: u64,
     pub bytes: u64,
 }
@@ -41,23 +50,26 @@ pub(crate) fn written_to<D: BlockDev, H: BlockDev>(data_dev: &D, hash_dev: &H) -
 }
 
 /// Returns the counts of an image of that shape, of which all blocks are valid, by the counters before and after.
-pub(crate) fn counts_of(shape: &Shape, before: &Written, after: &Written) -> Counts
-    ensures { result ≡ counts_of shape.now before.now after.now }
+pub(crate) fn counts_of(shape: &Shape, tally: &Tally, after: &Written) -> Counts
+    ensures { result ≡ counts_of shape.now tally.now after.now }
 {
-    let of_data = after.of_data.saturating_sub(before.of_data);
-    let of_hash = after.of_hash.saturating_sub(before.of_hash);
+    let of_data = after.of_data.saturating_sub(tally.before.of_data);
+    let of_hash = after.of_hash.saturating_sub(tally.before.of_hash);
     let data_blocks = given_blocks(None, shape.data_block(), of_data);
     let hash_blocks = given_blocks(None, shape.hash_block(), of_hash);
-    let fetched = data_blocks.saturating_add(hash_blocks);
+    let written = data_blocks.saturating_add(hash_blocks);
     let all = shape.blocks().saturating_add(shape.area_blocks());
+    let bytes = of_data.saturating_add(of_hash).saturating_mul(512);
+    let size = u64::from(shape.data_block());
     Counts {
-        kept: all.saturating_sub(fetched),
-        fetched,
-        bytes: of_data.saturating_add(of_hash).saturating_mul(512),
+        kept: all.saturating_sub(written),
+        moved: tally.moved,
+        fetched: written.saturating_sub(tally.moved),
+        bytes: bytes.saturating_sub(tally.moved.saturating_mul(size)),
     }
 }
 
-/// Prints the counts: `kept N fetched N bytes N`, or as a JSON object.
+/// Prints the counts: `kept N moved N fetched N bytes N`, or as a JSON object.
 ///
 /// # Errors
 ///
@@ -84,9 +96,10 @@ fn say_line<W: Write>(writer: &mut Counted<W>, counts: &Counts) -> Result<(), Wr
     ensures { Writes W.contents writer.old writer.new (counts_text counts.now) result }
 {
     let kept = counts.kept;
+    let moved = counts.moved;
     let fetched = counts.fetched;
     let bytes = counts.bytes;
-    writer.print(format_args!("kept {kept} fetched {fetched} bytes {bytes}\n"))
+    writer.print(format_args!("kept {kept} moved {moved} fetched {fetched} bytes {bytes}\n"))
 }
 
 fn say_object<'a, W: Write>(
@@ -119,7 +132,8 @@ fn counts_value(alloc: Global, counts: &Counts) -> Result<Value, AllocError>
     ensures { IfOk result (λ value. view value ≡ counts_json counts.now) }
 {
     let kept = counts.kept;
+    let moved = counts.moved;
     let fetched = counts.fetched;
     let bytes = counts.bytes;
-    json!(in alloc; {"fetched": fetched, "fetched_bytes": bytes, "kept": kept})
+    json!(in alloc; {"fetched": fetched, "fetched_bytes": bytes, "kept": kept, "moved": moved})
 }

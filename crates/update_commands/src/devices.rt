@@ -1,18 +1,20 @@
 //! Brings an image on two open devices to a release.
 ghost use Rattle.std.specs.Prelude.{◌≡◌, ◌≤◌, ◌^◌, IfErr, OnOk, true};
 ghost use Rattle.tree_repair.specs.Repairs.{IsAllowed};
-ghost use Rattle.update_commands.specs.Updates.{AreBegunUnupdated, AreBegunUpdated, AreRepairedAloud, AreRepairedSilently, AreUnrepairedAloud, AreUnrepairedSilently, AreUnupdated, AreUpdated, FinishesOf, IsUnfinishedOf, target_world};
+ghost use Rattle.update_commands.specs.Updates.{AreBegunUnupdated, AreBegunUpdated, AreMovedUnupdated, AreMovedUpdated, AreRepairedAloud, AreRepairedSilently, AreUnrepairedAloud, AreUnrepairedSilently, AreUnupdated, AreUpdated, FinishesOf, IsUnfinishedOf, target_world};
 
 use crate::beginning::begin;
-use crate::counts::{Counts, counts_of, say_counts, written_to};
+use crate::counts::{Counts, Tally, counts_of, say_counts, written_to};
+use crate::listing::list_old;
+use crate::moving::move_listed;
 use crate::release::{Release, plan_of};
 use crate::sealing::seal;
 use block_device::{BlockDev, SyncDev};
 use program_io::Counted;
-use repair_commands::{Copies, Nowhere, repair_devices};
+use repair_commands::{Copies, Nowhere, devices_of, fault_of, repair_devices};
 use std::alloc::Global;
 use std::io::Write;
-use tree_repair::{DamagedImage, Plan};
+use tree_repair::{DamagedImage, ListedBlocks, Plan};
 use tree_survey::SurveyFault;
 use verity_commands::TreeFault;
 use verity_format::{Superblock, VerifyFault};
@@ -25,8 +27,9 @@ pub(crate) struct Target<D, H, C> {
     pub copies: Copies<C>,
 }
 
-/// Brings an image to a release: clears its superblock, seeks each block that isn't the release's in the copies, writes and syncs
-/// what was found, and writes the superblock only if all blocks are valid then. Returns the two devices of the image.
+/// Brings an image to a release: lists its blocks, clears its superblock, copies the blocks that moved, seeks each block that isn't the
+/// release's in the copies, writes and syncs what was found, and writes the superblock only if all blocks are valid then. Returns the two
+/// devices of the image.
 ///
 /// # Errors
 ///
@@ -56,6 +59,7 @@ pub(crate) fn update_devices<
         copies,
     } = target;
     let mut cleared = hash_dev;
+    let listed = list_old(alloc, &mut cleared, &release.superblock);
     match begin(&data_dev, &mut cleared, &release.superblock) {
         Ok(()) => {
             let begun = Target {
@@ -63,16 +67,17 @@ pub(crate) fn update_devices<
                 hash_dev: cleared,
                 copies,
             };
-            update_begun(alloc, begun, release, json, writer)
+            update_begun(alloc, begun, &listed, release, json, writer)
         }
         Err(fault) => (data_dev, cleared, Err(fault)),
     }
 }
 
-// Brings the image to the release, once its superblock is cleared.
+// Brings the image to the release, once its superblock is cleared: copies the blocks that moved first.
 fn update_begun<'a, D: SyncDev + Drop, H: SyncDev + Drop, C: BlockDev + Drop, W: Write>(
     alloc: Global,
     target: Target<D, H, C>,
+    listed: &Option<ListedBlocks>,
     release: &Release,
     json: bool,
     writer: &mut Counted<W>,
@@ -83,12 +88,38 @@ fn update_begun<'a, D: SyncDev + Drop, H: SyncDev + Drop, C: BlockDev + Drop, W:
 {
     let plan = plan_of(release);
     let before = written_to(&target.data_dev, &target.hash_dev);
-    let image = image_of(target);
+    let mut image = image_of(target);
+    match move_listed(alloc, &mut image, listed, &plan, json, writer) {
+        Ok(moved) => {
+            let tally = Tally { before, moved };
+            update_moved(alloc, image, &tally, release, json, writer)
+        }
+        Err(fault) => {
+            let (data_dev, hash_dev) = devices_of(image);
+            (data_dev, hash_dev, Err(fault_of(fault)))
+        }
+    }
+}
+
+// Brings the image to the release, once the blocks that moved are copied.
+fn update_moved<'a, D: SyncDev + Drop, H: SyncDev + Drop, C: BlockDev + Drop, W: Write>(
+    alloc: Global,
+    image: DamagedImage<D, H, C>,
+    tally: &Tally,
+    release: &Release,
+    json: bool,
+    writer: &mut Counted<W>,
+) -> (D, H, Result<(), TreeFault<'a>>)
+    requires { IsAllowed true image.world.data_dev image.world.hash_dev }
+    ensures ok { OnOk result.2 (AreMovedUpdated D.state H.state image.world tally.now release.now json result.0 result.1 W.contents writer.old writer.new) }
+    ensures err { IfErr result.2 (AreMovedUnupdated D.state H.state image.world release.now json result.0 result.1 W.contents writer.old writer.new) }
+{
+    let plan = plan_of(release);
     let (data_dev, hash_dev, repaired) = repair_aloud(alloc, image, &plan, json, writer);
     match repaired {
         Ok(()) => {
             let after = written_to(&data_dev, &hash_dev);
-            let counts = counts_of(&plan.tree.shape, &before, &after);
+            let counts = counts_of(&plan.tree.shape, tally, &after);
             let mut sealed = hash_dev;
             let superblock = &release.superblock;
             let ended = finish(alloc, &mut sealed, superblock, &counts, json, writer);

@@ -6,6 +6,8 @@ mod counts;
 mod devices;
 mod growing;
 pub mod laws;
+mod listing;
+mod moving;
 mod order;
 mod release;
 mod sealing;

@@ -14,8 +14,8 @@ use Rattle.image_commands.specs.declared.fault.ImageFault.{ImageFault}
 use Rattle.image_commands.specs.declared.table.LineWords.{LineWords}
 use Rattle.image_pin.specs.declared.trusted.TrustedRoot.{TrustedRoot}
 use Rattle.image_pin.specs.Finding.{is_aligned}
-use Rattle.image_commands.specs.PlacedImages.{IsDumpImageEnd, IsPlacedImageEnd, PrintsPlacedSuper, RefusesLine}
-use Rattle.image_commands.specs.SuperblockJson.{RefusesDump, dump_text}
+use Rattle.image_commands.specs.PlacedImages.{IsDumpImageEnd, IsPlacedImageEnd, PrintsPlacedSuper, RefusesDumpOf, RefusesLine}
+use Rattle.image_commands.specs.SuperblockJson.{dump_text}
 use Rattle.image_commands.specs.TableLines.{placed_line}
 use Rattle.image_commands.specs.declared.tree_source.SoughtTree.{SoughtTree}
 use Rattle.image_commands.specs.Verifying.{IsMatchesEnd, PrintsMatches}
@@ -66,7 +66,7 @@ abbrev pub DumpsAt : {S D : Type 0} → Calls S D → DumpRecord → Option (Lis
 DumpsAt w d old new = PrintsPlacedSuper w d.hash_path (d.hash_offset / 512) None (λ s. true) (dump_text d.form) old new
 
 abbrev pub IsDumpEnd : {S D : Type 0} → Calls S D → DumpRecord → Option (List ℕ) → Option (List ℕ) → Bool → VerityFault → Type 0
-IsDumpEnd w d old new failed fault = IsImageEnd (IsDumpImageEnd w d.hash_path (d.hash_offset / 512) (RefusesDump d.form) failed) fault × IsVerityQuiet fault old new
+IsDumpEnd w d old new failed fault = IsImageEnd (IsDumpImageEnd w d.hash_path (d.hash_offset / 512) (RefusesDumpOf (d.hash_offset / 512) d.form) failed) fault × IsVerityQuiet fault old new
 
 abbrev pub IsTableEnd : {S D : Type 0} → Calls S D → TableRecord → Option (List ℕ) → Option (List ℕ) → Bool → VerityFault → Type 0
 IsTableEnd w t old new failed fault = IsImageEnd (IsEntryEnd w t failed) fault × IsVerityQuiet fault old new

@@ -1,6 +1,7 @@
 pub mod lemmas
 pub mod FieldLemmas
 pub mod BlockLemmas
+pub mod ChainCallLemmas
 pub mod GrowthLemmas
 pub mod ComparingLemmas
 pub mod WritingLemmas

@@ -7,6 +7,7 @@ pub mod Formatting
 pub mod Options
 pub mod Verifying
 pub mod Chain
+pub mod ChainCalls
 pub mod Line
 pub mod FaultNames
 pub mod Growth

@@ -1,10 +1,12 @@
 //! Reading a data block with the hash blocks on its path.
-ghost use Rattle.std.specs.Prelude.{◌≡◌, ◌+◌, ◌<◌, ◌≤◌, OnOk, OnErr, IfOk, IfErr, All, length};
+ghost use Rattle.std.specs.Prelude.{◌≡◌, ◌+◌, ◌<◌, ◌≤◌, OnOk, OnErr, IfOk, IfErr, All, is_ok, length};
 ghost use Rattle.allocation.specs.Refusal.{IsOutOfMemory};
+ghost use Rattle.block_device.specs.Call.{DeviceDoes};
 ghost use Rattle.block_device.specs.Device.{HasFailed};
 ghost use Rattle.verity_format.specs.Blocks.{BothOnlyRead, IsOnlyRead};
 ghost use Rattle.verity_format.specs.Image.{data_sectors, tree_sectors};
 ghost use Rattle.verity_format.specs.Chain.{FailsToReadChain, IsStoredChain, ReadsChain, ReadsPath};
+ghost use Rattle.verity_format.specs.ChainCalls.{CallsChain, CallsPath};
 ghost use Rattle.verity_format.specs.Premises.{IsPathOn};
 
 use crate::access::read_block;
@@ -68,6 +70,7 @@ pub fn read_chain<D: BlockDev, H: BlockDev>(
     ensures ok { IfOk result (IsStoredChain D.state H.state shape.now data_dev.old hash_dev.old index) }
     ensures full { OnOk result (ReadsChain D.state H.state shape.now data_dev.old hash_dev.old data_dev.new hash_dev.new) }
     ensures err { IfErr result (FailsToReadChain D.state H.state data_dev.old hash_dev.old data_dev.new hash_dev.new) }
+    ensures calls { CallsChain (DeviceDoes D.state D.does) (DeviceDoes H.state H.does) shape.now index data_dev.old hash_dev.old data_dev.new hash_dev.new result }
 {
     let mut content = zeros(alloc, shape.data_block() as usize)?;
     let mut path = zero_blocks(alloc, shape.levels(), shape.hash_block() as usize)?;
@@ -105,6 +108,7 @@ fn read_path<H: BlockDev>(
     ensures read { IsOnlyRead (H.state hash_dev.old) (H.state hash_dev.new) }
     ensures ok { OnOk result (ReadsPath H.state shape.now index hash_dev.old hash_dev.new path.new) }
     ensures fault { OnErr result (HasFailed (H.state hash_dev.old) (H.state hash_dev.new)) }
+    ensures calls { CallsPath (DeviceDoes H.state H.does) shape.now index hash_dev.old path.new (is_ok result) hash_dev.new }
 {
     let mut level = shape.levels();
     for i in 0..path.len() {

@@ -1,18 +1,17 @@
--- What `scan [--cache N] [--map FILE] [--retries N] [--progress] [--json | --chart] STACK NAME BINDING...` says.
-use Rattle.std.specs.Prelude.{codes, Bool, List, Option, Ok, map, ℕ}
+-- What `scan [--cache N] [--map FILE] [--retries N] [--progress] [--json | --chart] (STACK NAME BINDING... | --disk DISK)` says.
+use Rattle.std.specs.Prelude.{Bool, List, Option, Ok, map, ℕ}
 use Rattle.charts.specs.declared.form.ReportForm.{ReportForm}
 use Rattle.command_line.specs.Bindings.{BindingRecord, binding_record}
 use Rattle.command_line.specs.BindingWords.{bindings_of}
 use Rattle.command_line.specs.FormatOptions.{OptionTexts, text_of}
 use Rattle.command_line.specs.Misuses.{Reading, when}
-use Rattle.command_line.specs.Positional.{positional}
+use Rattle.command_line.specs.SourceWords.{SourceRecord, no_binding, source_first, source_record}
 use Rattle.command_line.specs.Values.{cache_said, map_said, report_form, retries_said}
 use Rattle.command_line.specs.declared.words.scan.ScanWords.{ScanWords}
 
 pub record ScanRecord : Type 0 where
   pub cache : ℕ
-  pub stack : List ℕ
-  pub name : List ℕ
+  pub source : SourceRecord
   pub bindings : List BindingRecord
   pub map : Option (List ℕ)
   pub retries : ℕ
@@ -21,16 +20,15 @@ pub record ScanRecord : Type 0 where
 
 unfoldable pub scan_said : OptionTexts → List (List ℕ) → Reading ScanRecord
 scan_said texts words =
-    when (positional (codes "STACK") words) (λ stack.
-    when (positional (codes "NAME") stack.1) (λ name.
+    when (source_first texts.disk words) (λ source.
     when (cache_said texts.cache) (λ cache.
     when (map_said texts.map) (λ path.
     when (retries_said texts.retries) (λ retries.
     when (report_form texts.json texts.chart) (λ form.
-    when (bindings_of name.1) (λ bindings. Ok (record {
+    when (no_binding texts.disk source.1) (λ none.
+    when (bindings_of source.1) (λ bindings. Ok (record {
       cache = cache;
-      stack = stack.0;
-      name = name.0;
+      source = source.0;
       bindings = bindings;
       map = path;
       retries = retries;
@@ -42,8 +40,7 @@ scan_said texts words =
 abbrev pub scan_record : ScanWords → ScanRecord
 scan_record w = record {
   cache = w.cache;
-  stack = w.stack.now;
-  name = w.name.now;
+  source = source_record w.source;
   bindings = map binding_record w.bindings.items;
   map = text_of w.map;
   retries = w.retries;

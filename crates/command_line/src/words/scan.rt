@@ -1,4 +1,4 @@
-//! `scan [--cache N] [--map FILE] [--retries N] [--progress] [--json | --chart] STACK NAME BINDING...`
+//! `scan [--cache N] [--map FILE] [--retries N] [--progress] [--json | --chart] (STACK NAME BINDING... | --disk DISK)`
 ghost use Rattle.command_line.specs.Invocations.{scan};
 ghost use Rattle.command_line.specs.Reading.{ReadsAs};
 ghost use Rattle.command_line.specs.FormatOptions.{option_texts, texts_of};
@@ -9,8 +9,8 @@ use crate::bindings::Binding;
 use crate::fault::WordsFault;
 use crate::invocation::Invocation;
 use crate::option_words::OptionWords;
-use crate::positional::positional;
 use crate::retries::retries_of;
+use crate::source_words::{SourceWords, no_binding, source_first};
 use crate::values::{cache_of, map_of, report_form};
 use charts::ReportForm;
 use std::alloc::Global;
@@ -20,8 +20,7 @@ use std::alloc::Global;
 #[derive(Drop)]
 pub struct ScanWords<'a> {
     pub cache: u32,
-    pub stack: &'a str,
-    pub name: &'a str,
+    pub source: SourceWords<'a>,
     pub bindings: Vec<Binding<'a>>,
     pub map: Option<&'a str>,
     pub retries: u64,
@@ -29,12 +28,13 @@ pub struct ScanWords<'a> {
     pub form: ReportForm,
 }
 
-/// Returns `scan` with its arguments, `[--cache N] [--map FILE] [--retries N] [--progress] [--json | --chart] STACK NAME BINDING...`.
+/// Returns `scan` with its arguments, `[--cache N] [--map FILE] [--retries N] [--progress] [--json | --chart] (STACK NAME BINDING... |
+/// --disk DISK)`.
 ///
 /// # Errors
 ///
-/// - `Usage` if STACK or NAME is missing, the value of an option is invalid, `--json` and `--chart` are given, or a further
-///   argument is no binding.
+/// - `Usage` if STACK, NAME or DISK is missing, the value of an option is invalid, `--json` and `--chart` are given, or a further
+///   argument is no binding or is after DISK.
 /// - `NoMemory` if an allocation was refused.
 #[tactic(auto, unfolding(crate::specs::words::Scan::scan_said))]
 pub fn scan_of<'a>(
@@ -44,17 +44,16 @@ pub fn scan_of<'a>(
 ) -> Result<Invocation<'a>, WordsFault<'a>>
     ensures { ReadsAs scan (scan_said (option_texts options.now) (texts_of words.now)) result }
 {
-    let (stack, words) = positional("STACK", words)?;
-    let (name, words) = positional("NAME", words)?;
+    let (source, words) = source_first(options.disk, words)?;
     let cache = cache_of(options.cache)?;
     let map = map_of(options.map)?;
     let retries = retries_of(options.retries)?;
     let form = report_form(options.json, options.chart)?;
+    no_binding(options.disk, words)?;
     let bindings = bindings_of(alloc, words)?;
     Ok(Invocation::Scan(ScanWords {
         cache,
-        stack,
-        name,
+        source,
         bindings,
         map,
         retries,

@@ -9,14 +9,14 @@ use Rattle.verity_format.specs.declared.verifying.VerifyFault.TheVariants as ver
 
 -- a superblock that isn't supported
 unfoldable pub super_message : SuperFault → List ℕ
-super_message super.Signature = codes "there is no superblock: check that HASH isn't DATA, and '--hash-offset'; else HASH is damaged"
-super_message super.Version = codes "the version of the superblock isn't 1: HASH is damaged, or of another format"
-super_message super.HashType = codes "the hash type isn't 1: format the image anew without 'veritysetup --format 0', or HASH is damaged"
-super_message super.Algorithm = codes "the hash algorithm isn't sha256: format the image anew with it, or HASH is damaged"
-super_message super.DataBlockSize = codes "the data block size isn't 512, 1024, 2048 or 4096: format the image anew, or HASH is damaged"
-super_message super.HashBlockSize = codes "the hash block size isn't 512, 1024, 2048 or 4096: format the image anew, or HASH is damaged"
-super_message super.DataBlocks = codes "the number of data blocks isn't possible: HASH is damaged"
-super_message super.SaltSize = codes "the salt has more than 256 bytes: HASH is damaged"
+super_message super.Signature = codes "there is no superblock: check that the hash image isn't DATA, and '--hash-offset'; else it is damaged"
+super_message super.Version = codes "the version of the superblock isn't 1: the hash image is damaged, or of another format"
+super_message super.HashType = codes "the hash type isn't 1: format the image anew without 'veritysetup --format 0', or the hash image is damaged"
+super_message super.Algorithm = codes "the hash algorithm isn't sha256: format the image anew with it, or the hash image is damaged"
+super_message super.DataBlockSize = codes "the data block size isn't 512, 1024, 2048 or 4096: format the image anew, or the hash image is damaged"
+super_message super.HashBlockSize = codes "the hash block size isn't 512, 1024, 2048 or 4096: format the image anew, or the hash image is damaged"
+super_message super.DataBlocks = codes "the number of data blocks isn't possible: the hash image is damaged"
+super_message super.SaltSize = codes "the salt has more than 256 bytes: the hash image is damaged"
 
 -- an image that isn't made
 unfoldable pub format_message : FormatFault → Option (List ℕ)

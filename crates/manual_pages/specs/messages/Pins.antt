@@ -21,7 +21,7 @@ pin_message pin.TooLong = codes "the file is longer than a pin: check the path"
 unfoldable pub mismatch_message : Mismatch → List ℕ
 mismatch_message mismatch.DataBlockSize = codes "the data block size isn't that of the pin or of the other image"
 mismatch_message mismatch.HashBlockSize = codes "the hash block size isn't that of the pin or of the other image"
-mismatch_message mismatch.DataBlocks = codes "the number of data blocks isn't that of the pin: HASH was changed, or is of another image"
+mismatch_message mismatch.DataBlocks = codes "the number of data blocks isn't that of the pin: the hash image was changed, or is of another image"
 mismatch_message mismatch.Salt = codes "the salt isn't that of the pin or of the other image: format both with the same '--salt'"
 
 -- a pin that can't be written

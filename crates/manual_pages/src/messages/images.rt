@@ -12,19 +12,20 @@ pub fn super_message(fault: SuperFault) -> &'static str
 {
     match fault {
         SuperFault::Signature =>
-            "there is no superblock: check that HASH isn't DATA, and '--hash-offset'; else HASH is damaged",
+            "there is no superblock: check that the hash image isn't DATA, and '--hash-offset'; else it is damaged",
         SuperFault::Version =>
-            "the version of the superblock isn't 1: HASH is damaged, or of another format",
+            "the version of the superblock isn't 1: the hash image is damaged, or of another format",
         SuperFault::HashType =>
-            "the hash type isn't 1: format the image anew without 'veritysetup --format 0', or HASH is damaged",
+            "the hash type isn't 1: format the image anew without 'veritysetup --format 0', or the hash image is damaged",
         SuperFault::Algorithm =>
-            "the hash algorithm isn't sha256: format the image anew with it, or HASH is damaged",
+            "the hash algorithm isn't sha256: format the image anew with it, or the hash image is damaged",
         SuperFault::DataBlockSize =>
-            "the data block size isn't 512, 1024, 2048 or 4096: format the image anew, or HASH is damaged",
+            "the data block size isn't 512, 1024, 2048 or 4096: format the image anew, or the hash image is damaged",
         SuperFault::HashBlockSize =>
-            "the hash block size isn't 512, 1024, 2048 or 4096: format the image anew, or HASH is damaged",
-        SuperFault::DataBlocks => "the number of data blocks isn't possible: HASH is damaged",
-        SuperFault::SaltSize => "the salt has more than 256 bytes: HASH is damaged",
+            "the hash block size isn't 512, 1024, 2048 or 4096: format the image anew, or the hash image is damaged",
+        SuperFault::DataBlocks =>
+            "the number of data blocks isn't possible: the hash image is damaged",
+        SuperFault::SaltSize => "the salt has more than 256 bytes: the hash image is damaged",
     }
 }
 

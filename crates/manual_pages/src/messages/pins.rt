@@ -38,7 +38,7 @@ pub fn mismatch_message(mismatch: Mismatch) -> &'static str
         Mismatch::HashBlockSize =>
             "the hash block size isn't that of the pin or of the other image",
         Mismatch::DataBlocks =>
-            "the number of data blocks isn't that of the pin: HASH was changed, or is of another image",
+            "the number of data blocks isn't that of the pin: the hash image was changed, or is of another image",
         Mismatch::Salt =>
             "the salt isn't that of the pin or of the other image: format both with the same '--salt'",
     }

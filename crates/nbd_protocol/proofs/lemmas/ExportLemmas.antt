@@ -10,7 +10,7 @@ use Rattle.std.proofs.lemmas.List.Quantifiers.{position-Some}
 use Rattle.std.proofs.lemmas.List.Elements.{All-append, All-get_or, All-map}
 use Rattle.dm_table.specs.Names.{is_mapped_name}
 use Rattle.stack_rules.specs.Records.{Configuration}
-use Rattle.nbd_protocol.specs.Exports.{AreExports, HaveShortNames, ExportRecord, IsExport, asked, export_at, export_record, export_records, no_export, export_place}
+use Rattle.nbd_protocol.specs.Exports.{AreExports, HasShortName, HaveShortNames, ExportRecord, IsExport, asked, export_at, export_record, export_records, no_export, export_place}
 use Rattle.nbd_protocol.specs.Offers.{AddsExport, Offers, longest_name, offers_more, offers_none}
 use Rattle.nbd_protocol.specs.declared.export.Export.{Export}
 
@@ -48,6 +48,9 @@ exports-short c exports p = λ k d inside. (p k d inside).short
 -- the one at a place
 pub placed-export : (c : Configuration) (exports : List Export) (place : ℕ) → AreExports c exports → place < length (export_records exports) → IsExport c (export_at (export_records exports) place)
 placed-export c exports place p inside = All-get_or (IsExport c) (export_records exports) place no_export inside (All-map (IsExport c) export_record exports p)
+
+pub placed-short : (exports : List Export) (place : ℕ) → HaveShortNames exports → place < length exports → HasShortName (export_at (export_records exports) place)
+placed-short exports place short inside = All-get_or HasShortName (export_records exports) place no_export (omega (arith, inside, length-map exports export_record)) (All-map HasShortName export_record exports short)
 
 pub placed-inside : (exports : List Export) (place : ℕ) → place < length (export_records exports) → place < length exports
 placed-inside exports place inside = omega (arith, inside, length-map exports export_record)

@@ -1,6 +1,7 @@
-use Rattle.block_device.specs.declared.seal.Seal.TheVariants.{System}
-use Rattle.block_device.specs.FileCalls.{was-opened}
 use Rattle.block_device.proofs.file_calls.open_at.Goals as goal
 
-pub returns-in-Ok : goal.returns-in-Ok
-returns-in-Ok g c = was-opened c.args.path.now c.args.writable c.in-Ok.file System
+pub returns-in-Ok-clause-ok : goal.returns-in-Ok-clause-ok
+returns-in-Ok-clause-ok g c = rw (c.write.ensures.value, c.read.ensures.value, c.new.ensures, c.in-Ok.is) at c.open_by.ensures
+
+pub returns-in-Err-clause-err : goal.returns-in-Err-clause-err
+returns-in-Err-clause-err g c = (c.in-Err.kind, rw (c.write.ensures.value, c.read.ensures.value, c.new.ensures, c.in-Err.is) at c.open_by.ensures, c.from.ensures)

@@ -55,6 +55,9 @@ returns-in-Repair c = rw c.in-Repair.is refl
 pub returns-in-Update : goal.returns-in-Update
 returns-in-Update c = rw c.in-Update.is refl
 
+pub returns-in-Assemble : goal.returns-in-Assemble
+returns-in-Assemble c = rw c.in-Assemble.is refl
+
 pub returns-in-VerifyTree : goal.returns-in-VerifyTree
 returns-in-VerifyTree c = rw c.in-VerifyTree.is refl
 

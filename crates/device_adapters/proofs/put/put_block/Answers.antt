@@ -1,10 +1,12 @@
-use Rattle.std.proofs.Common.{◌≡◌, ℕ, ◌*◌, ◌/◌, ◌≤◌, List, length, sym, ap, ◌∙◌, arith}
+use Rattle.std.proofs.Common.{◌≡◌, ℕ, ◌*◌, ◌/◌, Bool, false, true, List, length, sym, ap, ◌∙◌, arith}
+use Rattle.std.specs.Prelude.{is_ok}
 use Rattle.std.specs.List.{concat}
 use Rattle.std.proofs.lemmas.Bool.{false≢true}
 use Rattle.std.proofs.lemmas.Slice.Eq.{bytes_eq-Decides}
 use Rattle.block_device.specs.Device.{run_of, sectors_of}
-use Rattle.block_device.proofs.lemmas.CallLemmas.{calls-more, calls-one}
-use Rattle.device_adapters.proofs.PutLemmas.{on_ok, same-stands, spliced-same, stands-same}
+use Rattle.block_device.specs.Call.{DeviceDoes}
+use Rattle.device_adapters.proofs.DifferingCallLemmas.{block-replaced, block-stored, block-unread}
+use Rattle.device_adapters.proofs.PutLemmas.{not_ok, on_ok, same-stands, spliced-same, stands-same}
 use Rattle.device_adapters.proofs.put.put_block.Goals as goal
 
 pub returns-then-eq-clause-ok : goal.returns-then-eq-clause-ok
@@ -36,18 +38,18 @@ returns-clause-same g c =
 
 pub returns-in_err-read-clause-calls : goal.returns-in_err-read-clause-calls
 returns-in_err-read-clause-calls g c =
-    let few : length c.read.new.out / 512 ≤ length c.args.bytes.now / 512 = omega (arith, c.read.auto.out, c.requires.room) in
-    calls-one _ _ _ _ _ _ _ c.in_err-read.ensures.call few (omega arith)
+    let size : length c.read.new.out ≡ length c.args.bytes.now = omega (arith, c.read.auto.out, c.requires.room) in
+    let failed : is_ok c.from_residual.result ≡ false = not_ok c.from_residual.result _ c.from_residual.ensures.1 in
+    block-unread (DeviceDoes g.D.BlockDev.state g.D.BlockDev.does) c.args.first c.args.bytes.now c.read.new.out (is_ok c.from_residual.result) c.args.device.now c.read.new.self size failed c.in_err-read.ensures.call
 
 pub returns-then-eq-clause-calls : goal.returns-then-eq-clause-calls
 returns-then-eq-clause-calls g c =
-    let few : length c.read.new.out / 512 ≤ length c.args.bytes.now / 512 = omega (arith, c.read.auto.out, c.requires.room) in
-    calls-one _ _ _ _ _ _ _ c.in_ok-read.ensures.call few (omega arith)
+    let same : c.read.new.out ≡ c.args.bytes.now = (bytes_eq-Decides _ _).0 (sym c.eq.ensures ∙ c.if-eq.true) in
+    block-stored (DeviceDoes g.D.BlockDev.state g.D.BlockDev.does) c.args.first c.args.bytes.now c.read.new.out true c.args.device.now c.read.new.self same c.in_ok-read.ensures.call
 
 pub returns-clause-calls : goal.returns-clause-calls
 returns-clause-calls g c =
-    let n : ℕ = length c.args.bytes.now / 512 in
-    let few : length c.read.new.out / 512 ≤ n = omega (arith, c.read.auto.out, c.requires.room) in
-    let read = calls-one g.D.BlockDev.state g.D.BlockDev.does n 0 _ _ _ c.in_ok-read.ensures.call few (omega arith) in
-    let written = calls-one g.D.BlockDev.state g.D.BlockDev.does 0 n _ _ _ c.write.ensures.call (omega arith) (omega arith) in
-    calls-more _ _ n 0 0 n n n _ c.read.new.self _ read written (omega arith) (omega arith)
+    let size : length c.read.new.out ≡ length c.args.bytes.now = omega (arith, c.read.auto.out, c.requires.room) in
+    let differs : c.read.new.out ≡ c.args.bytes.now → ⊥ = λ same. false≢true (sym c.if-eq.false ∙ c.eq.ensures ∙ (bytes_eq-Decides _ _).1 same) in
+    block-replaced (DeviceDoes g.D.BlockDev.state g.D.BlockDev.does) c.args.first c.args.bytes.now c.read.new.out (is_ok c.write.result) c.args.device.now c.read.new.self c.write.new.self size differs
+    c.in_ok-read.ensures.call c.write.ensures.call

@@ -1,16 +1,18 @@
-use Rattle.std.proofs.Common.{◌≡◌, ℕ, ◌+◌, ◌-◌, ◌*◌, ◌/◌, ◌≤◌, Bool, false, true, IsTrue, List, length, take, drop, sym, ap, ap₂, subst, ◌∙◌, arith}
-use Rattle.std.proofs.lemmas.List.{length-drop, length-take, length-take-le}
+use Rattle.std.proofs.Common.{◌≡◌, ℕ, ◌+◌, ◌-◌, ◌*◌, ◌/◌, ◌<◌, ◌≤◌, Bool, false, true, IsTrue, List, length, take, drop, sym, ap, ap₂, subst, ◌∙◌, arith}
+use Rattle.std.specs.Prelude.{is_ok}
+use Rattle.std.proofs.lemmas.List.{length-drop, length-take-le}
+use Rattle.block_device.specs.Call.{DeviceDoes}
 use Rattle.block_device.specs.Device.{sectors_of}
-use Rattle.block_device.specs.CallList.{DeviceCalls}
-use Rattle.block_device.proofs.lemmas.CallLemmas.{calls-more, calls-none}
 use Rattle.device_adapters.specs.Differing.{AreSectorsPut, KeepsOutside, stands}
+use Rattle.device_adapters.specs.DifferingCalls.{compared_sectors}
+use Rattle.device_adapters.proofs.DifferingCallLemmas.{blocks-all, blocks-failed, blocks-more, blocks-none}
 use Rattle.device_adapters.proofs.PutLemmas.{not_ok, outside-all, underway-failed, underway-none, underway-put}
 use Rattle.device_adapters.proofs.put.put_blocks.Goals as goal
 
 pub parts-init : goal.parts-init
 parts-init g c =
     let whole = g.met.D.BlockDev.whole c.args.device.now in
-    record { so_far = underway-none (g.D.BlockDev.state c.args.device.now) c.args.first c.args.bytes.now (omega (arith, whole.length, c.requires.range.inside)); calls = calls-none _ _ _ _ _; within = omega arith }
+    record { so_far = underway-none (g.D.BlockDev.state c.args.device.now) c.args.first c.args.bytes.now (omega (arith, whole.length, c.requires.range.inside)); calls = blocks-none (DeviceDoes g.D.BlockDev.state g.D.BlockDev.does) c.args.first c.args.bytes.now c.args.device.now; within = omega arith }
 
 pub overflow_add-first : goal.overflow_add-first
 overflow_add-first g c =
@@ -52,13 +54,16 @@ parts-preserved g c =
     let is : block ≡ take (512 * m) (drop (512 * k) bytes) = ap₂ (λ (a b : ℕ). take a (drop b bytes)) wide from in
     let len : length (take (512 * m) (drop (512 * k) bytes)) ≡ 512 * m = length-take-le (512 * m) (drop (512 * k) bytes) (omega (arith, size, some, length-drop (512 * k) bytes)) in
     let count : length block / 512 ≡ m = ap (λ (l : List ℕ). length l / 512) is ∙ omega (arith, len) in
+    let left : k < n = omega (arith, c.parts-test.true) in
+    let counted : m ≡ compared_sectors bytes k = omega (arith, c.min-count.ensures) in
     let done = c.in_ok-put_block.ensures in
     record {
       so_far = underway-put (g.D.BlockDev.state c.args.device.now) now first k n bytes size (omega (arith, whole.length, c.requires.range.inside)) c.parts.invariant.so_far m block new some is
           (subst (λ (j : ℕ). AreSectorsPut now (first + k) (sectors_of j block) new) count done.ok)
           (subst (λ (j : ℕ). KeepsOutside now (first + k) j true new) count done.outside)
           (subst (λ (j : ℕ). IsTrue now.steady → stands now.image (first + k) (sectors_of j block) → new.writes ≡ now.writes) count done.same);
-      calls = calls-more _ _ k k (length block / 512) (length block / 512) (k + m) (k + m) _ c.parts.device _ c.parts.invariant.calls done.calls (omega (arith, count)) (omega (arith, count));
+      calls = blocks-more (DeviceDoes g.D.BlockDev.state g.D.BlockDev.does) first bytes k m block true c.args.device.now c.parts.device c.put_block.new.device left counted is
+          c.parts.invariant.calls done.calls;
       within = some;
     }
 
@@ -75,11 +80,16 @@ returns-in_err-put_block-clause-calls g c =
     let bytes : List ℕ = c.args.bytes.now in
     let k : ℕ = c.parts.done in
     let m : ℕ = c.min-count.result in
+    let from : k * 512 ≡ 512 * k = omega arith in
+    let wide : (k + m) * 512 - k * 512 ≡ 512 * m = omega arith in
     let block : List ℕ = take ((k + m) * 512 - k * 512) (drop (k * 512) bytes) in
-    let all : k + length block / 512 ≤ length bytes / 512 = omega (arith, length-take ((k + m) * 512 - k * 512) (drop (k * 512) bytes), c.min-count.ensures, c.parts.invariant.within) in
-    calls-more _ _ k k (length block / 512) (length block / 512) _ _ _ c.parts.device _ c.parts.invariant.calls c.in_err-put_block.ensures.calls all all
+    let is : block ≡ take (512 * m) (drop (512 * k) bytes) = ap₂ (λ (a b : ℕ). take a (drop b bytes)) wide from in
+    let some : k < length bytes / 512 = omega (arith, c.parts-test.true) in
+    let count : m ≡ compared_sectors bytes k = omega (arith, c.min-count.ensures) in
+    blocks-failed (DeviceDoes g.D.BlockDev.state g.D.BlockDev.does) c.args.first bytes (k + m) (is_ok c.from_residual.result) c.args.device.now c.put_block.new.device (not_ok c.from_residual.result _ c.from_residual.ensures.1)
+    (blocks-more (DeviceDoes g.D.BlockDev.state g.D.BlockDev.does) c.args.first bytes k m block false c.args.device.now c.parts.device c.put_block.new.device some count is c.parts.invariant.calls c.in_err-put_block.ensures.calls)
 
 pub returns-clause-calls : goal.returns-clause-calls
 returns-clause-calls g c =
     let all : c.parts.done ≡ length c.args.bytes.now / 512 = omega (arith, c.parts.invariant.within, c.parts-test.false) in
-    subst (λ (n : ℕ). DeviceCalls g.D.BlockDev.state g.D.BlockDev.does n n c.args.device.now c.parts.device) all c.parts.invariant.calls
+    blocks-all (DeviceDoes g.D.BlockDev.state g.D.BlockDev.does) c.args.first c.args.bytes.now c.parts.done c.args.device.now c.parts.device all c.parts.invariant.calls

@@ -1,12 +1,14 @@
-use Rattle.std.proofs.Common.{◌≤◌, ◌-◌}
+use Rattle.std.proofs.Common.{◌≤◌, ◌-◌, true}
+use Rattle.block_device.specs.Call.{DeviceDoes}
 use Rattle.block_device.specs.CallList.{DeviceCalls}
+use Rattle.device_adapters.specs.DifferingCalls.{DifferingBlocks}
 use Rattle.device_adapters.proofs.PutLemmas.{IsUnderway}
 use Rattle.device_adapters.proofs.put.put_blocks.Given as goal
 
 abbrev pub invariant-parts : goal.invariant-parts
 invariant-parts g l = record {
   so_far : IsUnderway (g.D.BlockDev.state l.fn.device) l.fn.first l.done l.bytes (g.D.BlockDev.state l.device);
-  calls : DeviceCalls g.D.BlockDev.state g.D.BlockDev.does l.done l.done l.fn.device l.device;
+  calls : DeviceCalls (DeviceDoes g.D.BlockDev.state g.D.BlockDev.does) (DifferingBlocks l.fn.first l.bytes l.done true) l.fn.device l.device;
   within : l.done ≤ l.sectors;
 }
 

@@ -1,4 +1,4 @@
-use Rattle.std.proofs.Common.{◌≡◌, ◌<◌, ◌/◌, ℕ, List, length, subst, sym, ap, ◌∙◌, arith, refl, inl}
+use Rattle.std.proofs.Common.{◌≡◌, ◌*◌, ◌<◌, ◌/◌, ℕ, List, length, subst, sym, ap, ◌∙◌, arith, refl, inl}
 use Rattle.std.proofs.lemmas.Result.{err_from_is_err_and}
 use Rattle.block_device.specs.Call.{DeviceDoes}
 use Rattle.fec_area.specs.GivenParity.{ChecksRounds}
@@ -8,9 +8,9 @@ use Rattle.verity_format.specs.Blocks.{block_at}
 use Rattle.verity_format.proofs.lemmas.DeviceLemmas.{only_read-none, only_read-then, steady-then}
 use Rattle.fec_area.proofs.CallLemmas.{call-read, other-told, same-told, read-none, read-then, unfailed-none, unfailed-then, one_failed-then, laid-then, image-then}
 use Rattle.fec_area.proofs.GivenParityLemmas.{rounds-failed, rounds-more, rounds-none, rounds-stopped, rounds-to}
-use Rattle.fec_area.proofs.LayoutLemmas.{round-quotient}
+use Rattle.fec_area.proofs.LayoutLemmas.{parity-small, round-quotient}
 use Rattle.fec_area.proofs.RoundLemmas.{parity-unique}
-use Rattle.fec_area.proofs.WritingLemmas.{bytes-other, bytes-same, round-at, round-more, round-other, write-inside}
+use Rattle.fec_area.proofs.WritingLemmas.{bytes-other, bytes-same, round-at, round-more, round-other, round-within, write-inside}
 use Rattle.fec_area.proofs.checking.check_rounds.Goals as goal
 
 pub loop-round-init : goal.loop-round-init
@@ -154,3 +154,18 @@ returns-clause-calls g c =
     let l = c.args.code.now.layout.now in
     let end : c.loop-round.round ≡ code_rounds l = omega (arith, c.loop-round-test.false, c.loop-round.auto.round-end, c.rounds-round-end.ensures.value) in
     subst (λ (n : ℕ). ChecksRounds asks does reads l n c.args.data_dev.now c.args.hash_dev.now c.args.parity_dev.now c.loop-round.data_dev c.loop-round.hash_dev c.loop-round.parity_dev) end c.loop-round.invariant.rounds
+
+pub overflow_mul-round : goal.overflow_mul-round
+overflow_mul-round g c =
+    let l = c.args.code.now.layout.now in
+    let valid = c.requires.sums.laid.layout in
+    let s : ℕ = length c.args.stored.now / 512 in
+    let is = round-quotient l (length c.args.stored.now) valid c.requires.stored in
+    let inside : c.loop-round.round < code_rounds l = omega (arith, c.loop-round-test.true, c.rounds-round-end.ensures.value) in
+    omega (arith, round-within l c.loop-round.round s s inside is is, parity-small l valid)
+
+pub returns-then-not-is_same-clause-read : goal.returns-then-not-is_same-clause-read
+returns-then-not-is_same-clause-read g c = read-then c.loop-round.invariant.read c.sum_parity.ensures.read
+
+pub returns-then-not-is_same-clause-parity : goal.returns-then-not-is_same-clause-parity
+returns-then-not-is_same-clause-parity g c = only_read-then c.loop-round.invariant.parity_read (call-read c.in_ok-read.ensures.moved)

@@ -1,13 +1,14 @@
-use Rattle.std.proofs.Common.{◌≡◌, ◌+◌, ◌-◌, ◌*◌, ◌++◌, ℕ, true, IsTrue, List, length, replicate, subst, sym, ap, ◌∙◌, arith}
+use Rattle.std.proofs.Common.{◌≡◌, ◌+◌, ◌-◌, ◌*◌, ◌/◌, ◌++◌, ℕ, true, IsTrue, List, length, replicate, subst, sym, ap, ◌∙◌, arith}
 use Rattle.std.specs.Prelude.{slice_index}
 use Rattle.std.proofs.lemmas.List.{get_or-replicate}
 use Rattle.std.proofs.lemmas.List.FromFn.{length-range_with_len}
 use Rattle.std.proofs.lemmas.Result.{err_from_is_err_and}
 use Rattle.block_device.specs.Call.{DeviceDoes}
 use Rattle.fec_area.specs.Given.{gathered, index_at}
-use Rattle.fec_area.specs.Layouts.{IsParityOf, message_byte}
+use Rattle.fec_area.specs.Layouts.{IsParityOf, code_rounds, message_byte}
 use Rattle.fec_area.specs.Rounds.{IsPlaceAdded}
-use Rattle.fec_area.proofs.CallLemmas.{read-none, read-then, unfailed-none, unfailed-then, one_failed-then, laid-then, image-then}
+use Rattle.fec_area.proofs.WithinLemmas.{within-least, within-more, within-none}
+use Rattle.fec_area.proofs.CallLemmas.{counted-behind, counted-unfailed, read-none, read-then, unfailed-none, unfailed-then, one_failed-then, laid-then, image-then}
 use Rattle.fec_area.proofs.GivenLemmas.{all-none, all-then, first-then, gathered-next, gathered-none, gathered-rest, gives-weaker}
 use Rattle.fec_area.proofs.RoundLemmas.{AreBytes, AreSummed, summed-none, summed-more, summed-parity, bytes-more, round-swap}
 use Rattle.fec_area.proofs.round.sum_parity.Goals as goal
@@ -31,6 +32,7 @@ loop-place-init g c =
           c.args.data_dev.now c.args.hash_dev.now;
       read = read-none (g.D.BlockDev.state c.args.data_dev.now) (g.H.BlockDev.state c.args.hash_dev.now);
       unfailed = unfailed-none (g.D.BlockDev.state c.args.data_dev.now) (g.H.BlockDev.state c.args.hash_dev.now);
+      most = within-none (0 * (l.block / 512)) (g.D.BlockDev.state c.args.data_dev.now) (g.H.BlockDev.state c.args.hash_dev.now);
       sums = λ one other. summed-none (message_byte c.args.code.now.layout.now (g.D.BlockDev.state c.args.data_dev.now).image (g.H.BlockDev.state c.args.hash_dev.now).image c.args.round) c.args.code.now.layout.now.roots c.args.code.now.products.now sums (λ m lt. ap (λ xs. slice_index xs m) zeros ∙ get_or-replicate {A = ℕ} (length c.args.parity.now) m 0 0 (omega (arith, lt, c.fill.ensures.len)));
       bytes = λ one other i k lt. absurd (omega (arith, lt));
     }
@@ -76,12 +78,30 @@ loop-place-preserved g c =
           c.args.data_dev.now c.args.hash_dev.now c.loop-place.data_dev c.loop-place.hash_dev c.add_place.new.data_dev c.add_place.new.hash_dev here.given c.in_ok-add_place.ensures.given;
       read = read-then here.read c.add_place.ensures.read;
       unfailed = unfailed-then here.unfailed c.in_ok-add_place.ensures.ok;
+      most = within-more l (place * code_rounds l + round) place here.most c.add_place.ensures.asks;
       sums = λ one other. summed-more (message_byte l a.image b.image c.args.round) l.roots products old new place c.add_place.auto.sums (added one other).sums (here.sums one other);
       bytes = λ one other. bytes-more l a.image b.image c.args.round place (added one other).bytes (here.bytes one other);
     }
 
 pub returns-in_err-add_place-clause-read : goal.returns-in_err-add_place-clause-read
 returns-in_err-add_place-clause-read g c = read-then c.loop-place.invariant.read c.add_place.ensures.read
+
+pub returns-in_err-add_place-clause-most : goal.returns-in_err-add_place-clause-most
+returns-in_err-add_place-clause-most g c =
+    let l = c.args.code.now.layout.now in
+    let place = c.loop-place.place in
+    within-least (place + 1) (255 - l.roots) (l.block / 512) (omega (arith, c.loop-place-test.true, c.loop-place.auto.place-end)) (within-more l (place * code_rounds l + c.args.round) place c.loop-place.invariant.most c.add_place.ensures.asks)
+
+pub returns-clause-most : goal.returns-clause-most
+returns-clause-most g c =
+    let l = c.args.code.now.layout.now in
+    within-least c.loop-place.place (255 - l.roots) (l.block / 512) (omega (arith, c.loop-place-test.false, c.loop-place.auto.place-end)) c.loop-place.invariant.most
+
+pub returns-in_err-add_place-clause-counted : goal.returns-in_err-add_place-clause-counted
+returns-in_err-add_place-clause-counted g c = counted-behind c.loop-place.invariant.unfailed c.add_place.ensures.counted
+
+pub returns-clause-counted : goal.returns-clause-counted
+returns-clause-counted g c = counted-unfailed c.loop-place.invariant.unfailed
 
 pub returns-in_err-add_place-clause-err : goal.returns-in_err-add_place-clause-err
 returns-in_err-add_place-clause-err g c =

@@ -5,7 +5,7 @@ use Rattle.fec_area.specs.Layouts.{IsParityOf, parity_sectors, code_rounds}
 use Rattle.verity_format.proofs.lemmas.DeviceLemmas.{only_written-none, only_written-write, only_written-then, steady-then, failed-then}
 use Rattle.fec_area.proofs.CallLemmas.{read-none, read-then, unfailed-none, unfailed-then, one_failed-then, laid-then, image-then}
 use Rattle.fec_area.proofs.HandingLemmas.{handed-end, handed-failed, handed-next, handed-none, handed-stop}
-use Rattle.fec_area.proofs.LayoutLemmas.{round-quotient}
+use Rattle.fec_area.proofs.LayoutLemmas.{parity-small, round-quotient}
 use Rattle.fec_area.proofs.WritingLemmas.{round-within, write-inside, written-more}
 use Rattle.fec_area.proofs.writing.write_rounds.Goals as goal
 
@@ -134,3 +134,12 @@ pub returns-clause-handed : goal.returns-clause-handed
 returns-clause-handed g c =
     handed-end (DeviceDoes g.D.BlockDev.state g.D.BlockDev.does) (DeviceDoes g.H.BlockDev.state g.H.BlockDev.does) (DeviceDoes g.P.BlockDev.state g.P.BlockDev.does) c.args.code.now.layout.now (g.D.BlockDev.state c.args.data_dev.now) (g.H.BlockDev.state c.args.hash_dev.now) c.args.data_dev.now c.args.hash_dev.now c.args.parity_dev.now c.loop-round.data_dev c.loop-round.hash_dev c.loop-round.parity_dev c.loop-round.round c.loop-round.invariant.handed
     (omega (arith, c.loop-round-test.false, c.loop-round.auto.round-end, c.rounds-round-end.ensures.value))
+
+pub overflow_mul-round : goal.overflow_mul-round
+overflow_mul-round g c =
+    let l = c.args.code.now.layout.now in
+    let valid = c.requires.sums.laid.layout in
+    let s : ℕ = length c.args.parity.now / 512 in
+    let is = round-quotient l (length c.args.parity.now) valid c.requires.sums.parity_is in
+    let inside : c.loop-round.round < code_rounds l = omega (arith, c.loop-round-test.true, c.rounds-round-end.ensures.value) in
+    omega (arith, round-within l c.loop-round.round s s inside is is, parity-small l valid)

@@ -3,7 +3,7 @@ use Rattle.std.proofs.lemmas.Result.{IfErr-weaker, on_ok_weaker}
 use Rattle.fec_area.specs.declared.writing.ParityFault.TheVariants.{TooSmall}
 use Rattle.fec_commands.specs.declared.fault.FecFault.TheVariants.{Parity}
 use Rattle.fec_commands.specs.FecFaults.{unopened}
-use Rattle.fec_commands.proofs.EndingLemmas.{at-fault, err-from}
+use Rattle.fec_commands.proofs.EndingLemmas.{at-fault, err-enough, err-from}
 use Rattle.fec_commands.proofs.growing.protect_growing.Goals as goal
 
 pub returns-in_err-grow_place-clause-err : goal.returns-in_err-grow_place-clause-err
@@ -14,7 +14,7 @@ returns-in_err-grow_place-clause-err g c =
 pub returns-in_err-grow_place-2-clause-err : goal.returns-in_err-grow_place-2-clause-err
 returns-in_err-grow_place-2-clause-err g c =
     let needed = c.in-Some.sectors in
-    let vain = at-fault c.protect_image-tried.result _ (Parity (TooSmall needed)) c.in-Some.ensures c.protect_image-tried.ensures.err in
+    let vain = at-fault c.protect_image-tried.result _ (Parity (TooSmall needed)) c.in-Some.ensures.some c.protect_image-tried.ensures.err in
     err-from c.from_residual-in_err-grow_place-2.result _ (unopened c.in_err-grow_place-2.field-0.0) c.from_residual-in_err-grow_place-2.ensures.1
     (inr (inl (record {
       tried = c.protect_image-tried.new.images;
@@ -26,7 +26,7 @@ returns-in_err-grow_place-2-clause-err g c =
 pub returns-clause-ok : goal.returns-clause-ok
 returns-clause-ok g c =
     let needed = c.in-Some.sectors in
-    let vain = at-fault c.protect_image-tried.result _ (Parity (TooSmall needed)) c.in-Some.ensures c.protect_image-tried.ensures.err in
+    let vain = at-fault c.protect_image-tried.result _ (Parity (TooSmall needed)) c.in-Some.ensures.some c.protect_image-tried.ensures.err in
     on_ok_weaker c.protect_image.result
     (λ done. inr (record {
       tried = c.protect_image-tried.new.images;
@@ -41,7 +41,7 @@ returns-clause-ok g c =
 pub returns-clause-err : goal.returns-clause-err
 returns-clause-err g c =
     let needed = c.in-Some.sectors in
-    let vain = at-fault c.protect_image-tried.result _ (Parity (TooSmall needed)) c.in-Some.ensures c.protect_image-tried.ensures.err in
+    let vain = at-fault c.protect_image-tried.result _ (Parity (TooSmall needed)) c.in-Some.ensures.some c.protect_image-tried.ensures.err in
     IfErr-weaker c.protect_image.result _ _
     (λ fault ends. inr (inr (inr (record {
       tried = c.protect_image-tried.new.images;
@@ -52,3 +52,9 @@ returns-clause-err g c =
       follows = ends;
     }))))
     c.protect_image.ensures.err
+
+pub returns-in_default-clause-err : goal.returns-in_default-clause-err
+returns-in_default-clause-err g c =
+    err-enough c.protect_image-tried.result _ _ c.in_default.ensures.none
+    (λ fault enough ends. inr (inr (inl (enough, record { between = c.grow_place.new.images; made = c.in_ok-grow_place.ensures.ok; follows = ends }))))
+    c.protect_image-tried.ensures.err

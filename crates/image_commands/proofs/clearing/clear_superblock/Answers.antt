@@ -8,17 +8,22 @@ use Rattle.image_commands.proofs.clearing.clear_superblock.Goals as goal
 
 pub returns-then-ne-clause-ok : goal.returns-then-ne-clause-ok
 unfolding block_at
-returns-then-ne-clause-ok g c = inl (record {
-  sector = c.read.new.out;
-  first = c.in_ok-read.ensures.bytes;
-  other = false-from_not _ c.if-ne.ensures;
-  read = c.in_ok-read.ensures.moved;
-})
+returns-then-ne-clause-ok g c =
+    on_ok_weaker c.sync.result
+    (λ kept. inl (record {
+      sector = c.read.new.out;
+      read_dev = g.H.BlockDev.state c.read.new.self;
+      first = c.in_ok-read.ensures.bytes;
+      other = false-from_not _ c.if-ne.ensures;
+      read = c.in_ok-read.ensures.moved;
+      kept = kept;
+    }))
+    c.sync.ensures.ok
 
 pub returns-clause-ok : goal.returns-clause-ok
 unfolding block_at sectors_of
 returns-clause-ok g c =
-    on_ok_weaker c.sync.result
+    on_ok_weaker c.sync-2.result
     (λ kept. inr (record {
       sector = c.read.new.out;
       read_dev = g.H.BlockDev.state c.read.new.self;
@@ -30,7 +35,7 @@ returns-clause-ok g c =
       zeros = c.in_ok-write.ensures.image;
       kept = kept;
     }))
-    c.sync.ensures.ok
+    c.sync-2.ensures.ok
 
 pub returns-in_err-read-clause-handed : goal.returns-in_err-read-clause-handed
 returns-in_err-read-clause-handed g c =
@@ -38,11 +43,11 @@ returns-in_err-read-clause-handed g c =
     (inl (c.read.new.out, (c.read.new.self, c.in_err-read.ensures.call, refl)))
 
 pub returns-then-ne-clause-handed : goal.returns-then-ne-clause-handed
-returns-then-ne-clause-handed g c = inr (record {
+returns-then-ne-clause-handed g c = inr (inl (record {
   sector = c.read.new.out;
   other = false-from_not _ c.if-ne.ensures;
-  made = (c.read.new.self, c.in_ok-read.ensures.call, refl);
-})
+  made = (c.read.new.self, c.in_ok-read.ensures.call, (c.sync.new.self, c.sync.ensures.call, refl));
+}))
 
 pub returns-in_err-write-clause-handed : goal.returns-in_err-write-clause-handed
 returns-in_err-write-clause-handed g c =
@@ -57,5 +62,5 @@ pub returns-clause-handed : goal.returns-clause-handed
 returns-clause-handed g c = inl (record {
   sector = c.read.new.out;
   begins = true-from_not _ c.if-ne.ensures;
-  made = (c.read.new.self, c.in_ok-read.ensures.call, (c.write.new.self, c.in_ok-write.ensures.call, (c.sync.new.self, c.sync.ensures.call, refl)));
+  made = (c.read.new.self, c.in_ok-read.ensures.call, (c.write.new.self, c.in_ok-write.ensures.call, (c.sync-2.new.self, c.sync-2.ensures.call, refl)));
 })

@@ -17,3 +17,9 @@ returns-in-None-clause-ok g c = record {
   pinned = sym c.in-None.ensures;
   one = c.in-Ok.ensures.full;
 }
+
+pub returns-in-Some-clause-calls : goal.returns-in-Some-clause-calls
+returns-in-Some-clause-calls g c = (c.in-Ok.superblock, c.in-Ok.ensures.calls, sym c.in-Some.ensures)
+
+pub returns-in-None-clause-calls : goal.returns-in-None-clause-calls
+returns-in-None-clause-calls g c = (c.in-Ok.ensures.calls, sym c.in-None.ensures)

@@ -1,5 +1,5 @@
 use Rattle.std.proofs.Common.{rules, append_assoc}
-use Rattle.partition_commands.specs.Stacks.{entry_text}
+use Rattle.stack_files.specs.DiskEntries.{entry_text}
 use Rattle.partition_commands.proofs.entries.push_root.Goals as goal
 
 pub returns-clause-ok : goal.returns-clause-ok

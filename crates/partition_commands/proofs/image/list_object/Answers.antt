@@ -1,6 +1,6 @@
 use Rattle.std.proofs.Common.{◌∙◌, List, ℕ, subst, inl, inr, refl}
 use Rattle.std.specs.Io.KnownBytes.{Appends}
-use Rattle.partition_commands.specs.declared.fault.PartitionsFault.TheVariants.{Refused, Write}
+use Rattle.partition_commands.specs.declared.fault.PartitionsFault.TheVariants.{NoMemory, Refused, Write}
 use Rattle.partition_commands.specs.declared.refusal.PartitionRefusal.TheVariants.{Table}
 use Rattle.partition_commands.proofs.EndingLemmas.{err-from}
 use Rattle.partition_commands.proofs.NoteLemmas.{on_err-any}
@@ -16,6 +16,10 @@ returns-clause-ok g c =
       printed = subst (λ (line : List ℕ). Appends old new line) (c.as_bytes.ensures.value ∙ c.in_ok-line.ensures) c.in_ok-put.ensures.writes.ok;
       noted = c.in_ok-table.ensures.ok.noted;
     }
+
+pub returns-in_err-line-clause-err : goal.returns-in_err-line-clause-err
+returns-in_err-line-clause-err g c =
+    err-from c.from_residual-in_err-line.result _ NoMemory c.from_residual-in_err-line.ensures.1 (c.in_ok-table.table, c.in_ok-table.ensures.ok.found)
 
 pub returns-in_err-table-clause-noted : goal.returns-in_err-table-clause-noted
 returns-in_err-table-clause-noted g c =

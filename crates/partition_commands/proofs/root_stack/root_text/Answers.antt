@@ -4,9 +4,9 @@ use Rattle.verity_format.specs.Line.{line_room}
 use Rattle.partition_commands.specs.declared.fault.PartitionsFault.TheVariants.{NoMemory}
 use Rattle.image_files.specs.Partitions.{part_of}
 use Rattle.partition_commands.specs.RootStacks.{root_entry, root_room, root_stack_text}
-use Rattle.partition_commands.specs.Stacks.{entry_text, linear_line}
+use Rattle.stack_files.specs.DiskEntries.{entry_text, linear_line}
 use Rattle.partition_commands.proofs.EndingLemmas.{err-from, exit_room}
-use Rattle.partition_commands.proofs.EntryLemmas.{append-three}
+use Rattle.stack_files.proofs.lemmas.EntryLemmas.{append-three}
 use Rattle.partition_commands.proofs.root_stack.root_text.Goals as goal
 
 pub returns-in_err-line-clause-err : goal.returns-in_err-line-clause-err

@@ -34,7 +34,7 @@ returns-clause-ok g c = on_ok_weaker c.report_scan.result (λ told. reports-more
   out = _;
   out' = _;
   left = _;
-  between = c.open_device.new.images;
+  between = c.open_source.new.images;
   found = c.in_ok-stack.ensures.ok;
   passed = passed;
 }) told) c.report_scan.ensures.ok
@@ -46,7 +46,7 @@ returns-clause-err g c = IfErr-weaker c.report_scan.result _ _ (λ fault ends. i
       out = _;
       out' = _;
       left = _;
-      between = c.open_device.new.images;
+      between = c.open_source.new.images;
       found = c.in_ok-stack.ensures.ok;
       sure = refl;
       stops = stops;
@@ -56,7 +56,7 @@ returns-clause-err g c = IfErr-weaker c.report_scan.result _ _ (λ fault ends. i
       out = _;
       out' = _;
       left = _;
-      between = c.open_device.new.images;
+      between = c.open_source.new.images;
       found = c.in_ok-stack.ensures.ok;
       passed = passed;
     })

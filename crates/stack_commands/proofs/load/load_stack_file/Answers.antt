@@ -24,5 +24,6 @@ returns-clause-ok g c =
 
 pub returns-clause-err : goal.returns-clause-err
 returns-clause-err g c =
+    let taken = linux-taken c.args.linux c.in_ok-config.config _ c.in_ok-check_rules.ensures in
     IfErr-weaker c.say_configuration.result _ _
-    (λ fault fails. inr (record { config = c.in_ok-config.config; made = c.in_ok-config.ensures.ok; why = late-end fails })) c.say_configuration.ensures.err
+    (λ fault fails. inr (record { config = c.in_ok-config.config; made = c.in_ok-config.ensures.ok; why = late-end taken fails })) c.say_configuration.ensures.err

@@ -10,7 +10,7 @@ use Rattle.stack_commands.proofs.program.run.Goals as goal
 pub returns-in_err-said-clause-err : goal.returns-in_err-said-clause-err
 returns-in_err-said-clause-err g c =
     err-from c.from_residual.result _ (words_end c.in_err-said.field-0.0) c.from_residual.ensures.1
-    (inl (IsUsageEnd-words (map string_bytes c.args.words.now) c.in_err-said.field-0.0 c.in_err-said.ensures.err, refl, refl, refl, refl))
+    (inl (IsUsageEnd-words (map string_bytes c.args.words.now) c.in_err-said.field-0.0 c.in_err-said.ensures.err c.in_err-said.ensures.memory, refl, refl, refl, refl))
 
 pub returns-in_err-line-clause-err : goal.returns-in_err-line-clause-err
 returns-in_err-line-clause-err g c =

@@ -1,6 +1,7 @@
-use Rattle.std.proofs.Common.{◌≡◌, ◌⊎◌, ◌+◌, ◌-◌, ◌≤◌, ◌<◌, ◌*◌, ◌/◌, ◌^◌, ℕ, Bool, true, false, List, [], ◌∷◌, ◌++◌, replicate, Ok, Err, IsErrAnd, arith, refl, sym, ◌∙◌, ap, ap₂, subst, length, take, Option, None, is_some, inr}
+use Rattle.std.proofs.Common.{◌≡◌, ◌⊎◌, ◌+◌, ◌-◌, ◌≤◌, ◌<◌, ◌*◌, ◌/◌, ◌^◌, ℕ, Bool, true, false, List, [], ◌∷◌, ◌++◌, replicate, Ok, Err, IsErrAnd, arith, refl, sym, ◌∙◌, ap, ap₂, subst, length, take, Option, None, is_some, inl, inr}
 use Rattle.std.proofs.lemmas.Bool.{false≢true}
 use Rattle.std.proofs.lemmas.List.{length-take-le}
+use Rattle.std.proofs.lemmas.Result.{err_from_is_err_and}
 use Rattle.block_device.specs.Call.{DeviceDoes, Write}
 use Rattle.block_device.specs.Device.{IsWritten}
 use Rattle.block_device.proofs.lemmas.CallLemmas.{calls-last}
@@ -18,6 +19,7 @@ use Rattle.runs.specs.Tallies.{EndsAt}
 use Rattle.stack_recovery.specs.LostRuns.{LostRun}
 use Rattle.stack_recovery.specs.declared.tally.Tally.{Tally}
 use Rattle.stack_recovery.specs.Alike.{AreAlike}
+use Rattle.stack_recovery.specs.LeafReads.{CopiesLeaves, no_piece, piece_failed, sectors_had}
 use Rattle.stack_recovery.specs.Losses.{ListsLost, NotesLost, TalliesLost}
 use Rattle.stack_recovery.specs.PassPieces.{IsNextPiece, pass_over}
 use Rattle.stack_recovery.specs.PieceLimits.{limit_after_bytes, limit_up_to}
@@ -26,8 +28,9 @@ use Rattle.stack_recovery.specs.Recoveries.{EndsEarly, Sides, sides}
 use Rattle.stack_recovery.specs.Surveys.{AreMarked}
 use Rattle.stack_recovery.proofs.AheadLemmas.{ahead-inside, ahead-next, ahead-some, first-run, marked-next, notes-some}
 use Rattle.stack_recovery.proofs.HandingLemmas.{hands-failed, hands-in-piece, hands-over, hands-part}
+use Rattle.stack_recovery.proofs.LeafReadLemmas.{copies-again, copies-had}
 use Rattle.stack_recovery.proofs.PieceLemmas.{next-piece}
-use Rattle.stack_recovery.proofs.UnderwayLemmas.{IsUnderway, ends-in-piece, fails-output, few, note-room, runs-short, underway-again, underway-had, underway-kept, underway-lost, underway-none, underway-until}
+use Rattle.stack_recovery.proofs.UnderwayLemmas.{IsUnderway, counted-all, ends-in-piece, fails-output, few, note-room, runs-short, underway-again, underway-had, underway-kept, underway-lost, underway-none, underway-until}
 use Rattle.stack_recovery.proofs.WritingLemmas.{err-from}
 use Rattle.stack_recovery.proofs.recovery.go_over_by.Goals as goal
 
@@ -43,6 +46,7 @@ pieces-init g c =
             (underway-none (is_some c.args.noted.now) before c.args.pass.device.0 old c.args.noted.now c.of_run-piece_limit.result c.requires.begun c.of_run-piece_limit.ensures.value);
         did = refl;
       };
+      called = no_piece;
       ahead = refl;
       config = refl;
       within = omega arith;
@@ -104,6 +108,7 @@ pieces-preserved-then-run g c =
         under = underway-kept _ _ _ _ _ _ _ _ _ _ u.so_far.under here.count (g.L.Listing.told c.close.new.listing) c.close.new.self c.note.new.noted c.of_run-piece_limit-then-run.result c.of_run-piece_limit-then-run.ensures.value c.next_run-run.ensures.some marked c.in_ok-note.ensures.ok c.close.ensures.text tally;
         did = u.so_far.did;
       };
+      called = sectors_had here.count u.called marked;
       ahead = ahead-next before c.pieces.at here.count _ _ _ (u.ahead ∙ sym c.next_run-run.ensures.same) c.pass.ensures.marks;
       config = u.config;
       within = inside;
@@ -226,6 +231,7 @@ pieces-preserved-in-Ok g c =
             c.close-in-Ok.ensures.text tally);
         did = calls-last (DeviceDoes g.O.BlockDev.state g.O.BlockDev.does) c.args.out.now c.pieces.out c.write.new.self u.so_far.calls (Write c.pieces.at bytes true) u.so_far.did c.in_ok-write-in-Ok.ensures.call;
       };
+      called = copies-had g.D.BlockDev.state g.D.BlockDev.does (DeviceDoes g.O.BlockDev.state g.O.BlockDev.does) before c.args.pass.device.0 c.args.stack.now c.args.out.now c.pieces.at c.pieces.stack c.read_bytes.new.self c.pieces.out u.called (length (take (n * 512) c.pieces.room) / 512) c.from-count.result bytes c.write.new.self (number ∙ sym same) c.in-Ok.ensures.given c.in_ok-write-in-Ok.ensures.call;
       ahead = ahead-next before c.pieces.at c.from-count.result _ _ _ (u.ahead ∙ sym c.next_run-run.ensures.same) c.pass-in-Ok.ensures.marks;
       config = c.in-Ok.ensures.any.config ∙ u.config;
       within = omega (arith, inside, same, c.piece_at-piece.ensures.inside);
@@ -300,6 +306,7 @@ pieces-preserved-then-branch g c =
             c.piece_at-piece.ensures.some piece marked noting alike call.ensures.kind told tally);
         did = u.so_far.did;
       };
+      called = piece_failed (length (take (n * 512) c.pieces.room) / 512) c.from-count.result c.in-Err.fault u.called c.in-Err.ensures.given;
       ahead = ahead-next before c.pieces.at c.from-count.result _ _ _ (u.ahead ∙ sym c.next_run-run.ensures.same) c.pass-then-branch.ensures.marks;
       config = c.in-Err.ensures.any.config ∙ u.config;
       within = omega (arith, inside, same, c.piece_at-piece.ensures.inside);
@@ -340,6 +347,7 @@ pieces-preserved g c =
             (c.up_to-piece_limit.ensures.value ∙ ap (λ (m : ℕ). limit_up_to (c.pieces.at + m)) c.from-count.ensures) piece marked);
         did = u.so_far.did;
       };
+      called = copies-again g.D.BlockDev.state g.D.BlockDev.does (DeviceDoes g.O.BlockDev.state g.O.BlockDev.does) before c.args.pass.device.0 c.args.stack.now c.args.out.now c.pieces.at c.pieces.stack c.read_bytes.new.self c.pieces.out u.called (length (take (n * 512) c.pieces.room) / 512) c.in-Err.fault c.in-Err.ensures.given;
       ahead = u.ahead ∙ sym c.next_run-run.ensures.same;
       config = c.in-Err.ensures.any.config ∙ u.config;
       within = u.within;
@@ -388,3 +396,35 @@ returns-in_err-lose_piece-in-Err-clause-stopped g c =
     err-from c.from_residual-in_err-lose_piece-in-Err.result _ _ c.from_residual-in_err-lose_piece-in-Err.ensures.1
     (hands-in-piece _ _ _ _ _ _ _ _ _ _ _ _ c.pieces.invariant.so_far c.args.listing.now c.lose_piece.new.listing c.read_bytes.new.self c.in-Err.fault (is_some c.pieces.noted) c.pieces.listing c.lose_piece.new.listing
     c.in_err-lose_piece-in-Err.field-0.0 c.in_err-lose_piece-in-Err.ensures.err)
+
+pub returns-clause-called : goal.returns-clause-called
+returns-clause-called g c =
+    let u = c.pieces.invariant in
+    subst (λ (n : ℕ). CopiesLeaves g.D.BlockDev.state g.D.BlockDev.does (DeviceDoes g.O.BlockDev.state g.O.BlockDev.does) (marks_ahead c.args.ahead) c.args.pass.device.0 c.args.stack.now c.args.out.now n c.pieces.stack c.pieces.out)
+    (counted-all _ _ _ _ _ _ _ _ _ _ u.so_far.under c.finish.result c.finish.ensures.value) u.called
+
+pub returns-in_err-note-clause-called : goal.returns-in_err-note-clause-called
+returns-in_err-note-clause-called g c =
+    let p = err_from_is_err_and c.from_residual.result c.from_residual.ensures.1 in
+    rw p.1 (inl (c.pieces.at, c.pieces.invariant.called))
+
+pub returns-in_err-note-in-Ok-clause-called : goal.returns-in_err-note-in-Ok-clause-called
+returns-in_err-note-in-Ok-clause-called g c =
+    let u = c.pieces.invariant in
+    let count : ℕ = length (take (c.piece_at-piece.result.count * 512) c.pieces.room) / 512 in
+    let p = err_from_is_err_and c.from_residual-in_err-note-in-Ok.result c.from_residual-in_err-note-in-Ok.ensures.1 in
+    rw p.1 (inr (record { at = c.pieces.at; left = c.pieces.stack; out = c.pieces.out; count = count; bytes = c.read_bytes.new.out; so_far = u.called; given = c.in-Ok.ensures.given; rest = inl refl }))
+
+pub returns-in_err-write-in-Ok-clause-called : goal.returns-in_err-write-in-Ok-clause-called
+returns-in_err-write-in-Ok-clause-called g c =
+    let u = c.pieces.invariant in
+    let count : ℕ = length (take (c.piece_at-piece.result.count * 512) c.pieces.room) / 512 in
+    let p = err_from_is_err_and c.from_residual-in_err-write-in-Ok.result c.from_residual-in_err-write-in-Ok.ensures.1 in
+    rw p.1 (inr (record { at = c.pieces.at; left = c.pieces.stack; out = c.pieces.out; count = count; bytes = c.read_bytes.new.out; so_far = u.called; given = c.in-Ok.ensures.given; rest = inr c.in_err-write-in-Ok.ensures.call }))
+
+pub returns-in_err-lose_piece-in-Err-clause-called : goal.returns-in_err-lose_piece-in-Err-clause-called
+returns-in_err-lose_piece-in-Err-clause-called g c =
+    let u = c.pieces.invariant in
+    let count : ℕ = length (take (c.piece_at-piece.result.count * 512) c.pieces.room) / 512 in
+    let p = err_from_is_err_and c.from_residual-in_err-lose_piece-in-Err.result c.from_residual-in_err-lose_piece-in-Err.ensures.1 in
+    rw p.1 (inl (c.pieces.at, copies-again g.D.BlockDev.state g.D.BlockDev.does (DeviceDoes g.O.BlockDev.state g.O.BlockDev.does) (marks_ahead c.args.ahead) c.args.pass.device.0 c.args.stack.now c.args.out.now c.pieces.at c.pieces.stack c.read_bytes.new.self c.pieces.out u.called count c.in-Err.fault c.in-Err.ensures.given))

@@ -1,5 +1,6 @@
 use Rattle.std.proofs.Common.{◌≤◌, ◌<◌, ℕ, Bool, false, IsTrue, length, inl, inr, refl, sym, ap, ◌∙◌, subst}
 use Rattle.std.proofs.lemmas.List.{length-replicate}
+use Rattle.std.proofs.lemmas.Result.{err_from_is_err_and}
 use Rattle.block_device.specs.Call.{DeviceDoes}
 use Rattle.block_device.specs.Device.{Device}
 use Rattle.rescue_map.specs.Aheads.{marks_ahead}
@@ -7,7 +8,9 @@ use Rattle.rescue_map.specs.Maps.{marks}
 use Rattle.stack_rules.specs.Names.{mapped, size}
 use Rattle.stack_rules.specs.Records.{Configuration}
 use Rattle.stack_recovery.specs.FirstPasses.{Transfer, transfer}
+use Rattle.stack_recovery.specs.LeafReads.{no_pass, one_pass}
 use Rattle.stack_recovery.specs.Retries.{after_pass, retried_by}
+use Rattle.stack_recovery.proofs.LeafReadLemmas.{ends-then, passes-end, passes-then}
 use Rattle.stack_recovery.proofs.RetryLemmas.{again-kept, counted-whole, goes-whole, hands-whole}
 use Rattle.stack_recovery.proofs.SkimEndLemmas.{ends-unread, hands-unread, part-unread, skims-config, skims-sectors, skims-unread}
 use Rattle.stack_recovery.proofs.WritingLemmas.{err-from}
@@ -161,3 +164,23 @@ returns-clause-handed g c =
       again = c.in_ok-left.ensures.handed;
       last = hands-whole Did _ _ _ _ _ _ c.in_ok-rescued.ensures.handed (counted-whole _ _ _ _ _ _ c.in_ok-rescued.ensures.ok);
     }
+
+pub returns-in_err-map-clause-called : goal.returns-in_err-map-clause-called
+returns-in_err-map-clause-called g c =
+    let p = err_from_is_err_and c.from_residual.result c.from_residual.ensures.1 in
+    rw p.1 (passes-end g.D.BlockDev.state g.D.BlockDev.does (DeviceDoes g.O.BlockDev.state g.O.BlockDev.does) (marks_ahead c.unread-ahead.result) c.args.plan.device.0 c.args.stack.now c.args.stack.now c.skim_ahead.new.stack c.args.out.now c.args.out.now c.skim_ahead.new.out no_pass c.in_err-map.ensures.called)
+
+pub returns-in_err-left-clause-called : goal.returns-in_err-left-clause-called
+returns-in_err-left-clause-called g c =
+    let p = err_from_is_err_and c.from_residual-in_err-left.result c.from_residual-in_err-left.ensures.1 in
+    rw p.1
+    (ends-then g.D.BlockDev.state g.D.BlockDev.does (DeviceDoes g.O.BlockDev.state g.O.BlockDev.does) c.args.plan.device.0 c.args.stack.now c.skim_ahead.new.stack c.read_again.new.stack c.args.out.now c.skim_ahead.new.out c.read_again.new.out (one_pass _ _ no_pass c.in_ok-map.ensures.called) c.in_err-left.ensures.called)
+
+pub returns-in_err-rescued-clause-called : goal.returns-in_err-rescued-clause-called
+returns-in_err-rescued-clause-called g c =
+    let p = err_from_is_err_and c.from_residual-in_err-rescued.result c.from_residual-in_err-rescued.ensures.1 in
+    rw p.1
+    (passes-end g.D.BlockDev.state g.D.BlockDev.does (DeviceDoes g.O.BlockDev.state g.O.BlockDev.does) (marks c.in_ok-left.left) c.args.plan.device.0 c.args.stack.now c.read_again.new.stack c.rescue.new.stack c.args.out.now c.read_again.new.out c.rescue.new.out (passes-then (one_pass _ _ no_pass c.in_ok-map.ensures.called) c.in_ok-left.ensures.called) c.in_err-rescued.ensures.called)
+
+pub returns-clause-called : goal.returns-clause-called
+returns-clause-called g c = one_pass _ _ (passes-then (one_pass _ _ no_pass c.in_ok-map.ensures.called) c.in_ok-left.ensures.called) c.in_ok-rescued.ensures.called

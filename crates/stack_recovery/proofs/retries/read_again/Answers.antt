@@ -1,17 +1,21 @@
 use Rattle.std.proofs.Common.{◌≡◌, ◌≤◌, ◌<◌, ℕ, suc, ◌+◌, IsTrue, length, inl, inr, refl, sym, ap, ◌∙◌, subst, arith}
+use Rattle.std.proofs.lemmas.Result.{err_from_is_err_and}
 use Rattle.block_device.specs.Call.{DeviceDoes}
 use Rattle.block_device.specs.Device.{Device}
 use Rattle.rescue_map.specs.Maps.{marks}
 use Rattle.stack_rules.specs.Names.{mapped, size}
 use Rattle.stack_rules.specs.Records.{Configuration}
+use Rattle.stack_recovery.specs.LeafReads.{no_pass, one_pass}
+use Rattle.stack_recovery.specs.Recoveries.{counted_sectors}
 use Rattle.stack_recovery.specs.Retries.{AfterPass, IsSilentHanding, IsSilentPass, after_pass, no_step}
+use Rattle.stack_recovery.proofs.LeafReadLemmas.{passes-end}
 use Rattle.stack_recovery.proofs.RetryLemmas.{counted-whole, goes-whole, silent-handing, silent-part, steps-kept}
 use Rattle.stack_recovery.proofs.lemmas.StepLemmas.{more-steps}
 use Rattle.stack_recovery.proofs.WritingLemmas.{err-from}
 use Rattle.stack_recovery.proofs.retries.read_again.Goals as goal
 
 pub passes-init : goal.passes-init
-passes-init g c = record { steps = no_step; handed = no_step; few = omega arith }
+passes-init g c = record { steps = no_step; handed = no_step; called = no_pass; few = omega arith }
 
 pub rescue-requires-clause-device : goal.rescue-requires-clause-device
 rescue-requires-clause-device g c =
@@ -44,6 +48,7 @@ passes-preserved g c =
     record {
       steps = more-steps (λ (n : ℕ). IsSilentPass d) _ c.passes.passes _ seen seen_next (omega arith) c.passes.invariant.steps (_, _, c.in_ok-rescued.rescued.counts, goes-whole _ _ _ _ _ _ c.in_ok-rescued.ensures.ok);
       handed = more-steps (λ (n : ℕ). IsSilentHanding Did d) _ c.passes.passes _ now next (omega arith) c.passes.invariant.handed (silent-handing Did d _ now next _ _ c.in_ok-rescued.ensures.handed (counted-whole _ _ _ _ _ _ c.in_ok-rescued.ensures.ok));
+      called = one_pass (marks c.passes.left) (counted_sectors c.in_ok-rescued.rescued.counts) c.passes.invariant.called c.in_ok-rescued.ensures.called;
       few = omega (arith, c.passes-test.true);
     }
 
@@ -68,3 +73,12 @@ returns-in_err-rescued-clause-stopped g c =
       few = omega (arith, c.passes-test.true);
       ends = silent-part Did c.args.plan.device.0 now c.rescue.new.stack c.rescue.new.out _ _ c.in_err-rescued.field-0.0 c.in_err-rescued.ensures.stopped;
     })
+
+pub returns-in_err-rescued-clause-called : goal.returns-in_err-rescued-clause-called
+returns-in_err-rescued-clause-called g c =
+    let p = err_from_is_err_and c.from_residual.result c.from_residual.ensures.1 in
+    rw p.1
+    (passes-end g.D.BlockDev.state g.D.BlockDev.does (DeviceDoes g.O.BlockDev.state g.O.BlockDev.does) (marks c.passes.left) c.args.plan.device.0 c.args.stack.now c.passes.stack c.rescue.new.stack c.args.out.now c.passes.out c.rescue.new.out c.passes.invariant.called c.in_err-rescued.ensures.called)
+
+pub returns-clause-called : goal.returns-clause-called
+returns-clause-called g c = c.passes.invariant.called

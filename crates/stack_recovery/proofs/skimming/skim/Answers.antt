@@ -1,10 +1,11 @@
-use Rattle.std.proofs.Common.{ℕ, Bool, true, List, Option, subst}
+use Rattle.std.proofs.Common.{ℕ, Bool, true, List, Option, length, subst}
 use Rattle.block_device.specs.Call.{DeviceDoes}
 use Rattle.rescue_map.specs.Aheads.{marks_ahead}
 use Rattle.rescue_map.specs.Maps.{marks}
 use Rattle.rescue_map.specs.declared.map.Run.{Run}
 use Rattle.stack_recovery.specs.declared.deadline.Deadline.{Deadline}
 use Rattle.stack_recovery.specs.FirstPasses.{EndsSkim, HandsSkimsPart, HandsSkimsUntil, SkimsUntil, has_more, transfer}
+use Rattle.stack_recovery.specs.LeafReads.{CopiesOver}
 use Rattle.stack_recovery.proofs.SkimEndLemmas.{err-so, ok-map, skim-ends-any, skims-any}
 use Rattle.stack_recovery.proofs.skimming.skim.Goals as goal
 
@@ -46,3 +47,8 @@ returns-clause-stopped g c =
     err-so c.skim_ahead.result (HandsSkimsPart Did (marks_ahead c.of_map.result) c.args.pass.device.0 old new) (HandsSkimsPart Did (marks c.args.map.now) c.args.pass.device.0 old new)
     (λ fault p. subst (λ (l : List Bool). HandsSkimsPart Did l c.args.pass.device.0 old new fault) c.of_map.ensures p)
     c.skim_ahead.ensures.stopped
+
+pub returns-clause-called : goal.returns-clause-called
+returns-clause-called g c =
+    subst (λ (l : List Bool). CopiesOver g.D.BlockDev.state g.D.BlockDev.does (DeviceDoes g.O.BlockDev.state g.O.BlockDev.does) l c.args.pass.device.0 c.args.stack.now c.args.out.now c.skim_ahead.new.stack c.skim_ahead.new.out c.skim_ahead.result (λ (made : List Run). length (marks made)))
+    c.of_map.ensures c.skim_ahead.ensures.called

@@ -1,6 +1,7 @@
 use Rattle.std.proofs.Common.{◌≡◌, ◌⊎◌, ◌+◌, ◌-◌, ◌≤◌, ◌<◌, ◌*◌, ◌/◌, ◌^◌, ℕ, min, Bool, true, false, List, ◌++◌, replicate, Ok, Err, IsErrAnd, arith, refl, sym, ◌∙◌, ap, subst, length, take, inl, inr}
 use Rattle.std.proofs.lemmas.Bool.{false≢true}
 use Rattle.std.proofs.lemmas.List.{length-take-le}
+use Rattle.std.proofs.lemmas.Result.{err_from_is_err_and}
 use Rattle.block_device.specs.Call.{DeviceDoes}
 use Rattle.block_device.specs.Device.{IsWritten}
 use Rattle.stack_rules.specs.Names.{mapped, size}
@@ -13,12 +14,14 @@ use Rattle.rescue_map.specs.declared.map.Run.{Run}
 use Rattle.stack_recovery.specs.declared.fault.RecoveryFault.{RecoveryFault}
 use Rattle.stack_recovery.specs.declared.fault.RecoveryFault.TheVariants.{NoMemory, Output}
 use Rattle.stack_recovery.specs.FirstPasses.{has_more, transfer}
+use Rattle.stack_recovery.specs.LeafReads.{CopiesLeaves, no_piece, piece_failed, sectors_had}
 use Rattle.stack_recovery.specs.PassPieces.{IsNextPiece, pass_over}
 use Rattle.stack_recovery.specs.Pieces.{EndsAligned}
 use Rattle.stack_recovery.specs.Skims.{IsSkimFound}
 use Rattle.stack_recovery.specs.Skips.{least_skip, longer_skip, most_skip}
 use Rattle.stack_recovery.specs.Surveys.{AreMarked, again}
 use Rattle.stack_recovery.proofs.AheadLemmas.{ahead-inside, ahead-next, ahead-some, first-run, marked-next}
+use Rattle.stack_recovery.proofs.LeafReadLemmas.{copies-again, copies-had}
 use Rattle.stack_recovery.proofs.PieceLemmas.{next-piece, skipped-piece}
 use Rattle.stack_recovery.proofs.SkimLemmas.{IsSkimming, fails-skim, hands-short, hands-skims, hands-unwritten, skim-room, skimming-had, skimming-kept, skimming-none, skimming-skipped, skims-short, skims-until}
 use Rattle.stack_recovery.proofs.SkimPieceLemmas.{no-more}
@@ -31,6 +34,7 @@ pieces-init g c =
     record {
       so_far = subst (λ (m : List Run). IsSkimming g.O.BlockDev.state (DeviceDoes g.O.BlockDev.state g.O.BlockDev.does) (has_more c.args.ahead.rest.now) (marks_ahead c.args.ahead) c.args.pass.device.0 (transfer c.args.stack.now c.args.out.now) (transfer c.args.stack.now c.args.out.now) 0 m least_skip) (sym c.requires.begun)
           (skimming-none g.O.BlockDev.state (DeviceDoes g.O.BlockDev.state g.O.BlockDev.does) (has_more c.args.ahead.rest.now) (marks_ahead c.args.ahead) c.args.pass.device.0 (transfer c.args.stack.now c.args.out.now));
+      called = no_piece;
       ahead = refl;
       config = refl;
       within = omega arith;
@@ -81,6 +85,7 @@ pieces-preserved-then-run g c =
     let marked : AreMarked before c.pieces.at here.count true = subst (AreMarked before c.pieces.at here.count) c.if-run.true (marked-next before c.pieces.at here.count here.count here.had _ (omega arith) (u.ahead ∙ first)) in
     record {
       so_far = skimming-kept _ _ _ _ _ _ _ _ _ _ u.so_far here.count c.mark.new.map c.next_run-run.ensures.some marked c.in_ok-mark.ensures.ok;
+      called = sectors_had here.count u.called marked;
       ahead = ahead-next before c.pieces.at here.count _ _ _ (u.ahead ∙ sym c.next_run-run.ensures.same) c.pass.ensures.marks;
       config = u.config;
       within = inside;
@@ -204,6 +209,7 @@ pieces-preserved-in-Ok g c =
       so_far = subst (λ (m : ℕ). IsSkimming g.O.BlockDev.state (DeviceDoes g.O.BlockDev.state g.O.BlockDev.does) by_map before c.args.pass.device.0 (transfer c.args.stack.now c.args.out.now) (transfer c.read_bytes.new.self c.write.new.self) (c.pieces.at + m) c.mark-in-Ok.new.map least_skip) (sym same)
           (skimming-had _ _ _ _ _ _ _ _ _ _ u.so_far n bytes c.read_bytes.new.self k _ c.write.new.self c.mark-in-Ok.new.map next piece marked (rw same at c.in_ok-mark-in-Ok.ensures.ok) count
           c.in_ok-write-in-Ok.ensures.moved c.in_ok-write-in-Ok.ensures.image c.in_ok-write-in-Ok.ensures.call);
+      called = copies-had g.D.BlockDev.state g.D.BlockDev.does (DeviceDoes g.O.BlockDev.state g.O.BlockDev.does) before c.args.pass.device.0 c.args.stack.now c.args.out.now c.pieces.at c.pieces.stack c.read_bytes.new.self c.pieces.out u.called (length (take (n * 512) c.pieces.room) / 512) c.from-count.result bytes c.write.new.self (number ∙ sym same) c.in-Ok.ensures.given c.in_ok-write-in-Ok.ensures.call;
       ahead = ahead-next before c.pieces.at c.from-count.result _ _ _ (u.ahead ∙ sym c.next_run-run.ensures.same) c.pass-in-Ok.ensures.marks;
       config = c.in-Ok.ensures.any.config ∙ u.config;
       within = omega (arith, inside, same, c.piece_at-piece.ensures.inside);
@@ -274,6 +280,7 @@ pieces-preserved g c =
     let longer : c.longer_skip-skip.result ≡ longer_skip (most_skip (size c.args.stack.now.config (mapped c.args.pass.device.0))) c.pieces.skip = c.longer_skip-skip.ensures ∙ ap (λ (m : ℕ). longer_skip m c.pieces.skip) most in
     record {
       so_far = rw (same, longer) (skimming-skipped _ _ _ _ _ _ _ _ _ _ u.so_far n skip c.in-Err.fault c.read_bytes.new.self c.mark-in-Err.new.map found piece marked (rw same at c.in_ok-mark-in-Err.ensures.ok));
+      called = piece_failed (length (take (n * 512) c.pieces.room) / 512) (c.from-count.result + skip) c.in-Err.fault u.called c.in-Err.ensures.given;
       ahead = ahead-next before c.pieces.at (c.from-count.result + skip) _ _ _ (u.ahead ∙ sym c.next_run-run.ensures.same) c.pass-in-Err.ensures.marks;
       config = c.in-Err.ensures.any.config ∙ u.config;
       within = omega (arith, inside, same, skipped, c.piece_at-piece.ensures.inside);
@@ -291,3 +298,42 @@ returns-clause-ok g c =
 
 pub returns-clause-handed : goal.returns-clause-handed
 returns-clause-handed g c = hands-skims _ _ _ _ _ _ _ _ _ _ c.pieces.invariant.so_far
+
+pub returns-clause-called : goal.returns-clause-called
+returns-clause-called g c =
+    let u = c.pieces.invariant in
+    subst (λ (n : ℕ). CopiesLeaves g.D.BlockDev.state g.D.BlockDev.does (DeviceDoes g.O.BlockDev.state g.O.BlockDev.does) (marks_ahead c.args.ahead) c.args.pass.device.0 c.args.stack.now c.args.out.now n c.pieces.stack c.pieces.out)
+    (u.so_far.here ∙ sym (ap (λ (l : List Bool). length l) u.so_far.noted)) u.called
+
+pub returns-in_err-mark-clause-called : goal.returns-in_err-mark-clause-called
+returns-in_err-mark-clause-called g c =
+    let p = err_from_is_err_and c.from_residual.result c.from_residual.ensures.1 in
+    rw p.1 (inl (c.pieces.at, c.pieces.invariant.called))
+
+pub returns-in_err-mark-in-Ok-clause-called : goal.returns-in_err-mark-in-Ok-clause-called
+returns-in_err-mark-in-Ok-clause-called g c =
+    let u = c.pieces.invariant in
+    let count : ℕ = length (take (c.piece_at-piece.result.count * 512) c.pieces.room) / 512 in
+    let p = err_from_is_err_and c.from_residual-in_err-mark-in-Ok.result c.from_residual-in_err-mark-in-Ok.ensures.1 in
+    rw p.1 (inr (record { at = c.pieces.at; left = c.pieces.stack; out = c.pieces.out; count = count; bytes = c.read_bytes.new.out; so_far = u.called; given = c.in-Ok.ensures.given; rest = inl refl }))
+
+pub returns-in_err-write-in-Ok-clause-called : goal.returns-in_err-write-in-Ok-clause-called
+returns-in_err-write-in-Ok-clause-called g c =
+    let u = c.pieces.invariant in
+    let count : ℕ = length (take (c.piece_at-piece.result.count * 512) c.pieces.room) / 512 in
+    let p = err_from_is_err_and c.from_residual-in_err-write-in-Ok.result c.from_residual-in_err-write-in-Ok.ensures.1 in
+    rw p.1 (inr (record { at = c.pieces.at; left = c.pieces.stack; out = c.pieces.out; count = count; bytes = c.read_bytes.new.out; so_far = u.called; given = c.in-Ok.ensures.given; rest = inr c.in_err-write-in-Ok.ensures.call }))
+
+pub returns-in_err-check_memory-in-Err-clause-called : goal.returns-in_err-check_memory-in-Err-clause-called
+returns-in_err-check_memory-in-Err-clause-called g c =
+    let u = c.pieces.invariant in
+    let count : ℕ = length (take (c.piece_at-piece.result.count * 512) c.pieces.room) / 512 in
+    let p = err_from_is_err_and c.from_residual-in_err-check_memory-in-Err.result c.from_residual-in_err-check_memory-in-Err.ensures.1 in
+    rw p.1 (inl (c.pieces.at, copies-again g.D.BlockDev.state g.D.BlockDev.does (DeviceDoes g.O.BlockDev.state g.O.BlockDev.does) (marks_ahead c.args.ahead) c.args.pass.device.0 c.args.stack.now c.args.out.now c.pieces.at c.pieces.stack c.read_bytes.new.self c.pieces.out u.called count c.in-Err.fault c.in-Err.ensures.given))
+
+pub returns-in_err-mark-in-Err-clause-called : goal.returns-in_err-mark-in-Err-clause-called
+returns-in_err-mark-in-Err-clause-called g c =
+    let u = c.pieces.invariant in
+    let count : ℕ = length (take (c.piece_at-piece.result.count * 512) c.pieces.room) / 512 in
+    let p = err_from_is_err_and c.from_residual-in_err-mark-in-Err.result c.from_residual-in_err-mark-in-Err.ensures.1 in
+    rw p.1 (inl (c.pieces.at, copies-again g.D.BlockDev.state g.D.BlockDev.does (DeviceDoes g.O.BlockDev.state g.O.BlockDev.does) (marks_ahead c.args.ahead) c.args.pass.device.0 c.args.stack.now c.args.out.now c.pieces.at c.pieces.stack c.read_bytes.new.self c.pieces.out u.called count c.in-Err.fault c.in-Err.ensures.given))

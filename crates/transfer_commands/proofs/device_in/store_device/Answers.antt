@@ -3,7 +3,7 @@ use Rattle.transfer_commands.specs.declared.stream_fault.StreamFault.TheVariants
 use Rattle.stack_files.specs.NamedDevices.{device_place}
 use Rattle.transfer_commands.specs.Streaming.{place_from}
 use Rattle.transfer_commands.proofs.StreamOpeningLemmas.{err-from}
-use Rattle.transfer_commands.proofs.StreamingLemmas.{end-told}
+use Rattle.transfer_commands.proofs.StreamingLemmas.{end-cause, end-told}
 use Rattle.transfer_commands.proofs.device_in.store_device.Goals as goal
 
 pub returns-in_err-stack-clause-err : goal.returns-in_err-stack-clause-err
@@ -50,3 +50,12 @@ returns-in-Err-clause-err g c = inr (inl (record {
   quiet = refl;
   back = c.close_stack.ensures;
 }))
+
+pub returns-in_err-stack-clause-broken : goal.returns-in_err-stack-clause-broken
+returns-in_err-stack-clause-broken g c = err-from c.from_residual.result _ (Stack c.in_err-stack.field-0.0) c.from_residual.ensures.1 tt
+
+pub returns-in_err-say_stored-in-Ok-clause-broken : goal.returns-in_err-say_stored-in-Ok-clause-broken
+returns-in_err-say_stored-in-Ok-clause-broken g c = err-from c.from_residual-in_err-say_stored-in-Ok.result _ Write c.from_residual-in_err-say_stored-in-Ok.ensures.1 tt
+
+pub returns-in-Err-clause-broken : goal.returns-in-Err-clause-broken
+returns-in-Err-clause-broken g c = end-cause c.in_ok-stack.device.0 (place_from c.args.target.first) _ _ _ c.in-Err.fault c.in-Err.ensures.err

@@ -22,6 +22,7 @@ returns-in_err-room-clause-notes g c = noted-from c.from_residual.result c.from_
 pub heights-init : goal.heights-init
 heights-init g c = record {
   low = omega (arith, c.levels-levels.ensures.value);
+  most = omega (arith, c.requires.low, c.levels-levels.ensures.value);
   asked =
       let s = c.args.repair.now.shape in
       let top : levels s + 1 ≡ c.levels-levels.result + 1 = ap (λ (n : ℕ). n + 1) (sym c.levels-levels.ensures.value) in
@@ -36,13 +37,13 @@ heights-init g c = record {
 }
 
 pub repair_height-requires-clause-can : goal.repair_height-requires-clause-can
-repair_height-requires-clause-can g c = can-later c.heights.invariant.run.run c.requires
+repair_height-requires-clause-can g c = can-later c.heights.invariant.run.run c.requires.can
 
 pub repair_height-requires-clause-height : goal.repair_height-requires-clause-height
 repair_height-requires-clause-height g c = omega (arith, c.heights.invariant.low, c.heights-test.true)
 
 pub repair_height-requires-clause-few : goal.repair_height-requires-clause-few
-repair_height-requires-clause-few g c = omega (arith, c.heights.invariant.low, c.heights-test.true, levels-few c.args.repair.now.shape c.requires.valid)
+repair_height-requires-clause-few g c = omega (arith, c.heights.invariant.low, c.heights-test.true, levels-few c.args.repair.now.shape c.requires.can.valid)
 
 pub repair_height-requires-clause-room : goal.repair_height-requires-clause-room
 repair_height-requires-clause-room g c =
@@ -51,6 +52,7 @@ repair_height-requires-clause-room g c =
 pub heights-preserved : goal.heights-preserved
 heights-preserved g c = record {
   low = omega (arith, c.heights.invariant.low);
+  most = omega (arith, c.heights-test.true);
   handed = hands-then (DeviceDoes g.D.BlockDev.state g.D.BlockDev.does) (DeviceDoes g.H.BlockDev.state g.H.BlockDev.does) (job c.args.repair.now) true c.args.image.now c.heights.image c.repair_height.new.image c.heights.invariant.handed c.in_ok-repair_height.ensures.handed;
   asked = heights-next c.args.repair.now.shape c.heights.height (c.heights.height - 1) (omega (arith, c.heights-test.true)) c.args.image.now.world c.heights.image.world c.repair_height.new.image.world c.heights.invariant.asked c.repair_height.ensures.asked;
   few = omega (arith, c.heights.invariant.few, c.in_ok-repair_height.ensures.few, count-down c.args.repair.now.shape c.heights.height (c.heights.height - 1) (omega (arith, c.heights-test.true)));
@@ -64,18 +66,18 @@ returns-in_err-repair_height-clause-notes g c =
     noted-from c.from_residual-in_err-repair_height.result c.from_residual-in_err-repair_height.ensures.1 (noted-ends c.heights.invariant.run c.in_err-repair_height.ensures.notes)
 
 pub returns-clause-notes : goal.returns-clause-notes
-returns-clause-notes g c = noted-same c.heights.invariant.run (λ h i due. (omega (arith, c.heights-test.false), due.1)) (λ h i due. (omega arith, due.1))
+returns-clause-notes g c = noted-same c.heights.invariant.run (λ h i due. (omega (arith, c.heights-test.false, due.0), due.1)) (λ h i due. (omega (arith, c.heights.invariant.most, due.0), due.1))
 
 pub returns-in_err-room-clause-asked : goal.returns-in_err-room-clause-asked
 returns-in_err-room-clause-asked g c = leaves-end (leaves-none (pass_over c.args.repair.now.shape) c.args.image.now.world)
 
 pub returns-in_err-repair_height-clause-asked : goal.returns-in_err-repair_height-clause-asked
 returns-in_err-repair_height-clause-asked g c =
-    heights-pass c.args.repair.now.shape c.requires.valid c.args.image.now.world c.repair_height.new.image.world
+    heights-pass c.args.repair.now.shape c.requires.can.valid c.args.image.now.world c.repair_height.new.image.world
     (heights-next c.args.repair.now.shape c.heights.height (c.heights.height - 1) (omega (arith, c.heights-test.true)) c.args.image.now.world c.heights.image.world c.repair_height.new.image.world c.heights.invariant.asked c.repair_height.ensures.asked)
 
 pub returns-clause-asked : goal.returns-clause-asked
-returns-clause-asked g c = heights-pass c.args.repair.now.shape c.requires.valid c.args.image.now.world c.heights.image.world c.heights.invariant.asked
+returns-clause-asked g c = heights-pass c.args.repair.now.shape c.requires.can.valid c.args.image.now.world c.heights.image.world c.heights.invariant.asked
 
 pub returns-clause-few : goal.returns-clause-few
 returns-clause-few g c = omega (arith, c.heights.invariant.few, counts-all c.args.repair.now.shape)
@@ -88,7 +90,7 @@ returns-in_err-repair_height-clause-whole g c = on_ok-from c.from_residual-in_er
 
 pub returns-clause-whole : goal.returns-clause-whole
 returns-clause-whole g c =
-    let end : c.heights.height ≡ 0 = omega (arith, c.heights-test.false) in
+    let end : c.heights.height ≡ c.args.lowest = omega (arith, c.heights-test.false, c.heights.invariant.most) in
     subst (λ (n : ℕ). StandsFrom (job c.args.repair.now) n c.args.image.now.world c.heights.image.world) end c.heights.invariant.whole
 
 pub returns-in_err-room-clause-handed : goal.returns-in_err-room-clause-handed

@@ -15,6 +15,7 @@ use Rattle.tree_repair.proofs.repair.repair_heights.Given as goal
 abbrev pub invariant-heights : goal.invariant-heights
 invariant-heights g l = record {
   low : l.height ≤ levels l.fn.repair.shape + 1;
+  most : l.fn.lowest ≤ l.height;
   asked : LeavesWorld (heights_over l.fn.repair.shape (levels l.fn.repair.shape + 1)) (heights_over l.fn.repair.shape l.height) l.fn.image.world l.image.world;
   few : LeavesNoted (counts_over l.fn.repair.shape (levels l.fn.repair.shape + 1)) (counts_over l.fn.repair.shape l.height) l.fn.bad l.bad;
   run : HasNoted (job l.fn.repair) (IsFromUp l.fn.repair.shape l.height) l.fn.image.world l.image.world (g.W.Write.contents l.fn.writer.inner) (g.W.Write.contents l.writer.inner) l.fn.bad l.bad None;

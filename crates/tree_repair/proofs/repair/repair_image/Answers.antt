@@ -19,8 +19,8 @@ use Rattle.tree_repair.specs.RunCalls.{MakesRepair}
 use Rattle.tree_repair.proofs.RunCallLemmas.{hands-ended, hands-fault, hands-none}
 use Rattle.tree_repair.proofs.repair.repair_image.Goals as goal
 
-pub repair_heights-requires : goal.repair_heights-requires
-repair_heights-requires g c = can-begin c.args.plan.now false (job c.repair_of-repair.result) c.args.image.now.world c.repair_of-repair.ensures c.in_ok-check_room.ensures.ok c.requires.allowed c.requires.first
+pub repair_heights-requires-clause-can : goal.repair_heights-requires-clause-can
+repair_heights-requires-clause-can g c = can-begin c.args.plan.now false (job c.repair_of-repair.result) c.args.image.now.world c.repair_of-repair.ensures c.in_ok-check_room.ensures.ok c.requires.allowed c.requires.first
 
 pub returns-in_err-check_room-clause-err : goal.returns-in_err-check_room-clause-err
 returns-in_err-check_room-clause-err g c = err-from c.from_residual.result _ c.in_err-check_room.field-0.0 c.from_residual.ensures.1 (inl c.in_err-check_room.ensures.err)

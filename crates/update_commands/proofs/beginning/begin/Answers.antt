@@ -19,8 +19,8 @@ returns-then-hash_size-hash_needed-clause-err g c =
       same = refl;
     })
 
-pub clear-requires-clause-some : goal.clear-requires-clause-some
-clear-requires-clause-some g c =
+pub clear_superblock-requires-clause-some : goal.clear_superblock-requires-clause-some
+clear_superblock-requires-clause-some g c =
     omega (arith, image-some c.args.superblock.now c.shape-shape.ensures.valid, c.image_sectors-hash_needed.ensures, ap image_sectors c.shape-shape.ensures.value, c.sectors-hash_size.ensures.size)
 
 pub returns-in-Ok-clause-ok : goal.returns-in-Ok-clause-ok

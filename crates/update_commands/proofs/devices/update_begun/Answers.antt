@@ -1,75 +1,77 @@
 use Rattle.std.proofs.Common.{IsTrue, ap, arith, inl, inr, refl, subst, sym, ◌∙◌}
 use Rattle.std.proofs.Math.Path.{subst₂}
 use Rattle.std.proofs.lemmas.Result.{IfErr-weaker, on_ok_weaker}
+use Rattle.block_device.specs.Device.{Device}
 use Rattle.tree_repair.specs.declared.repair.Plan.{Plan}
 use Rattle.tree_repair.specs.Worlds.{RepairWorld}
 use Rattle.verity_commands.specs.Surveyed.{surveyed_devices}
-use Rattle.verity_format.specs.Superblock.{shape_of}
-use Rattle.update_commands.specs.declared.counts.Counts.{Counts}
 use Rattle.update_commands.specs.declared.counts.Written.{Written}
-use Rattle.update_commands.specs.Counts.{counts_of, written_to}
-use Rattle.update_commands.specs.Updates.{EndsAloud, Finishes, RepairsAloud}
+use Rattle.update_commands.specs.Moving.{FailsToMove, MovesListed}
+use Rattle.update_commands.specs.Updates.{UpdatesMoved}
+use Rattle.update_commands.proofs.UpdateLemmas.{allowed-moved}
 use Rattle.update_commands.proofs.devices.update_begun.Goals as goal
 
-pub repair_aloud-data_dev-requires-clause-first : goal.repair_aloud-data_dev-requires-clause-first
-repair_aloud-data_dev-requires-clause-first g c = omega (arith, ap (λ (p : Plan). p.copy_first) c.plan_of-plan.ensures)
+pub move_listed-requires-clause-first : goal.move_listed-requires-clause-first
+move_listed-requires-clause-first g c = omega (arith, ap (λ (p : Plan). p.copy_first) c.plan_of-plan.ensures)
 
-pub repair_aloud-data_dev-requires-clause-allowed : goal.repair_aloud-data_dev-requires-clause-allowed
-repair_aloud-data_dev-requires-clause-allowed g c =
+pub move_listed-requires-clause-allowed : goal.move_listed-requires-clause-allowed
+move_listed-requires-clause-allowed g c =
     let world = c.image_of-image.ensures in
     record {
       data_writable = λ write. subst IsTrue (sym (ap (λ (w : RepairWorld). w.data_dev.may_write) world)) (c.requires.data_writable refl);
       hash_writable = λ write. subst IsTrue (sym (ap (λ (w : RepairWorld). w.hash_dev.may_write) world)) (c.requires.hash_writable refl);
     }
 
+pub update_moved-requires : goal.update_moved-requires
+update_moved-requires g c =
+    let world = c.image_of-image.ensures in
+    allowed-moved c.args.json c.plan_of-plan.result c.image_of-image.result.world c.move_listed.new.image.world _ _ c.in-Ok.ensures.ok (record {
+      data_writable = λ write. subst IsTrue (sym (ap (λ (w : RepairWorld). w.data_dev.may_write) world)) (c.requires.data_writable refl);
+      hash_writable = λ write. subst IsTrue (sym (ap (λ (w : RepairWorld). w.hash_dev.may_write) world)) (c.requires.hash_writable refl);
+    })
+
 pub returns-in-Ok-clause-ok : goal.returns-in-Ok-clause-ok
 returns-in-Ok-clause-ok g c =
     let json = c.args.json in
-    let s = c.args.release.now.superblock in
-    let target = c.args.target in
+    let r = c.args.release.now in
     let old = g.W.Write.contents c.args.writer.now.inner in
-    let between = g.W.Write.contents c.repair_aloud-data_dev.new.writer.inner in
-    let new = g.W.Write.contents c.finish-ended.new.writer.inner in
-    let mended = surveyed_devices (g.D.BlockDev.state c.repair_aloud-data_dev.result.0) (g.H.BlockDev.state c.repair_aloud-data_dev.result.1) in
-    let before = written_to (g.D.BlockDev.state target.data_dev) (g.H.BlockDev.state target.hash_dev) in
-    let after = c.written_to-after.result in
-    let counted =
-    c.counts_of-counts.ensures
-    ∙ ap (λ (p : Plan). counts_of p.tree.shape c.written_to-before.result after) c.plan_of-plan.ensures
-    ∙ ap (λ (a : Written). counts_of (shape_of s) a after) c.written_to-before.ensures
-    ∙ ap (λ (b : Written). counts_of (shape_of s) before b) c.written_to-after.ensures
-    in
-    on_ok_weaker c.finish-ended.result
-    (λ finishes. record {
-      mended = mended;
+    let between = g.W.Write.contents c.move_listed.new.writer.inner in
+    let new = g.W.Write.contents c.update_moved.new.writer.inner in
+    let moved = c.move_listed.new.image.world in
+    let count = c.in-Ok.moved in
+    let after = surveyed_devices (g.D.BlockDev.state c.update_moved.result.0) (g.H.BlockDev.state c.update_moved.result.1) in
+    on_ok_weaker c.update_moved.result.2
+    (λ updates. record {
+      moved = moved;
+      count = count;
       between = between;
-      repairs = subst₂ (λ (p : Plan) (w : RepairWorld). RepairsAloud json p w mended old between) c.plan_of-plan.ensures c.image_of-image.ensures (rw c.in-Ok.is at c.repair_aloud-data_dev.ensures.ok);
-      finishes = subst (λ (n : Counts). Finishes s n json mended.hash_dev (g.H.BlockDev.state c.finish-ended.new.hash_dev) between new) counted finishes;
-      data_is = refl;
+      moves = subst₂ (λ (p : Plan) (w : RepairWorld). MovesListed json p w moved old between) c.plan_of-plan.ensures c.image_of-image.ensures c.in-Ok.ensures.ok;
+      updates = subst (λ (b : Written). UpdatesMoved r json (record { before = b; moved = count }) moved after between new) c.written_to-before.ensures updates;
     })
-    c.finish-ended.ensures.ok
+    c.update_moved.ensures.ok
 
 pub returns-in-Ok-clause-err : goal.returns-in-Ok-clause-err
 returns-in-Ok-clause-err g c =
     let json = c.args.json in
     let old = g.W.Write.contents c.args.writer.now.inner in
-    let between = g.W.Write.contents c.repair_aloud-data_dev.new.writer.inner in
-    let mended = surveyed_devices (g.D.BlockDev.state c.repair_aloud-data_dev.result.0) (g.H.BlockDev.state c.repair_aloud-data_dev.result.1) in
-    IfErr-weaker c.finish-ended.result _ _
-    (λ fault unfinished. inr (record {
-      mended = mended;
+    let between = g.W.Write.contents c.move_listed.new.writer.inner in
+    let moved = c.move_listed.new.image.world in
+    IfErr-weaker c.update_moved.result.2 _ _
+    (λ fault ends. inr (record {
+      moved = moved;
       between = between;
-      repairs = subst₂ (λ (p : Plan) (w : RepairWorld). RepairsAloud json p w mended old between) c.plan_of-plan.ensures c.image_of-image.ensures (rw c.in-Ok.is at c.repair_aloud-data_dev.ensures.ok);
-      unfinished = unfinished;
-      data_is = refl;
+      moves = subst₂ (λ (p : Plan) (w : RepairWorld). MovesListed json p w moved old between) c.plan_of-plan.ensures c.image_of-image.ensures c.in-Ok.ensures.ok;
+      ends = ends;
     }))
-    c.finish-ended.ensures.err
+    c.update_moved.ensures.err
 
 pub returns-in-Err-clause-err : goal.returns-in-Err-clause-err
 returns-in-Err-clause-err g c =
-    let json = c.args.json in
-    let old = g.W.Write.contents c.args.writer.now.inner in
-    let new = g.W.Write.contents c.repair_aloud-data_dev.new.writer.inner in
-    let failed = c.repair_aloud-data_dev.new.writer.failed in
-    let mended = surveyed_devices (g.D.BlockDev.state c.repair_aloud-data_dev.result.0) (g.H.BlockDev.state c.repair_aloud-data_dev.result.1) in
-    inl (subst₂ (λ (p : Plan) (w : RepairWorld). EndsAloud json p w mended old new failed c.in-Err.fault) c.plan_of-plan.ensures c.image_of-image.ensures (rw c.in-Err.is at c.repair_aloud-data_dev.ensures.err))
+    let behind = c.move_listed.new.image.world in
+    inl (record {
+      behind = behind;
+      cause = c.in-Err.fault;
+      fails = subst₂ (λ (p : Plan) (w : RepairWorld). FailsToMove p w behind c.in-Err.fault) c.plan_of-plan.ensures c.image_of-image.ensures c.in-Err.ensures.err;
+      is = c.fault_of.ensures;
+      same = ap (λ (d : Device). surveyed_devices d (g.H.BlockDev.state c.devices_of-data_dev.result.1)) c.devices_of-data_dev.ensures.data ∙ ap (λ (h : Device). surveyed_devices behind.data_dev h) c.devices_of-data_dev.ensures.hash;
+    })

@@ -1,0 +1,6 @@
+pub mod Kinds
+pub mod Identifiers
+pub mod Plans
+pub mod Steps
+pub mod Ends
+pub mod Commands

@@ -1,0 +1,5 @@
+use Rattle.disk_layout.proofs.AppendLemmas.{few-bytes}
+use Rattle.disk_layout.proofs.header.header_sector.Goals as goal
+
+pub pad-requires : goal.pad-requires
+pad-requires c = rw c.bytes.ensures.value (few-bytes c.args.size)

@@ -1,7 +1,0 @@
-use Rattle.std.proofs.Common.{rules, append_assoc}
-use Rattle.partition_commands.specs.Stacks.{entry_text}
-use Rattle.partition_commands.proofs.entries.push_linear_entry.Goals as goal
-
-pub returns-clause-ok : goal.returns-clause-ok
-unfolding entry_text
-returns-clause-ok c = search (rules, append_assoc)

@@ -1,0 +1,157 @@
+//! A disk that is read without a stack file: the stack of one device, which is all of the disk.
+ghost use Rattle.std.specs.Prelude.{◌≡◌, ◌<◌, length, true, IfErr, IfOk, OnOk};
+ghost use Rattle.image_files.specs.Opener.{calls};
+ghost use Rattle.stack_files.specs.Disks.{FailsToFindDiskBy, FailsToMakeRoom, FailsToOpenDisk, FailsToOpenDiskTo, FindsDiskBy, FindsDiskTo, IsDiskStack, IsUnmade, LacksDiskTo, MakesRoom, OpensDisk, OpensDiskBeside, disk_words};
+
+use crate::device::{NamedDevice, find_device};
+use crate::disk_entries::push_linear_entry;
+use crate::leaves::OpenLeaves;
+use crate::opening_fault::OpeningFault;
+use crate::stack_fault::StackFault;
+use crate::stack_file::OpenStack;
+use block_device::BlockDev;
+use device_adapters::Part;
+use image_files::{
+    FileText, Images, OpenImage, UnopenedFile, grow_place, open_apart, open_place, place_use,
+};
+use stack_config::DevId;
+use stack_engine::Stack;
+use std::alloc::Global;
+
+/// A file, a device or a part of one, how many hash blocks to cache, and whether an image that it is copied to is made as long as it
+/// is.
+#[derive(Clone, Copy, Debug, PartialEq, Eq)]
+pub struct DiskPlace<'a> {
+    pub place: &'a str,
+    pub cache: u32,
+    pub grow: bool,
+}
+
+// The stack text of an open disk, and the disk as its backing device.
+fn disk_stack<'a, D: BlockDev + Drop>(
+    alloc: Global,
+    disk: D,
+) -> Result<OpenStack<D>, OpeningFault<'a>>
+    ensures ok { IfOk result (IsDiskStack D.state disk) }
+    ensures err { IfErr result IsUnmade }
+{
+    let count = disk.sectors();
+    let mut bytes = Vec::new(alloc);
+    push_linear_entry(&mut bytes, false, b"disk", Part { first: 0, count })?;
+    let mut over = OpenLeaves::new(alloc);
+    over.bind(alloc, "DISK", disk)?;
+    let OpenLeaves { leaves, devices } = over;
+    let text = FileText { bytes, id: None };
+    Ok(OpenStack {
+        text,
+        leaves,
+        devices,
+    })
+}
+
+// Opens a disk for reading, with its stack text.
+fn open_over<'a, I: Images>(
+    alloc: Global,
+    images: &mut I,
+    place: &'a str,
+) -> Result<OpenStack<I::Dev>, OpeningFault<'a>>
+    ensures ok { IfOk result (OpensDisk (calls I.relations I.Dev.state images.old images.new) place.now) }
+    ensures err { IfErr result (FailsToOpenDisk (calls I.relations I.Dev.state images.old images.new) place.now) }
+{
+    let disk = open_place(alloc, images, place, false)?;
+    disk_stack(alloc, disk.device)
+}
+
+// Makes the file of an image so long, if `grow` is set.
+fn make_room<'a, I: Images>(
+    images: &mut I,
+    grow: bool,
+    out: &'a str,
+    sectors: u64,
+) -> Result<(), UnopenedFile<'a>>
+    ensures ok { OnOk result (MakesRoom (calls I.relations I.Dev.state images.old images.new) grow out.now sectors) }
+    ensures err { IfErr result (FailsToMakeRoom (calls I.relations I.Dev.state images.old images.new) grow out.now sectors) }
+{
+    if grow {
+        return grow_place(images, out, sectors);
+    }
+    Ok(())
+}
+
+// Opens a disk for reading, and then an image to copy to, which mustn't be the disk.
+fn open_beside_disk<'a, I: Images>(
+    alloc: Global,
+    images: &mut I,
+    disk: DiskPlace<'a>,
+    out: &'a str,
+) -> Result<(OpenStack<I::Dev>, OpenImage<I::Dev>), OpeningFault<'a>>
+    ensures ok { IfOk result (OpensDiskBeside (calls I.relations I.Dev.state images.old images.new) (disk_words disk.entry) out.now) }
+    ensures writable { IfOk result (λ both. (I.Dev.state both.1.device).may_write ≡ true) }
+    ensures err { IfErr result (FailsToOpenDiskTo (calls I.relations I.Dev.state images.old images.new) (disk_words disk.entry) out.now) }
+{
+    let opened = open_place(alloc, images, disk.place, false)?;
+    let files = [place_use(&opened, false)];
+    let sectors = opened.device.sectors();
+    make_room(images, disk.grow, out, sectors)?;
+    let image = open_apart(images, &files, out, true)?;
+    let over = disk_stack(alloc, opened.device)?;
+    Ok((over, image))
+}
+
+/// Opens a disk for reading, and returns the stack of one device, which is all of it.
+///
+/// # Errors
+///
+/// - `NoMemory` if an allocation was refused.
+/// - `Open` if the disk can't be opened.
+/// - `Text` or `Load` if there is no such device, as of a disk of no sectors.
+pub(crate) fn open_disk<'a, I: Images>(
+    alloc: Global,
+    images: &mut I,
+    disk: DiskPlace<'a>,
+) -> Result<(Stack<I::Dev>, DevId), StackFault<'a>>
+    ensures ok { IfOk result (FindsDiskBy I.relations I.Dev.state images.old images.new disk.entry) }
+    ensures there { IfOk result (λ found. found.1.0 < length found.0.config.devices) }
+    ensures err { IfErr result (FailsToFindDiskBy I.relations I.Dev.state images.old images.new disk.entry) }
+{
+    let cache = disk.cache;
+    let over = open_over(alloc, images, disk.place)?;
+    find_device(
+        alloc,
+        over,
+        NamedDevice {
+            name: "disk",
+            cache,
+        },
+    )
+}
+
+/// Opens a disk as `open_disk` does, and an image to copy to, which mustn't have a sector of the disk. With `grow` the image's file is
+/// first made as long as the disk, and created if there is none.
+///
+/// # Errors
+///
+/// The faults of `open_disk`; `Open` also if the image can't be made so long or opened, or has a sector of the disk.
+pub(crate) fn open_disk_and_output<'a, I: Images>(
+    alloc: Global,
+    images: &mut I,
+    disk: DiskPlace<'a>,
+    out: &'a str,
+) -> Result<(Stack<I::Dev>, DevId, OpenImage<I::Dev>), StackFault<'a>>
+    ensures ok { IfOk result (FindsDiskTo I.relations I.Dev.state images.old images.new disk.entry out.now) }
+    ensures there { IfOk result (λ found. found.1.0 < length found.0.config.devices) }
+    ensures writable { IfOk result (λ found. (I.Dev.state found.2.device).may_write ≡ true) }
+    ensures err { IfErr result (LacksDiskTo I.relations I.Dev.state images.old images.new disk.entry out.now) }
+{
+    let cache = disk.cache;
+    let (over, image) = open_beside_disk(alloc, images, disk, out)?;
+    let (stack, device) = find_device(
+        alloc,
+        over,
+        NamedDevice {
+            name: "disk",
+            cache,
+        },
+    )?;
+    Ok((stack, device, image))
+}
