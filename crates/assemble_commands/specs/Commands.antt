@@ -1,5 +1,5 @@
 -- What `assemble` does and prints.
-use Rattle.std.specs.Prelude.{◌≡◌, ℕ, false, List, Option, Some}
+use Rattle.std.specs.Prelude.{◌≡◌, ℕ, false, List, [], ◌∷◌, Option, Some}
 use Rattle.std.specs.Io.KnownBytes.{Appends}
 use Rattle.command_line.specs.declared.words.assemble.AssembleWords.{AssembleWords}
 use Rattle.command_line.specs.declared.root_file.RootForm.TheVariants.{Pin as PinForm}
@@ -12,6 +12,7 @@ use Rattle.image_files.specs.declared.file_use.FileUse.{FileUse}
 use Rattle.image_files.specs.declared.placed_image.PlacedImage.{PlacedImage}
 use Rattle.image_files.specs.Opener.{Calls, Opener, calls}
 use Rattle.image_files.specs.OpenPlaces.{OpensPlace}
+use Rattle.image_files.specs.Places.{place_use}
 use Rattle.block_device.specs.Device.{Device}
 use Rattle.image_pin.specs.declared.pin.Pin.{Pin}
 use Rattle.program_io.specs.Counted.{CountedRecord}
@@ -52,23 +53,30 @@ pub record Finishes {S D : Type 0} (w : Calls S D) (a : AssembleRecord) (plan : 
 abbrev pub IsApart : {S D : Type 0} → Calls S D → AssembleRecord → Type 0
 IsApart w a = IsOtherFile w a.data_path (Some (record { path = a.disk_path; form = PinForm }))
 
--- Both types are there, and the pin can be written. The data were opened, a disk was planned, filled and finished.
-pub record AssemblesDisk {S D T G : Type 0} (w : Calls S D) (d : Drawing T G) (a : AssembleRecord) (old new : Option (List ℕ)) : Type 0 where
+-- The pin can be written, and OUT isn't the file of DATA. Then the data were opened for reading.
+pub record OpensData {S D : Type 0} (w : Calls S D) (a : AssembleRecord) (image : PlacedImage D) : Type 0 where
   pub tried : S
   pub compared : S
-  pub opened : S
-  pub filled : S
-  pub kinds : DiskKinds
-  pub image : PlacedImage D
-  pub files : List FileUse
-  pub plan : DiskPlan
-  pub made : MadeImage
-  pub kinds_are : disk_kinds a.kind a.arch ≡ Some kinds
   pub path : CanWriteRoot (record w { new = tried }) a.data_path a.disk_path a.file
   pub apart : IsApart (record w { old = tried; new = compared }) a
-  pub opens : OpensPlace (record w { old = compared; new = opened }) a.data_path false image
+  pub opens : OpensPlace (record w { old = compared }) a.data_path false image
+
+-- Both types are there. The data were opened, and a disk was planned and filled.
+pub record FillsPlanned {S D T G : Type 0} (w : Calls S D) (d : Drawing T G) (a : AssembleRecord) (plan : DiskPlan) (made : MadeImage) : Type 0 where
+  pub opened : S
+  pub kinds : DiskKinds
+  pub image : PlacedImage D
+  pub kinds_are : disk_kinds a.kind a.arch ≡ Some kinds
+  pub opens : OpensData (record w { new = opened }) a image
   pub is_plan : IsPlan d a (w.state image.device).size kinds plan
-  pub fills : FillsDisk (record w { old = opened; new = filled }) files a.disk_path image.device plan made
+  pub fills : FillsDisk (record w { old = opened }) (place_use false image ∷ []) a.disk_path image.device plan made
+
+-- that, and then it was finished
+pub record AssemblesDisk {S D T G : Type 0} (w : Calls S D) (d : Drawing T G) (a : AssembleRecord) (old new : Option (List ℕ)) : Type 0 where
+  pub filled : S
+  pub plan : DiskPlan
+  pub made : MadeImage
+  pub fills : FillsPlanned (record w { new = filled }) d a plan made
   pub finishes : Finishes (record w { old = filled }) a plan made old new
 
 -- ---- as calls see them

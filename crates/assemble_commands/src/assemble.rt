@@ -5,7 +5,7 @@ ghost use Rattle.image_commands.specs.Drawing.{drawing};
 ghost use Rattle.image_files.specs.Opener.{calls};
 ghost use Rattle.assemble_commands.specs.Commands.{Assembles, FillsDisk, IsApart, FinishesDisk, disk_pin};
 ghost use Rattle.assemble_commands.specs.Kinds.{disk_kinds};
-ghost use Rattle.assemble_commands.specs.Ends.{EndsDisk, IsFillEnd, IsFinishEnd, IsOneFile, IsRoomEnd};
+ghost use Rattle.assemble_commands.specs.Ends.{EndsDisk, EndsFilling, IsFinishEnd, IsOneFile, IsRoomEnd};
 
 use crate::ends::{clear_ends, put_table};
 use crate::filling::{copy_part, grow_disk, make_part};
@@ -111,7 +111,7 @@ fn fill_disk<'a, I: Images>(
     plan: &DiskPlan,
 ) -> Result<MadeImage, FecFault<'a>>
     ensures ok { IfOk result (FillsDisk (calls I.relations I.Dev.state images.old images.new) files.now path.now data_dev.old plan.now) }
-    ensures err { IfErr result (IsFillEnd (calls I.relations I.Dev.state images.old images.new)) }
+    ensures err { IfErr result (EndsFilling (calls I.relations I.Dev.state images.old images.new) files.now path.now data_dev.old plan.now) }
 {
     grow_disk(images, path, plan.parts.sectors)?;
     clear_ends(alloc, images, files, path, plan.parts.sectors)?;
@@ -132,7 +132,7 @@ fn finish<'a, I: Images, W: Write>(
     writer: &mut Counted<W>,
 ) -> Result<(), ImageFault<'a>>
     ensures ok { OnOk result (FinishesDisk I.relations I.Dev.state images.old images.new W.contents writer.old writer.new words.now plan.now made.now) }
-    ensures err { IfErr result (IsFinishEnd (calls I.relations I.Dev.state images.old images.new) W.contents writer.old writer.new words.now) }
+    ensures err { IfErr result (IsFinishEnd (calls I.relations I.Dev.state images.old images.new) W.contents writer.old writer.new words.now (disk_pin plan.now made.now)) }
 {
     let pin = pin_of(plan, made);
     write_root(alloc, images, places_of(words), &words.file, &pin)?;

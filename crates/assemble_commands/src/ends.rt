@@ -5,7 +5,7 @@ ghost use Rattle.disk_layout.specs.Ends.{back_bytes, front_bytes};
 ghost use Rattle.disk_layout.specs.Numbers.{table_room};
 ghost use Rattle.partition_table.specs.Disks.{bytes_of_size};
 ghost use Rattle.image_files.specs.Opener.{calls};
-ghost use Rattle.assemble_commands.specs.Ends.{IsStepEnd};
+ghost use Rattle.assemble_commands.specs.StepEnds.{EndsClearing, EndsTable};
 ghost use Rattle.assemble_commands.specs.Plans.{disk_id, partitions_of};
 ghost use Rattle.assemble_commands.specs.Steps.{ClearsEnds, PutsTable, is_short};
 
@@ -39,7 +39,7 @@ pub(crate) fn clear_ends<'a, I: Images>(
     needed: u64,
 ) -> Result<(), ImageFault<'a>>
     ensures ok { OnOk result (ClearsEnds (calls I.relations I.Dev.state images.old images.new) files.now path.now needed) }
-    ensures err { IfErr result (IsStepEnd (calls I.relations I.Dev.state images.old images.new)) }
+    ensures err { IfErr result (EndsClearing (calls I.relations I.Dev.state images.old images.new) files.now path.now needed) }
 {
     let empty = zeros(alloc, CLEARED)?;
     let image = open_apart(images, files, path, true)?;
@@ -78,7 +78,7 @@ pub(crate) fn put_table<'a, I: Images>(
     made: &MadeImage,
 ) -> Result<(), ImageFault<'a>>
     ensures ok { OnOk result (PutsTable (calls I.relations I.Dev.state images.old images.new) files.now path.now plan.now made.now) }
-    ensures err { IfErr result (IsStepEnd (calls I.relations I.Dev.state images.old images.new)) }
+    ensures err { IfErr result (EndsTable (calls I.relations I.Dev.state images.old images.new) files.now path.now plan.now.parts.sectors) }
 {
     let image = open_apart(images, files, path, true)?;
     let mut device = image.device;

@@ -2,7 +2,7 @@
 ghost use Rattle.std.specs.Prelude.{◌≡◌, ◌≤◌, IfErr, IfOk, IsTrue, OnErr, OnOk, length, true};
 ghost use Rattle.device_adapters.specs.Copying.{FailsToCopy};
 ghost use Rattle.image_files.specs.Opener.{IsFresh, calls};
-ghost use Rattle.assemble_commands.specs.Ends.{IsPartEnd, IsStepEnd};
+ghost use Rattle.assemble_commands.specs.StepEnds.{EndsCopying, EndsMaking, FailsToGrow, IsPartUnopened};
 ghost use Rattle.assemble_commands.specs.Steps.{CopiesPart, CopiesSynced, GrowsDisk, MakesPart, OpensDiskPart};
 
 use crate::plan::DiskPlan;
@@ -27,7 +27,7 @@ pub(crate) fn grow_disk<'a, I: Images>(
     sectors: u64,
 ) -> Result<(), ImageFault<'a>>
     ensures ok { OnOk result (GrowsDisk (calls I.relations I.Dev.state images.old images.new) path.now sectors) }
-    ensures err { IfErr result (IsStepEnd (calls I.relations I.Dev.state images.old images.new)) }
+    ensures err { IfErr result (FailsToGrow (calls I.relations I.Dev.state images.old images.new) path.now sectors) }
 {
     match images.grow(path, sectors) {
         Ok(()) => Ok(()),
@@ -48,7 +48,7 @@ pub(crate) fn open_disk_part<'a, I: Images>(
 ) -> Result<OpenImage<I::Dev>, ImageFault<'a>>
     ensures ok { IfOk result (OpensDiskPart (calls I.relations I.Dev.state images.old images.new) files.now path.now part) }
     ensures fresh { IfOk result (λ image. IsFresh (I.Dev.state image.device) true) }
-    ensures err { IfErr result (IsPartEnd (calls I.relations I.Dev.state images.old images.new)) }
+    ensures err { IfErr result (IsPartUnopened (calls I.relations I.Dev.state images.old images.new) files.now path.now part) }
 {
     match open_part(images, files, path, true, part) {
         Ok(image) => Ok(image),
@@ -76,7 +76,7 @@ pub(crate) fn copy_part<'a, I: Images>(
     part: Part,
 ) -> Result<(), ImageFault<'a>>
     ensures ok { OnOk result (CopiesPart (calls I.relations I.Dev.state images.old images.new) files.now path.now part data_dev.old data_dev.new) }
-    ensures err { IfErr result (IsStepEnd (calls I.relations I.Dev.state images.old images.new)) }
+    ensures err { IfErr result (EndsCopying (calls I.relations I.Dev.state images.old images.new) files.now path.now part data_dev.old) }
 {
     let mut room = zeros(alloc, ROOM)?;
     let image = open_disk_part(images, files, path, part)?;
@@ -125,7 +125,7 @@ pub(crate) fn make_part<'a, I: Images>(
     plan: &DiskPlan,
 ) -> Result<MadeImage, ImageFault<'a>>
     ensures ok { IfOk result (MakesPart (calls I.relations I.Dev.state images.old images.new) files.now path.now plan.now.parts.hash data_dev.old data_dev.new plan.now.options) }
-    ensures err { IfErr result (IsStepEnd (calls I.relations I.Dev.state images.old images.new)) }
+    ensures err { IfErr result (EndsMaking (calls I.relations I.Dev.state images.old images.new) files.now path.now data_dev.old plan.now) }
 {
     let image = open_disk_part(images, files, path, plan.parts.hash)?;
     let mut hash_dev = image.device;

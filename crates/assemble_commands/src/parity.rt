@@ -1,8 +1,8 @@
 //! The parity of a disk's image.
-ghost use Rattle.std.specs.Prelude.{◌≡◌, IfErr, IfSome, OnOk, true};
+ghost use Rattle.std.specs.Prelude.{◌≡◌, IfErr, IfNone, IfSome, OnOk, true};
 ghost use Rattle.fec_area.specs.Layouts.{IsLaidOn, IsLayoutOf};
 ghost use Rattle.image_files.specs.Opener.{calls};
-ghost use Rattle.assemble_commands.specs.Ends.{IsParityEnd};
+ghost use Rattle.assemble_commands.specs.StepEnds.{EndsProtecting, IsUnlaid};
 ghost use Rattle.assemble_commands.specs.Steps.{ProtectsParts};
 
 use crate::filling::open_disk_part;
@@ -31,7 +31,7 @@ pub(crate) fn protect_parts<'a, I: Images>(
     plan: &DiskPlan,
 ) -> Result<(), FecFault<'a>>
     ensures ok { OnOk result (ProtectsParts (calls I.relations I.Dev.state images.old images.new) files.now path.now data_dev.old data_dev.new plan.now) }
-    ensures err { IfErr result (IsParityEnd (calls I.relations I.Dev.state images.old images.new)) }
+    ensures err { IfErr result (EndsProtecting (calls I.relations I.Dev.state images.old images.new) files.now path.now data_dev.old plan.now) }
 {
     if !plan.has_parity {
         return Ok(());
@@ -53,6 +53,7 @@ pub(crate) fn protect_parts<'a, I: Images>(
 fn laid_out<D: BlockDev, H: BlockDev>(shape: &Shape, data_dev: &D, hash_dev: &H) -> Option<Layout>
     ensures is { IfSome result (IsLayoutOf shape.now (H.state hash_dev.now).size 2) }
     ensures laid { IfSome result (λ layout. IsLaidOn layout (D.state data_dev.now) (H.state hash_dev.now)) }
+    ensures none { IfNone result (IsUnlaid shape.now (D.state data_dev.now) (H.state hash_dev.now)) }
 {
     let layout = Layout::of(shape, hash_dev.sectors(), ROOTS as usize)?;
     if layout.is_laid_on(data_dev, hash_dev) {

@@ -53,7 +53,7 @@ pub(crate) fn plan_disk<'a, G: Generators>(
     kinds: DiskKinds,
 ) -> Result<DiskPlan, ImageFault<'a>>
     ensures ok { IfOk result (IsPlan (drawing G.gives G.Generator.stream generators.old generators.new) (assemble_record words.now) sectors kinds) }
-    ensures err { IfErr result (IsUnplanned (drawing G.gives G.Generator.stream generators.old generators.new)) }
+    ensures err { IfErr result (IsUnplanned (drawing G.gives G.Generator.stream generators.old generators.new) (assemble_record words.now) sectors) }
 {
     let options = given_or_drawn(generators, seed_options(words.seed))?;
     let superblock = shaped(&options, sectors)?;

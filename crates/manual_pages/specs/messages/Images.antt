@@ -22,7 +22,7 @@ super_message super.SaltSize = codes "the salt has more than 256 bytes: the hash
 unfoldable pub format_message : FormatFault → Option (List ℕ)
 format_message format.Shape = Some (codes "a block size isn't allowed, DATA has no whole data block, or the image is too large")
 format_message format.DataTooSmall = Some (codes "DATA has fewer data blocks than '--blocks' says, or they overlap the tree in the same file")
-format_message (format.HashTooSmall needed) = Some (codes "HASH has fewer sectors than the tree needs: extend it with '--grow'")
+format_message (format.HashTooSmall needed) = Some (codes "HASH or OUT has too few sectors: extend it with '--grow', or take a larger disk")
 format_message format.HashReadOnly = Some (codes "HASH can't be written: check its permissions")
 format_message format.Device = Some (codes "an image can't be read, written or synced: 'dmesg' may say why")
 format_message format.NoMemory = None

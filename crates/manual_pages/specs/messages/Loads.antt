@@ -9,7 +9,7 @@ load_message kinds.DuplicateName = codes "two entries of the stack have the same
 load_message kinds.TooMany = codes "there are more than 64 devices, or more than 256 lines in one device"
 load_message kinds.NoSuchDevice = codes "the line names neither a mapped device nor a binding: add NAME=ro:FILE, or write /dev/mapper/NAME"
 load_message kinds.StandsOnItself = codes "the device depends on itself: follow the devices that its lines name"
-load_message kinds.ZeroLength = codes "the line has no sectors: its second field is the length in sectors"
+load_message kinds.ZeroLength = codes "the line, or the disk of '--disk', has no sectors: a line's second field is its length"
 load_message kinds.Gap = codes "the line doesn't start where the line before ends: the second field is a length, not an end"
 load_message kinds.TooLarge = codes "the line ends after 2^54 sectors: its start and length are in sectors"
 load_message kinds.StripesDontDivide = codes "the length isn't a multiple of COUNT times CHUNK, or of CHUNK in an unstriped line: shorten the line"

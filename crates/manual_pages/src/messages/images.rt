@@ -42,7 +42,7 @@ pub fn format_message(fault: FormatFault) -> Option<&'static str>
             "DATA has fewer data blocks than '--blocks' says, or they overlap the tree in the same file",
         ),
         FormatFault::HashTooSmall { .. } => Some(
-            "HASH has fewer sectors than the tree needs: extend it with '--grow'",
+            "HASH or OUT has too few sectors: extend it with '--grow', or take a larger disk",
         ),
         FormatFault::HashReadOnly => Some("HASH can't be written: check its permissions"),
         FormatFault::Device => Some(

@@ -18,7 +18,7 @@ pub fn load_message(kind: LoadKind) -> &'static str
         LoadKind::StandsOnItself =>
             "the device depends on itself: follow the devices that its lines name",
         LoadKind::ZeroLength =>
-            "the line has no sectors: its second field is the length in sectors",
+            "the line, or the disk of '--disk', has no sectors: a line's second field is its length",
         LoadKind::Gap =>
             "the line doesn't start where the line before ends: the second field is a length, not an end",
         LoadKind::TooLarge =>

@@ -14,17 +14,28 @@ pub returns-in_err-image-clause-err : goal.returns-in_err-image-clause-err
 returns-in_err-image-clause-err g c =
     let file = c.in_err-image.field-0.0 in
     err-from c.from_residual.result _ (Open file) c.from_residual.ensures.1
-    (inr (inl (c.args.images.now, c.open_apart.new.images, file, refl, inr (inl (c.args.files.now, c.args.path.now, c.in_err-image.ensures.err)))))
+    (inl (file, refl, c.in_err-image.ensures.err))
 
 pub returns-then-is_short-clause-err : goal.returns-then-is_short-clause-err
 returns-then-is_short-clause-err g c =
     let needed : ℕ = c.args.plan.now.parts.sectors in
-    inr (inr (_, refl, inl (inl (c.in_ok-image.image.device, needed, subst (λ (n : ℕ). is_short n needed ≡ true) c.sectors-sectors.ensures.size (sym c.is_short.ensures ∙ c.if-is_short.true), refl))))
+    inr (record {
+      image = c.in_ok-image.image;
+      device' = c.in_ok-image.image.device;
+      opened = c.in_ok-image.ensures.ok;
+      fails = inr (inl (subst (λ (n : ℕ). is_short n needed ≡ true) c.sectors-sectors.ensures.size (sym c.is_short.ensures ∙ c.if-is_short.true), refl));
+    })
 
 pub returns-in_err-ends-clause-err : goal.returns-in_err-ends-clause-err
 returns-in_err-ends-clause-err g c =
     let e = c.in_err-ends.field-0.0 in
-    err-from c.from_residual-in_err-ends.result _ NoMemory c.from_residual-in_err-ends.ensures.1 (inl (refl, (e.asked, omega (arith, c.in_err-ends.ensures.err), e.refused)))
+    err-from c.from_residual-in_err-ends.result _ NoMemory c.from_residual-in_err-ends.ensures.1
+    (inr (record {
+      image = c.in_ok-image.image;
+      device' = c.in_ok-image.image.device;
+      opened = c.in_ok-image.ensures.ok;
+      fails = inl (refl, (e.asked, omega (arith, c.in_err-ends.ensures.err), e.refused));
+    }))
 
 pub write_ends-requires-clause-ends : goal.write_ends-requires-clause-ends
 write_ends-requires-clause-ends g c =
@@ -40,7 +51,7 @@ pub write_ends-requires-clause-allowed : goal.write_ends-requires-clause-allowed
 write_ends-requires-clause-allowed g c = subst IsTrue (sym c.in_ok-image.ensures.fresh.may_write) refl
 
 pub returns-clause-err : goal.returns-clause-err
-returns-clause-err g c = inr (inr (_, refl, inl (inr (c.in_ok-image.image.device, c.write_ends.new.device, c.in-Err.ensures.err, refl))))
+returns-clause-err g c = inr (record { image = c.in_ok-image.image; device' = c.write_ends.new.device; opened = c.in_ok-image.ensures.ok; fails = inr (inr (c.in-Err.ensures.err, refl)) })
 
 pub returns-in-Ok-clause-ok : goal.returns-in-Ok-clause-ok
 returns-in-Ok-clause-ok g c =

@@ -7,7 +7,7 @@ use Rattle.assemble_commands.proofs.filling.copy_part.Goals as goal
 pub returns-in_err-room-clause-err : goal.returns-in_err-room-clause-err
 returns-in_err-room-clause-err g c =
     let e = c.in_err-room.field-0.0 in
-    err-from c.from_residual.result _ NoMemory c.from_residual.ensures.1 (inl (refl, (e.asked, omega (arith, c.in_err-room.ensures.err.0), e.refused)))
+    err-from c.from_residual.result _ NoMemory c.from_residual.ensures.1 (inl ((refl, (e.asked, omega (arith, c.in_err-room.ensures.err.0), e.refused)), refl))
 
 pub returns-in_err-image-clause-err : goal.returns-in_err-image-clause-err
 returns-in_err-image-clause-err g c =
@@ -21,11 +21,17 @@ copy_synced-requires-clause-fits g c =
     (omega (arith, c.if-held-sectors.false, c.sectors-held.ensures.size, c.sectors-sectors.ensures.size), subst IsTrue (sym c.in_ok-image.ensures.fresh.may_write) refl)
 
 pub returns-then-held-sectors-clause-err : goal.returns-then-held-sectors-clause-err
-returns-then-held-sectors-clause-err g c = inr (inr (_, refl, inr (inl (inl refl))))
+returns-then-held-sectors-clause-err g c =
+    inr (inr (record {
+      image = c.in_ok-image.image;
+      device' = c.in_ok-image.image.device;
+      opened = c.in_ok-image.ensures.ok;
+      fails = (c.args.data_dev.now, inl (omega (arith, c.if-held-sectors.true, c.sectors-held.ensures.size, c.sectors-sectors.ensures.size), refl));
+    }))
 
 pub returns-clause-err : goal.returns-clause-err
 returns-clause-err g c =
-    inr (inr (_, refl, inr (inl (inr (c.args.data_dev.now, c.in_ok-image.image.device, c.copy_synced.new.from, c.copy_synced.new.to, c.in-Err.ensures.err, refl)))))
+    inr (inr (record { image = c.in_ok-image.image; device' = c.copy_synced.new.to; opened = c.in_ok-image.ensures.ok; fails = (c.copy_synced.new.from, inr (c.in-Err.ensures.err, refl)) }))
 
 pub returns-in-Ok-clause-ok : goal.returns-in-Ok-clause-ok
 returns-in-Ok-clause-ok g c = record {

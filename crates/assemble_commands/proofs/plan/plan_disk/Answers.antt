@@ -10,13 +10,19 @@ use Rattle.assemble_commands.proofs.plan.plan_disk.Goals as goal
 
 pub returns-in_err-options-clause-err : goal.returns-in_err-options-clause-err
 returns-in_err-options-clause-err g c =
-    let fails = c.in_err-options.ensures.err in
-    err-from c.from_residual.result _ c.in_err-options.field-0.0 c.from_residual.ensures.1 (inl (c.args.generators.now, c.given_or_drawn.new.generators, fails.1.refused.0, fails.0, fails.1.refused.1))
+    err-from c.from_residual.result _ c.in_err-options.field-0.0 c.from_residual.ensures.1 (inl (rw c.seed_options.ensures at c.in_err-options.ensures.err))
 
 pub returns-in_err-superblock-clause-err : goal.returns-in_err-superblock-clause-err
 returns-in_err-superblock-clause-err g c =
     err-from c.from_residual-in_err-superblock.result _ (Format c.in_err-superblock.field-0.0) c.from_residual-in_err-superblock.ensures.1
-    (inr (ap (λ fault. Format fault) c.in_err-superblock.ensures.err.0))
+    (inr (
+      ap (λ fault. Format fault) c.in_err-superblock.ensures.err.0,
+      record {
+        options = c.in_ok-options.options;
+        drawn = rw c.seed_options.ensures at c.in_ok-options.ensures.ok;
+        unshaped = inl c.in_err-superblock.ensures.err.1;
+      },
+    ))
 
 pub returns-clause-ok : goal.returns-clause-ok
 returns-clause-ok g c =
