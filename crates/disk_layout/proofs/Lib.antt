@@ -1,2 +1,13 @@
 mod AppendLemmas
+mod ArrayLemmas
+mod BytesLemmas
+mod ChecksumLemmas
+mod CopyLemmas
+mod HeldLemmas
+mod EntryLemmas
+mod HeaderLemmas
+mod OrderLemmas
+mod PartLemmas
+mod ReadBackLemmas
+mod WarningLemmas
 mod WritingLemmas

@@ -6,3 +6,6 @@ pub mod Ends
 pub mod Parts
 pub mod Made
 pub mod Writing
+pub mod Written
+pub mod Usable
+pub mod Laws

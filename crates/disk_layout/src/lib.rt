@@ -4,6 +4,7 @@
 mod ends;
 mod entries;
 mod header;
+pub mod laws;
 mod mbr;
 mod numbers;
 mod partition;
