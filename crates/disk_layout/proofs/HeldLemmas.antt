@@ -181,7 +181,7 @@ module _ (old new : Device) (first : ℕ) (bytes : List ℕ) (put : PutsSynced o
       ∙ ap (take n) (drop_at (take first old.image) (sectors ++ rest) first (length-take-le first old.image inside))
       ∙ take_at sectors rest n (length-sectors_of n bytes)
 
-  -- what is behind it is as it was
+  -- what comes after it is as it was
   kept-after : (at k : ℕ) → IsTrue old.steady → first ≤ length old.image → first + length bytes / 512 ≤ at → run_of new.image at k ≡ run_of old.image at k
   kept-after at k steady inside behind =
       let n = length bytes / 512 in
