@@ -67,7 +67,7 @@ module _ (image : List (List ℕ)) (first : ℕ) (bytes : List ℕ) (held : run_
       let run : run_of (run_of image first n) f m ≡ run_of image (first + f) m = ap (take m) inner ∙ take-take m (m + rest) (drop (first + f) image) (omega arith) in
       ap concat (sym run) ∙ ap (λ (s : List (List ℕ)). concat (run_of s f m)) held ∙ sym (read_run bytes n f m (omega arith) within)
 
-  held-part : (xs a ys : List ℕ) (f p k : ℕ) → bytes ≡ xs ++ (a ++ ys) → length xs ≡ 512 * f → length a ≡ 512 * k → p ≡ first + f → concat (run_of image p k) ≡ a
+  pub held-part : (xs a ys : List ℕ) (f p k : ℕ) → bytes ≡ xs ++ (a ++ ys) → length xs ≡ 512 * f → length a ≡ 512 * k → p ≡ first + f → concat (run_of image p k) ≡ a
   held-part xs a ys f p k is before size place =
       let within : f + k ≤ length bytes / 512 = omega (arith, ap length is, length-append xs (a ++ ys), length-append a ys, before, size) in
       ap (λ (n : ℕ). concat (run_of image n k)) place ∙ held-run f k within ∙ ap (λ (l : List ℕ). take (512 * k) (drop (512 * f) l)) is ∙ ap (take (512 * k)) (drop_at xs (a ++ ys) (512 * f) before)
@@ -89,7 +89,7 @@ module _ (device : Device) (disk : Disk) (disk_id : List ℕ) (ps : List Partiti
   sum-small =
       let small = crc32-small entries (array-bytes (table_sectors disk) (disk.sectors - table_sectors disk) ps t.made.count t.made.order) in (omega (arith, small), small)
 
-  length-here : length entries ≡ 512 * (entries_sectors disk.size * unit_of disk.size)
+  pub length-here : length entries ≡ 512 * (entries_sectors disk.size * unit_of disk.size)
   length-here = length-array (table_sectors disk) (disk.sectors - table_sectors disk) ps t.made.count t.made.order ∙ ap (λ (n : ℕ). 512 * n) (sym (entries-run disk.size))
 
   primary-stated : IsStated primary

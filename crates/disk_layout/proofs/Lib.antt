@@ -6,6 +6,7 @@ mod CopyLemmas
 mod HeldLemmas
 mod EntryLemmas
 mod HeaderLemmas
+mod LargeLemmas
 mod OrderLemmas
 mod PartLemmas
 mod ReadBackLemmas

@@ -1,5 +1,5 @@
 -- The partitions over the parts of a disk are in order.
-use Rattle.std.proofs.Common.{◌≡◌, ◌+◌, ◌-◌, ◌*◌, ◌/◌, ◌^◌, ◌≤◌, ◌<◌, ℕ, [], ◌∷◌, arith, refl}
+use Rattle.std.proofs.Common.{◌≡◌, ◌+◌, ◌-◌, ◌*◌, ◌/◌, ◌^◌, ◌≤◌, ◌<◌, ℕ, List, [], ◌∷◌, arith, refl}
 use Rattle.block_device.specs.Device.{capped}
 use Rattle.device_adapters.specs.declared.part.Part.{Part}
 use Rattle.partition_table.specs.declared.sector_size.Disk.{Disk}
@@ -7,9 +7,10 @@ use Rattle.partition_table.specs.declared.sector_size.SectorSize.{SectorSize}
 use Rattle.partition_table.specs.declared.sector_size.SectorSize.TheVariants.{Bytes4096, Bytes512}
 use Rattle.partition_table.specs.Disks.{unit_of}
 use Rattle.disk_layout.specs.Ends.{entries_sectors}
+use Rattle.disk_layout.specs.Laws.{three_partitions, two_partitions}
 use Rattle.disk_layout.specs.Parts.{aligned, disk_parts, end_of}
 use Rattle.disk_layout.specs.Usable.{AreUsable, HasParts, IsName, PartitionName, partition_named}
-use Rattle.disk_layout.specs.Written.{IsStatable, table_sectors}
+use Rattle.disk_layout.specs.Written.{IsField, IsMadeTable, IsStatable, table_sectors}
 
 -- a sector that is no larger than disks are isn't beyond what can be counted
 aligned-up : (n : ℕ) → aligned n ≤ 2 ^ 55 → (n ≤ aligned n) × (n ≤ 2 ^ 55)
@@ -37,6 +38,14 @@ over Bytes4096 from n part begins after some few =
 begins-after : (size : SectorSize) → (2 + entries_sectors size) * unit_of size ≤ 2048
 begins-after Bytes512 = omega arith
 begins-after Bytes4096 = omega arith
+
+room-of : (size : SectorSize) (sectors : ℕ) → 4096 ≤ sectors * unit_of size → 2 * (2 + entries_sectors size) ≤ sectors
+room-of Bytes512 sectors large = omega (arith, large)
+room-of Bytes4096 sectors large = omega (arith, large)
+
+few-of : (size : SectorSize) (sectors : ℕ) → sectors * unit_of size ≤ 2 ^ 54 → sectors < 2 ^ 64
+few-of Bytes512 sectors few = omega (arith, few)
+few-of Bytes4096 sectors few = omega (arith, few)
 
 ends-before : (size : SectorSize) (last end sectors : ℕ) → (last + 1) * unit_of size ≤ end → end + 2048 ≤ sectors * unit_of size → last ≤ sectors - (2 + entries_sectors size)
 ends-before Bytes512 last end sectors a b = omega (arith, a, b)
@@ -91,7 +100,7 @@ module _ (disk : Disk) (data_name hash_name : PartitionName) (data_count hash_co
     hash-before = ends-before disk.size (last_over disk hash_part) (end_of hash_part) disk.sectors hash-over.ends (omega (arith, hash-up.0, hash-up.1, parity-first, parity-up.0, parity-up.1, parity-few))
 
     module _ (data_is : IsName data_name) (hash_is : IsName hash_name) where
-      pub two-usable : AreUsable disk (partition_named data_name disk.size 1 data_part ∷ partition_named hash_name disk.size 2 hash_part ∷ [])
+      two-usable : AreUsable disk (partition_named data_name disk.size 1 data_part ∷ partition_named hash_name disk.size 2 hash_part ∷ [])
       two-usable = (
         refl,
         data-over.begins,
@@ -101,7 +110,7 @@ module _ (disk : Disk) (data_name hash_name : PartitionName) (data_count hash_co
         (refl, hash-over.begins, hash-over.some, hash-before, statable hash_name disk.size 2 hash_part hash_is hash-over.few, tt),
       )
 
-      pub all-usable : (parity_name : PartitionName) → IsName parity_name → unit_of disk.size ≤ parity_part.count
+      all-usable : (parity_name : PartitionName) → IsName parity_name → unit_of disk.size ≤ parity_part.count
           → AreUsable disk (partition_named data_name disk.size 1 data_part ∷ partition_named hash_name disk.size 2 hash_part ∷ partition_named parity_name disk.size 3 parity_part ∷ [])
       all-usable parity_name parity_is some =
           let parity-over = over disk.size (last_over disk hash_part + 1) (end_of hash_part) parity_part hash-over.ends hash-up.0 some parity-up.1 in
@@ -120,3 +129,26 @@ module _ (disk : Disk) (data_name hash_name : PartitionName) (data_count hash_co
               (refl, parity-over.begins, parity-over.some, parity-before, statable parity_name disk.size 3 parity_part parity_is parity-over.few, tt),
             ),
           )
+
+      module _ (disk_id : List ℕ) (id : IsField 16 disk_id) where
+        large : 4096 ≤ disk.sectors * unit_of disk.size
+        large = omega (arith, data-up.0, hash-first, hash-up.0, parity-first, parity-up.0, parity-few)
+
+        pub two-made : IsMadeTable disk disk_id (two_partitions (disk_parts data_count hash_count parity_count) disk.size data_name hash_name)
+        two-made = record {
+          room = room-of disk.size disk.sectors large;
+          few = few-of disk.size disk.sectors has.few;
+          id = id;
+          count = omega arith;
+          order = two-usable;
+        }
+
+        pub three-made : (parity_name : PartitionName) → IsName parity_name → unit_of disk.size ≤ parity_part.count
+            → IsMadeTable disk disk_id (three_partitions (disk_parts data_count hash_count parity_count) disk.size data_name hash_name parity_name)
+        three-made parity_name parity_is some = record {
+          room = room-of disk.size disk.sectors large;
+          few = few-of disk.size disk.sectors has.few;
+          id = id;
+          count = omega arith;
+          order = all-usable parity_name parity_is some;
+        }

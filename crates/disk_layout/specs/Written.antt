@@ -37,7 +37,7 @@ abbrev pub AreInOrder : ℕ → ℕ → ℕ → List Partition → Type 0
 AreInOrder n from last [] = ⊤
 AreInOrder n from last (p ∷ ps) = (p.number ≡ n) × (from ≤ p.first) × (p.first ≤ p.last) × (p.last ≤ last) × IsStatable p × AreInOrder (n + 1) (p.last + 1) last ps
 
--- the first sector after the primary copy, and how many are as far from the end of the disk
+-- the first usable sector; the last one is as many sectors before the end of the disk
 abbrev pub table_sectors : Disk → ℕ
 table_sectors disk = 2 + entries_sectors disk.size
 

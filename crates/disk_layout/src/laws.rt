@@ -1,5 +1,5 @@
 //! Laws of a written table: each function's contract is the law, and its call gives it.
-ghost use Rattle.disk_layout.specs.Laws.{DiskPartsAreInOrder, WrittenTableIsHeld, WrittenTableIsFound, WrittenTableIsRead};
+ghost use Rattle.disk_layout.specs.Laws.{DiskPartsMakeTables, LargeTableIsFound, WrittenTableIsHeld, WrittenTableIsFound, WrittenTableIsRead};
 
 /// A steady device holds a table after `write_ends` wrote both its ends.
 pub fn written_table_is_held()
@@ -18,7 +18,13 @@ pub fn written_table_is_found()
     ensures { WrittenTableIsFound }
 {}
 
-/// The partitions over `disk_parts` lie one after the other in the usable sectors of a disk that is large enough.
-pub fn disk_parts_are_in_order()
-    ensures { DiskPartsAreInOrder }
+/// If a steady device of whole sectors of 4,096 bytes holds both ends of a table with such sectors, `find_table` that first looks for
+/// sectors of 512 bytes returns no other table.
+pub fn large_table_is_found()
+    ensures { LargeTableIsFound }
+{}
+
+/// The partitions over `disk_parts` make a table of a disk that is large enough: they lie one after the other in its usable sectors.
+pub fn disk_parts_make_tables()
+    ensures { DiskPartsMakeTables }
 {}
