@@ -63,7 +63,10 @@ for it in 16384 65536; do
     made 32M cryptsetup -q luksFormat --type luks2 --pbkdf pbkdf2 --pbkdf-force-iterations 1000 --luks2-metadata-size $it \
         --luks2-keyslots-size 1m image "$top/README.md"
     shows luks2:$it luks2-secondary:$it
+    [ "$("$program" find disk | grep -c 'cryptsetup open$')" = 2 ]
     "$program" find --json disk > found.json
+    printf '\0\0' | dd of=disk bs=1 seek=$((start + 4100)) conv=notrunc status=none
+    "$program" find disk | head -n 1 | grep -q 'luks2 .* damaged$'
     cryptsetup luksDump --dump-json-metadata image > header.json
     python3 -c '
 import json

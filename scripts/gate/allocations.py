@@ -35,12 +35,12 @@ PLACES = {
     "example_nbd": (3, EXAMPLE),
     "example_stack": (3, EXAMPLE),
     "example_verified_block": (2, EXAMPLE),
-    "find_commands": (37, VALUES),
+    "find_commands": (38, VALUES),
     "image_commands": (12, VALUES),
     "partition_commands": (15, VALUES),
     "program_io": (4, VALUES),
     "runs": (9, VALUES),
-    "scan_commands": (20, VALUES),
+    "scan_commands": (25, VALUES),
     "stack_commands": (15, VALUES),
     "stack_lines": (2, CACHE),
     "update_commands": (4, VALUES),
@@ -61,7 +61,7 @@ TRUSTED = {
 OWN = {
     ("hash_tree", "push_next"): (1, "`LevelBuilder::push`"),
     ("stack_recovery", "mark"): (1, "`Map::push`"),
-    ("dm_table", "try_clone"): (13, "`try_clone` of a name's owners, `Options::push` and `Bases::push`"),
+    ("dm_table", "try_clone"): (14, "`try_clone` of a name's owners, `Options::push` and `Bases::push`"),
     ("rescue_map", "filled"): (1, "`Map::push`"),
     ("rescue_map", "move_marks"): (1, "`Map::push`"),
     ("stack_rules", "new"): (1, "`Table::try_clone`"),
@@ -81,7 +81,7 @@ FUNCTION = re.compile(r" *(?:pub(?:\(\w+\))? )?(?:const )?fn (\w+)")
 EVIDENCE = {
     "allocation": re.compile(r"\blibrary-refused\b|\ballocation\.specs\.declared\.seal\.Seal\b"),
     "command_parser": re.compile(r"\bclap-refused\b|\bcommand_parser\.specs\.declared\.seal\.Seal\b"),
-    "block_device": re.compile(r"\bwas-(?:opened|said-of-path|said-of-file|lengthened|told|unlocked|called)\b|\bblock_device\.specs\.declared\.seal\.Seal\b"),
+    "block_device": re.compile(r"\bwas-(?:opened|said-of-path|said-of-file|resized|told|unlocked|called)\b|\bblock_device\.specs\.declared\.seal\.Seal\b"),
     "image_files": re.compile(r"\bwas-(?:made|asked)\b|\bimage_files\.(?:specs\.declared\.seal\.Seal|proofs\.FileLemmas)\b"),
 }
 EXPORT = re.compile(r"\bpub use (?:crate::)?seal\b")

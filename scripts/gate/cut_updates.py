@@ -5,7 +5,8 @@ cut_updates.py PROGRAM: older, longer, damaged and missing images, and parts of 
 block must be as it was or as the release has it, and all else as it was. HASH has its old superblock only if no block is changed yet,
 and that of the release only if all blocks are the release's; otherwise it has none. Run again, the update must end with the release,
 and fetch only the blocks that were missing, or copy them within DATA if HASH still has its old superblock. The zeros over the old superblock must be synced before a block is written, also
-those of an update that was killed, and all blocks before the new superblock is.
+those of an update that was killed, and all blocks before the new superblock is. Whole files that are longer are shortened last, when the
+new superblock is synced.
 """
 import os
 import random
@@ -25,6 +26,7 @@ from verity import Tree, format_images  # noqa: E402
 SALT = bytes.fromhex("abcd")
 NOTHING = bytes(SECTOR)
 BLOCKS = 270
+WHOLE = (0, None), (0, None)
 
 
 class Image:
@@ -47,8 +49,8 @@ class Image:
 class Update:
     """An update of the images in these files, each whole or a part of a file, with other words after the release's."""
 
-    def __init__(self, name, release, files, words=("data", "hash"), places=((0, None), (0, None)), copies=(), moved=0):
-        self.name, self.release, self.files, self.moved = name, release, files, moved
+    def __init__(self, name, release, files, words=("data", "hash"), places=WHOLE, copies=(), moved=0, seeded=0):
+        self.name, self.release, self.files, self.moved, self.seeded = name, release, files, moved, seeded
         self.paths = [it.partition("@")[0] for it in words]
         self.parts = places
         self.words = ["update", "--pin", "pin", *words, "new.data", "new.hash", *copies]
@@ -60,6 +62,8 @@ class Update:
             skipped = SECTOR if content is release.data else release.sizes[1]
             it[first:first + SECTOR] = content[:SECTOR]
             it[first + skipped:first + len(content)] = content[skipped:]
+            if places == WHOLE:
+                del it[len(content):]
 
     def prepare(self):
         for path in self.paths:
@@ -95,20 +99,28 @@ class Update:
         is_old = first == old and (not changed or not old.startswith(b"verity"))
         if first != NOTHING and not is_old and (first != new or any(missing)):
             raise Unlike("the superblock is before blocks that aren't its own")
-        self.look_beside()
+        if self.look_beside() and (first != new or any(missing)):
+            raise Unlike("a file is shortened before it holds the release")
         return missing
 
     def look_beside(self):
-        """Checks the bytes beside the parts, and the lengths of whole files: as they were, or as long as is wanted."""
+        """Checks the bytes beside the parts, and the lengths of whole files: as they were, or as long as is wanted. Returns whether one is
+        shorter than it was."""
+        is_shortened = False
         for path, (first, size) in zip(self.paths, self.parts):
             before, left = self.files.get(path, b""), read(path) if os.path.exists(path) else b""
             if len(left) not in (len(before), len(self.wanted[path])):
                 raise Unlike(f"{path} has another length")
+            is_shortened = is_shortened or len(left) < len(before)
+            end = len(self.wanted[path])
+            if left[end:] != before[end:len(left)]:
+                raise Unlike(f"bytes after the release in {path}")
             if size is not None:
                 within = [(part, part + count) for part, count in self.parts]
                 for at, pair in enumerate(zip(before, left)):
                     if pair[0] != pair[1] and not any(begin <= at < end for begin, end in within):
                         raise Unlike(f"byte {at} of {path}")
+        return is_shortened
 
     def has_superblock(self):
         """Whether HASH has a superblock by which its blocks are listed."""
@@ -116,7 +128,8 @@ class Update:
         return os.path.exists(path) and read(path)[first:].startswith(b"verity")
 
     def end(self, cutter, missing):
-        """Runs the update to its end, which fetches the missing blocks, or copies data blocks that moved. Returns how many it copied."""
+        """Runs the update to its end, which fetches the missing blocks, or copies data blocks that moved. Returns how many it copied within
+        DATA, and how many data blocks came from the first copy."""
         is_listed = self.has_superblock()
         status, output, _ = cutter.run(self.words)
         tree = Tree(*self.release.sizes, self.release.blocks, 1)
@@ -130,11 +143,12 @@ class Update:
         for path, content in self.wanted.items():
             if read(path) != content:
                 raise Unlike(f"run again, it leaves another {path}")
-        return moved
+        return moved, len(re.findall(rb"^repaired data \d+ copy 1$", output, re.M))
 
     def check_syncs(self, calls):
-        """What is written before the superblock is cleared, and before it is written, is synced, as is HASH if it has none."""
-        changes = [it for it in calls if it[0] in ("write", "sync")]
+        """What is written before the superblock is cleared, before it is written, and before a file is shortened, is synced, as are HASH if
+        it has none, and shortened files."""
+        changes = [it for it in calls if it[0] in ("write", "sync", "resize")]
         writes = [at for at, (call, _) in enumerate(changes) if call == "write"]
         dirty, hashes = set(), self.paths[1]
         is_cleared = self.files.get(hashes, b"")[self.parts[1][0]:].startswith(b"verity")
@@ -143,7 +157,13 @@ class Update:
                 raise Unlike("the last write isn't the superblock's")
             if dirty and (at == writes[-1] or is_cleared and at == writes[1]):
                 raise Unlike(f"{dirty} aren't synced before change {at}, a write of {path}")
-            dirty = dirty | {path} if call == "write" else dirty - {path}
+            is_last = call == "resize" and at > writes[-1]
+            if is_last and dirty:
+                raise Unlike(f"{dirty} aren't synced before {path} is shortened")
+            if call == "sync":
+                dirty = dirty - {path}
+            elif call == "write" or is_last:
+                dirty = dirty | {path}
         if dirty:
             raise Unlike(f"{dirty} aren't synced in the end")
         if not is_cleared and ("sync", hashes) not in changes[: writes[0]]:
@@ -153,8 +173,9 @@ class Update:
         """An update that is killed at each of its calls, and run again. Returns how many there were."""
         calls = []
         self.prepare()
-        if self.end(cutter, self.look()) < self.moved:
-            raise Unlike(f"fewer than {self.moved} blocks are copied")
+        moved, seeded = self.end(cutter, self.look())
+        if moved < self.moved or seeded < self.seeded:
+            raise Unlike(f"{moved} blocks are copied within DATA and {seeded} from the first copy, and not {self.moved} and {self.seeded}")
         for _, call, path in cutter.cuts(self.words, "change", self.prepare):
             calls.append((call, os.path.basename(path)))
             self.end(cutter, self.look())
@@ -200,6 +221,9 @@ def updates():
         lies[block * 512] ^= 1
     write("lies", lies)
     yield Update("a copy that lies", release, {"data": old.data, "hash": old.hash}, copies=("lies", "new.hash"))
+    write("seed.data", out.data)
+    write("seed.hash", out.hash)
+    yield Update("blocks that moved in a copy", release, {"data": old.data, "hash": old.hash}, copies=("seed.data", "seed.hash"), seeded=len(changed) - 1)
     large = Image((1024, 2048), 150, [3, 64, 65])
     hashes = bytearray(large.hash)
     hashes[SECTOR:2048] = b"\x33" * (2048 - SECTOR)

@@ -47,18 +47,24 @@ class Update(Repair):
         is_untouched = not any(self.blocks_left([self.before[it] for it in self.paths[:2]]))
         is_whole = self.left() == self.whole
         if kind == "output":
-            good = status == 1 and b"\n".join(self.plain + [b""]).startswith(output)
-            states = {CLEARED, self.new} if is_whole else {CLEARED}
+            # it goes on without printing
+            good = status == 1 and is_whole and b"\n".join(self.plain + [b""]).startswith(output)
+            states = {self.new}
         elif kind == "text":
             good = status == 1 and not mended and rest[:1] != [] and rest[0].startswith(b"refused ")
             states = {self.old}
         elif kind == "memory" and status == 0:
-            # without memory for the list of the old blocks nothing is copied within DATA
+            # without memory for the list of the old blocks nothing is copied within DATA, and without that for large reads each block
+            # is fetched by itself
             unmoved = not any(it.startswith(b"moved ") for it in mended)
-            good, states = unmoved and is_whole and lines == told(self.tree, mended, False), {self.new}
+            is_same = sorted(mended) == sorted(self.mended)
+            good, states = (unmoved or is_same) and is_whole and lines == told(self.tree, mended, False), {self.new}
         elif kind == "memory":
             good = status == 1 and rest == [b"no memory"] and self.mended[:len(mended)] == mended
             states = {self.old, CLEARED} if is_untouched else {CLEARED}
+        elif rest == [REFUSED + b" second"]:
+            # the root hash block of the release couldn't be read
+            good, states = status == 1 and what[0] == b"read" and not mended and is_untouched, {self.old}
         else:
             good, states = self.ends_on_device(what[0], mended, rest, status)
             states |= {self.old} if is_untouched and rest == [REFUSED] else set()
@@ -71,6 +77,10 @@ class Update(Repair):
         if rest == [self.good, REFUSED]:
             # the superblock couldn't be written or synced
             return status == 1 and call != b"read" and mended == self.mended, {CLEARED, self.new}
+        if call == b"sync" and len(rest) == 3:
+            # all is the release's, and a file couldn't be synced after it was shortened
+            is_told = mended + rest[:2] == told(self.tree, self.mended, False)
+            return status == 1 and is_told and rest[2] in [b"refused 4 OtherFault " + it.encode() for it in self.paths[:2]], {self.new}
         if call != b"read":
             wanted = self.mended if call == b"sync" and mended else self.mended[:len(mended)]
             return status == 1 and rest == [REFUSED] and mended == wanted, {CLEARED}

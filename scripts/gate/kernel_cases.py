@@ -135,7 +135,7 @@ class Cases(Sessions):
     def made_leaves(self):
         """Leaves as files of their own, whatever the model's bindings are."""
         drawn = self.session_over(self.bindings()).stack
-        contents = [(leaf, drawn.images[leaf.name].read(0, leaf.sectors)) for leaf in drawn.configuration.leaves.values()]
+        contents = [(leaf, drawn.images[leaf.name].stored(0, leaf.sectors)) for leaf in drawn.configuration.leaves.values()]
         self.files = {}
         words = []
         for leaf, content in contents:

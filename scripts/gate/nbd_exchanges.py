@@ -22,12 +22,12 @@ from nbd_memory import memory  # noqa: E402
 from nbd_messages import Runner  # noqa: E402
 from nbd_reads import chunks, gone, transmissions  # noqa: E402
 from nbd_statuses import ignored_blocks, statuses  # noqa: E402
-from nbd_writes import crypt, long_runs, writes, zeroes  # noqa: E402
+from nbd_writes import crypt, full, long_runs, writes, zeroes  # noqa: E402
 
 
 # The longest first.
 PARTS = [failures, gone_within, ignored_blocks, cuts, chunks, zeroes, contexts, ahead, handshakes, forced]
-PARTS += [transmissions, many_exports, statuses, writes, gone, long_runs, memory, crypt, refusals]
+PARTS += [transmissions, many_exports, statuses, writes, gone, long_runs, memory, crypt, full, refusals]
 
 
 def counts_of(program, part):

@@ -15,7 +15,7 @@ UNSUPPORTED, INVALID, UNKNOWN, TOO_BIG = (2**31 + n for n in (1, 3, 6, 9))
 READ, WRITE, DISC, FLUSH, TRIM, CACHE, ZEROES, STATUS = 0, 1, 2, 3, 4, 5, 6, 7
 NONE, OFFSET_DATA, OFFSET_HOLE, BLOCK_STATUS, ERROR, ERROR_OFFSET = 0, 1, 2, 5, 0x8001, 0x8002
 HOLE_AND_ZERO = 3
-EPERM, EIO, ENOMEM, EINVAL, ENOSPC = 1, 5, 12, 22, 28
+EPERM, EIO, ENOMEM, EINVAL, ENOSPC, ENOTSUP = 1, 5, 12, 22, 28, 95
 MOST = 32 << 20
 # the sectors in bytes that a piece of a READ touches at most that is answered piece by piece, and where what a BLOCK_STATUS reads
 # ends; the blocks of zeros at the ends of a piece that are holes; where what a BLOCK_STATUS reads ends, if it is of one extent
@@ -84,7 +84,7 @@ class Export:
         self.zeros, self.ignoring = zeros, ignoring
 
     def bits(self, structured=False):
-        own = SEND_TRIM | SEND_WRITE_ZEROES if self.writable else READ_ONLY | (CAN_MULTI_CONN if self.shared else 0)
+        own = SEND_TRIM | SEND_WRITE_ZEROES | SEND_FAST_ZERO if self.writable else READ_ONLY | (CAN_MULTI_CONN if self.shared else 0)
         return FLAGS | own | (SEND_DF if structured else 0)
 
     def told(self, number, sizes=False, structured=False, named=False):
@@ -218,7 +218,7 @@ class Export:
         return reply(EINVAL) if offset + length > len(self.content) else reply()
 
 
-READ_ONLY, SEND_TRIM, SEND_WRITE_ZEROES, SEND_DF, CAN_MULTI_CONN = 1 << 1, 1 << 5, 1 << 6, 1 << 7, 1 << 8
+READ_ONLY, SEND_TRIM, SEND_WRITE_ZEROES, SEND_DF, CAN_MULTI_CONN, SEND_FAST_ZERO = 1 << 1, 1 << 5, 1 << 6, 1 << 7, 1 << 8, 1 << 11
 # HAS_FLAGS, SEND_FLUSH, SEND_FUA and SEND_CACHE
 FLAGS = 1 | 1 << 2 | 1 << 3 | 1 << 10
 FUA, NO_HOLE, DF, REQ_ONE, FAST_ZERO = (1 << bit for bit in range(5))
@@ -338,15 +338,15 @@ class Runner(Checks):
             problems.append("the image differs")
         self.count(label, not problems, "; ".join(problems))
 
-    def serve(self, label, words, sent, wanted, lost=(), limited=None):
-        """The service with these arguments reads what is sent, and then the end of its input. So many requests lose these sectors.
-        `limited`, if given, is called in the service's process before the program begins."""
+    def serve(self, label, words, sent, wanted, lost=(), limited=None, kind=b"ErrorTarget"):
+        """The service with these arguments reads what is sent, and then the end of its input. So many requests lose these sectors, by
+        faults of a kind. `limited`, if given, is called in the service's process before the program begins."""
         done = subprocess.run([self.program, "nbd", *words], input=sent, capture_output=True, timeout=60, preexec_fn=limited)
         at, requests, status = begins_to_differ(done.stdout, wanted), len(requests_of(sent)), 3 if lost else 0
         told = without_sentence(b"", done.stderr, done.returncode) or b""
         start = START.match(told)
         good = done.stdout == wanted and done.returncode == status and start
-        good = good and told[start.end() :] == end_of(words[1], requests, lost) + (faults_line(len(lost), requests) if lost else b"")
+        good = good and told[start.end() :] == end_of(words[1], requests, lost, kind) + (faults_line(len(lost), requests) if lost else b"")
         self.count(label, good, f"differs at {at} of {len(wanted)}, status {done.returncode}, {done.stderr[:200]!r}")
 
 

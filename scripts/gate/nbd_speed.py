@@ -1,15 +1,16 @@
 """How fast nbdcopy reads a service over lines of each kind, beside nbdkit and beside `scan`."""
 import os
 import random
+import shutil
 import time
 
 import nbd_served
 from nbd_served import Served, format_data, needs, run, say, words_for
 
 
-def nbdcopy_seconds(words, connections=4):
+def nbdcopy_seconds(words, connections=4, activated=False):
     """How long nbdcopy takes to read a whole service, where that offers several connections over as many."""
-    with Served(words) as uri:
+    with Served(words, activated) as uri:
         start = time.monotonic()
         done = run("nbdcopy", f"--connections={connections}", uri, "null:")
         taken = time.monotonic() - start
@@ -40,15 +41,19 @@ def speed():
     for place, (name, line) in enumerate(lines.items()):
         open(f"fast{place}", "w").write(f"f,,,ro,0 {sectors} {line}")
         services[name] = words_for(f"fast{place}", "f", data)
-    copied, scanned, alone = ({name: [] for name in services} for _ in range(3))
+    copied, scanned, alone, handed = ({name: [] for name in services} for _ in range(4))
     for _ in range(5):
         for name, words in services.items():
             copied[name].append(nbdcopy_seconds(words))
             alone[name].append(nbdcopy_seconds(words, 1))
             if name != "nbdkit":
                 scanned[name].append(scan_seconds(words))
+                if shutil.which("systemd-socket-activate"):
+                    handed[name].append(nbdcopy_seconds(words, 1, True))
     least = min(copied["nbdkit"])
     for name in services:
         taken, single = min(copied[name]), min(alone[name])
         beneath = f"; scan's time is {min(scanned[name]) / taken:.2f} of it" if scanned[name] else ""
+        if handed[name]:
+            beneath += f", and {min(scanned[name]) / min(handed[name]):.2f} of that over one which systemd-socket-activate hands over"
         print(f"256 MiB, {name}: {taken:.2f} s over four connections, {256 / taken:.0f} MiB/s, {single / taken:.2f} times as fast as over one ({single:.2f} s); nbdkit's time is {least / taken:.2f} of it{beneath}")

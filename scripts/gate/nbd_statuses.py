@@ -27,7 +27,7 @@ def statuses(runner):
             asked, told = begun_in_chunks(e, True)
             told += e.status(0, size, bool(bits & REQ_ONE)) if bits & ~(FUA | REQ_ONE) == 0 else failed(EINVAL)
             runner.run(f"status with flag {bits}", name, asked + request(STATUS, 0, size, bits=bits), told)
-    # many extents: a reply has at most 1,024, of at most 4,097 runs each
+    # many extents: a reply has at most 1,024
     open("many", "w").write("z,,,ro,0 1500 zero;m,,,ro,0 3000 striped 2 1 R 0 /dev/mapper/z 0")
     many = Export("m", bytes(3000 * SECTOR), shared=False)
     sent, wanted = begun_in_chunks(many, True)
@@ -38,6 +38,17 @@ def statuses(runner):
         told = b"".join(struct.pack(">II", end - at, HOLE_AND_ZERO if at // SECTOR % 2 else 0) for at, end in zip(begins, ends))
         wanted += chunk(BLOCK_STATUS, struct.pack(">I", 1) + told)
     runner.serve("many extents", ["many", "m", "R=ramp:1500"], sent, wanted)
+    # many runs: a reply joins at most 65,536, which are single sectors but for the `zero` line
+    runs, first = 65536, 40000
+    open("many", "w").write(f"m,,,ro,0 {first} striped 2 1 R 0 R 0,{first} 10 zero,{first + 10} {runs} striped 2 1 R 0 R 0")
+    sent, wanted = begun_in_chunks(Export("m", bytes((first + 10 + runs) * SECTOR), shared=False), True)
+    for sector, skipped, extents in ((0, 0, ((first, 0), (10, HOLE_AND_ZERO), (runs - first - 1, 0))), (first + 10, 7, ((runs, 0),))):
+        at = sector * SECTOR + skipped
+        told = b"".join(struct.pack(">II", count * SECTOR - (skipped if k == 0 else 0), kind) for k, (count, kind) in enumerate(extents))
+        for bits in (0, REQ_ONE):
+            sent += request(STATUS, at, (first + 10 + runs) * SECTOR - at, bits=bits)
+            wanted += chunk(BLOCK_STATUS, struct.pack(">I", 1) + (told[:8] if bits else told))
+    runner.serve("many runs", ["many", "m", f"R=ramp:{runs}"], sent, wanted)
 
 
 def ignored_blocks(runner):

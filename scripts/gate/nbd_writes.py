@@ -1,9 +1,11 @@
 """Exchanges of the NBD protocol: writes, zeros, and writes through `crypt` lines."""
+import resource
+import signal
 import struct
 
 from cipher import xts_encrypt
 from nbd_messages import (
-    DF, DISC, EINVAL, EIO, ENOSPC, EPERM, Export, FAST_ZERO, FLUSH, FUA, MOST, NO_HOLE, RAMP, READ, REQ_ONE, SECTOR, WRITE, ZEROES, begun,
+    DF, DISC, EINVAL, EIO, ENOSPC, ENOTSUP, EPERM, Export, FAST_ZERO, FLUSH, FUA, MOST, NO_HOLE, RAMP, READ, REQ_ONE, SECTOR, WRITE, ZEROES, begun,
     exports, faults_line, reply, request,
 )
 
@@ -28,6 +30,8 @@ def writes(runner):
     for length in (0, 1, 512, MOST + 1):
         asked += request(WRITE, 3, length, data=bytes(length)) + request(ZEROES, 3, length) + request(READ, 0, 8)
         told += reply(EINVAL if length > MOST else EPERM) + reply(EPERM) + kept.read(0, 8)
+    asked += request(ZEROES, 3, 9, bits=FAST_ZERO)
+    told += reply(EPERM)
     runner.run("writes of an export that may only be read", "kept", asked + request(FLUSH), told + reply())
     for bits in (FUA, NO_HOLE, FUA | NO_HOLE, DF, FAST_ZERO, 1 << 15):
         e = exports()["file"]
@@ -59,7 +63,7 @@ def writes(runner):
 
 def zeroes(runner):
     """Writes of zeros, each between bytes that aren't zero, by each flag; then longer ones than a write may be."""
-    for bits in (0, FUA, NO_HOLE, FUA | NO_HOLE, DF, REQ_ONE, FAST_ZERO, FUA | FAST_ZERO):
+    for bits in (0, FUA, NO_HOLE, FUA | NO_HOLE, DF, REQ_ONE, DF | FAST_ZERO, FAST_ZERO, FUA | NO_HOLE | FAST_ZERO, 2 * FAST_ZERO):
         e = exports()["file"]
         size = len(e.content)
         sent, wanted = begun(e)
@@ -67,10 +71,12 @@ def zeroes(runner):
             for length in (0, 1, 2, 511, 512, 513, 1024, 1025, size, 2**32 - 1):
                 sent += request(WRITE, 0, size, data=b"\x5a" * size) + request(ZEROES, offset, length, bits=bits) + request(READ, 0, size)
                 wanted += e.write(0, b"\x5a" * size)
-                if bits & ~(FUA | NO_HOLE):
+                if bits & ~(FUA | NO_HOLE | FAST_ZERO):
                     wanted += reply(EINVAL)
+                elif offset + length > size:
+                    wanted += reply(ENOSPC)
                 else:
-                    wanted += reply(ENOSPC) if offset + length > size else e.write(offset, bytes(length))
+                    wanted += reply(ENOTSUP) if bits & FAST_ZERO else e.write(offset, bytes(length))
                 wanted += e.read(0, size)
         runner.run(f"zeroes with flags {bits}", "file", sent + request(DISC), wanted, after=bytes(e.content))
     size = 80 << 20
@@ -129,3 +135,25 @@ def crypt(runner):
         runner.count(f"{label}: the image", open("F", "rb").read() == b"".join(xts_encrypt(key, count * k, it) for k, it in enumerate(units)))
         opened, told = begun(Export("b", plain.content))
         runner.serve(f"{label}: read back", ["back", "b", "F=ro:F"], opened + request(READ, 0, 16 * SECTOR), told + plain.read(0, 16 * SECTOR))
+
+
+def full(runner):
+    """A file may have no bytes after its eighth sector. What is written before it stays, and the reply to the write is ENOSPC."""
+    limit = 8 * SECTOR
+
+    def limited():
+        signal.signal(signal.SIGXFSZ, signal.SIG_IGN)
+        resource.setrlimit(resource.RLIMIT_FSIZE, (limit, limit))
+
+    for target, line in (("linear", "0 16 linear F 0"), ("crypt", f"0 16 crypt aes-xts-plain64 {'07' * 64} 0 F 0")):
+        open("F", "wb").write(bytes(16 * SECTOR))
+        open("full", "w").write(f"f,,,rw,{line}")
+        sent, wanted = begun(Export("f", bytes(16 * SECTOR), writable=True))
+        lost = []
+        for kind, offset, length, bits in ((WRITE, 0, 9 * SECTOR, 0), (WRITE, 7 * SECTOR, 9, FUA), (WRITE, 9 * SECTOR, 700, FUA), (ZEROES, 10 * SECTOR, 5, 0)):
+            sent += request(kind, offset, length, bits=bits, data=b"w" * length if kind == WRITE else b"")
+            wanted += reply(ENOSPC if offset + length > limit else 0)
+            lost += [offset // SECTOR] * (offset + length > limit)
+        sent += request(READ, 0, limit) + request(FLUSH)
+        wanted += reply(data=b"w" * limit) + reply()
+        runner.serve(f"no space, {target}", ["full", "f", "F=rw:F"], sent, wanted, lost, limited, b"Device")

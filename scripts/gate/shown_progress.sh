@@ -58,6 +58,12 @@ progress verify --all "${bare[@]}" data tree "$root"
 mib=$((mib / 2))
 progress format --grow "${salt[@]}" --blocks $((mib * 256)) data half
 
+# `assemble` reads data twice: for the copy, and for the tree.
+truncate -s 512M data
+mib=1024
+progress assemble --draw-from seed disk data
+rm disk
+
 # Of little nothing is shown.
 truncate -s 1M data
 "$program" format --progress --grow "${salt[@]}" data few > told 2> shown

@@ -30,14 +30,14 @@ class Cutter:
             call, _, _, path = it.read().rstrip("\n").split(" ", 3)
         return run.returncode, run.stdout, (call, path)
 
-    def cuts(self, words, kind, prepare):
+    def cuts(self, words, kind, prepare, end=0):
         """Yields the number, the call and its path after each run that was killed at it. `prepare` comes before each run. The last
-        run isn't killed, and must end with the status 0."""
+        run isn't killed, and must end with the status `end`."""
         for number in range(1, MOST):
             prepare()
             status, output, met = self.run(words, kind, number)
             if met is None:
-                if status:
+                if status != end:
                     raise Unlike(f"a run that isn't cut ends with the status {status}: {output[-200:]}")
                 return
             if status != -signal.SIGKILL:

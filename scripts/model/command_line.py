@@ -6,24 +6,26 @@ from files import WHOLE, Files, Noted, Stop, not_opened
 from images import Drawn, run_diff, run_dump, run_format, run_partitions, run_table, run_verify
 from nbd import Service
 from partitions import part_named
-from places import grow_place, open_place
+from places import grow_file, open_place
 from recovery import chart_of, check_size, facts_of as lost_facts, lines_of, looked_up, recovered, with_map
 from repairs import run_repair
 from replies import Json, Octets, ending_object
+from rescue_map import MapFault, marks_of
 from session import MOST_SECTORS, SUBMISSION_RULES, Session, Usage, check_request, costs
 from stack import SECTOR, Fault, FileImage, MemoryImage, Stack
 from tables import TextFault, read_stack
 from updates import run_update
 from verity import ImageFault
-from words import (OPTIONS, at_least, binding, bindings, cut_words, exactly, read_cache, read_on_stack, read_pass, the_number)
+from words import (OPTIONS, Mapped, at_least, binding, bindings, cut_words, exactly, read_cache, read_on_stack, read_pass, the_number)
 
 DONE, REFUSED, USAGE, FAULT = range(4)
 MOST_OF_A_TEXT = 1024 * 1024
+MOST_OF_A_MAP = 16 * 1024 * 1024
 TARGETS = ("linear", "striped", "zero", "error", "crypt", "verity", "zero_blocks", "sector_size",
-           "unstriped")
+           "unstriped", "healing")
 # Options and forms of words that a program may not have yet; without them they are wrong words.
 FORMS = ("all", "grow", "json", "map", "retries", "differing", "progress", "pass-cache", "parts", "input-stack", "store-file",
-         "exports", "fec", "bound-partitions", "disk")
+         "exports", "fec", "bound-partitions", "bound-maps", "disk")
 # Commands whose output is data for another program: their refusals go to standard error.
 OUTPUT_IS_DATA = ("cat", "nbd")
 # Commands whose STACK may be `-`, standard input; where that is the client's or the bytes', `-` is a wrong word.
@@ -52,16 +54,32 @@ def opened(name, kind, value, place, files):
     """What stands behind a name that is bound."""
     if kind in (b"zero", b"ramp"):
         return MemoryImage(value, kind == b"ramp")
+    if isinstance(value, Mapped):
+        return opened_mapped(value, place, files)
     path, part = value if isinstance(value, tuple) else (value, WHOLE)
     content = files.image(path, kind == b"rw", part)
     return FileImage(content, place, part if part != WHOLE else None)
+
+
+def opened_mapped(value, place, files):
+    """A file without the sectors that its map, which is read first, doesn't have."""
+    text = bytes(files.text(value.map_file))
+    image = FileImage(files.image(value.path, False), place)
+    try:
+        if len(text) > MOST_OF_A_MAP:
+            raise MapFault
+        marks = marks_of(text, image.sectors)
+    except MapFault:
+        raise not_opened("OtherFault", value.map_file) from None
+    image.lost = {at for at, had in enumerate(marks) if not had}
+    return image
 
 
 def resolved(words, files):
     """The bindings with each partition as a part of its disk."""
     found = []
     for name, kind, value in words:
-        if isinstance(value, tuple) and isinstance(value[1], bytes):
+        if isinstance(value, tuple) and not isinstance(value, Mapped) and isinstance(value[1], bytes):
             path, word = value
             disk = files.find(path)
             if not isinstance(disk, bytearray):
@@ -152,6 +170,8 @@ def run_write(options, words, files, given, features):
     read_cache(options)
     (path, name, first, source), rest = at_least(words, 4)
     first = the_number(first)
+    if path == source == b"-" and "input-stack" in features["forms"]:
+        raise Usage
     rest, text = begun(path, bindings(rest), files)
     node = given if source == b"-" else files.content(source)
     data = bytes(node[:(MOST_SECTORS + 1) * SECTOR])
@@ -206,10 +226,11 @@ def run_copy(options, words, files, _given, features):
     check_map(options)
     if name is None:
         disk = open_place(files, path, False)
+        stack = disk_stack(disk, features)
         if b"grow" in options:
-            grow_place(files, out_path, disk.sectors())
+            grow_file(files, out_path, disk.sectors())
         image = files.image(out_path, True)
-        return gone_over(options, b"disk", disk_stack(disk, features), image, files)
+        return gone_over(options, b"disk", stack, image, files)
     rest, text = begun(path, rest, files)
     out = files.image(out_path, True)
     stack = loaded(text, rest, files, features)
@@ -330,6 +351,8 @@ def forms_of(command, options, words):
         found.add("parts")
     if any(word.partition(b"=")[2].partition(b":")[0].startswith((b"ro#", b"rw#")) for word in words):
         found.add("bound-partitions")
+    if any(word.partition(b"=")[2].startswith(b"ro%") for word in words):
+        found.add("bound-maps")
     return found
 
 

@@ -10,10 +10,12 @@ MOST_DEVICES, MOST_LINES, MOST_DEPTH, MOST_COST = 64, 256, 8, 2**32
 RULES = [
     "DuplicateName", "TooMany", "NoSuchDevice", "StandsOnItself", "ZeroLength", "Gap", "TooLarge",
     "StripesDontDivide", "BeyondDevice", "LineBeyondTree", "TreeBeyondDevice", "NeedsReadOnly",
-    "LowerReadOnly", "TooDeep", "CostTooLarge", "UnitDoesntDivide", "IvOffset",
+    "LowerReadOnly", "TooDeep", "CostTooLarge", "UnitDoesntDivide", "IvOffset", "ParityDoesntCover",
 ]
 LEAF_RULES = ["DuplicateLeaf", "TooMany", "BadName", "TooLarge"]
 REMOVAL_RULES = ["NoSuchDevice", "InUse"]
+# The number of a rule that isn't its place among the kinds.
+NUMBERS = {"ParityDoesntCover": 61}
 
 
 class Refused(Exception):
@@ -24,7 +26,8 @@ class Refused(Exception):
         self.kind, self.kinds, self.place = kind, kinds, place
 
     def text(self):
-        return "refused %d %s%s" % (self.kinds.index(self.kind) + 1, self.kind, self.place)
+        number = NUMBERS.get(self.kind, self.kinds.index(self.kind) + 1)
+        return "refused %d %s%s" % (number, self.kind, self.place)
 
 
 def broken(kind, device=0, line=0):
@@ -146,6 +149,8 @@ class Configuration:
                 return "UnitDoesntDivide"
             if target.iv_offset % target.unit():
                 return "IvOffset"
+        if isinstance(target, Verity) and target.parity and not self.is_covered(target):
+            return "ParityDoesntCover"
         if self.reaches_beyond(line.length, target):
             return "BeyondDevice"
         if isinstance(target, Verity):
@@ -161,6 +166,19 @@ class Configuration:
             return "LowerReadOnly"
         return None
 
+    def is_covered(self, target):
+        """Whether parity covers the data and the whole tree, in blocks of one size."""
+        levels = Tree(target.data_block, target.hash_block, target.blocks).levels
+        return target.data_block == target.hash_block and target.parity.blocks >= target.blocks + sum(levels)
+
+    def ends_beyond(self, target):
+        """Whether what parity covers, or parity itself, reaches past its device."""
+        parity, size = target.parity, target.data_block // 512
+        rounds = -(-parity.blocks // (255 - parity.roots))
+        covered = (target.start + parity.blocks - target.blocks) * size
+        end = (parity.start + rounds * parity.roots) * size
+        return covered > self.lower(target.hash_device).sectors or end > self.lower(parity.device).sectors
+
     def reaches_beyond(self, length, target):
         if isinstance(target, (Linear, Crypt)):
             return target.offset + length > self.lower(target.device).sectors
@@ -171,7 +189,9 @@ class Configuration:
             )
         if isinstance(target, Verity):
             sectors = target.blocks * target.data_block // 512
-            return sectors > self.lower(target.device).sectors
+            if sectors > self.lower(target.device).sectors:
+                return True
+            return target.parity is not None and self.ends_beyond(target)
         if isinstance(target, Unstriped):
             last = target.offset + target.place(length - 1)
             return last >= self.lower(target.device).sectors
@@ -199,8 +219,10 @@ class Configuration:
         lowers = [self.read_cost(self.lower(argument), known) for argument in target.lower()]
         if isinstance(target, Verity):
             levels = len(Tree(target.data_block, target.hash_block, target.blocks).levels)
-            data, tree = lowers
-            return target.data_block // 512 * data + levels * (target.hash_block // 512) * tree
+            data, tree = lowers[:2]
+            # The other blocks of a round and its parity: 254 blocks.
+            healing = 254 * (target.data_block // 512) * max(lowers) if target.parity else 0
+            return target.data_block // 512 * data + levels * (target.hash_block // 512) * tree + healing
         if isinstance(target, Crypt):
             return target.unit() * lowers[0]
         return max(lowers, default=0)

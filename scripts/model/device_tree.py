@@ -13,7 +13,8 @@ def shown(path):
 
 def offset(target, place):
     if isinstance(target, Verity):
-        return target.start * target.hash_block // 512 if place else 0
+        starts = (0, target.start * target.hash_block, target.parity.start * target.data_block if target.parity else 0)
+        return starts[place] // 512
     return target.stripes[place][1] if isinstance(target, Striped) else target.offset
 
 

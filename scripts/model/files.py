@@ -133,12 +133,17 @@ class Files:
             raise not_opened("SameFile", path)
         self.opened.append((node, writable, part))
 
-    def content(self, path):
-        """What a file holds that is read as it is opened, and is only read."""
+    def text(self, path):
+        """What a file holds that is read and closed."""
         node = self.find(path)
         if node == "character":
             return bytearray()
         if not isinstance(node, bytearray):
             raise not_opened("OtherFault", path)
+        return node
+
+    def content(self, path):
+        """What a file holds that is read as it is opened, and is only read."""
+        node = self.text(path)
         self.opened.append((node, False, WHOLE))
         return node

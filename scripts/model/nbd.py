@@ -1,5 +1,6 @@
 """The service of a client of the NBD protocol: its messages in, the replies out."""
 
+import itertools
 import struct
 
 from stack import IGNORES_ZEROS, SECTOR, ZEROS, Fault
@@ -13,15 +14,15 @@ ACK, SERVER, INFORMATION, META_CONTEXT = 1, 2, 3, 4
 UNSUPPORTED, INVALID, UNKNOWN, TOO_BIG = (2**31 + kind for kind in (1, 3, 6, 9))
 EXPORT, NAME, BLOCK_SIZE = 0, 1, 3
 HAS_FLAGS, READ_ONLY, SEND_FLUSH, SEND_FUA, SEND_TRIM, SEND_WRITE_ZEROES = 1, 2, 4, 8, 32, 64
-SEND_DF, CAN_MULTI_CONN, SEND_CACHE = 128, 256, 1024
+SEND_DF, CAN_MULTI_CONN, SEND_CACHE, SEND_FAST_ZERO = 128, 256, 1024, 2048
 READ, WRITE, DISCONNECT, FLUSH, TRIM, CACHE, WRITE_ZEROES, BLOCK_STATUS = range(8)
-FUA, NO_HOLE, DF, REQ_ONE = 1, 2, 4, 8
+FUA, NO_HOLE, DF, REQ_ONE, FAST_ZERO = 1, 2, 4, 8, 16
 # The types of chunks, and the flag of the last one.
 NONE, OFFSET_DATA, OFFSET_HOLE, STATUS, ERROR, ERROR_OFFSET, LAST = 0, 1, 2, 5, 0x8001, 0x8002, 1
 CONTEXT, CONTEXT_NAME, NAMESPACE = 1, b"base:allocation", b"base:"
 HOLE_OF_ZEROS = 3
-MOST_EXTENTS, MOST_JOINED = 1024, 4096
-EPERM, EIO, EINVAL, ENOSPC = 1, 5, 22, 28
+MOST_EXTENTS, MOST_RUNS = 1024, 65536
+EPERM, EIO, EINVAL, ENOSPC, ENOTSUP = 1, 5, 22, 28, 95
 MOST_OF_AN_OPTION, MOST_OF_A_REQUEST = 65536, 32 * 1024 * 1024
 # Where the pieces of a READ end, and the blocks at the ends of one that are holes where they are zeros. A BLOCK_STATUS that
 # reads does so up to the end of a piece, or of a part of one where one extent is asked for, and tells zeros by such blocks.
@@ -166,7 +167,7 @@ class Service:
 
     def fields(self, device):
         flags = HAS_FLAGS | SEND_FLUSH | SEND_FUA | SEND_CACHE
-        flags |= SEND_TRIM | SEND_WRITE_ZEROES if device.writable else READ_ONLY
+        flags |= SEND_TRIM | SEND_WRITE_ZEROES | SEND_FAST_ZERO if device.writable else READ_ONLY
         if not device.writable and not any(leaf.writable for leaf in self.stack.configuration.leaves.values()):
             flags |= CAN_MULTI_CONN
         flags |= SEND_DF if self.structured else 0
@@ -309,7 +310,7 @@ class Service:
     def check(self, flags, command, offset, length):
         """The first fault of a request, in the documents' order."""
         known = [READ, WRITE, FLUSH, TRIM, CACHE, WRITE_ZEROES] + [BLOCK_STATUS] * self.may_tell_status()
-        own = {WRITE_ZEROES: NO_HOLE, READ: DF if self.structured else 0, BLOCK_STATUS: REQ_ONE}
+        own = {WRITE_ZEROES: NO_HOLE | FAST_ZERO, READ: DF if self.structured else 0, BLOCK_STATUS: REQ_ONE}
         if flags & ~(FUA | own.get(command, 0)) or command not in known or command == BLOCK_STATUS and not length:
             raise Refused(EINVAL)
         if command == FLUSH:
@@ -322,6 +323,8 @@ class Service:
             raise Refused(EPERM)
         if offset + length > self.size:
             raise Refused(ENOSPC if command in (WRITE, WRITE_ZEROES) else EINVAL)
+        if command == WRITE_ZEROES and flags & FAST_ZERO:
+            raise Refused(ENOTSUP)
 
     def done(self, command, flags, offset, length, data):
         """The bytes that a request gives."""
@@ -350,19 +353,17 @@ class Service:
         return extents_told(offset, [(end, known == ZEROS) for end, known in found[:ignores[0] if ignores else None]])
 
     def extents(self, offset, length, most):
-        """Where each extent ends, and what its lines alone say of it."""
-        extents, at, joined = [], offset // SECTOR, 0
+        """Where each extent ends, and what its lines alone say of it. The extents have at most 65,536 runs together."""
+        extents, at = [], offset // SECTOR
         sectors = -(-(offset % SECTOR + length) // SECTOR)
-        for known, count in self.stack.known_runs(self.device, at, sectors):
+        for known, count in itertools.islice(self.stack.known_runs(self.device, at, sectors), MOST_RUNS):
             at += count
-            if extents and extents[-1][1] == known and joined < MOST_JOINED:
+            if extents and extents[-1][1] == known:
                 extents[-1] = at, known
-                joined += 1
             elif len(extents) == most:
                 break
             else:
                 extents.append((at, known))
-                joined = 0
         return [(min(at * SECTOR, offset + length), known) for at, known in extents]
 
     def status_read(self, offset, end, most):

@@ -97,13 +97,35 @@ def open_place(files, text, writable):
 def grow_place(files, text, sectors):
     """Makes the file that an argument names at least so long; one that isn't there is made. A part of a file keeps its size."""
     try:
-        node = files.find(text)
+        files.find(text)
     except Stop as stop:
         if not stop.line.startswith(MISSING):
             raise
         if named_part(text) is not None:
             return
-        files.make(text)
-        node = files.find(text)
+    grow_file(files, text, sectors)
+
+
+def grow_file(files, path, sectors):
+    """Makes the file under a path at least so long; one that isn't there is made."""
+    try:
+        node = files.find(path)
+    except Stop as stop:
+        if not stop.line.startswith(MISSING):
+            raise
+        files.make(path)
+        node = files.find(path)
     if isinstance(node, bytearray):
         node.extend(bytes(max(0, sectors * SECTOR - len(node))))
+
+
+def shrink_place(files, text, sectors):
+    """Makes the file that an argument names at most so long. A part of a file keeps its size."""
+    try:
+        node = files.find(text)
+    except Stop as stop:
+        if not stop.line.startswith(MISSING) or named_part(text) is None:
+            raise
+        return
+    if isinstance(node, bytearray):
+        del node[sectors * SECTOR:]

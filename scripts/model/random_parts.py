@@ -3,6 +3,7 @@
 import random
 from dataclasses import dataclass
 
+from rescue_map import text_of
 from strange_words import LEAF_NAMES, STRANGE_NUMBERS
 from tables import PREFIX
 
@@ -120,6 +121,8 @@ class Dice:
                 words.append(b"%s=%s:%s" % (name, kind, path))
                 if self.has("forms", "parts") and self.chance(0.3):
                     words[-1:] = self.parts(name, path, len(content) // 512)
+                elif self.has("forms", "bound-maps") and self.chance(0.15):
+                    words[-1] = self.mapped(name, path, len(content) // 512)
         if self.chance(0.04):
             self.spoil_bindings(words)
         return words
@@ -136,6 +139,15 @@ class Dice:
         names = [name] + [b"%s2" % name[:200]]
         kinds = [b"ro" if self.chance(0.4) else b"rw" for _ in places]
         return [b"%s=%s@%d+%d:%s" % (one, kind, *place, path) for one, kind, place in zip(names, kinds, places)]
+
+    def mapped(self, name, path, sectors):
+        """A file with a map that lacks some of its sectors, mostly few; seldom one of another size, or none."""
+        sectors += self.pick([-1, 1]) if self.chance(0.05) else 0
+        had = self.pick([0.5, 0.9, 1])
+        text = text_of([self.chance(had) for _ in range(sectors)], self.chance(0.2))
+        if self.chance(0.05):
+            text = text[:self.below(len(text))]
+        return b"%s=ro%%%s:%s" % (name, self.new_file(text, b"m"), path)
 
     def spoil_bindings(self, words):
         """Puts one binding in that may be refused, or is at the edge of it."""

@@ -197,7 +197,7 @@ class Services(Recoveries):
         if self.chance(0.05):
             return Request(READ, offset, length, cookie=self.cookie(), flags=fua + 4)
         if self.chance(share * 0.3):
-            return Request(WRITE_ZEROES, offset, length, cookie=self.cookie(), flags=fua + self.pick([0, 2]))
+            return Request(WRITE_ZEROES, offset, length, cookie=self.cookie(), flags=fua + self.pick([0, 0, 2, 2, 16, 18]))
         if self.chance(share):
             return Request(WRITE, offset, data=self.bytes_to_write(length), cookie=self.cookie(), flags=fua)
         return Request(READ, offset, length, cookie=self.cookie(), flags=fua)

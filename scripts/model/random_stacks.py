@@ -3,6 +3,7 @@
 import re
 
 from configuration import LIMIT
+from parity import covered, parity_of
 from random_parts import Dice
 from strange_words import (
     LEAF_NAMES, NAMES, OPTION_WORDS, SIZES, STRANGE_BYTES, STRANGE_NAMES, STRANGE_NUMBERS, TARGET_WORDS,
@@ -302,7 +303,7 @@ class Stacks(Dice):
         offset = self.below(leaf.sectors - data_block // 512)
         most = (leaf.sectors - offset) * 512 // data_block
         blocks = self.pick([1, most, self.random.randint(1, most)])
-        data = stack.images[leaf.name].read(offset, blocks * data_block // 512)
+        data = stack.images[leaf.name].stored(offset, blocks * data_block // 512)
         if self.chance(0.4):
             zeroed = self.random.randrange(blocks) * data_block
             data = data[:zeroed] + bytes(data_block) + data[zeroed + data_block:]
@@ -312,14 +313,15 @@ class Stacks(Dice):
         hashes = b"T%d" % len(words)
         kind = self.pick([b"ro", b"rw"])
         words.append(b"%s=%s:%s" % (hashes, kind, self.new_file(image, b"tree")))
+        healing = self.healing_words(words, tree, data, image) if self.has("targets", "healing") and self.chance(0.6) else []
         texts, device, tree_device = [], leaf.name, hashes
-        if offset or self.chance(0.4):
+        if offset or healing or self.chance(0.4):
             device = PREFIX + b"under"
             texts.append(b"under,,,ro," + self.window(leaf.name, offset, leaf.sectors - offset))
         if self.chance(0.3):
             tree_device = PREFIX + b"roots"
             texts.append(b"roots,,,ro," + self.window(hashes, 0, len(image) // 512))
-        line = self.verity_line(tree, device, tree_device, root, salt)
+        line = self.verity_line(tree, device, tree_device, root, salt, healing)
         texts.append(b"v%d,,,%s" % (len(words), line))
         if kind == b"rw":
             name = b"tree%d" % len(words)
@@ -339,6 +341,25 @@ class Stacks(Dice):
             root = bytes(31) + root[:1]
         return bytes(image), root
 
+    def healing_words(self, words, tree, data, image):
+        """The words for parity of data and tree in a new leaf, some with a rule broken; none where the blocks differ in size."""
+        if tree.data_block != tree.hash_block:
+            return []
+        size, roots, first = tree.data_block, self.pick([2, 2, 2, 3, 8, 24]), self.pick([0, 0, 1])
+        area = covered(data, image, size, tree.blocks, tree.start)
+        needed, most = tree.blocks + sum(tree.levels), len(area) // size
+        blocks = self.pick([needed, most])
+        stored = bytes(first * size) + parity_of(area[:blocks * size], size, roots)
+        if self.chance(0.1):
+            stored = stored[:-512]
+        blocks = self.pick([blocks] * 10 + [needed - 1, most + 1, 0, 2**64 - 1])
+        name = b"P%d" % len(words)
+        words.append(b"%s=ro:%s" % (name, self.new_file(stored, b"parity")))
+        pairs = [(b"use_fec_from_device", name), (b"fec_roots", b"%d" % roots), (b"fec_blocks", b"%d" % blocks),
+                 (b"fec_start", b"%d" % first)]
+        self.random.shuffle(pairs)
+        return [b" ".join(pair) for pair in pairs]
+
     def window(self, name, offset, sectors):
         """The lines of a device on the sectors of another one from an offset on."""
         if self.chance(0.5):
@@ -352,7 +373,7 @@ class Stacks(Dice):
             lines.append(b"%d %d linear %s %d" % (at + 1, rest, name, offset + at + 1))
         return b",".join(lines)
 
-    def verity_line(self, tree, device, hashes, root, salt):
+    def verity_line(self, tree, device, hashes, root, salt, healing):
         """Flag and line of a device that checks a tree, some with a rule or two broken."""
         blocks, start, flag = tree.blocks, tree.start, b"ro"
         length = tree.data_sectors()
@@ -367,8 +388,11 @@ class Stacks(Dice):
         line = b"%s,0 %d verity 1 %s %s %d %d %d %d sha256 %s %s" % (
             flag, length, device, hashes, tree.data_block, tree.hash_block, blocks, start,
             root.hex().encode(), salt.hex().encode() or b"-")
-        options = [b"", b"", b" 0", b" 1 ignore_zero_blocks", b" 1 ignore_zero_blocks", b" 1 panic_on_corruption",
-                   b" 3 try_verify_in_tasklet ignore_zero_blocks restart_on_corruption"]
+        options = [[], [], [], [b"ignore_zero_blocks"], [b"ignore_zero_blocks"], [b"panic_on_corruption"],
+                   [b"try_verify_in_tasklet", b"ignore_zero_blocks", b"restart_on_corruption"]]
         if self.chance(0.04):
             line = line.rpartition(b" ")[0] + b" " + b"5a" * self.pick([255, 256, 257])
-        return line + self.pick(options)
+        words = self.pick(options) + healing
+        self.random.shuffle(words)
+        count = len(b" ".join(words).split())
+        return line + (b" %d " % count + b" ".join(words) if words or self.chance(0.2) else b"")

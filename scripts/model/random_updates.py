@@ -45,8 +45,10 @@ class Updates(Disks):
         return [stem + b".data", stem + b".hash"]
 
     def copy_of(self, stem, data, area, it):
-        """A copy of the release: damaged, with each second block changed, or of other bytes."""
-        kind = self.random.randrange(4)
+        """A copy of the release: damaged, with each second block changed, of other bytes, or another release."""
+        kind = self.random.randrange(5)
+        if kind == 4:
+            return self.seed_of(stem, it)
         if kind == 0:
             lies = bytearray(data)
             for at in range(self.random.randrange(2) * it.data_block, len(lies), 2 * it.data_block):
@@ -56,6 +58,15 @@ class Updates(Disks):
             self.files[stem] = self.random.randbytes(self.pick([0, 512, len(data)]))
             return [stem, stem]
         return self.image_of(stem, data, area, it, 0.8)
+
+    def seed_of(self, stem, new):
+        """Another release, whose blocks are at other places."""
+        seed = Planted(self, (new.data_block, new.hash_block, (new.blocks,)))
+        seed.is_bare, seed.salt = False, new.salt if self.chance(0.9) else seed.salt
+        seed.contents = self.moved(self.moved(list(new.contents)))
+        seed.blocks = len(seed.contents)
+        area = seed.made()[1]
+        return self.image_of(stem, b"".join(seed.contents), area, seed, 0.3)
 
     def older(self, new, whole, area):
         """The names of DATA and HASH: an image of another size or salt, one with other blocks, the release, or none."""
@@ -177,6 +188,8 @@ class Updates(Disks):
             words.append(b"--json")
         if self.has("forms", "progress") and self.chance(0.1):
             words.append(b"--progress")
+        if self.chance(0.1):
+            words.append(b"--no-index")
         if self.chance(0.02):
             words.append(self.pick([b"--check", b"--no-superblock", b"--hash-offset=512", b"--old-pin=pin"]))
         return Run([b"update"] + self.shuffled(words) + names + release + copies)

@@ -37,6 +37,10 @@ def block_at(image, at, size):
     return bytes(image[at:at + size]) if at + size <= len(image) // SECTOR * SECTOR else None
 
 
+# How many bytes are fetched by one read.
+MOST = 1 << 20
+
+
 def line_of(height, index, found, writes):
     name = "data %d" % index if height == 0 else "hash %d %d" % (height - 1, index)
     return "%s %s %s" % ("repaired" if writes else "repairable", name, found)
@@ -100,6 +104,41 @@ class Repair:
                 if block and digest(self.salt, block) == self.digests[index] != digest(self.salt, there):
                     data[at:at + size] = block
                     yield "moved data %d from %d" % (index, source)
+
+    def seeds(self, data, copies, lists):
+        """A line for each data block that isn't good and is copied from where the list of a copy has it at another place."""
+        for number, (copy, listed) in enumerate(zip(copies, lists), 1):
+            for index in range(self.tree.blocks) if listed else ():
+                source = listed.elsewhere(self.digests[index], index) if self.lacks(data, index) else None
+                if source is None:
+                    continue
+                (at, size), (source_at, _) = self.place(0, index), self.place(0, source)
+                block = block_at(copy, source_at, size)
+                if block and digest(self.salt, block) == self.digests[index]:
+                    data[at:at + size] = block
+                    yield line_of(0, index, "copy %d" % number, True)
+
+    def fetches(self, data, copies):
+        """A line for each data block that isn't good and that a copy has, from one copy after another. Neighbouring ones are read by one read
+        of at most 1 MiB, which isn't made where the copy ends before them."""
+        for number, copy in enumerate(copies, 1):
+            lacking = [it for it in range(self.tree.blocks) if self.lacks(data, it)]
+            while lacking:
+                count = 1
+                while count < min(len(lacking), MOST // self.tree.data_block) and lacking[count] == lacking[0] + count:
+                    count += 1
+                run, lacking = lacking[:count], lacking[count:]
+                if block_at(copy, *self.place(0, run[-1])) is None:
+                    continue
+                for index in run:
+                    at, size = self.place(0, index)
+                    block = block_at(copy, at, size)
+                    if digest(self.salt, block) == self.digests[index]:
+                        data[at:at + size] = block
+                        yield line_of(0, index, "copy %d" % number, True)
+
+    def lacks(self, data, index):
+        return index in self.digests and digest(self.salt, block_at(data, *self.place(0, index))) != self.digests[index]
 
     def passes(self, whole, copies, writes, parity):
         """The same, and one for each lost block that parity makes again; anew where one of these was a hash block."""

@@ -2,6 +2,7 @@
 
 from cipher import xts_decrypt, xts_encrypt
 from configuration import Leaf
+from parity import WORD, summed, total
 from tables import LARGE_UNITS, ZERO_BLOCKS, Crypt, Error, Linear, Striped, Unstriped, Verity, Zero
 from verity import Tree, digest
 
@@ -21,6 +22,8 @@ class Fault(Exception):
 
 ERROR_TARGET = "fault 1 ErrorTarget"
 MISMATCH = "fault 2 Mismatch"
+# The faults that parity can restore: those of lines, not of devices.
+HEALED = (ERROR_TARGET, MISMATCH)
 
 
 class MemoryImage:
@@ -34,6 +37,8 @@ class MemoryImage:
             return bytes(count * SECTOR)
         return b"".join(self.sector(at) for at in range(first, first + count))
 
+    stored = read
+
     def sector(self, at):
         return self.changed.get(at) or bytes([at % 256 if self.ramp else 0]) * SECTOR
 
@@ -45,13 +50,20 @@ class MemoryImage:
 class FileImage:
     """The whole sectors of a file's bytes, as many as it had when it was opened, or a part of them.
 
-    Where it is shorter by now, what is gone can't be read; a write makes it longer again."""
+    Where it is shorter by now, what is gone can't be read; a write makes it longer again. Nor can what is lost, as a map says."""
 
     def __init__(self, content, place, part=None):
         self.content, self.place = content, place
         self.begin, self.sectors = part or (0, len(content) // SECTOR)
+        self.lost = ()
 
     def read(self, first, count):
+        if any(first <= at - self.begin < first + count for at in self.lost):
+            raise Fault("fault 3 Device %d" % self.place)
+        return self.stored(first, count)
+
+    def stored(self, first, count):
+        """What the file has, also of sectors that are lost."""
         first += self.begin
         if (first + count) * SECTOR > len(self.content):
             raise Fault("fault 3 Device %d" % self.place)
@@ -227,7 +239,7 @@ class Stack:
         return xts_decrypt(target.key, self.unit_number(target, unit), data)
 
     def read_block(self, target, block):
-        """A verified data block: each hash block from the root down, then the block itself."""
+        """A verified data block: each hash block from the root down, then the block itself, or what parity restores."""
         tree = Tree(target.data_block, target.hash_block, target.blocks, target.start)
         hash_device = self.configuration.lower(target.hash_device)
         expected, size = target.digest, target.hash_block // SECTOR
@@ -239,11 +251,44 @@ class Stack:
         zeros = bytes(target.data_block)
         if ZERO_BLOCKS in target.options and expected == digest(target.salt, zeros):
             return zeros
-        size = target.data_block // SECTOR
-        data = self.read_run(self.configuration.lower(target.device), block * size, size)
+        try:
+            return self.checked(target, self.covered(target, block), expected)
+        except Fault as own:
+            if target.parity is None or own.text not in HEALED:
+                raise
+            return self.healed(target, block, expected, own)
+
+    def checked(self, target, data, expected):
         if digest(target.salt, data) != expected:
             raise Fault(MISMATCH)
         return data
+
+    def healed(self, target, block, expected, own):
+        """The block that the others of its round and the parity give, if it has the digest; a failed attempt is the block's own fault."""
+        try:
+            return self.checked(target, self.restored(target, block), expected)
+        except Fault as fault:
+            raise own if fault.text in HEALED else fault
+
+    def covered(self, target, at):
+        """Covered block `at`: the data blocks, then the hash device's from the tree on."""
+        size = target.data_block // SECTOR
+        if at < target.blocks:
+            return self.read_run(self.configuration.lower(target.device), at * size, size)
+        place = target.start + at - target.blocks
+        return self.read_run(self.configuration.lower(target.hash_device), place * size, size)
+
+    def restored(self, target, block):
+        """The sum of a round's other blocks and of each codeword's bytes of parity: with the lost block all sum to zeros."""
+        parity, size = target.parity, target.data_block // SECTOR
+        places = WORD - parity.roots
+        rounds = -(-parity.blocks // places)
+        others = [at for at in range(block % rounds, parity.blocks, rounds) if at != block]
+        blocks = [self.covered(target, at) for at in others]
+        first = (parity.start + block % rounds * parity.roots) * size
+        stored = self.read_run(self.configuration.lower(parity.device), first, size * parity.roots)
+        sums = bytes(total(stored[at:at + parity.roots]) for at in range(0, len(stored), parity.roots))
+        return summed([*blocks, sums], target.data_block)
 
     def write_run(self, lower, first, data):
         if isinstance(lower, Leaf):

@@ -30,6 +30,8 @@ ON_CORRUPTION = (b"restart_on_corruption", b"panic_on_corruption")
 TASKLET = b"try_verify_in_tasklet"
 # The order in which the kernel prints them.
 PRINTED_OPTIONS = (*ON_CORRUPTION, ZERO_BLOCKS, TASKLET)
+# A value follows each; a line has all four or none.
+PARITY_OPTIONS = (b"use_fec_from_device", b"fec_roots", b"fec_blocks", b"fec_start")
 
 
 class TextFault(Exception):
@@ -112,6 +114,17 @@ class Crypt:
 
 
 @dataclass
+class Parity:
+    device: bytes
+    roots: int
+    blocks: int
+    start: int
+
+    def words(self):
+        return [b"use_fec_from_device", self.device, b"fec_blocks", self.blocks, b"fec_start", self.start, b"fec_roots", self.roots]
+
+
+@dataclass
 class Verity:
     device: bytes
     hash_device: bytes
@@ -122,14 +135,15 @@ class Verity:
     digest: bytes
     salt: bytes
     options: list = field(default_factory=list)
+    parity: Parity | None = None
 
     def lower(self):
-        return [self.device, self.hash_device]
+        return [self.device, self.hash_device] + ([self.parity.device] if self.parity else [])
 
     def words(self):
         words = [b"verity", 1, self.device, self.hash_device, self.data_block, self.hash_block]
         words += [self.blocks, self.start, b"sha256", spelled(self.digest), spelled(self.salt)]
-        return words + counted(self.options)
+        return words + counted(self.options + (self.parity.words() if self.parity else []))
 
 
 @dataclass
@@ -241,19 +255,22 @@ def need(value, kind):
     return value
 
 
-def read_options(words, is_known):
-    """The option words behind their count; `is_known` is asked with those before a word."""
+def read_options(words, is_known, valued=()):
+    """The options after the count of words, and the values of those that have one; `is_known` is called with the options
+    before each."""
     if not words:
-        return []
+        return [], {}
     count = the_number(words[0])
     if count != len(words) - 1:
         raise TextFault("ArgCount")
-    options = []
-    for word in words[1:]:
+    options, values, rest = [], {}, iter(words[1:])
+    for word in rest:
         if word in options or not is_known(word, options):
             raise TextFault("Option")
         options.append(word)
-    return options
+        if word in valued:
+            values[word] = next(rest, None)
+    return options, values
 
 
 def read_linear(words, _features):
@@ -302,7 +319,19 @@ def read_crypt(words, features):
         sized = any(option in UNIT_OPTIONS for option in before)
         return word == LARGE_UNITS or (word in UNIT_OPTIONS and not sized)
 
-    return Crypt(key, iv_offset, device, offset, read_options(words[5:], is_known))
+    return Crypt(key, iv_offset, device, offset, read_options(words[5:], is_known)[0])
+
+
+def read_parity(values):
+    if not values:
+        return None
+    device, roots, blocks, start = PARITY_OPTIONS
+    name = the_device(need(values.get(device), "Option"))
+    count = the_number(need(values.get(roots), "Option"))
+    if not 2 <= count <= 24:
+        raise TextFault("Option")
+    covered = the_number(need(values.get(blocks), "Option"))
+    return Parity(name, count, covered, the_number(need(values.get(start), "Option")))
 
 
 def read_verity(words, features):
@@ -321,10 +350,13 @@ def read_verity(words, features):
     def is_known(word, before):
         if word in ON_CORRUPTION:
             return not set(ON_CORRUPTION) & set(before)
+        if word in PARITY_OPTIONS:
+            return "healing" in features
         return word == TASKLET or word == ZERO_BLOCKS and "zero_blocks" in features
 
-    options = sorted(read_options(words[10:], is_known), key=PRINTED_OPTIONS.index)
-    return Verity(device, hash_device, data_block, hash_block, blocks, start, digest, salt, options)
+    options, values = read_options(words[10:], is_known, PARITY_OPTIONS)
+    options = sorted((it for it in options if it not in values), key=PRINTED_OPTIONS.index)
+    return Verity(device, hash_device, data_block, hash_block, blocks, start, digest, salt, options, read_parity(values))
 
 
 def read_unstriped(words, _features):

@@ -1,15 +1,17 @@
 """`update`: an image that is brought in place to the release of a pin."""
 
+from differences import Bad, Stored
+from files import Stop
 from images import surveyed
 from pins import read_pin
-from places import grow_place, open_place
+from places import grow_place, open_place, shrink_place
 from repairs import Repair, opened
 from replies import Json
 from stack import SECTOR
 from verity import SUPERBLOCK_FAULTS, ImageFault, read_superblock
 from words import read_update
 
-DONE = 0
+DONE, FAULT = 0, 3
 SIGNATURE = b"verity\0\0"
 
 
@@ -24,9 +26,14 @@ class Listed:
 
     def source(self, wanted, block, upwards):
         """The nearest block with that digest, if it is before or after the block, as is asked."""
+        nearest = self.elsewhere(wanted, block)
+        return None if nearest is None or (nearest < block) != upwards else nearest
+
+    def elsewhere(self, wanted, block):
+        """The nearest block with that digest, unless it is the block itself."""
         same = self.blocks.get(wanted[:8], [])
         nearest = min(same, key=lambda it: (abs(it - block), it), default=block)
-        return None if nearest == block or (nearest < block) != upwards else nearest
+        return None if nearest == block else nearest
 
 
 def listed_blocks(image, release):
@@ -40,32 +47,49 @@ def listed_blocks(image, release):
     return Listed(image, old.tree())
 
 
+def check_root(image, pin):
+    """Ends an update to a release that is too small for its tree, or whose root hash block isn't the pin's."""
+    release = Stored(image, 0, None, pin, "second")
+    try:
+        if release.tree.levels:
+            release.check(len(release.tree.levels) - 1, 0)
+    except Bad as bad:
+        raise Stop(str(bad).encode(), FAULT) from None
+
+
 def run_update(options, words, files, _given, _features):
     *paths, copies = read_update(options, words)
     pin = read_pin(files, options[b"pin"])
     files.opened.clear()
-    superblock = read_superblock(open_place(files, copies[-1][1], False).image())
+    release = open_place(files, copies[-1][1], False).image()
+    superblock = read_superblock(release)
     pin.check(superblock)
+    check_root(release, pin)
     tree = superblock.tree()
     hash_sectors = (1 + sum(tree.levels)) * tree.hash_block // SECTOR
-    for path, sectors in zip(paths, (tree.data_sectors(), hash_sectors)):
+    lengths = list(zip(paths, (tree.data_sectors(), hash_sectors)))
+    for path, sectors in lengths:
         grow_place(files, path, sectors)
     (data, image), _, copies = opened(files, paths, 0, copies, True)
     if tree.data_sectors() > len(data) // SECTOR or hash_sectors > len(image) // SECTOR:
         raise ImageFault("TooSmall", SUPERBLOCK_FAULTS)
-    listed = listed_blocks(image, superblock)
+    listed, *seeds = [None if b"no-index" in options else listed_blocks(it, superblock) for it in (image, *copies[1][:-1])]
     if image[:len(SIGNATURE)] == SIGNATURE:
         image[:SECTOR] = bytes(SECTOR)
     repair, lines, bad = Repair(tree, superblock.salt, pin.root, 0), [], []
+    lines += repair.lines((data, image), copies, True, [], 1)
     if listed:
-        lines += repair.lines((data, image), copies, True, [], 1)
         lines += repair.moves(data, listed)
+    lines += repair.seeds(data, copies[0], seeds)
+    lines += repair.fetches(data, copies[0])
     lines += repair.lines((data, image), copies, True, bad)
     lines = [line.encode() for line in lines]
     if bad:
         found, status = surveyed(data, image, tree, superblock.salt, pin.root, False)
         return [] if b"json" in options else lines + found, status
     image[:SECTOR] = superblock.encode()
+    for path, sectors in lengths:
+        shrink_place(files, path, sectors)
     return told(tree, lines, b"json" in options), DONE
 
 

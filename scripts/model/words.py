@@ -1,6 +1,7 @@
 """The words of a command line: options, their values, bindings, and what each command takes of them."""
 
 import re
+from typing import NamedTuple
 
 from session import Usage
 from stack import SECTOR
@@ -19,10 +20,10 @@ OPTIONS = {
     "dump": (b"hash-offset", b"json", b"pin"),
     "table": (*TREE, b"hash-offset", b"root-hash-file", b"name", b"no-superblock", b"pin"),
     "repair": (*TREE, b"hash-offset", b"root-hash-file", b"no-superblock", b"check", b"fec", b"fec-roots", b"pin"),
-    "update": (b"json", b"progress", b"pin"),
+    "update": (b"json", b"no-index", b"progress", b"pin"),
     "load": (b"json", b"tree"), "read": (b"cache",), "write": (b"cache",), "session": (b"cache",), "nbd": (b"cache", b"all"),
-    "scan": (b"cache", b"map", b"retries", b"progress", b"json", b"chart", b"disk"),
-    "copy": (b"cache", b"map", b"retries", b"differing", b"progress", b"disk", b"grow"),
+    "scan": (b"cache", b"map", b"retries", b"no-scrape", b"progress", b"json", b"chart", b"disk"),
+    "copy": (b"cache", b"map", b"retries", b"no-scrape", b"differing", b"progress", b"disk", b"grow"),
     "cat": (b"cache", b"first", b"count", b"progress"), "store": (b"cache", b"first", b"progress"),
     "partitions": (b"sector-size", b"stack", b"root", b"json", b"pin", b"writable"),
     "diff": (*TREE, b"no-superblock", b"all", b"runs", b"json", b"old-hash-offset", b"hash-offset", b"old-root-hash-file",
@@ -31,7 +32,7 @@ OPTIONS = {
 }
 OPTIONS = {name: (b"quiet", *options) for name, options in OPTIONS.items()}
 FLAGS = (b"quiet", b"all", b"stack", b"no-superblock", b"grow", b"json", b"differing", b"progress", b"check", b"chart", b"tree", b"writable",
-         b"disk")
+         b"disk", b"no-scrape", b"no-index")
 # veritysetup's names of options that have another here.
 OTHER_NAMES = {b"data-block-size": b"data-block", b"hash-block-size": b"hash-block",
                b"data-blocks": b"blocks", b"fec-device": b"fec"}
@@ -139,13 +140,22 @@ def partition_in(kind):
     return kind, word
 
 
+class Mapped(NamedTuple):
+    """A file that is bound with its map, which is in another one."""
+
+    path: bytes
+    map_file: bytes
+
+
 def binding(word):
     """The name, the kind, and the number of sectors or the file of a binding; of a part of a file, that part too, or the word that
-    names a partition."""
+    names a partition; of a file with a map, both files."""
     name, equals, rest = word.partition(b"=")
     kind, colon, value = rest.partition(b":")
     if not equals or not colon:
         raise Usage
+    if kind.startswith(b"ro%"):
+        return name, b"ro", Mapped(value, kind[3:])
     if kind.startswith((b"ro#", b"rw#")):
         kind, word = partition_in(kind)
         return name, kind, (value, word)

@@ -1,2 +1,17 @@
+mod AssembledLemmas
+mod DataLawLemmas
+mod DataLemmas
 mod EndLemmas
+mod FieldLemmas
+mod FoundLemmas
+mod HeldLemmas
+mod KindLemmas
+mod LawLemmas
+mod LinearLemmas
+mod PairLemmas
+mod PlanLemmas
+mod PrintLemmas
+mod RootLemmas
+mod SpanLemmas
+mod SuperLemmas
 mod TableLemmas

@@ -5,3 +5,6 @@ pub mod Steps
 pub mod StepEnds
 pub mod Ends
 pub mod Commands
+pub mod Laws
+pub mod DataLaws
+pub mod PrintLaws

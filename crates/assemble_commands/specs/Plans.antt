@@ -1,5 +1,6 @@
 -- What a disk is to hold.
-use Rattle.std.specs.Prelude.{◌≡◌, ◌≢◌, ◌⊎◌, ◌==◌, ◌-◌, ℕ, Bool, true, false, List, [], ◌∷◌, ◌++◌, codes, drop, length, replicate, take, if◌then◌else◌}
+use Rattle.std.specs.Prelude.{◌≡◌, ◌≢◌, ◌⊎◌, ◌==◌, ◌+◌, ◌-◌, ◌*◌, ◌/◌, ℕ, Bool, true, false, List, [], ◌∷◌, ◌++◌, codes, drop, length, replicate, take, if◌then◌else◌}
+use Rattle.block_device.specs.Device.{capped}
 use Rattle.command_line.specs.words.Assemble.{AssembleRecord}
 use Rattle.disk_layout.specs.Made.{partition_at}
 use Rattle.disk_layout.specs.Parts.{disk_parts}
@@ -13,13 +14,17 @@ use Rattle.partition_table.specs.declared.sector_size.SectorSize.TheVariants.{By
 use Rattle.tree_shape.specs.Shape.{ShapeRecord}
 use Rattle.verity_format.specs.Image.{image_sectors}
 use Rattle.verity_format.specs.Options.{superblock_with}
-use Rattle.verity_format.specs.Superblock.{shape_of}
+use Rattle.verity_format.specs.Superblock.{IsSuperblock, shape_of}
 use Rattle.assemble_commands.specs.declared.kinds.DiskKinds.{DiskKinds}
 use Rattle.assemble_commands.specs.declared.plan.DiskPlan.{DiskPlan}
 use Rattle.assemble_commands.specs.Identifiers.{identifier, seed_options}
 
 abbrev pub size_of : ℕ → SectorSize
 size_of bytes = if bytes == 4096 then Bytes4096 else Bytes512
+
+-- so many sectors of 512 bytes, or the next number of them that are whole sectors of the disk
+abbrev pub padded : ℕ → ℕ → ℕ
+padded bytes sectors = if bytes == 4096 then capped (sectors + 7) / 8 * 8 else sectors
 
 -- The parity of an image with a tree of that shape takes so many sectors, with two bytes of it in a codeword. Without parity, or if data
 -- and hash blocks differ in size, it takes none.
@@ -28,13 +33,14 @@ IsParityCount shape hash_sectors false n = n ≡ 0
 IsParityCount shape hash_sectors true n = TakesSectors shape hash_sectors 2 n ⊎ ((shape.data_block ≢ shape.hash_block) × (n ≡ 0))
 
 -- The salt and the identifier are those of the seed, or drawn; the image has all whole blocks of the data. The parts lie one after the
--- other, as large as data, hash image and parity.
+-- other, as large as data, hash image and parity; that of the data ends with a whole sector of the disk.
 pub record IsPlan {T G : Type 0} (d : Drawing T G) (a : AssembleRecord) (sectors : ℕ) (kinds : DiskKinds) (plan : DiskPlan) : Type 0 where
   pub drawn : AreGiven d (seed_options a.seed) plan.options
   pub shaped : HasShape (superblock_with plan.options sectors) plan.superblock
+  pub is_superblock : IsSuperblock plan.superblock
   pub parity_count : ℕ
   pub parity : IsParityCount (shape_of plan.superblock) (image_sectors (shape_of plan.superblock)) a.parity parity_count
-  pub parts : plan.parts ≡ disk_parts sectors (image_sectors (shape_of plan.superblock)) parity_count
+  pub parts : plan.parts ≡ disk_parts (padded a.sector_size sectors) (image_sectors (shape_of plan.superblock)) parity_count
   pub kinds_are : plan.kinds ≡ kinds
   pub size : plan.size ≡ size_of a.sector_size
   pub has_parity : plan.has_parity ≡ a.parity

@@ -1,5 +1,5 @@
 -- The steps of filling a disk, by the opener's calls.
-use Rattle.std.specs.Prelude.{◌≡◌, ◌-◌, ◌||◌, ℕ, nat_lt, Bool, true, false, List, Ok, replicate}
+use Rattle.std.specs.Prelude.{◌≡◌, ◌-◌, ◌^◌, ◌≤◌, ◌||◌, ℕ, nat_lt, Bool, true, false, List, Ok, replicate}
 use Rattle.block_device.specs.Device.{Device, synced}
 use Rattle.device_adapters.specs.declared.part.Part.{Part}
 use Rattle.device_adapters.specs.Copying.{AreCopied}
@@ -62,6 +62,7 @@ ClearsEnds w files path needed = OnDisk w files path (Clears needed)
 -- both copies of the table of such a disk and the master boot record were written, and synced
 pub record Tables (plan : DiskPlan) (made : MadeImage) (old new : Device) : Type 0 where
   pub long : is_short old.size plan.parts.sectors ≡ false
+  pub few : old.size ≤ 2 ^ 54
   pub puts : PutsEnds old (front_bytes (disk_of old plan.size) (disk_id made) (partitions_of plan made)) (back_sector (disk_of old plan.size))
       (back_bytes (disk_of old plan.size) (disk_id made) (partitions_of plan made)) new
 

@@ -12,8 +12,10 @@ use crate::filling::{copy_part, grow_disk, make_part};
 use crate::kinds::{DiskKinds, disk_kinds};
 use crate::parity::protect_parts;
 use crate::plan::{DiskPlan, plan_disk};
+use crate::watching::watched_data;
 use block_device::BlockDev;
 use command_line::{AssembleWords, RootFile, RootForm};
+use device_adapters::{Progress, Watched, Watchers};
 use fec_commands::FecFault;
 use image_commands::{
     Generators, ImageFault, ImagePlaces, MadeImage, check_other_file, check_root_path, say_made,
@@ -26,10 +28,10 @@ use std::alloc::Global;
 use std::io::Write;
 use verity_commands::VerityFault;
 
-/// `assemble [--type TYPE] [--arch ARCH] [--fec] [--sector-size 512|4096] [--draw-from SEED] [--pin FILE] OUT DATA`: makes OUT long
-/// enough, clears both of its ends, and copies DATA to its first partition. It writes the hash image to the second one and, with
-/// `--fec`, the parity to the third one. The partition table is written last, when all of that is synced; then the pin, and then what
-/// was made is printed.
+/// `assemble [--type TYPE] [--arch ARCH] [--fec] [--sector-size 512|4096] [--draw-from SEED] [--progress] [--pin FILE] OUT DATA`: makes
+/// OUT long enough, clears both of its ends, and copies DATA to its first partition. It writes the hash image to the second one and,
+/// with `--fec`, the parity to the third one. The partition table is written last, when all of that is synced; then the pin, and then
+/// what was made is printed. With `--progress` it is shown how much of DATA was read, of all that is read.
 ///
 /// # Errors
 ///
@@ -37,7 +39,7 @@ use verity_commands::VerityFault;
 /// - `Verity` with `Image` if a file can't be opened, grown or written, the image can't be made, OUT has too few sectors, there are no
 ///   random bytes, or memory ran out.
 /// - `Parity` or `BlockSizes` if the parity can't be written.
-pub fn invoke_assemble<'a, I: Images, G: Generators, W: Write>(
+pub fn invoke_assemble<'a, I: Images, G: Generators + Watchers, W: Write>(
     alloc: Global,
     images: &mut I,
     generators: &mut G,
@@ -55,9 +57,10 @@ pub fn invoke_assemble<'a, I: Images, G: Generators, W: Write>(
     check_apart(images, words)?;
     let data = open_place(alloc, images, words.data_path, false)?;
     let files = [place_use(&data, false)];
-    let mut data_dev = data.device;
-    let sectors = data_dev.sectors();
+    let device = data.device;
+    let sectors = device.sectors();
     let plan = plan_disk(generators, words, sectors, kinds)?;
+    let mut data_dev = watched_data(generators, words.progress, device, &plan);
     let made = fill_disk(alloc, images, &files, &mut data_dev, words.disk_path, &plan)?;
     finish(alloc, images, words, &plan, &made, writer)?;
     Ok(())
@@ -102,16 +105,16 @@ fn places_of<'a>(words: &AssembleWords<'a>) -> ImagePlaces<'a>
 }
 
 // Fills the disk under a path: the data, the hash image, the parity, and then the table.
-fn fill_disk<'a, I: Images>(
+fn fill_disk<'a, I: Images, P: Progress>(
     alloc: Global,
     images: &mut I,
     files: &[FileUse],
-    data_dev: &mut I::Dev,
+    data_dev: &mut Watched<I::Dev, P>,
     path: &'a str,
     plan: &DiskPlan,
 ) -> Result<MadeImage, FecFault<'a>>
-    ensures ok { IfOk result (FillsDisk (calls I.relations I.Dev.state images.old images.new) files.now path.now data_dev.old plan.now) }
-    ensures err { IfErr result (EndsFilling (calls I.relations I.Dev.state images.old images.new) files.now path.now data_dev.old plan.now) }
+    ensures ok { IfOk result (FillsDisk (calls I.relations I.Dev.state images.old images.new) files.now path.now data_dev.old.inner plan.now) }
+    ensures err { IfErr result (EndsFilling (calls I.relations I.Dev.state images.old images.new) files.now path.now data_dev.old.inner plan.now) }
 {
     grow_disk(images, path, plan.parts.sectors)?;
     clear_ends(alloc, images, files, path, plan.parts.sectors)?;

@@ -8,7 +8,7 @@ ghost use Rattle.assemble_commands.specs.Steps.{CopiesPart, CopiesSynced, GrowsD
 use crate::plan::DiskPlan;
 use allocation::zeros;
 use block_device::{BlockDev, DeviceFault, OpenFault, SyncDev};
-use device_adapters::{Part, copy_sectors};
+use device_adapters::{Part, Progress, Watched, copy_sectors};
 use image_commands::{ImageFault, MadeImage, make};
 use image_files::{FileUse, Images, OpenImage, UnopenedFile, UnopenedPart, open_part};
 use std::alloc::Global;
@@ -67,16 +67,16 @@ pub(crate) fn open_disk_part<'a, I: Images>(
 /// - `NoMemory` if room for 65,536 bytes was refused.
 /// - `Open` if the part can't be opened.
 /// - `Format` with `DataTooSmall` if the part has fewer sectors than the data, or with `Device` if a device failed.
-pub(crate) fn copy_part<'a, I: Images>(
+pub(crate) fn copy_part<'a, I: Images, P: Progress>(
     alloc: Global,
     images: &mut I,
     files: &[FileUse],
-    data_dev: &mut I::Dev,
+    data_dev: &mut Watched<I::Dev, P>,
     path: &'a str,
     part: Part,
 ) -> Result<(), ImageFault<'a>>
-    ensures ok { OnOk result (CopiesPart (calls I.relations I.Dev.state images.old images.new) files.now path.now part data_dev.old data_dev.new) }
-    ensures err { IfErr result (EndsCopying (calls I.relations I.Dev.state images.old images.new) files.now path.now part data_dev.old) }
+    ensures ok { OnOk result (CopiesPart (calls I.relations I.Dev.state images.old images.new) files.now path.now part data_dev.old.inner data_dev.new.inner) }
+    ensures err { IfErr result (EndsCopying (calls I.relations I.Dev.state images.old images.new) files.now path.now part data_dev.old.inner) }
 {
     let mut room = zeros(alloc, ROOM)?;
     let image = open_disk_part(images, files, path, part)?;
@@ -116,16 +116,16 @@ fn copy_synced<D: BlockDev, O: SyncDev>(
 ///
 /// - `Open` if the part can't be opened.
 /// - `Format` if the image isn't made.
-pub(crate) fn make_part<'a, I: Images>(
+pub(crate) fn make_part<'a, I: Images, P: Progress>(
     alloc: Global,
     images: &mut I,
     files: &[FileUse],
-    data_dev: &mut I::Dev,
+    data_dev: &mut Watched<I::Dev, P>,
     path: &'a str,
     plan: &DiskPlan,
 ) -> Result<MadeImage, ImageFault<'a>>
-    ensures ok { IfOk result (MakesPart (calls I.relations I.Dev.state images.old images.new) files.now path.now plan.now.parts.hash data_dev.old data_dev.new plan.now.options) }
-    ensures err { IfErr result (EndsMaking (calls I.relations I.Dev.state images.old images.new) files.now path.now data_dev.old plan.now) }
+    ensures ok { IfOk result (MakesPart (calls I.relations I.Dev.state images.old images.new) files.now path.now plan.now.parts.hash data_dev.old.inner data_dev.new.inner plan.now.options) }
+    ensures err { IfErr result (EndsMaking (calls I.relations I.Dev.state images.old images.new) files.now path.now data_dev.old.inner plan.now) }
 {
     let image = open_disk_part(images, files, path, plan.parts.hash)?;
     let mut hash_dev = image.device;

@@ -6,7 +6,9 @@ mod ends;
 mod filling;
 mod identifiers;
 mod kinds;
+pub mod laws;
 mod parity;
 mod plan;
+mod watching;
 
 pub use assemble::invoke_assemble;

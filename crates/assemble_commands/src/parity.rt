@@ -8,6 +8,7 @@ ghost use Rattle.assemble_commands.specs.Steps.{ProtectsParts};
 use crate::filling::open_disk_part;
 use crate::plan::{DiskPlan, ROOTS};
 use block_device::BlockDev;
+use device_adapters::{Progress, Watched};
 use fec_area::Layout;
 use fec_commands::{FecFault, write_synced};
 use image_files::{FileUse, Images};
@@ -22,16 +23,16 @@ use tree_shape::Shape;
 /// - `Verity` with `Open` if a part can't be opened.
 /// - `BlockSizes` if the parity can't be laid out over the two.
 /// - `Parity` if it can't be written and synced.
-pub(crate) fn protect_parts<'a, I: Images>(
+pub(crate) fn protect_parts<'a, I: Images, P: Progress>(
     alloc: Global,
     images: &mut I,
     files: &[FileUse],
-    data_dev: &mut I::Dev,
+    data_dev: &mut Watched<I::Dev, P>,
     path: &'a str,
     plan: &DiskPlan,
 ) -> Result<(), FecFault<'a>>
-    ensures ok { OnOk result (ProtectsParts (calls I.relations I.Dev.state images.old images.new) files.now path.now data_dev.old data_dev.new plan.now) }
-    ensures err { IfErr result (EndsProtecting (calls I.relations I.Dev.state images.old images.new) files.now path.now data_dev.old plan.now) }
+    ensures ok { OnOk result (ProtectsParts (calls I.relations I.Dev.state images.old images.new) files.now path.now data_dev.old.inner data_dev.new.inner plan.now) }
+    ensures err { IfErr result (EndsProtecting (calls I.relations I.Dev.state images.old images.new) files.now path.now data_dev.old.inner plan.now) }
 {
     if !plan.has_parity {
         return Ok(());

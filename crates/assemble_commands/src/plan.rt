@@ -3,8 +3,9 @@ ghost use Rattle.std.specs.Prelude.{◌≡◌, ◌≤◌, ◌^◌, IfErr, IfOk};
 ghost use Rattle.image_commands.specs.Drawing.{drawing};
 ghost use Rattle.image_commands.specs.TreePlaces.{HasNoShape, HasShape};
 ghost use Rattle.verity_format.specs.Options.{superblock_with};
+ghost use Rattle.verity_format.specs.Superblock.{IsSuperblock};
 ghost use Rattle.assemble_commands.specs.Ends.{IsUnplanned};
-ghost use Rattle.assemble_commands.specs.Plans.{IsParityCount, IsPlan, data_partition, hash_partition, parity_partition, size_of};
+ghost use Rattle.assemble_commands.specs.Plans.{IsParityCount, IsPlan, data_partition, hash_partition, padded, parity_partition, size_of};
 ghost use Rattle.command_line.specs.words.Assemble.{assemble_record};
 
 use crate::identifiers::{data_uuid, hash_uuid, identifier, seed_options};
@@ -20,6 +21,9 @@ use verity_format::{FormatFault, FormatOptions, Superblock, image_sectors};
 const MOST_SECTORS: u64 = 1 << 54;
 
 const LARGE_SECTOR: u32 = 4096;
+
+// In sectors of 512 bytes.
+const LARGE_UNIT: u64 = 8;
 
 /// How many bytes of parity a codeword has.
 pub(crate) const ROOTS: u32 = 2;
@@ -63,21 +67,27 @@ pub(crate) fn plan_disk<'a, G: Generators>(
         return Err(ImageFault::Format(FormatFault::Shape));
     }
     let parity = parity_count(&shape, hash, words.parity);
+    let data = padded(sectors, words.sector_size);
     Ok(DiskPlan {
         options,
         superblock,
         kinds,
         size: size_of(words.sector_size),
         has_parity: words.parity,
-        parts: disk_parts(sectors, hash, parity),
+        parts: disk_parts(data, hash, parity),
     })
 }
 
+// The superblock of the image that the options make of so many sectors of data.
 fn shaped(options: &FormatOptions, sectors: u64) -> Result<Superblock, FormatFault>
     ensures ok { IfOk result (HasShape (superblock_with options.now sectors)) }
+    ensures valid { IfOk result IsSuperblock }
     ensures err { IfErr result (HasNoShape (superblock_with options.now sectors)) }
 {
-    tree_of(*options, sectors)
+    let superblock = tree_of(*options, sectors)?;
+    prove!(superblock.uuid().len() == 16);
+    prove!(superblock.salt().bytes().len() <= 256);
+    Ok(superblock)
 }
 
 // How many sectors the parity takes, if there is any.
@@ -91,6 +101,17 @@ fn parity_count(shape: &Shape, hash: u64, has_parity: bool) -> u64
     match parity_of(shape, hash, ROOTS) {
         Some(sectors) => sectors,
         None => 0,
+    }
+}
+
+// So many sectors of 512 bytes, or the next number of them that are whole sectors of the disk, which have so many bytes.
+fn padded(sectors: u64, bytes: u32) -> u64
+    ensures { result ≡ padded bytes sectors }
+{
+    if bytes == LARGE_SECTOR {
+        sectors.saturating_add(LARGE_UNIT - 1) / LARGE_UNIT * LARGE_UNIT
+    } else {
+        sectors
     }
 }
 

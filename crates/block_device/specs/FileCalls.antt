@@ -48,8 +48,8 @@ pub IsOfFile : File → Metadata → Type 0
 IsOfFile file metadata = Unit {0}
 
 -- the system made the file so many bytes long
-pub IsLengthened : File → ℕ → File → Type 0
-IsLengthened old bytes new = Unit {0}
+pub WasResized : File → ℕ → File → Type 0
+WasResized old bytes new = Unit {0}
 
 -- the system told these numbers of a file
 pub Told : Metadata → FileNumbers → Type 0
@@ -63,6 +63,10 @@ IsUnlocked file fault = Unit {0}
 -- answered. The file before the call and after it make a chain of calls.
 pub Called : File → Call → File → Type 0
 Called old call new = Unit {0}
+
+-- the system refused to write these bytes from that sector on, for this reason
+pub IsWriteRefused : File → ℕ → List ℕ → ErrorKind → Type 0
+IsWriteRefused file first bytes kind = Unit {0}
 
 -- only the proofs of this crate can name a `Seal`
 pub was-opened : (options : OpenOptions) (path : List ℕ) (answer : Result File ErrorKind) → Seal → OpenedBy options path answer
@@ -89,9 +93,9 @@ pub was-said-of-file : (file : File) (metadata : Metadata) → Seal → IsOfFile
 unfolding IsOfFile
 was-said-of-file file metadata seal = tt
 
-pub was-lengthened : (old : File) (bytes : ℕ) (new : File) → Seal → IsLengthened old bytes new
-unfolding IsLengthened
-was-lengthened old bytes new seal = tt
+pub was-resized : (old : File) (bytes : ℕ) (new : File) → Seal → WasResized old bytes new
+unfolding WasResized
+was-resized old bytes new seal = tt
 
 pub was-told : (metadata : Metadata) (numbers : FileNumbers) → Seal → Told metadata numbers
 unfolding Told
@@ -104,3 +108,7 @@ was-unlocked file fault seal = tt
 pub was-called : (old : File) (call : Call) (new : File) → Seal → Called old call new
 unfolding Called
 was-called old call new seal = tt
+
+pub was-write-refused : (file : File) (first : ℕ) (bytes : List ℕ) (kind : ErrorKind) → Seal → IsWriteRefused file first bytes kind
+unfolding IsWriteRefused
+was-write-refused file first bytes kind seal = tt

@@ -11,6 +11,7 @@ pub mod FileId
 pub mod Identity
 pub mod Unopened
 pub mod LostWrites
+pub mod Space
 pub mod Memory
 pub mod Any
 pub mod Script

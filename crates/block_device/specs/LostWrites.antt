@@ -1,9 +1,11 @@
--- Files whose sync failed: what was written may be lost, and the system reports it once.
-use Rattle.std.specs.Prelude.{◌≡◌, ◌⊎◌, Bool, true, false, IsTrue, IsErr, Result}
+-- Files whose sync failed: what was written may be lost, and the system reports it once. Files for whose writes no space was left.
+use Rattle.std.specs.Prelude.{◌≡◌, ◌⊎◌, ◌&&◌, Bool, true, false, IsTrue, IsErr, Result}
+use Rattle.std.specs.declared.io.ErrorKind.{ErrorKind}
 use Rattle.block_device.specs.declared.device.DeviceFault.{DeviceFault}
 use Rattle.block_device.specs.declared.file.FileDev.{FileDev}
 use Rattle.block_device.specs.Call.{Call, Read, Sync, Write}
-use Rattle.block_device.specs.FileCalls.{Called}
+use Rattle.block_device.specs.FileCalls.{Called, IsWriteRefused}
+use Rattle.block_device.specs.Space.{is_lack_of_space}
 
 -- whether a sync failed since the file was opened
 abbrev pub has_lost_writes : FileDev → Bool
@@ -21,3 +23,10 @@ CallsFile old (Sync false) new = (IsTrue (has_lost_writes old) × (new.file ≡ 
 CallsFile old (Sync true) new = Called old.file (Sync true) new.file
 CallsFile old (Read first bytes ok) new = Called old.file (Read first bytes ok) new.file
 CallsFile old (Write first bytes ok) new = Called old.file (Write first bytes ok) new.file
+
+-- a write that fails lacks space if that is the system's reason, a read that fails doesn't, and no other call changes that
+abbrev pub RecordsSpace : FileDev → Call → FileDev → Type 0
+RecordsSpace old (Read first bytes ok) new = new.lacked_space ≡ (ok && old.lacked_space)
+RecordsSpace old (Write first bytes true) new = new.lacked_space ≡ old.lacked_space
+RecordsSpace old (Write first bytes false) new = (kind : ErrorKind) × IsWriteRefused old.file first bytes kind × (new.lacked_space ≡ is_lack_of_space kind)
+RecordsSpace old (Sync ok) new = new.lacked_space ≡ old.lacked_space

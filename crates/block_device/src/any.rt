@@ -89,6 +89,13 @@ impl BlockDev for AnyDev {
             AnyDev::File(file) => file.failures(),
         }
     }
+
+    fn lacked_space(&self) -> bool {
+        match self {
+            AnyDev::Memory(memory) => memory.lacked_space(),
+            AnyDev::File(file) => file.lacked_space(),
+        }
+    }
 }
 
 impl SyncDev for AnyDev {

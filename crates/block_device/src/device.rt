@@ -67,6 +67,11 @@ pub trait BlockDev {
     fn failures(&self) -> u64
         ensures { result ≡ (state self.now).failures };
 
+    /// Whether the last read or write that failed was a write for which no space was left: in the file system, in a quota, or
+    /// below the limit of a file's size.
+    fn lacked_space(&self) -> bool
+        ensures { result ≡ (state self.now).lacked_space };
+
     /// The image has as many sectors as the device, each of 512 bytes.
     ghost whole: { (d : Self) → IsWhole (state d) };
 

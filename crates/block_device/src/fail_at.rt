@@ -128,6 +128,10 @@ impl<D: BlockDev> BlockDev for FailAt<D> {
     fn failures(&self) -> u64 {
         self.inner.failures().saturating_add(self.failed_calls)
     }
+
+    fn lacked_space(&self) -> bool {
+        self.inner.lacked_space()
+    }
 }
 
 impl<D: SyncDev> SyncDev for FailAt<D> {

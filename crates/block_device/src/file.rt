@@ -10,7 +10,8 @@ ghost use Rattle.block_device.specs.Identity.{IsToldId};
 ghost use Rattle.block_device.specs.Faithful.{held_by, is_faithful, whole_held};
 
 use crate::file_calls::{
-    end_of, lengthen_file, metadata_at, metadata_of, open_at, read_at, sync_all, write_at,
+    end_of, is_lack_of_space, metadata_at, metadata_of, open_at, read_at, resize_file, sync_all,
+    write_at,
 };
 use crate::file_lock::FileLock;
 use crate::{BlockDev, DeviceFault, FileId, OpenFault, SyncDev};
@@ -43,6 +44,7 @@ pub struct FileDev {
     writable: bool,
     dirty: bool,
     has_lost_writes: bool,
+    lacked_space: bool,
     reads: u64,
     writes: u64,
     failures: u64,
@@ -53,7 +55,7 @@ impl FileDev {
     ghost use Rattle.std.specs.declared.fs.attrs.Metadata.{Metadata};
     ghost use Rattle.block_device.specs.FileCalls.{IsOfFile, IsUnlocked, Opened};
     ghost use Rattle.block_device.specs.FileId.{file_id, file_of};
-    ghost use Rattle.block_device.specs.Identity.{IsLongEnough, IsOpenedAs};
+    ghost use Rattle.block_device.specs.Identity.{IsLongEnough, IsOpenedAs, IsShortEnough};
     ghost use Rattle.block_device.specs.Unopened.{IsUnopenedImage};
 
     /// Opens the file or block device for reading, and for writing too if `writable` is set. That it is an image, its size and its
@@ -104,7 +106,23 @@ impl FileDev {
         if !metadata.is_file() || metadata.len() >= bytes {
             return Ok(());
         }
-        lengthen_file(&mut self.file, &metadata, bytes)
+        resize_file(&mut self.file, &metadata, bytes)
+    }
+
+    /// Makes a regular file at most so many bytes long. A shorter one and a block device stay as they are.
+    ///
+    /// # Errors
+    ///
+    /// The fault of what the system answered.
+    pub fn shorten(&mut self, bytes: u64) -> Result<(), OpenFault>
+        ensures short { OnOk result (IsShortEnough (file_of self.old) bytes (file_of self.new)) }
+        ensures same { file_id self.new ≡ file_id self.old }
+    {
+        let metadata = metadata_of(&self.file)?;
+        if !metadata.is_file() || metadata.len() <= bytes {
+            return Ok(());
+        }
+        resize_file(&mut self.file, &metadata, bytes)
     }
 
     /// Locks the file against other processes that lock it, until the lock is dropped.
@@ -164,6 +182,7 @@ fn device_of(file: File, metadata: &Metadata, sectors: u64, writable: bool) -> F
         writable,
         dirty: false,
         has_lost_writes: false,
+        lacked_space: false,
         reads: 0,
         writes: 0,
         failures: 0,
@@ -171,7 +190,7 @@ fn device_of(file: File, metadata: &Metadata, sectors: u64, writable: bool) -> F
 }
 
 impl BlockDev for FileDev {
-    ghost use Rattle.block_device.specs.LostWrites.{CallsFile, has_lost_writes};
+    ghost use Rattle.block_device.specs.LostWrites.{CallsFile, RecordsSpace, has_lost_writes};
 
     ghost state = { λ f. record {
       size = f.sectors;
@@ -183,11 +202,12 @@ impl BlockDev for FileDev {
       reads = capped f.reads;
       writes = capped f.writes;
       failures = capped f.failures;
+      lacked_space = f.lacked_space;
     } };
 
     ghost gives = { λ f first bytes. Unit {0} };
 
-    ghost does = { CallsFile };
+    ghost does = { λ old call new. CallsFile old call new × RecordsSpace old call new };
 
     ghost whole = { λ f. whole_held (⟦<FileDev as BlockDev>⟧.state f) f.file refl };
 
@@ -215,6 +235,7 @@ impl BlockDev for FileDev {
         if read_at(&mut self.file, first, out) {
             return Ok(());
         }
+        self.lacked_space = false;
         self.failures = self.failures.saturating_add(1);
         Err(DeviceFault)
     }
@@ -231,11 +252,14 @@ impl BlockDev for FileDev {
     {
         self.dirty = true;
         self.writes = self.writes.saturating_add(bytes.len() as u64 / 512);
-        if write_at(&mut self.file, first, bytes) {
-            return Ok(());
+        match write_at(&mut self.file, first, bytes) {
+            Ok(()) => Ok(()),
+            Err(kind) => {
+                self.lacked_space = is_lack_of_space(kind);
+                self.failures = self.failures.saturating_add(1);
+                Err(DeviceFault)
+            }
         }
-        self.failures = self.failures.saturating_add(1);
-        Err(DeviceFault)
     }
 
     fn reads(&self) -> u64 {
@@ -248,6 +272,10 @@ impl BlockDev for FileDev {
 
     fn failures(&self) -> u64 {
         self.failures
+    }
+
+    fn lacked_space(&self) -> bool {
+        self.lacked_space
     }
 }
 

@@ -1,8 +1,9 @@
 //! The calls of the operating system on the file of an image, each with evidence that it was made.
-ghost use Rattle.std.specs.Prelude.{◌≡◌, ◌<◌, ◌*◌, ◌^◌, length, IfErr, IfOk, IfSome, OnOk};
+ghost use Rattle.std.specs.Prelude.{◌≡◌, ◌≢◌, ◌<◌, ◌*◌, ◌^◌, length, is_ok, IfErr, IfOk, IfSome, OnOk};
 ghost use Rattle.std.specs.Fs.{metadata_len};
 ghost use Rattle.block_device.specs.Call.{Read, Sync, Write};
-ghost use Rattle.block_device.specs.FileCalls.{Called, IsLengthened, IsOfFile, IsOfPath, IsOpeningRefused, IsUnsaidOfFile, IsUnsaidOfPath, Opened, OpenedBy, SoughtEnd, Told};
+ghost use Rattle.block_device.specs.FileCalls.{Called, WasResized, IsOfFile, IsOfPath, IsOpeningRefused, IsUnsaidOfFile, IsUnsaidOfPath, IsWriteRefused, Opened, OpenedBy, SoughtEnd, Told};
+ghost use Rattle.block_device.specs.Space.{is_lack_of_space};
 
 use crate::OpenFault;
 use std::fs;
@@ -52,15 +53,11 @@ pub fn metadata_of(file: &File) -> Result<Metadata, OpenFault>
     }
 }
 
-// Makes a file so many bytes long, which are more than the system said that it has.
-pub(crate) fn lengthen_file(
-    file: &mut File,
-    metadata: &Metadata,
-    bytes: u64,
-) -> Result<(), OpenFault>
+// Makes a file so many bytes long, which aren't as many as the system said that it has.
+pub(crate) fn resize_file(file: &mut File, metadata: &Metadata, bytes: u64) -> Result<(), OpenFault>
     requires of { IsOfFile file.old metadata.now }
-    requires longer { metadata_len metadata.now < bytes }
-    ensures { OnOk result (IsLengthened file.old bytes file.new) }
+    requires other { metadata_len metadata.now ≢ bytes }
+    ensures { OnOk result (WasResized file.old bytes file.new) }
 {
     // The caller's conditions are those of the call: nothing more is known of a file's length.
     let _ = metadata;
@@ -129,12 +126,26 @@ pub(crate) fn read_at(file: &mut File, first: u64, out: &mut [u8]) -> bool
     file.read_exact_at(out, first * 512).is_ok()
 }
 
-// Writes all the bytes from a sector on. Returns whether the system did.
-pub(crate) fn write_at(file: &mut File, first: u64, bytes: &[u8]) -> bool
+// Writes all the bytes from a sector on, or returns why the system refused.
+pub(crate) fn write_at(file: &mut File, first: u64, bytes: &[u8]) -> Result<(), ErrorKind>
     requires { first * 512 < 2 ^ 64 }
-    ensures { Called file.old (Write first bytes.now result) file.new }
+    ensures call { Called file.old (Write first bytes.now (is_ok result)) file.new }
+    ensures err { IfErr result (IsWriteRefused file.old first bytes.now) }
 {
-    file.write_all_at(bytes, first * 512).is_ok()
+    match file.write_all_at(bytes, first * 512) {
+        Ok(()) => Ok(()),
+        Err(error) => Err(error.kind()),
+    }
+}
+
+// Whether the system's reason is that no space is left.
+pub(crate) fn is_lack_of_space(kind: ErrorKind) -> bool
+    ensures { result ≡ is_lack_of_space kind }
+{
+    match kind {
+        ErrorKind::StorageFull | ErrorKind::QuotaExceeded | ErrorKind::FileTooLarge => true,
+        _ => false,
+    }
 }
 
 // Syncs a file. Returns whether the system did.

@@ -1,5 +1,5 @@
 //! A device in memory.
-ghost use Rattle.std.specs.Prelude.{◌≡◌, ◌≤◌, ◌/◌, ◌*◌, ◌+◌, ◌%◌, ◌++◌, take, drop, length, replicate, true, refl, is_ok, IfErr, IfOk, IsOk, IsTrue, OnErr, OnOk};
+ghost use Rattle.std.specs.Prelude.{◌≡◌, ◌≤◌, ◌/◌, ◌*◌, ◌+◌, ◌%◌, ◌++◌, take, drop, length, replicate, false, true, refl, is_ok, IfErr, IfOk, IsOk, IsTrue, OnErr, OnOk};
 ghost use Rattle.std.specs.List.{concat};
 ghost use Rattle.allocation.specs.Asked.{asked};
 ghost use Rattle.block_device.specs.Call.{DeviceDoes, Write};
@@ -108,6 +108,7 @@ impl BlockDev for MemoryDev {
       reads = capped m.reads;
       writes = capped m.writes;
       failures = 0;
+      lacked_space = false;
     } };
 
     ghost gives = { λ m first bytes. Unit {0} };
@@ -162,6 +163,10 @@ impl BlockDev for MemoryDev {
 
     fn failures(&self) -> u64 {
         0
+    }
+
+    fn lacked_space(&self) -> bool {
+        false
     }
 }
 

@@ -68,6 +68,7 @@ impl BlockDev for ScriptDev {
       reads = capped s.reads;
       writes = 0;
       failures = 0;
+      lacked_space = false;
     } };
 
     ghost gives = { λ s first bytes. bytes ≡ answer_of s.answers s.calls (length bytes) };
@@ -119,6 +120,10 @@ impl BlockDev for ScriptDev {
 
     fn failures(&self) -> u64 {
         0
+    }
+
+    fn lacked_space(&self) -> bool {
+        false
     }
 }
 

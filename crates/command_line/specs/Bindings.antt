@@ -4,10 +4,11 @@ use Rattle.std.specs.Option.{option_and_then}
 use Rattle.std.specs.Str.{bytes_eq}
 use Rattle.dm_table.specs.Numbers.{number, number_if}
 use Rattle.command_line.specs.declared.bindings.Backing.{Backing}
-use Rattle.command_line.specs.declared.bindings.Backing.TheVariants.{File, Part, Partition, Zeros, Ramp}
+use Rattle.command_line.specs.declared.bindings.Backing.TheVariants.{File, Part, Partition, Mapped, Zeros, Ramp}
 use Rattle.command_line.specs.declared.bindings.Binding.{Binding}
 use Rattle.command_line.specs.Cuts.{cut_first}
 use Rattle.command_line.specs.FilePlaces.{NamedPartitionRecord, named_partition_record}
+use Rattle.command_line.specs.MapBindings.{kind_map}
 use Rattle.command_line.specs.PartBindings.{PartRecord, kind_part, part_record}
 use Rattle.command_line.specs.PartitionBindings.{kind_partition}
 
@@ -19,6 +20,8 @@ pub data BackingRecord : Type 0 where
   part : List ℕ → Bool → PartRecord → BackingRecord
   -- a partition in the partition table of one
   partition : List ℕ → Bool → NamedPartitionRecord → BackingRecord
+  -- a file that is only read, and the file of its map
+  mapped : List ℕ → List ℕ → BackingRecord
   -- so many zero sectors
   zeros : ℕ → BackingRecord
   -- so many sectors, of which sector k is filled with the byte k
@@ -40,16 +43,28 @@ part_backing kind rest = option_map (λ found. part rest found.0 found.1) (kind_
 abbrev pub partition_backing : List ℕ → List ℕ → Option BackingRecord
 partition_backing kind rest = option_map (λ found. partition rest found.0 found.1) (kind_partition kind)
 
--- the part, or else the partition
-abbrev pub or_partition : Option BackingRecord → List ℕ → List ℕ → Option BackingRecord
-or_partition (Some backing) kind rest = Some backing
-or_partition None kind rest = partition_backing kind rest
+-- `ro%MAP:FILE`
+abbrev pub mapped_backing : List ℕ → List ℕ → Option BackingRecord
+mapped_backing kind rest = option_map (λ map_file. mapped rest map_file) (kind_map kind)
 
--- a part of a file, or a partition of it
+-- the partition, or else the file with a map
+abbrev pub or_mapped : Option BackingRecord → List ℕ → List ℕ → Option BackingRecord
+or_mapped (Some backing) kind rest = Some backing
+or_mapped None kind rest = mapped_backing kind rest
+
+unfoldable pub named_backing : List ℕ → List ℕ → Option BackingRecord
+named_backing kind rest = or_mapped (partition_backing kind rest) kind rest
+
+-- the part, or else one of these
+abbrev pub or_named : Option BackingRecord → List ℕ → List ℕ → Option BackingRecord
+or_named (Some backing) kind rest = Some backing
+or_named None kind rest = named_backing kind rest
+
+-- a part of a file, a partition of it, or a file with a map
 unfoldable pub placed_backing : List ℕ → List ℕ → Option BackingRecord
-placed_backing kind rest = or_partition (part_backing kind rest) kind rest
+placed_backing kind rest = or_named (part_backing kind rest) kind rest
 
--- `rw:FILE`, `ro:FILE`, `zero:N` or `ramp:N`, of which the kind is before the colon, or a part or a partition of a file
+-- `rw:FILE`, `ro:FILE`, `zero:N` or `ramp:N`, of which the kind is before the colon, or what names more of a file
 abbrev pub backing_by : List ℕ → List ℕ → Option BackingRecord
 backing_by kind rest =
     if bytes_eq kind (codes "rw") then Some (file rest true)
@@ -74,6 +89,7 @@ abbrev pub backing_record : Backing → BackingRecord
 backing_record (File path writable) = file path.now writable
 backing_record (Part path writable at) = part path.now writable (part_record at)
 backing_record (Partition path writable named) = partition path.now writable (named_partition_record named)
+backing_record (Mapped path map_file) = mapped path.now map_file.now
 backing_record (Zeros sectors) = zeros sectors
 backing_record (Ramp sectors) = ramp sectors
 

@@ -54,6 +54,8 @@ pub record OptionTexts : Type 0 where
   pub no_superblock : Bool
   pub grow : Bool
   pub differing : Bool
+  pub no_scrape : Bool
+  pub no_index : Bool
   pub progress : Bool
   pub json : Bool
   pub check : Bool
@@ -105,6 +107,8 @@ option_texts words = record {
   no_superblock = words.no_superblock;
   grow = words.grow;
   differing = words.differing;
+  no_scrape = words.no_scrape;
+  no_index = words.no_index;
   progress = words.progress;
   json = words.json;
   check = words.check;

@@ -7,6 +7,7 @@ pub mod FilePlaces
 pub mod FormatOptions
 pub mod OptionGroups
 pub mod Values
+pub mod DiskTypes
 pub mod RootFiles
 pub mod Positional
 pub mod SourceWords
@@ -14,6 +15,7 @@ pub mod ImageValues
 pub mod ImageCopies
 pub mod PartBindings
 pub mod PartitionBindings
+pub mod MapBindings
 pub mod words
 pub mod Invocations
 pub mod InvocationBindings

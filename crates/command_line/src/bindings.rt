@@ -1,8 +1,9 @@
 //! The names that a command line binds to devices.
 ghost use Rattle.std.specs.Prelude.{◌≡◌, option_map};
-ghost use Rattle.command_line.specs.Bindings.{backing_by, backing_record, backing_of, binding_record, binding_of, part_backing, partition_backing, placed_backing, sectors_at};
+ghost use Rattle.command_line.specs.Bindings.{backing_by, backing_record, backing_of, binding_record, binding_of, mapped_backing, named_backing, part_backing, partition_backing, placed_backing, sectors_at};
 
 use crate::file_place::NamedPartition;
+use crate::map_bindings::kind_map;
 use crate::part_bindings::{FilePart, kind_part};
 use crate::partition_bindings::kind_partition;
 use table_text::number;
@@ -27,6 +28,11 @@ pub enum Backing<'a> {
         writable: bool,
         named: NamedPartition<'a>,
     },
+    /// A file that is only read, of which the sectors that a map doesn't have can't be.
+    Mapped {
+        path: &'a str,
+        map_file: &'a str,
+    },
     Zeros(u32),
     Ramp(u32),
 }
@@ -39,8 +45,9 @@ pub struct Binding<'a> {
 }
 
 /// Returns the binding of a word, or `None` if the word is none: `NAME=rw:FILE`, `NAME=ro:FILE`, `NAME=rw@FIRST+COUNT:FILE`,
-/// `NAME=ro@FIRST+COUNT:FILE`, `NAME=rw#PARTITION:FILE`, `NAME=ro#PARTITION:FILE`, `NAME=zero:N` or `NAME=ramp:N`, split at the
-/// first `=`. FIRST, COUNT and N count sectors of 512 bytes; PARTITION is a number, a UUID or a label.
+/// `NAME=ro@FIRST+COUNT:FILE`, `NAME=rw#PARTITION:FILE`, `NAME=ro#PARTITION:FILE`, `NAME=ro%MAP:FILE`, `NAME=zero:N` or
+/// `NAME=ramp:N`, split at the first `=`. FIRST, COUNT and N count sectors of 512 bytes; PARTITION is a number, a UUID or a label;
+/// MAP is a path.
 pub fn binding_of(word: &str) -> Option<Binding<'_>>
     ensures { option_map binding_record result ≡ binding_of word.now }
 {
@@ -81,13 +88,23 @@ fn backing_by<'a>(kind: &'a str, rest: &'a str) -> Option<Backing<'a>>
     }
 }
 
-// A part of a file, or else a partition of it.
+// A part of a file, or else a partition of it, or else one with a map.
 fn placed_backing<'a>(kind: &'a str, rest: &'a str) -> Option<Backing<'a>>
     ensures { option_map backing_record result ≡ placed_backing kind.now rest.now }
 {
     match part_backing(kind, rest) {
         Some(backing) => Some(backing),
-        None => partition_backing(kind, rest),
+        None => named_backing(kind, rest),
+    }
+}
+
+// A partition of a file, or else one with a map.
+fn named_backing<'a>(kind: &'a str, rest: &'a str) -> Option<Backing<'a>>
+    ensures { option_map backing_record result ≡ named_backing kind.now rest.now }
+{
+    match partition_backing(kind, rest) {
+        Some(backing) => Some(backing),
+        None => mapped_backing(kind, rest),
     }
 }
 
@@ -112,6 +129,17 @@ fn partition_backing<'a>(kind: &'a str, rest: &'a str) -> Option<Backing<'a>>
         path: rest,
         writable,
         named,
+    })
+}
+
+// `ro%MAP` before the colon.
+fn mapped_backing<'a>(kind: &'a str, rest: &'a str) -> Option<Backing<'a>>
+    ensures { option_map backing_record result ≡ mapped_backing kind.now rest.now }
+{
+    let map_file = kind_map(kind)?;
+    Some(Backing::Mapped {
+        path: rest,
+        map_file,
     })
 }
 

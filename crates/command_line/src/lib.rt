@@ -4,6 +4,7 @@
 mod binding_words;
 mod bindings;
 mod command_words;
+mod disk_types;
 mod fault;
 mod fec_file;
 mod file_place;
@@ -11,6 +12,7 @@ mod image_copies;
 mod image_options;
 mod invocation;
 mod list_form;
+mod map_bindings;
 mod misuse;
 mod option_words;
 mod part_bindings;

@@ -33,6 +33,8 @@ pub enum Cause {
     Offset,
     /// It isn't a sector size.
     SectorSize,
+    /// It isn't in the name of a partition type of a hash tree.
+    PartitionType,
     /// It isn't a salt.
     Salt,
     /// It isn't a UUID.

@@ -39,6 +39,8 @@ pub struct OptionWords<'a> {
     pub no_superblock: bool,
     pub grow: bool,
     pub differing: bool,
+    pub no_scrape: bool,
+    pub no_index: bool,
     pub progress: bool,
     pub json: bool,
     pub check: bool,

@@ -80,9 +80,9 @@ image_commands more =
     ∷ command (codes "dump") (offset ∷ json ∷ pin ∷ [])
     ∷ command (codes "table") (tree_options (offset ∷ root_file ∷ value_option (codes "name") ∷ bare_option ∷ pin ∷ []))
     ∷ command (codes "repair") (tree_options (offset ∷ root_file ∷ bare_option ∷ flag (codes "check") ∷ fec_options (pin ∷ [])))
-    ∷ command (codes "update") (json ∷ progress ∷ pin ∷ [])
+    ∷ command (codes "update") (json ∷ flag (codes "no-index") ∷ progress ∷ pin ∷ [])
     ∷ command (codes "find") (json ∷ [])
-    ∷ command (codes "assemble") (value_option (codes "type") ∷ value_option (codes "arch") ∷ flag (codes "fec") ∷ value_option (codes "sector-size") ∷ value_option (codes "draw-from") ∷ pin ∷ [])
+    ∷ command (codes "assemble") (value_option (codes "type") ∷ value_option (codes "arch") ∷ flag (codes "fec") ∷ value_option (codes "sector-size") ∷ value_option (codes "draw-from") ∷ progress ∷ pin ∷ [])
     ∷ more
 
 -- the commands on stacks
@@ -93,8 +93,8 @@ stack_commands more =
     ∷ command (codes "write") (cache ∷ [])
     ∷ command (codes "session") (cache ∷ [])
     ∷ command (codes "nbd") (cache ∷ flag (codes "all") ∷ [])
-    ∷ command (codes "scan") (cache ∷ value_option (codes "map") ∷ value_option (codes "retries") ∷ progress ∷ json ∷ chart ∷ disk ∷ [])
-    ∷ command (codes "copy") (cache ∷ flag (codes "differing") ∷ value_option (codes "map") ∷ value_option (codes "retries") ∷ progress ∷ disk ∷ flag (codes "grow") ∷ [])
+    ∷ command (codes "scan") (cache ∷ value_option (codes "map") ∷ value_option (codes "retries") ∷ flag (codes "no-scrape") ∷ progress ∷ json ∷ chart ∷ disk ∷ [])
+    ∷ command (codes "copy") (cache ∷ flag (codes "differing") ∷ value_option (codes "map") ∷ value_option (codes "retries") ∷ flag (codes "no-scrape") ∷ progress ∷ disk ∷ flag (codes "grow") ∷ [])
     ∷ command (codes "cat") (cache ∷ value_option (codes "first") ∷ value_option (codes "count") ∷ progress ∷ [])
     ∷ command (codes "store") (cache ∷ value_option (codes "first") ∷ progress ∷ [])
     ∷ more

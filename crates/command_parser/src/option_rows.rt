@@ -188,6 +188,18 @@ pub(crate) const DIFFERING: OptionRow = OptionRow {
     has_value: false,
 };
 
+pub(crate) const NO_SCRAPE: OptionRow = OptionRow {
+    name: "no-scrape",
+    others: &[],
+    has_value: false,
+};
+
+pub(crate) const NO_INDEX: OptionRow = OptionRow {
+    name: "no-index",
+    others: &[],
+    has_value: false,
+};
+
 pub(crate) const PROGRESS: OptionRow = OptionRow {
     name: "progress",
     others: &[],

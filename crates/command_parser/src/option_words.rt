@@ -43,6 +43,8 @@ pub fn option_words<'a>(found: &ArgMatches<'a>) -> OptionWords<'a>
         no_superblock: is_there(found, "no-superblock"),
         grow: is_there(found, "grow"),
         differing: is_there(found, "differing"),
+        no_scrape: is_there(found, "no-scrape"),
+        no_index: is_there(found, "no-index"),
         progress: is_there(found, "progress"),
         json: is_there(found, "json"),
         check: is_there(found, "check"),

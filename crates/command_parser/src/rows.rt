@@ -1,9 +1,10 @@
 //! The commands with their options, a row each.
 use crate::option_rows::{
     ALL, ARCH, BLOCKS, CACHE, CHART, CHECK, COUNT, DATA_BLOCK, DIFFERING, DISK, DRAW_FROM, FEC,
-    FEC_ROOTS, FIRST, GROW, HASH_BLOCK, HASH_OFFSET, JSON, LINUX, MAP, NAME, NO_SUPERBLOCK,
-    OLD_HASH_OFFSET, OLD_PIN, OLD_ROOT_HASH_FILE, OptionRow, PARITY, PIN, PROGRESS, QUIET, RETRIES,
-    ROOT, ROOT_HASH_FILE, RUNS, SALT, SECTOR_SIZE, STACK, TREE, TYPE, UUID, WRITABLE,
+    FEC_ROOTS, FIRST, GROW, HASH_BLOCK, HASH_OFFSET, JSON, LINUX, MAP, NAME, NO_INDEX, NO_SCRAPE,
+    NO_SUPERBLOCK, OLD_HASH_OFFSET, OLD_PIN, OLD_ROOT_HASH_FILE, OptionRow, PARITY, PIN, PROGRESS,
+    QUIET, RETRIES, ROOT, ROOT_HASH_FILE, RUNS, SALT, SECTOR_SIZE, STACK, TREE, TYPE, UUID,
+    WRITABLE,
 };
 
 /// A command: its name, and the options that may precede its positional words.
@@ -92,7 +93,7 @@ pub static COMMANDS: [CommandRow; 21] = [
     },
     CommandRow {
         name: "update",
-        options: &[QUIET, JSON, PROGRESS, PIN],
+        options: &[QUIET, JSON, NO_INDEX, PROGRESS, PIN],
     },
     CommandRow {
         name: "find",
@@ -100,7 +101,16 @@ pub static COMMANDS: [CommandRow; 21] = [
     },
     CommandRow {
         name: "assemble",
-        options: &[QUIET, TYPE, ARCH, PARITY, SECTOR_SIZE, DRAW_FROM, PIN],
+        options: &[
+            QUIET,
+            TYPE,
+            ARCH,
+            PARITY,
+            SECTOR_SIZE,
+            DRAW_FROM,
+            PROGRESS,
+            PIN,
+        ],
     },
     CommandRow {
         name: "load",
@@ -124,11 +134,15 @@ pub static COMMANDS: [CommandRow; 21] = [
     },
     CommandRow {
         name: "scan",
-        options: &[QUIET, CACHE, MAP, RETRIES, PROGRESS, JSON, CHART, DISK],
+        options: &[
+            QUIET, CACHE, MAP, RETRIES, NO_SCRAPE, PROGRESS, JSON, CHART, DISK,
+        ],
     },
     CommandRow {
         name: "copy",
-        options: &[QUIET, CACHE, DIFFERING, MAP, RETRIES, PROGRESS, DISK, GROW],
+        options: &[
+            QUIET, CACHE, DIFFERING, MAP, RETRIES, NO_SCRAPE, PROGRESS, DISK, GROW,
+        ],
     },
     CommandRow {
         name: "cat",

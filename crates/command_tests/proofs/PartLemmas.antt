@@ -12,12 +12,12 @@ use Rattle.device_adapters.specs.declared.part.Part.{Part}
 use Rattle.image_files.proofs.lemmas.OverwriteLemmas.{IsOverwritten, overwritten}
 use Rattle.image_files.specs.declared.images.OpenImage.{OpenImage}
 use Rattle.image_files.specs.Opener.{IsNarrowed}
-use Rattle.image_files.specs.Promises.{FileRecord, HoldsPart, IsGrown, IsSameFile, TakesPart}
+use Rattle.image_files.specs.Promises.{FileRecord, HoldsPart, IsGrown, IsSameFile, IsShrunk, TakesPart}
 use Rattle.command_tests.specs.declared.named_images.MemoryImages.{MemoryImages}
 use Rattle.command_tests.specs.Files.{file_under}
-use Rattle.command_tests.specs.MemoryRelations.{ChangesAt, GrowsAt, IsNarrowedCopy, IsPartCopy}
+use Rattle.command_tests.specs.MemoryRelations.{ChangesAt, GrowsAt, IsNarrowedCopy, IsPartCopy, ShrinksAt}
 use Rattle.command_tests.specs.Named.{named_place}
-use Rattle.command_tests.specs.Parts.{LiesWithin, grown_image, part_bytes, with_bytes, with_part}
+use Rattle.command_tests.specs.Parts.{LiesWithin, grown_image, part_bytes, shrunk_image, with_bytes, with_part}
 use Rattle.command_tests.proofs.FileLemmas.{changed, file-of, regular-under, under}
 
 -- sectors of a text's first bytes, whatever follows them
@@ -136,4 +136,10 @@ pub image-grown : (old new : MemoryImages) (path : List ℕ) (sectors : ℕ) (fi
     → (file' : FileRecord) × (file_under new path ≡ Some file') × IsGrown file file' sectors
 image-grown old new path sectors file is_grown is =
     let c = changed old new path (λ image. grown_image image sectors) file is_grown is in
+    (c.0, c.1, record { same = c.2; bytes = c.3 ∙ sym (rw (regular-under old path file is) refl) })
+
+pub image-shrunk : (old new : MemoryImages) (path : List ℕ) (sectors : ℕ) (file : FileRecord) → ShrinksAt old path sectors (Ok tt) new → file_under old path ≡ Some file
+    → (file' : FileRecord) × (file_under new path ≡ Some file') × IsShrunk file file' sectors
+image-shrunk old new path sectors file is_shrunk is =
+    let c = changed old new path (λ image. shrunk_image image sectors) file is_shrunk is in
     (c.0, c.1, record { same = c.2; bytes = c.3 ∙ sym (rw (regular-under old path file is) refl) })

@@ -15,7 +15,7 @@ use Rattle.image_files.specs.declared.parts.PartFault.TheVariants.{Open, Outside
 use Rattle.device_adapters.specs.declared.part.Part.{Part}
 use Rattle.command_tests.specs.declared.named_images.MemoryImages.{MemoryImages}
 use Rattle.command_tests.specs.Named.{IsChanged, AreBytesPut, IsUncopied, Stands, named_place}
-use Rattle.command_tests.specs.Parts.{LiesWithin, grown_image, part_bytes, with_part}
+use Rattle.command_tests.specs.Parts.{LiesWithin, grown_image, part_bytes, shrunk_image, with_part}
 use Rattle.image_files.specs.Opener.{Opener}
 use Rattle.image_files.specs.declared.texts.ReplaceFault.{ReplaceFault}
 
@@ -94,6 +94,11 @@ abbrev pub GrowsAt : MemoryImages → List ℕ → ℕ → Result (Unit {0}) Ope
 GrowsAt old path sectors (Ok done) new = ChangesAt (named_place old.names.items path) (λ image. grown_image image sectors) old new
 GrowsAt old path sectors (Err fault) new = ChangesAt (named_place old.names.items path) (λ image. image) old new
 
+-- the image is shortened, or all is unchanged
+abbrev pub ShrinksAt : MemoryImages → List ℕ → ℕ → Result (Unit {0}) OpenFault → MemoryImages → Type 0
+ShrinksAt old path sectors (Ok done) new = ChangesAt (named_place old.names.items path) (λ image. shrunk_image image sectors) old new
+ShrinksAt old path sectors (Err fault) new = new ≡ old
+
 -- whether the image with that name ends inside a sector
 pub record IsMeasured (m : MemoryImages) (path : List ℕ) (part : Bool) : Type 0 where
   pub place : ℕ
@@ -128,10 +133,12 @@ memory_relations = record {
   opens = λ old path writable outcome new. (new ≡ old) × OpensCopy old path writable outcome;
   opens_part = λ old path writable part outcome new. (new ≡ old) × OpensPartCopy old path writable part outcome;
   narrows = λ old device part narrowed new. (new ≡ old) × IsNarrowedCopy device part narrowed;
+  lacks = λ old device lost lacking new. (new ≡ old) × (lacking ≡ device);
   tells = λ old path most outcome new. (new ≡ old) × TellsText old path most outcome;
   takes = λ old path device new. PutsAt (named_place old.names.items path) (memory_bytes device) old new;
   takes_part = λ old path part device new. ChangesAt (named_place old.names.items path) (λ image. with_part image part (memory_bytes device)) old new;
   grows = GrowsAt;
+  shrinks = ShrinksAt;
   measures = λ old path outcome new. (new ≡ old) × Measures old path outcome;
   compares = λ old path other outcome new. (new ≡ old) × (outcome ≡ Ok (bytes_eq path other));
   replaces = ReplacesAt;

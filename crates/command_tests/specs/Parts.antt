@@ -22,3 +22,7 @@ with_part image part bytes =
 -- the image extended with zeros to at least so many sectors
 abbrev pub grown_image : List ℕ → ℕ → List ℕ
 grown_image image sectors = image ++ replicate (sectors * 512 - length image) 0
+
+-- the image with at most so many sectors
+abbrev pub shrunk_image : List ℕ → ℕ → List ℕ
+shrunk_image image sectors = take (sectors * 512) image

@@ -45,6 +45,10 @@ impl Images for FailingImages {
         FailAt::new(self.images.narrow(device.inner, part), call)
     }
 
+    fn without(&mut self, device: FailAt<MemoryDev>, _lost: Vec<Part>) -> FailAt<MemoryDev> {
+        device
+    }
+
     fn read_text(&mut self, path: &str, most: usize) -> Result<FileText, OpenFault> {
         self.images.read_text(path, most)
     }
@@ -59,6 +63,10 @@ impl Images for FailingImages {
 
     fn grow(&mut self, path: &str, sectors: u64) -> Result<(), OpenFault> {
         self.images.grow(path, sectors)
+    }
+
+    fn shrink(&mut self, path: &str, sectors: u64) -> Result<(), OpenFault> {
+        self.images.shrink(path, sectors)
     }
 
     fn has_part_sector(&mut self, path: &str) -> Result<bool, OpenFault> {

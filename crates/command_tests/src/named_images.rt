@@ -1,9 +1,9 @@
 //! Images in memory.
 ghost use Rattle.std.specs.Prelude.{◌≡◌, IfErr, IfOk, OnErr, OnOk};
 ghost use Rattle.command_tests.specs.Named.{IsChanged, AreBytesPut, IsUncopied, Stands, named_place};
-ghost use Rattle.command_tests.specs.Parts.{grown_image, with_part};
+ghost use Rattle.command_tests.specs.Parts.{grown_image, shrunk_image, with_part};
 
-use crate::part::{held_in, lengthen, overwrite, part_of};
+use crate::part::{held_in, lengthen, overwrite, part_of, shorten};
 use block_device::{BlockDev, FileId, MemoryDev, OpenFault};
 use device_adapters::Part;
 use image_files::{FileText, Images, OpenImage, PartFault, ReplaceFault};
@@ -81,6 +81,14 @@ fn grow_image(images: &mut Vec<Vec<u8>>, place: usize, sectors: u64) -> Result<(
     }
 }
 
+fn shrink_image(images: &mut Vec<Vec<u8>>, place: usize, sectors: u64)
+    ensures { IsChanged images.old.items place (λ image. shrunk_image image sectors) images.new.items }
+{
+    if let Some(image) = images.get_mut(place) {
+        shorten(image, sectors);
+    }
+}
+
 // Replaces the bytes of a part of an image.
 fn put_part(images: &mut Vec<Vec<u8>>, place: usize, part: Part, bytes: Vec<u8>)
     ensures { IsChanged images.old.items place (λ image. with_part image part bytes.items) images.new.items }
@@ -132,6 +140,11 @@ impl Images for MemoryImages {
         MemoryDev::new(held_in(device.into_bytes(), part), writable)
     }
 
+    // Of what is in memory nothing is lost.
+    fn without(&mut self, device: MemoryDev, _lost: Vec<Part>) -> MemoryDev {
+        device
+    }
+
     // Returns the first bytes.
     fn read_text(&mut self, path: &str, most: usize) -> Result<FileText, OpenFault> {
         let (place, mut bytes) = copy_under(&self.names, &self.images, path)?;
@@ -163,6 +176,14 @@ impl Images for MemoryImages {
             return Err(OpenFault::NotFound);
         };
         grow_image(&mut self.images, place, sectors)
+    }
+
+    fn shrink(&mut self, path: &str, sectors: u64) -> Result<(), OpenFault> {
+        let Some(place) = place_of(&self.names, path) else {
+            return Err(OpenFault::NotFound);
+        };
+        shrink_image(&mut self.images, place, sectors);
+        Ok(())
     }
 
     fn has_part_sector(&mut self, path: &str) -> Result<bool, OpenFault> {

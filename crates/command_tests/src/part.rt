@@ -1,6 +1,6 @@
 //! Parts of the bytes of an image.
 ghost use Rattle.std.specs.Prelude.{◌≡◌, ◌↔◌, IfSome, IsSome, OnErr, OnOk, length};
-ghost use Rattle.command_tests.specs.Parts.{LiesWithin, grown_image, part_bytes, with_bytes, with_part};
+ghost use Rattle.command_tests.specs.Parts.{LiesWithin, grown_image, part_bytes, shrunk_image, with_bytes, with_part};
 
 use block_device::OpenFault;
 use device_adapters::Part;
@@ -70,5 +70,15 @@ pub fn lengthen(image: &mut Vec<u8>, sectors: u64) -> Result<(), OpenFault>
     match image.resize(bytes, 0) {
         Ok(()) => Ok(()),
         Err(_) => Err(OpenFault::NoMemory),
+    }
+}
+
+/// Shortens the image to at most so many sectors.
+pub fn shorten(image: &mut Vec<u8>, sectors: u64)
+    ensures { image.new.items ≡ shrunk_image image.old.items sectors }
+{
+    let whole = (image.len() / SECTOR) as u64;
+    if sectors <= whole {
+        image.truncate(sectors as usize * SECTOR);
     }
 }

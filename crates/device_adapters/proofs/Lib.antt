@@ -4,3 +4,4 @@ mod WindowCallLemmas
 mod PutLemmas
 mod DifferingCallLemmas
 mod CopyLemmas
+mod LackingLemmas

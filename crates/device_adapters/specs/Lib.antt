@@ -4,3 +4,4 @@ pub mod Copying
 pub mod Differing
 pub mod DifferingCalls
 pub mod Watching
+pub mod Lacking

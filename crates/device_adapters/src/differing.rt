@@ -90,6 +90,10 @@ impl<D: BlockDev> BlockDev for Differing<D> {
     fn failures(&self) -> u64 {
         self.inner.failures()
     }
+
+    fn lacked_space(&self) -> bool {
+        self.inner.lacked_space()
+    }
 }
 
 impl<D: SyncDev> SyncDev for Differing<D> {

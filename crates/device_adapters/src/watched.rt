@@ -122,6 +122,10 @@ impl<D: BlockDev, P: Progress> BlockDev for Watched<D, P> {
     fn failures(&self) -> u64 {
         self.inner.failures()
     }
+
+    fn lacked_space(&self) -> bool {
+        self.inner.lacked_space()
+    }
 }
 
 impl<D: SyncDev, P: Progress> SyncDev for Watched<D, P> {

@@ -185,6 +185,10 @@ impl<D: BlockDev, K: Beside> BlockDev for Window<D, K> {
     fn failures(&self) -> u64 {
         self.inner.failures()
     }
+
+    fn lacked_space(&self) -> bool {
+        self.inner.lacked_space()
+    }
 }
 
 impl<D: SyncDev, K: Beside> SyncDev for Window<D, K> {

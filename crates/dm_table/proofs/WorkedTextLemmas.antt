@@ -1,5 +1,5 @@
 -- Worked texts: what they say, or their first fault.
-use Rattle.std.proofs.Common.{◌≡◌, ℕ, Bool, List, [], ◌∷◌, ◌++◌, replicate, refl, codes, true, false, Ok, Err, Result}
+use Rattle.std.proofs.Common.{◌≡◌, ℕ, Bool, List, [], ◌∷◌, ◌++◌, replicate, refl, codes, true, false, Some, None, Ok, Err, Result}
 use Rattle.hex.specs.Hex.{decode_pairs}
 use Rattle.dm_table.specs.declared.verity.CorruptionMode.{CorruptionMode}
 use Rattle.dm_table.specs.declared.verity.CorruptionMode.TheVariants.{Fail, Panic, Restart}
@@ -16,7 +16,8 @@ use Rattle.dm_table.specs.Words.{words, trimmed_text, text_lines, entries_of, fi
 use Rattle.dm_table.specs.Numbers.{number}
 use Rattle.dm_table.specs.Names.{is_mapped_name, is_device}
 use Rattle.dm_table.specs.Arguments.{base_at, bytes_at}
-use Rattle.dm_table.specs.Options.{option_name, options_at, known_at}
+use Rattle.dm_table.specs.Options.{option_name, option_names, options_at, known_at, value_of}
+use Rattle.dm_table.specs.Parity.{fec_at, parity_at}
 use Rattle.dm_table.specs.Crypt.{sector_size, iv_large_sectors, key_at, crypt_at}
 use Rattle.dm_table.specs.Verity.{salt_at, verity_at}
 use Rattle.dm_table.specs.Lines.{linear_at, striped_at, bare_at, target_at, line_of}
@@ -78,7 +79,7 @@ first_fault kind = Err (record { entry = 0; line = 1; kind = kind })
 
 crypt_tables : (table_of (crypt_front ++ codes "0a0A0a0A0a0A0a0A0a0A0a0A0a0A0a0Ab1B1b1B1b1B1b1B1b1B1b1B1b1B1b1B1 07 D 016") ≡ Ok (crypt_line [] ∷ []))
     × (table_of (crypt_front ++ codes "0a0A0a0A0a0A0a0A0a0A0a0A0a0A0a0Ab1B1b1B1b1B1b1B1b1B1b1B1b1B1b1B1 7 D 16 02 no_read_workqueue allow_discards") ≡ Ok (crypt_line (codes "no_read_workqueue" ∷ codes "allow_discards" ∷ []) ∷ []))
-unfolding table_of text_lines words number is_mapped_name is_device line_of target_at crypt_at key_at bytes_at decode_pairs base_at options_at known_at option_name
+unfolding table_of text_lines words number is_mapped_name is_device line_of target_at crypt_at key_at bytes_at decode_pairs base_at options_at option_names known_at option_name
 crypt_tables = (refl, refl)
 
 -- the size of a unit, and how units are numbered
@@ -105,22 +106,22 @@ crypt_faults : (table_of (codes "0 8 crypt aes-cbc-plain64 x y D") ≡ first_fau
     × (table_of (crypt_front ++ codes "0a0A0a0A0a0A0a0A0a0A0a0A0a0A0a0Ab1B1b1B1b1B1b1B1b1B1b1B1b1B1b1B1 7 D 16 2 allow_discards allow_discards") ≡ first_fault kinds.Option)
     × (table_of (crypt_front ++ codes "0a0A0a0A0a0A0a0A0a0A0a0A0a0A0a0Ab1B1b1B1b1B1b1B1b1B1b1B1b1B1b1B1 7 D 16 2 sector_size:512 sector_size:4096") ≡ first_fault kinds.Option)
     × (table_of (crypt_front ++ codes "0a0A0a0A0a0A0a0A0a0A0a0A0a0A0a0Ab1B1b1B1b1B1b1B1b1B1b1B1b1B1b1B1 7 D 16 1 sector_size:8192") ≡ first_fault kinds.Option)
-unfolding table_of text_lines words number is_mapped_name is_device line_of target_at crypt_at key_at bytes_at decode_pairs base_at options_at known_at option_name
+unfolding table_of text_lines words number is_mapped_name is_device line_of target_at crypt_at key_at bytes_at decode_pairs base_at options_at option_names known_at option_name
 crypt_faults = (refl, refl, refl, refl, refl, refl, refl, refl, refl, refl, refl, refl, refl)
 
 -- a `verity` line
 abbrev verity_line : List ℕ → Bool → Line
 verity_line salt ignores =
-    line 0 8 (verity_target (record { «data» = codes "D"; hash = codes "/dev/mapper/t"; data_block = 4096; hash_block = 512; blocks = 1; start = 3; root = replicate 32 171; salt = salt; ignore_zero_blocks = ignores; corruption = Fail; in_tasklet = false }))
+    line 0 8 (verity_target (record { «data» = codes "D"; hash = codes "/dev/mapper/t"; data_block = 4096; hash_block = 512; blocks = 1; start = 3; root = replicate 32 171; salt = salt; ignore_zero_blocks = ignores; corruption = Fail; in_tasklet = false; parity = None }))
 
 abbrev verity_line_in : CorruptionMode → Bool → Line
 verity_line_in mode tasklet =
-    line 0 8 (verity_target (record { «data» = codes "D"; hash = codes "/dev/mapper/t"; data_block = 4096; hash_block = 512; blocks = 1; start = 3; root = replicate 32 171; salt = []; ignore_zero_blocks = false; corruption = mode; in_tasklet = tasklet }))
+    line 0 8 (verity_target (record { «data» = codes "D"; hash = codes "/dev/mapper/t"; data_block = 4096; hash_block = 512; blocks = 1; start = 3; root = replicate 32 171; salt = []; ignore_zero_blocks = false; corruption = mode; in_tasklet = tasklet; parity = None }))
 
 verity_tables : (table_of (codes "0 8 verity 01 D /dev/mapper/t 4096 0512 1 03 sha256 abABabABabABabABabABabABabABabABabABabABabABabABabABabABabABabAB -") ≡ Ok (verity_line [] false ∷ []))
     × (table_of (codes "0 8 verity 1 D /dev/mapper/t 4096 512 1 3 sha256 abABabABabABabABabABabABabABabABabABabABabABabABabABabABabABabAB 0a0B 0") ≡ Ok (verity_line (10 ∷ 11 ∷ []) false ∷ []))
     × (table_of (codes "0 8 verity 1 D /dev/mapper/t 4096 512 1 3 sha256 abABabABabABabABabABabABabABabABabABabABabABabABabABabABabABabAB - 01 ignore_zero_blocks") ≡ Ok (verity_line [] true ∷ []))
-unfolding table_of text_lines words number is_mapped_name is_device line_of target_at verity_at salt_at bytes_at decode_pairs options_at known_at
+unfolding table_of text_lines words number is_mapped_name is_device line_of target_at verity_at salt_at bytes_at decode_pairs options_at option_names known_at parity_at
 verity_tables = (refl, refl, refl)
 
 -- the words that are for the kernel alone; at most one of them for corruption
@@ -129,8 +130,36 @@ verity_words : (table_of (codes "0 8 verity 1 D /dev/mapper/t 4096 512 1 3 sha25
     × (table_of (codes "0 8 verity 1 D /dev/mapper/t 4096 512 1 3 sha256 abABabABabABabABabABabABabABabABabABabABabABabABabABabABabABabAB - 2 restart_on_corruption panic_on_corruption") ≡ first_fault kinds.Option)
     × (table_of (codes "0 8 verity 1 D /dev/mapper/t 4096 512 1 3 sha256 abABabABabABabABabABabABabABabABabABabABabABabABabABabABabABabAB - 1 ignore_corruption") ≡ first_fault kinds.Option)
     × (table_of (codes "0 8 verity 1 D /dev/mapper/t 4096 512 1 3 sha256 abABabABabABabABabABabABabABabABabABabABabABabABabABabABabABabAB - 1 check_at_most_once") ≡ first_fault kinds.Option)
-unfolding table_of text_lines words number is_mapped_name is_device line_of target_at verity_at salt_at bytes_at decode_pairs options_at known_at option_name
+unfolding table_of text_lines words number is_mapped_name is_device line_of target_at verity_at salt_at bytes_at decode_pairs options_at option_names known_at option_name parity_at
 verity_words = (refl, refl, refl, refl, refl)
+
+-- parity: four words with values, in any order
+abbrev verity_line_with : ℕ → ℕ → ℕ → Line
+verity_line_with roots blocks first =
+    line 0 8 (verity_target (record { «data» = codes "D"; hash = codes "/dev/mapper/t"; data_block = 4096; hash_block = 512; blocks = 1; start = 3; root = replicate 32 171; salt = []; ignore_zero_blocks = true; corruption = Fail; in_tasklet = false; parity = Some (record { device = codes "fec_start"; roots = roots; blocks = blocks; start = first }) }))
+
+abbrev verity_front : List ℕ
+verity_front = codes "0 8 verity 1 D /dev/mapper/t 4096 512 1 3 sha256 abABabABabABabABabABabABabABabABabABabABabABabABabABabABabABabAB - "
+
+parity_tables : (table_of (verity_front ++ codes "9 use_fec_from_device fec_start fec_roots 02 fec_blocks 7 fec_start 0 ignore_zero_blocks") ≡ Ok (verity_line_with 2 7 0 ∷ []))
+    × (table_of (verity_front ++ codes "9 fec_start 5 ignore_zero_blocks fec_blocks 0 fec_roots 24 use_fec_from_device fec_start") ≡ Ok (verity_line_with 24 0 5 ∷ []))
+unfolding table_of text_lines words number is_mapped_name is_device line_of target_at verity_at salt_at bytes_at decode_pairs options_at option_names known_at option_name parity_at fec_at value_of
+parity_tables = (refl, refl)
+
+parity_faults : (table_of (verity_front ++ codes "8 use_fec_from_device P fec_roots 2 fec_blocks 7 fec_start") ≡ first_fault kinds.ArgCount)
+    × (table_of (verity_front ++ codes "7 use_fec_from_device P fec_roots 2 fec_blocks 7 fec_start") ≡ first_fault kinds.Option)
+    × (table_of (verity_front ++ codes "6 use_fec_from_device P fec_roots 2 fec_blocks 7") ≡ first_fault kinds.Option)
+    × (table_of (verity_front ++ codes "2 fec_start 0") ≡ first_fault kinds.Option)
+    × (table_of (verity_front ++ codes "10 use_fec_from_device P fec_roots 2 fec_blocks 7 fec_start 0 fec_start 0") ≡ first_fault kinds.Option)
+    × (table_of (verity_front ++ codes "8 use_fec_from_device P fec_roots 1 fec_blocks 7 fec_start 0") ≡ first_fault kinds.Option)
+    × (table_of (verity_front ++ codes "8 use_fec_from_device P fec_roots 25 fec_blocks 7 fec_start 0") ≡ first_fault kinds.Option)
+    × (table_of (verity_front ++ codes "8 use_fec_from_device P fec_roots x fec_blocks 7 fec_start 0") ≡ first_fault kinds.Number)
+    × (table_of (verity_front ++ codes "8 use_fec_from_device a/b,c fec_roots x fec_blocks 7 fec_start 0") ≡ first_fault kinds.Name)
+    × (table_of (verity_front ++ codes "8 use_fec_from_device P fec_roots 2 fec_blocks -7 fec_start 0") ≡ first_fault kinds.Number)
+    × (table_of (verity_front ++ codes "8 use_fec_from_device P fec_roots 2 fec_blocks 7 fec_start x") ≡ first_fault kinds.Number)
+    × (table_of (verity_front ++ codes "10 use_fec_from_device P fec_roots 2 fec_blocks 7 fec_start x restart_on_corruption panic_on_corruption") ≡ first_fault kinds.Option)
+unfolding table_of text_lines words number is_mapped_name is_device line_of target_at verity_at salt_at bytes_at decode_pairs options_at option_names known_at option_name parity_at fec_at value_of
+parity_faults = (refl, refl, refl, refl, refl, refl, refl, refl, refl, refl, refl, refl)
 
 -- a `verity` line at each fault, with faults after it
 verity_faults : (table_of (codes "0 8 verity 2 a,b a,b x x x x x x") ≡ first_fault kinds.ArgCount)
@@ -147,5 +176,5 @@ verity_faults : (table_of (codes "0 8 verity 2 a,b a,b x x x x x x") ≡ first_f
     × (table_of (codes "0 8 verity 1 D t 4096 512 1 3 sha256 abABabABabABabABabABabABabABabABabABabABabABabABabABabABabABabAB - x") ≡ first_fault kinds.Number)
     × (table_of (codes "0 8 verity 1 D t 4096 512 1 3 sha256 abABabABabABabABabABabABabABabABabABabABabABabABabABabABabABabAB - 1") ≡ first_fault kinds.ArgCount)
     × (table_of (codes "0 8 verity 1 D t 4096 512 1 3 sha256 abABabABabABabABabABabABabABabABabABabABabABabABabABabABabABabAB - 1 x") ≡ first_fault kinds.Option)
-unfolding table_of text_lines words number is_mapped_name is_device line_of target_at verity_at salt_at bytes_at decode_pairs options_at known_at
+unfolding table_of text_lines words number is_mapped_name is_device line_of target_at verity_at salt_at bytes_at decode_pairs options_at option_names known_at parity_at
 verity_faults = (refl, refl, refl, refl, refl, refl, refl, refl, refl, refl, refl, refl, refl, refl)

@@ -45,7 +45,7 @@ crypt_at (name ∷ digits ∷ iv ∷ device ∷ offset ∷ params) = do
   key ← key_at digits
   first ← number_at iv
   base ← base_at device offset
-  options ← options_at crypt_options params
+  options ← options_at crypt_options [] params
   Ok (record { key = key; iv_offset = first; base = base; options = options })
 crypt_at words = Err kinds.ArgCount
 

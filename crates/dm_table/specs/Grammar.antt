@@ -6,6 +6,7 @@ use Rattle.dm_table.specs.declared.table.Target.{Target}
 use Rattle.dm_table.specs.declared.table.Target.TheVariants as targets
 pub use Rattle.dm_table.specs.Arguments.{IsBaseOfGrammar}
 pub use Rattle.dm_table.specs.Crypt.{IsCryptOfGrammar}
+pub use Rattle.dm_table.specs.Parity.{IsParityOfGrammar}
 pub use Rattle.dm_table.specs.Verity.{AreVerityDevices, AreVerityBlocks, IsVerityOfGrammar}
 pub use Rattle.dm_table.specs.Unstriped.{IsUnstripedOfGrammar}
 

@@ -6,6 +6,7 @@ pub mod Reading
 pub mod Arguments
 pub mod Options
 pub mod Crypt
+pub mod Parity
 pub mod Verity
 pub mod Unstriped
 pub mod TargetTypes

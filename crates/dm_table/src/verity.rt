@@ -3,6 +3,7 @@ ghost use Rattle.std.specs.Prelude.{◌≡◌, ◌≤◌, IfOk, IfErr};
 ghost use Rattle.allocation.specs.Asked.{asked};
 ghost use Rattle.dm_table.specs.Names.{most_name};
 
+use crate::parity::Parity;
 use crate::table::Name;
 use allocation::OutOfMemory;
 use std::alloc::Global;
@@ -44,18 +45,24 @@ pub struct Verity {
     pub corruption: CorruptionMode,
     /// `try_verify_in_tasklet`: the kernel verifies kept hash blocks in a tasklet. It changes no byte that is read.
     pub in_tasklet: bool,
+    /// The parity, if the line has some.
+    pub parity: Option<Parity>,
 }
 
 impl Verity {
-    ghost use Rattle.dm_table.specs.Verity.{AreVerityDevices};
+    ghost use Rattle.dm_table.specs.Verity.{IsVerityOfGrammar};
 
     pub(crate) fn try_clone(&self, alloc: Global) -> Result<Verity, OutOfMemory>
-        requires { AreVerityDevices self.now }
+        requires { IsVerityOfGrammar self.now }
         ensures ok { IfOk result (λ verity. verity ≡ self.now) }
         ensures err { IfErr result (λ e. asked e ≤ most_name) }
     {
         let data = Name::new(alloc, self.data.as_slice())?;
         let hash = Name::new(alloc, self.hash.as_slice())?;
+        let parity = match &self.parity {
+            Some(parity) => Some(parity.try_clone(alloc)?),
+            None => None,
+        };
         Ok(Verity {
             data,
             hash,
@@ -68,6 +75,7 @@ impl Verity {
             ignore_zero_blocks: self.ignore_zero_blocks,
             corruption: self.corruption,
             in_tasklet: self.in_tasklet,
+            parity,
         })
     }
 }

@@ -23,6 +23,7 @@ impl BlockDev for Numbered {
       reads = capped r.reads;
       writes = 0;
       failures = 0;
+      lacked_space = false;
     } };
 
     ghost gives = { λ r first bytes. Unit {0} };
@@ -67,6 +68,10 @@ impl BlockDev for Numbered {
 
     fn failures(&self) -> u64 {
         0
+    }
+
+    fn lacked_space(&self) -> bool {
+        false
     }
 }
 

@@ -24,6 +24,7 @@ impl BlockDev for Ramp {
       reads = capped r.reads;
       writes = 0;
       failures = 0;
+      lacked_space = false;
     } };
 
     ghost gives = { λ r first bytes. Unit {0} };
@@ -68,5 +69,9 @@ impl BlockDev for Ramp {
 
     fn failures(&self) -> u64 {
         0
+    }
+
+    fn lacked_space(&self) -> bool {
+        false
     }
 }

@@ -3,6 +3,7 @@ pub mod CallLemmas
 pub mod PlaceLemmas
 pub mod RoundLemmas
 pub mod RestoringLemmas
+pub mod LostSumLemmas
 pub mod WritingLemmas
 pub mod HandingLemmas
 pub mod SumLemmas

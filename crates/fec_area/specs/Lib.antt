@@ -1,4 +1,5 @@
 pub mod Layouts
+pub mod Sums
 pub mod Rounds
 pub mod Writing
 pub mod Handing

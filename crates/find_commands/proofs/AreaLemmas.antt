@@ -28,12 +28,14 @@ header-sizes size h =
     (at_most 16384 size bounds.0, at_most size 4194304 bounds.1)
 
 -- an area isn't empty, and ends on the disk
-pub area-fits : (sectors offset size : ℕ) → fits_header sectors offset size ≡ true → (0 < size / 512 - 8) × (size / 512 - 8 ≤ 8192) × (offset / 512 + 8 + (size / 512 - 8) ≤ sectors)
-area-fits sectors offset size h =
-    let parts = and_parts (is_header_size size) (nat_le (offset / 512 + size / 512) sectors) h in
+pub area-fits : (sectors first size : ℕ) → fits_header sectors first size ≡ true → (0 < size / 512 - 8) × (size / 512 - 8 ≤ 8192) × (first + 8 + (size / 512 - 8) ≤ sectors)
+area-fits sectors first size h =
+    let parts = and_parts (is_header_size size) (nat_le (size / 512) sectors && nat_le first (sectors - size / 512)) h in
+    let ends = and_parts (nat_le (size / 512) sectors) (nat_le first (sectors - size / 512)) parts.1 in
     let sizes = header-sizes size parts.0 in
-    let ends : offset / 512 + size / 512 ≤ sectors = at_most (offset / 512 + size / 512) sectors parts.1 in
-    (omega (arith, sizes.0), omega (arith, sizes.1), omega (arith, sizes.0, ends))
+    let inside : size / 512 ≤ sectors = at_most (size / 512) sectors ends.0 in
+    let begins : first ≤ sectors - size / 512 = at_most first (sectors - size / 512) ends.1 in
+    (omega (arith, sizes.0), omega (arith, sizes.1), omega (arith, sizes.0, inside, begins))
 
 pub segments-sought : {D : Type 0} (state : D → Device) (f : Finding) (old new : D) (segments : Data) (sectors first count : ℕ) → sectors ≡ (state old).size → first ≡ area_first f → count ≡ area_sectors f
     → has_area sectors f ≡ true → SeeksSegments state first count old new segments → FindsSegments state f old new segments

@@ -1,5 +1,5 @@
 -- How the command ends.
-use Rattle.std.proofs.Common.{◌≡◌, ◌-◌, ℕ, Bool, true, List, [], ◌∷◌, ◌++◌, Option, Result, Ok, Err, inl, refl, ap, ap₂, sym, subst, ◌∙◌, append-nil, append_assoc}
+use Rattle.std.proofs.Common.{◌≡◌, ◌-◌, ℕ, Bool, true, false, List, [], ◌∷◌, ◌++◌, Option, Result, Ok, Err, inl, refl, ap, ap₂, sym, subst, ◌∙◌, append-nil, append_assoc}
 use Rattle.std.proofs.KnownBytes.{Appends-nil, Appends-trans}
 use Rattle.std.specs.Io.KnownBytes.{Appends}
 use Rattle.std.specs.Prelude.{IfErr, IsErrAnd}
@@ -9,7 +9,7 @@ use Rattle.block_device.specs.Device.{Device}
 use Rattle.program_io.specs.Counted.{CountedRecord}
 use Rattle.stack_recovery.specs.declared.recovery.Counts.{Counts}
 use Rattle.stack_recovery.specs.Listings.{listed}
-use Rattle.scan_commands.specs.Counting.{IsCountsEnd, counts_text}
+use Rattle.scan_commands.specs.Counting.{IsCountsEnd, counts_text, has_missing}
 use Rattle.scan_commands.specs.declared.recovering_fault.RecoveringFault.{RecoveringFault}
 use Rattle.scan_commands.specs.declared.recovering_fault.RecoveringFault.TheVariants.{Lost, LostAsSaid, NoMemory, OutputTooSmall, Pass, Stack, Write}
 use Rattle.find_commands.specs.declared.finding.Finding.{Finding}
@@ -17,8 +17,8 @@ use Rattle.find_commands.specs.declared.listing.KeptFindings.{KeptFindings}
 use Rattle.find_commands.specs.declared.listing.ListFault.{ListFault}
 use Rattle.find_commands.specs.declared.listing.ListFault.TheVariants as list_fault
 use Rattle.find_commands.specs.Areas.{StatesLine}
-use Rattle.find_commands.specs.Commands.{FindsThings, IsFoundLinesEnd, IsFoundObjectEnd, Printing, PrintsFound, PrintsObject, PrintsWhole, SeenDoes, found_lines_text, list_end, printing, found_whole_text}
-use Rattle.find_commands.specs.Findings.{findings_from}
+use Rattle.find_commands.specs.Commands.{FindsThings, IsFoundLinesEnd, IsFoundObjectEnd, LosesSome, Printing, PrintsFound, PrintsObject, PrintsWhole, SeenDoes, found_lines_text, list_end, printing, found_whole_text}
+use Rattle.find_commands.specs.Findings.{findings_in}
 use Rattle.find_commands.specs.Lines.{finding_line, found_lines}
 use Rattle.find_commands.specs.Searches.{Receives, Searches, SearchSides, read_counts, shown}
 
@@ -53,18 +53,19 @@ calls-seen state does old new [] same = same
 calls-seen state does old new (call ∷ more) h = (h.0, h.1.0, calls-seen state does h.0 new more h.2)
 
 -- the counts of a whole search
-counts-are : {D L : Type 0} (Does : D → Call → D → Type 0) (receives : L → Finding → L → Type 0) (old new : SearchSides D L) (size : ℕ) (counts : Counts) (s : Searches Does receives old new size counts) → counts ≡ read_counts (shown s.whole.calls)
+counts-are : {D L : Type 0} (Does : D → Call → D → Type 0) (receives : L → Finding → L → Type 0) (old new : SearchSides D L) (size : ℕ) (counts : Counts) (s : Searches Does receives old new size counts) → counts ≡ read_counts (shown s.calls)
 counts-are Does receives old new size counts s =
-    ap₂ {C = Counts} (λ (r l : ℕ). record { read = r; lost = l }) (s.counted ∙ ap₂ {C = ℕ} (λ (m k : ℕ). m - k) (sym s.whole.known) (sym s.whole.lost_are)) (sym s.whole.lost_are)
+    ap₂ {C = Counts} (λ (r l : ℕ). record { read = r; lost = l; untried = counts.untried }) (s.counted ∙ ap₂ {C = ℕ} (λ (m k : ℕ). m - k) (sym s.known) (sym s.lost_are)) (sym s.lost_are)
+    ∙ ap (λ (t : ℕ). record (read_counts (shown s.calls)) { untried = t }) s.tried
 
 -- these things were found if the receiver holds them
 finds-of : {D L : Type 0} (state : D → Device) (does : D → Call → D → Type 0) (receives : L → Finding → L → Type 0) (old new : SearchSides D L) (counts : Counts)
-    (s : Searches (DeviceDoes state does) receives old new (state old.device).size counts) (found : List Finding) → found ≡ findings_from 0 (shown s.whole.calls) → FindsThings state old.device new.device found counts
+    (s : Searches (DeviceDoes state does) receives old new (state old.device).size counts) (found : List Finding) → found ≡ findings_in (shown s.calls) → FindsThings state old.device new.device found counts
 finds-of state does receives old new counts s found are = record {
-  calls = s.whole.calls;
-  made = calls-seen state does old.device new.device s.whole.calls s.whole.made;
-  order = s.whole.order;
-  whole = s.whole.known;
+  calls = s.calls;
+  made = calls-seen state does old.device new.device s.calls s.made;
+  order = s.order;
+  whole = s.known;
   found_are = are;
   counted = counts-are (DeviceDoes state does) receives old new (state old.device).size counts s;
 }
@@ -73,26 +74,24 @@ finds-of state does receives old new counts s found are = record {
 pub prints-lines : {D W : Type 0} (state : D → Device) (does : D → Call → D → Type 0) (contents : W → Option (List ℕ)) (old new : SearchSides D (CountedRecord W)) (counts : Counts)
     → Searches (DeviceDoes state does) (TellsLine contents) old new (state old.device).size counts → PrintsFound state found_lines_text (printing old.device new.device (contents old.list.inner) (contents new.list.inner)) counts
 prints-lines state does contents old new counts s = record {
-  found = findings_from 0 (shown s.whole.calls);
-  finds = finds-of state does (TellsLine contents) old new counts s (findings_from 0 (shown s.whole.calls)) refl;
-  text_is = writes-lines contents old.list new.list (findings_from 0 (shown s.whole.calls)) s.whole.received;
+  found = findings_in (shown s.calls);
+  finds = finds-of state does (TellsLine contents) old new counts s (findings_in (shown s.calls)) refl;
+  text_is = writes-lines contents old.list new.list (findings_in (shown s.calls)) s.received;
 }
 
 -- and then the counts
-pub prints-counts : {D : Type 0} (state : D → Device) (device device' : D) (old mid new : Option (List ℕ)) (counts : Counts) → counts.lost ≡ 0 → (p : PrintsFound state found_lines_text (printing device device' old mid) counts)
-    → Appends mid new (counts_text counts.read 0) → PrintsWhole state found_whole_text (printing device device' old new)
+pub prints-counts : {D : Type 0} (state : D → Device) (device device' : D) (old mid new : Option (List ℕ)) (counts : Counts) → has_missing counts ≡ false → (p : PrintsFound state found_lines_text (printing device device' old mid) counts)
+    → Appends mid new (counts_text counts) → PrintsWhole state found_whole_text (printing device device' old new)
 prints-counts state device device' old mid new counts none p printed =
-    (counts, none, record { found = p.found; finds = p.finds; text_is = Appends-trans old mid new (found_lines p.found) (counts_text counts.read 0) p.text_is printed })
+    (counts, none, record { found = p.found; finds = p.finds; text_is = Appends-trans old mid new (found_lines p.found) (counts_text counts) p.text_is printed })
 
 -- sectors are lost, or a line can't be written
 pub lines-lossy : {D : Type 0} (state : D → Device) (device device' : D) (old mid new : Option (List ℕ)) (counts : Counts) (mid_failed failed : Bool) (fault : RecoveringFault) → PrintsFound state found_lines_text (printing device device' old mid) counts
     → IsCountsEnd counts (listed mid mid_failed) new failed fault → IsFoundLinesEnd state (printing device device' old new) failed fault
-lines-lossy state device device' old mid new counts mid_failed failed (Lost read lost) p e = record {
-  counts = counts;
-  some = e.2;
-  prints = record { found = p.found; finds = p.finds; text_is = subst (λ (x : Option (List ℕ)). Appends old x (found_lines p.found)) (sym e.3) p.text_is };
-  are = (e.0, e.1);
-}
+lines-lossy state device device' old mid new counts mid_failed failed (Lost of) p e = subst (LosesSome state (printing device device' old new)) (sym e.0) (record {
+  some = e.1;
+  prints = record { found = p.found; finds = p.finds; text_is = subst (λ (x : Option (List ℕ)). Appends old x (found_lines p.found)) (sym e.2) p.text_is };
+})
 lines-lossy state device device' old mid new counts mid_failed failed Write p e = e
 lines-lossy state device device' old mid new counts mid_failed failed NoMemory p e = absurd e
 lines-lossy state device device' old mid new counts mid_failed failed (Stack fault) p e = absurd e
@@ -116,7 +115,7 @@ pub kept-found : {D : Type 0} (state : D → Device) (does : D → Call → D �
     → Searches (DeviceDoes state does) KeepsFinding old new (state old.device).size counts → FindsThings state old.device new.device new.list.findings.items counts
 kept-found state does old new counts none s =
     finds-of state does KeepsFinding old new counts s new.list.findings.items
-    (keeps-all old.list new.list (findings_from 0 (shown s.whole.calls)) s.whole.received ∙ ap (λ (l : List Finding). l ++ findings_from 0 (shown s.whole.calls)) none)
+    (keeps-all old.list new.list (findings_in (shown s.calls)) s.received ∙ ap (λ (l : List Finding). l ++ findings_in (shown s.calls)) none)
 
 -- the object was printed
 pub prints-object : {D : Type 0} (state : D → Device) (device searched device' : D) (old new : Option (List ℕ)) (found listed : List Finding) (counts : Counts) (line text : List ℕ) → FindsThings state device searched found counts

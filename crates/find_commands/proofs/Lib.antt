@@ -1,6 +1,7 @@
 mod AreaLemmas
 mod EndingLemmas
 mod FieldLemmas
+mod HeaderLemmas
 mod ObjectLemmas
 mod SearchLemmas
 mod TellingLemmas

@@ -8,16 +8,21 @@ use Rattle.serde_json.specs.Data.{Data, null, string}
 use Rattle.serde_json.specs.View.{items_of}
 use Rattle.serde_json.specs.Written.{has_float, items_have_float}
 use Rattle.stack_recovery.specs.declared.recovery.Counts.{Counts}
+use Rattle.find_commands.specs.declared.checksum.Checksum.{Checksum}
 use Rattle.find_commands.specs.declared.finding.Finding.{Finding}
 use Rattle.find_commands.specs.declared.luks.Extent.{Extent}
 use Rattle.find_commands.specs.CryptLines.{crypt_line}
 use Rattle.find_commands.specs.Areas.{FindsEach, FindsSegments, SeeksSegments}
 use Rattle.find_commands.specs.Luks.{crypt_in, segment_at}
-use Rattle.find_commands.specs.Objects.{crypt_items, finding_json, found_json, segment_items, segment_json, segments_json, segments_to, shown_json, stated_json, uuid_json}
+use Rattle.find_commands.specs.Objects.{checksum_json, crypt_items, finding_json, found_json, segment_items, segment_json, segments_json, segments_to, shown_json, stated_json, uuid_json}
 
 plain_number : (number : Option ℕ) → has_float (stated_json number) ≡ false
 plain_number (Some n) = refl
 plain_number None = refl
+
+plain_checksum : (checksum : Option Checksum) → has_float (checksum_json checksum) ≡ false
+plain_checksum (Some checksum) = refl
+plain_checksum None = refl
 
 plain_uuid : (uuid : Option (List ℕ)) → has_float (uuid_json uuid) ≡ false
 plain_uuid (Some bytes) = refl
@@ -66,7 +71,7 @@ plain_sight state f old new segments (inr seeks) = plain_sought state _ _ old ne
 -- ---- findings
 
 plain_finding : (f : Finding) (segments : Data) → has_float segments ≡ false → has_float (finding_json f segments) ≡ false
-plain_finding f segments plain = or_from _ _ (plain_number f.blocks) (or_from _ _ plain (or_from _ _ (plain_number f.size) (or_from _ _ (plain_uuid f.uuid) refl)))
+plain_finding f segments plain = or_from _ _ (plain_number f.blocks) (or_from _ _ (plain_checksum f.checksum) (or_from _ _ plain (or_from _ _ (plain_number f.size) (or_from _ _ (plain_uuid f.uuid) refl))))
 
 plain_each : {D : Type 0} (state : D → Device) (old new : D) (shown : List (Finding × Data)) → FindsEach state old shown new → items_have_float (items_of (map shown_json shown)) ≡ false
 plain_each state old new [] finds = refl

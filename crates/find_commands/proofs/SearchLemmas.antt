@@ -1,15 +1,19 @@
 -- A search, call by call.
-use Rattle.std.proofs.Common.{◌≡◌, ℕ, zero, suc, ◌+◌, ◌*◌, ◌/◌, Bool, true, false, List, [], ◌∷◌, ◌++◌, length, map, replicate, Some, None, option_to_list, refl, ap, sym, subst, subst₂, ◌∙◌, append_assoc, append-nil, arith, length-append}
+use Rattle.std.proofs.Common.{◌≡◌, ℕ, zero, suc, ◌+◌, ◌-◌, ◌*◌, ◌/◌, ◌==◌, Bool, true, false, List, [], ◌∷◌, ◌++◌, length, map, replicate, Option, Some, None, if◌then◌else◌, refl, ap, sym, subst, subst₂, ◌∙◌, append_assoc, append-nil, arith, length-append}
 use Rattle.std.proofs.lemmas.List.{length-map, length-replicate}
 use Rattle.std.proofs.lemmas.List.Concat.{flat_map-append}
 use Rattle.block_device.specs.Call.{Call, Read, Sync, Write}
 use Rattle.block_device.specs.Device.{sectors_of}
 use Rattle.block_device.specs.Whole.{length-sectors_of}
 use Rattle.block_device.proofs.lemmas.CallLemmas.{calls-last}
+use Rattle.stack_recovery.specs.declared.recovery.Counts.{Counts}
 use Rattle.find_commands.specs.declared.finding.Finding.{Finding}
 use Rattle.find_commands.specs.declared.listing.ListFault.{ListFault}
-use Rattle.find_commands.specs.Findings.{ReadState, found_at, findings_from}
-use Rattle.find_commands.specs.Searches.{AreInOrder, IsSearch, Receives, SearchSides, StopsSearch, lost_by, lost_states, shown, shown_by, search_sides, states_read}
+use Rattle.find_commands.specs.declared.checksum.Checksum.TheVariants.{Unchecked}
+use Rattle.find_commands.specs.declared.header.OpenHeader.{OpenHeader}
+use Rattle.find_commands.specs.Findings.{ReadState, open_from, reports_from, sector_open, sector_report}
+use Rattle.find_commands.specs.Headers.{Header, IsOpen, interrupted}
+use Rattle.find_commands.specs.Searches.{AreInOrder, IsSearch, Receives, ReportsAfter, SearchSides, Searches, StopsSearch, lost_by, lost_open, lost_report, lost_states, shown, shown_by, search_sides, states_read}
 
 -- ---- what was received
 
@@ -19,19 +23,28 @@ receives-append receives a b c (f ∷ more) others h last = (h.0, h.1, receives-
 
 -- ---- states of sectors
 
-found-append : (at : ℕ) (xs ys : List ReadState) → findings_from at (xs ++ ys) ≡ findings_from at xs ++ findings_from (at + length xs) ys
-found-append at [] ys = let same : at ≡ at + 0 = omega arith in ap (λ (k : ℕ). findings_from k ys) same
-found-append at (Some s ∷ xs) ys =
+open-append : (h : Option Header) (at : ℕ) (xs ys : List ReadState) → open_from h at (xs ++ ys) ≡ open_from (open_from h at xs) (at + length xs) ys
+open-append h at [] ys = let same : at ≡ at + 0 = omega arith in ap (λ (k : ℕ). open_from h k ys) same
+open-append h at (s ∷ xs) ys =
     let next : (at + 1) + length xs ≡ at + suc (length xs) = omega arith in
-    ap (λ (l : List Finding). option_to_list (found_at at s) ++ l) (found-append (at + 1) xs ys ∙ ap (λ (k : ℕ). findings_from (at + 1) xs ++ findings_from k ys) next)
-    ∙ sym (append_assoc (option_to_list (found_at at s)) (findings_from (at + 1) xs) (findings_from (at + suc (length xs)) ys))
-found-append at (None ∷ xs) ys =
-    let next : (at + 1) + length xs ≡ at + suc (length xs) = omega arith in
-    found-append (at + 1) xs ys ∙ ap (λ (k : ℕ). findings_from (at + 1) xs ++ findings_from k ys) next
+    open-append (sector_open h at s) (at + 1) xs ys ∙ ap (λ (k : ℕ). open_from (open_from (sector_open h at s) (at + 1) xs) k ys) next
 
-found-nones : (at n : ℕ) → findings_from at (replicate n None) ≡ []
-found-nones at zero = refl
-found-nones at (suc n) = found-nones (at + 1) n
+reports-append : (h : Option Header) (at : ℕ) (xs ys : List ReadState) → reports_from h at (xs ++ ys) ≡ reports_from h at xs ++ reports_from (open_from h at xs) (at + length xs) ys
+reports-append h at [] ys = let same : at ≡ at + 0 = omega arith in ap (λ (k : ℕ). reports_from h k ys) same
+reports-append h at (s ∷ xs) ys =
+    let next : (at + 1) + length xs ≡ at + suc (length xs) = omega arith in
+    let rest : Option Header = sector_open h at s in
+    ap (λ (l : List Finding). sector_report h at s ++ l) (reports-append rest (at + 1) xs ys ∙ ap (λ (k : ℕ). reports_from rest (at + 1) xs ++ reports_from (open_from rest (at + 1) xs) k ys) next)
+    ∙ sym (append_assoc (sector_report h at s) (reports_from rest (at + 1) xs) (reports_from (open_from rest (at + 1) xs) (at + suc (length xs)) ys))
+
+-- a failed read of n sectors
+lost-reports : (h : Option Header) (at : ℕ) (single : Bool) → reports_from h at (replicate (if single then 1 else 0) None) ≡ (if single then interrupted Unchecked h else [])
+lost-reports h at true = append-nil (interrupted Unchecked h)
+lost-reports h at false = refl
+
+lost-opens : (h : Option Header) (at : ℕ) (single : Bool) → open_from h at (replicate (if single then 1 else 0) None) ≡ (if single then None else h)
+lost-opens h at true = refl
+lost-opens h at false = refl
 
 lost-append : (xs ys : List ReadState) → lost_states (xs ++ ys) ≡ lost_states xs + lost_states ys
 lost-append [] ys = omega arith
@@ -63,57 +76,98 @@ order-last from (Sync o ∷ more) at bytes ok h e = absurd h
 
 -- ---- the search
 
-pub search-none : {D L : Type 0} (Does : D → Call → D → Type 0) (receives : L → Finding → L → Type 0) (old : SearchSides D L) → IsSearch Does receives old old 0 0
-search-none Does receives old = record { calls = []; made = refl; order = tt; known = refl; lost_are = refl; received = refl }
+pub search-none : {D L : Type 0} (Does : D → Call → D → Type 0) (receives : L → Finding → L → Type 0) (old : SearchSides D L) → IsSearch Does receives old old 0 0 None
+search-none Does receives old = record { calls = []; made = refl; order = tt; known = refl; lost_are = refl; reported = (refl, tt) }
 
 -- one more read
-search-step : {D L : Type 0} (Does : D → Call → D → Type 0) (receives : L → Finding → L → Type 0) (old now : SearchSides D L) (at lost : ℕ) → IsSearch Does receives old now at lost
-    → (bytes : List ℕ) (ok : Bool) (device : D) (list : L) → Does now.device (Read at bytes ok) device → Receives receives now.list (findings_from at (shown_by (Read at bytes ok))) list
-    → IsSearch Does receives old (search_sides device list) (at + length (shown_by (Read at bytes ok))) (lost + lost_states (shown_by (Read at bytes ok)))
-search-step Does receives old now at lost s bytes ok device list did told =
+search-step : {D L : Type 0} (Does : D → Call → D → Type 0) (receives : L → Finding → L → Type 0) (old now : SearchSides D L) (at lost : ℕ) (current : Option OpenHeader) → IsSearch Does receives old now at lost current
+    → (bytes : List ℕ) (ok : Bool) (device : D) (list : L) (next : Option OpenHeader) → Does now.device (Read at bytes ok) device
+    → ReportsAfter receives now.list list current (λ h. reports_from h at (shown_by (Read at bytes ok))) (λ h. open_from h at (shown_by (Read at bytes ok))) next
+    → IsSearch Does receives old (search_sides device list) (at + length (shown_by (Read at bytes ok))) (lost + lost_states (shown_by (Read at bytes ok))) next
+search-step Does receives old now at lost current s bytes ok device list next did told =
     let call : Call = Read at bytes ok in
     let more = shown-last s.calls call in
     let here : 0 + length (shown s.calls) ≡ at = omega (arith, s.known) in
+    let h : Option Header = open_from None 0 (shown s.calls) in
+    let reports = told h s.reported.1 in
     record {
       calls = s.calls ++ call ∷ [];
       made = calls-last Does old.device now.device device s.calls call s.made did;
       order = order-last 0 s.calls at bytes ok s.order (sym here);
       known = ap length more ∙ length-append (shown s.calls) (shown_by call) ∙ ap (λ (n : ℕ). n + length (shown_by call)) s.known;
       lost_are = ap lost_states more ∙ lost-append (shown s.calls) (shown_by call) ∙ ap (λ (n : ℕ). n + lost_states (shown_by call)) s.lost_are;
-      received = subst (λ (l : List Finding). Receives receives old.list l list)
-          (sym (ap (findings_from 0) more ∙ found-append 0 (shown s.calls) (shown_by call) ∙ ap (λ (k : ℕ). findings_from 0 (shown s.calls) ++ findings_from k (shown_by call)) here))
-          (receives-append receives old.list now.list list (findings_from 0 (shown s.calls)) (findings_from at (shown_by call)) s.received told);
+      reported = (
+        subst (λ (l : List Finding). Receives receives old.list l list)
+            (sym (ap (reports_from None 0) more ∙ reports-append None 0 (shown s.calls) (shown_by call) ∙ ap (λ (k : ℕ). reports_from None 0 (shown s.calls) ++ reports_from h k (shown_by call)) here))
+            (receives-append receives old.list now.list list (reports_from None 0 (shown s.calls)) (reports_from h at (shown_by call)) s.reported.0 reports.0),
+        subst (IsOpen next) (sym (ap (open_from None 0) more ∙ open-append None 0 (shown s.calls) (shown_by call) ∙ ap (λ (k : ℕ). open_from h k (shown_by call)) here)) reports.1,
+      );
     }
 
 -- a piece was read, and what it shows received
-pub search-read : {D L : Type 0} (Does : D → Call → D → Type 0) (receives : L → Finding → L → Type 0) (old now : SearchSides D L) (at lost : ℕ) → IsSearch Does receives old now at lost
-    → (n : ℕ) (bytes : List ℕ) (device : D) (list : L) → length bytes ≡ n * 512 → Does now.device (Read at bytes true) device → Receives receives now.list (findings_from at (states_read bytes)) list
-    → IsSearch Does receives old (search_sides device list) (at + n) lost
-search-read Does receives old now at lost s n bytes device list e did told =
+pub search-read : {D L : Type 0} (Does : D → Call → D → Type 0) (receives : L → Finding → L → Type 0) (old now : SearchSides D L) (at lost : ℕ) (current : Option OpenHeader) → IsSearch Does receives old now at lost current
+    → (n : ℕ) (bytes : List ℕ) (device : D) (list : L) (next : Option OpenHeader) → length bytes ≡ n * 512 → Does now.device (Read at bytes true) device
+    → ReportsAfter receives now.list list current (λ h. reports_from h at (states_read bytes)) (λ h. open_from h at (states_read bytes)) next
+    → IsSearch Does receives old (search_sides device list) (at + n) lost next
+search-read Does receives old now at lost current s n bytes device list next e did told =
     let none : lost + 0 ≡ lost = omega arith in
-    subst₂ (λ (a l : ℕ). IsSearch Does receives old (search_sides device list) a l) (ap (λ (k : ℕ). at + k) (length-read bytes n e)) (ap (λ (k : ℕ). lost + k) (none-lost (sectors_of (length bytes / 512) bytes)) ∙ none)
-    (search-step Does receives old now at lost s bytes true device list did told)
+    subst₂ (λ (a l : ℕ). IsSearch Does receives old (search_sides device list) a l next) (ap (λ (k : ℕ). at + k) (length-read bytes n e)) (ap (λ (k : ℕ). lost + k) (none-lost (sectors_of (length bytes / 512) bytes)) ∙ none)
+    (search-step Does receives old now at lost current s bytes true device list next did told)
 
 -- a piece couldn't be read
-pub search-failed : {D L : Type 0} (Does : D → Call → D → Type 0) (receives : L → Finding → L → Type 0) (old now : SearchSides D L) (at lost : ℕ) → IsSearch Does receives old now at lost
-    → (n : ℕ) (bytes : List ℕ) (device : D) → length bytes ≡ n * 512 → Does now.device (Read at bytes false) device → IsSearch Does receives old (search_sides device now.list) (at + lost_by n) (lost + lost_by n)
-search-failed Does receives old now at lost s n bytes device e did =
+pub search-failed : {D L : Type 0} (Does : D → Call → D → Type 0) (receives : L → Finding → L → Type 0) (old now : SearchSides D L) (at lost : ℕ) (current : Option OpenHeader) → IsSearch Does receives old now at lost current
+    → (n : ℕ) (bytes : List ℕ) (device : D) (list : L) (next : Option OpenHeader) → length bytes ≡ n * 512 → Does now.device (Read at bytes false) device → ReportsAfter receives now.list list current (lost_report n) (lost_open n) next
+    → IsSearch Does receives old (search_sides device list) (at + lost_by n) (lost + lost_by n) next
+search-failed Does receives old now at lost current s n bytes device list next e did told =
     let count : length bytes / 512 ≡ n = omega (arith, e) in
     let k : ℕ = lost_by (length bytes / 512) in
-    subst₂ (λ (a l : ℕ). IsSearch Does receives old (search_sides device now.list) a l)
+    subst₂ (λ (a l : ℕ). IsSearch Does receives old (search_sides device list) a l next)
     (ap (λ (m : ℕ). at + m) (length-replicate {A = ReadState} k None ∙ ap lost_by count))
     (ap (λ (m : ℕ). lost + m) (lost-nones k ∙ ap lost_by count))
-    (search-step Does receives old now at lost s bytes false device now.list did (subst (λ (l : List Finding). Receives receives now.list l now.list) (sym (found-nones at k)) refl))
+    (search-step Does receives old now at lost current s bytes false device list next did (λ h is. let t = told h is in (
+      subst (λ (l : List Finding). Receives receives now.list l list) (sym (ap (λ (m : ℕ). reports_from h at (replicate (lost_by m) None)) count ∙ lost-reports h at (n == 1))) t.0,
+      subst (IsOpen next) (sym (ap (λ (m : ℕ). open_from h at (replicate (lost_by m) None)) count ∙ lost-opens h at (n == 1))) t.1,
+    )))
 
--- a finding of the last read wasn't received
-pub search-stops : {D L : Type 0} (Does : D → Call → D → Type 0) (receives : L → Finding → L → Type 0) (refuses : L → ListFault → Type 0) (old now : SearchSides D L) (at lost : ℕ) → IsSearch Does receives old now at lost
-    → (bytes : List ℕ) (device : D) (list : L) (fault : ListFault) → Does now.device (Read at bytes true) device → refuses list fault → StopsSearch Does receives refuses old (search_sides device list) fault
-search-stops Does receives refuses old now at lost s bytes device list fault did refused = record {
+-- a finding of the last read wasn't received, or one after it
+pub search-stops : {D L : Type 0} (Does : D → Call → D → Type 0) (receives : L → Finding → L → Type 0) (refuses : L → ListFault → Type 0) (old now : SearchSides D L) (at lost : ℕ) (current : Option OpenHeader) → IsSearch Does receives old now at lost current
+    → (call : Call) (device : D) (list : L) (fault : ListFault) → Does now.device call device → refuses list fault → StopsSearch Does receives refuses old (search_sides device list) fault
+search-stops Does receives refuses old now at lost current s call device list fault did refused = record {
   between = now;
   at = at;
   lost = lost;
-  bytes = bytes;
+  current = current;
+  last = call ∷ [];
   before = s;
-  last_read = did;
+  few = omega arith;
+  made = (device, did, refl);
   refused = refused;
 }
+
+pub search-stops-last : {D L : Type 0} (Does : D → Call → D → Type 0) (receives : L → Finding → L → Type 0) (refuses : L → ListFault → Type 0) (old now : SearchSides D L) (at lost : ℕ) (current : Option OpenHeader) → IsSearch Does receives old now at lost current
+    → (list : L) (fault : ListFault) → refuses list fault → StopsSearch Does receives refuses old (search_sides now.device list) fault
+search-stops-last Does receives refuses old now at lost current s list fault refused = record {
+  between = now;
+  at = at;
+  lost = lost;
+  current = current;
+  last = [];
+  before = s;
+  few = omega arith;
+  made = refl;
+  refused = refused;
+}
+
+-- all sectors were searched, and a header that was open then is reported
+pub search-whole : {D L : Type 0} (Does : D → Call → D → Type 0) (receives : L → Finding → L → Type 0) (old now : SearchSides D L) (size lost : ℕ) (current : Option OpenHeader) (list : L) (counts : Counts) → IsSearch Does receives old now size lost current
+    → ((h : Option Header) → IsOpen current h → Receives receives now.list (interrupted Unchecked h) list) → counts ≡ record { read = size - lost; lost = lost; untried = 0 } → Searches Does receives old (search_sides now.device list) size counts
+search-whole Does receives old now size lost current list counts s last are = subst (Searches Does receives old (search_sides now.device list) size) (sym are) (record {
+  calls = s.calls;
+  made = s.made;
+  order = s.order;
+  known = s.known;
+  lost_are = s.lost_are;
+  received = receives-append receives old.list now.list list (reports_from None 0 (shown s.calls)) (interrupted Unchecked (open_from None 0 (shown s.calls))) s.reported.0 (last (open_from None 0 (shown s.calls)) s.reported.1);
+  counted = refl;
+  tried = refl;
+})

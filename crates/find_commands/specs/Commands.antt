@@ -1,5 +1,5 @@
 -- What `find` prints, and how it ends early.
-use Rattle.std.specs.Prelude.{◌≡◌, ◌⊎◌, ℕ, ◌<◌, ◌++◌, Bool, true, false, List, length, map, Option}
+use Rattle.std.specs.Prelude.{◌≡◌, ◌⊎◌, ℕ, ◌++◌, Bool, true, false, List, length, map, Option}
 use Rattle.std.specs.Io.KnownBytes.{Appends}
 use Rattle.allocation.specs.Refusal.{IsOutOfMemory}
 use Rattle.block_device.specs.Call.{Call, Calls, IsCall}
@@ -14,14 +14,14 @@ use Rattle.image_files.specs.Opener.{Calls as Openings, Opener, calls}
 use Rattle.image_files.specs.OpenPlaces.{OpensPlace, RefusesPlace}
 use Rattle.stack_files.specs.declared.stack_fault.StackFault.TheVariants as stack_fault
 use Rattle.stack_recovery.specs.declared.recovery.Counts.{Counts}
-use Rattle.scan_commands.specs.Counting.{counts_text}
+use Rattle.scan_commands.specs.Counting.{counts_text, has_missing}
 use Rattle.scan_commands.specs.declared.recovering_fault.RecoveringFault.{RecoveringFault}
 use Rattle.scan_commands.specs.declared.recovering_fault.RecoveringFault.TheVariants.{Lost, LostAsSaid, NoMemory, Stack, Write}
 use Rattle.find_commands.specs.declared.finding.Finding.{Finding}
 use Rattle.find_commands.specs.declared.listing.ListFault.{ListFault}
 use Rattle.find_commands.specs.declared.listing.ListFault.TheVariants as list_fault
 use Rattle.find_commands.specs.Areas.{FindsEach, SeeksSome}
-use Rattle.find_commands.specs.Findings.{findings_from}
+use Rattle.find_commands.specs.Findings.{findings_in}
 use Rattle.find_commands.specs.Lines.{found_lines}
 use Rattle.find_commands.specs.Objects.{found_json}
 use Rattle.find_commands.specs.Searches.{AreInOrder, read_counts, shown}
@@ -36,7 +36,7 @@ pub record FindsThings {D : Type 0} (state : D → Device) (old new : D) (found 
   pub made : Calls (SeenDoes state) old calls new
   pub order : AreInOrder 0 calls
   pub whole : length (shown calls) ≡ (state old).size
-  pub found_are : found ≡ findings_from 0 (shown calls)
+  pub found_are : found ≡ findings_in (shown calls)
   pub counted : counts ≡ read_counts (shown calls)
 
 -- a device before and after a search, and what was printed
@@ -70,25 +70,23 @@ abbrev pub found_lines_text : List Finding → Counts → List ℕ
 found_lines_text found counts = found_lines found
 
 abbrev pub found_whole_text : List Finding → Counts → List ℕ
-found_whole_text found counts = found_lines found ++ counts_text counts.read 0
+found_whole_text found counts = found_lines found ++ counts_text counts
 
 -- no sector is lost
 abbrev pub PrintsWhole : {D : Type 0} → (D → Device) → (List Finding → Counts → List ℕ) → Printing D → Type 0
-PrintsWhole state text o = (counts : Counts) × (counts.lost ≡ 0) × PrintsFound state text o counts
+PrintsWhole state text o = (counts : Counts) × (has_missing counts ≡ false) × PrintsFound state text o counts
 
 abbrev pub PrintsWholeObject : {D : Type 0} → (D → Device) → Printing D → Type 0
-PrintsWholeObject state o = (counts : Counts) × (counts.lost ≡ 0) × PrintsObject state o counts
+PrintsWholeObject state o = (counts : Counts) × (has_missing counts ≡ false) × PrintsObject state o counts
 
 -- sectors are lost
 abbrev pub PrintsLossyObject : {D : Type 0} → (D → Device) → Printing D → Type 0
-PrintsLossyObject state o = (counts : Counts) × (0 < counts.lost) × PrintsObject state o counts
+PrintsLossyObject state o = (counts : Counts) × (has_missing counts ≡ true) × PrintsObject state o counts
 
 -- with these counts, which the end of the command prints
-pub record LosesSome {D : Type 0} (state : D → Device) (o : Printing D) (read lost : ℕ) : Type 0 where
-  pub counts : Counts
-  pub some : 0 < counts.lost
+pub record LosesSome {D : Type 0} (state : D → Device) (o : Printing D) (counts : Counts) : Type 0 where
+  pub some : has_missing counts ≡ true
   pub prints : PrintsFound state found_lines_text o counts
-  pub are : (read ≡ counts.read) × (lost ≡ counts.lost)
 
 -- Nothing was printed: room for a finding was refused, or a search found all, and memory ran out for the object, maybe before all
 -- segments were sought.
@@ -98,7 +96,7 @@ pub record LacksFindMemory {D : Type 0} (state : D → Device) (o : Printing D) 
 
 -- how a search ends early, or with lost sectors
 abbrev pub IsFoundLinesEnd : {D : Type 0} → (D → Device) → Printing D → Bool → RecoveringFault → Type 0
-IsFoundLinesEnd state o failed (Lost read lost) = LosesSome state o read lost
+IsFoundLinesEnd state o failed (Lost counts) = LosesSome state o counts
 IsFoundLinesEnd state o failed Write = failed ≡ true
 IsFoundLinesEnd state o failed fault = ⊥
 

@@ -1,11 +1,15 @@
 -- What the sectors of a disk show. Offsets within a sector are those of its kind's format (`Signatures` has their sources).
-use Rattle.std.specs.Prelude.{ℕ, ◌+◌, ◌-◌, ◌*◌, ◌/◌, ◌%◌, ◌==◌, nat_lt, List, [], ◌∷◌, ◌++◌, slice_range, Option, Some, None, option_and_then, option_to_list, if◌then◌else◌}
+use Rattle.std.specs.Prelude.{ℕ, ◌+◌, ◌-◌, ◌*◌, ◌/◌, ◌%◌, ◌==◌, nat_lt, List, [], ◌∷◌, ◌++◌, slice_range, Option, Some, None, option_and_then, if◌then◌else◌}
 use Rattle.uuid.specs.Text.{parsed}
 use Rattle.partition_table.specs.Fields.{number32, number64, uuid_at}
+use Rattle.find_commands.specs.declared.checksum.Checksum.{Checksum}
+use Rattle.find_commands.specs.declared.checksum.Checksum.TheVariants.{Wrong, Unchecked}
 use Rattle.find_commands.specs.declared.finding.Finding.{Finding}
 use Rattle.find_commands.specs.declared.kind.Kind.{Kind}
 use Rattle.find_commands.specs.declared.kind.Kind.TheVariants.{Gpt, GptBackup, Verity, Luks2, Luks2Secondary, Ext4, Erofs, Squashfs, Xfs, Btrfs}
 use Rattle.find_commands.specs.Fields.{big_endian32, big_endian64, block_bytes, identifier, blocks_product}
+use Rattle.find_commands.specs.Headers.{Header, begun_open, begun_report, grown_open, grown_report, interrupted}
+use Rattle.find_commands.specs.Kinds.{is_luks2}
 use Rattle.find_commands.specs.Signatures.{kind_at}
 
 -- how many sectors before its signature a thing begins; a secondary LUKS2 header states it in bytes (hdr_offset)
@@ -62,14 +66,20 @@ uuid_in Squashfs s = None
 uuid_in Xfs s = Some (identifier s 32)
 uuid_in Btrfs s = Some (identifier s 32)
 
+-- the checksum of a LUKS2 header isn't checked by its first sector alone
+abbrev pub checksum_in : Kind → Option Checksum
+checksum_in kind = if is_luks2 kind then Some Unchecked else None
+
 -- the thing of that kind whose signature is in sector `at`
 abbrev pub finding : ℕ → List ℕ → Kind → Finding
 finding at s kind = record {
   offset = 512 * (at - sectors_back kind s);
+  sector = at;
   kind = kind;
   size = size_in kind s;
   blocks = blocks_in kind s;
   uuid = uuid_in kind s;
+  checksum = checksum_in kind;
 }
 
 -- it begins at sector 0 or after it
@@ -83,9 +93,36 @@ found_at at s = option_and_then (found_as at s) (kind_at s)
 abbrev pub ReadState : Type 0
 ReadState = Option (List ℕ)
 
--- What such sectors show, the first of which is sector `at`: what each shows that was read, in the order of the sectors. Lost sectors
--- show nothing.
-abbrev pub findings_from : ℕ → List ReadState → List Finding
-findings_from at [] = []
-findings_from at (Some s ∷ more) = option_to_list (found_at at s) ++ findings_from (at + 1) more
-findings_from at (None ∷ more) = findings_from (at + 1) more
+-- ---- one sector after another, with the LUKS2 header whose sectors are being read, if any
+
+-- A sector was read that shows this. Another header ends one that is open.
+abbrev pub found_report : Option Header → Option Finding → List ℕ → List Finding
+found_report current None s = grown_report current s
+found_report current (Some f) s = if is_luks2 f.kind then interrupted Wrong current ++ begun_report f s else grown_report current s ++ f ∷ []
+
+abbrev pub found_open : Option Header → Option Finding → List ℕ → Option Header
+found_open current None s = grown_open current s
+found_open current (Some f) s = if is_luks2 f.kind then begun_open f s else grown_open current s
+
+-- what is reported of sector `at`, and the header that is open after it
+abbrev pub sector_report : Option Header → ℕ → ReadState → List Finding
+sector_report current at (Some s) = found_report current (found_at at s) s
+sector_report current at None = interrupted Unchecked current
+
+abbrev pub sector_open : Option Header → ℕ → ReadState → Option Header
+sector_open current at (Some s) = found_open current (found_at at s) s
+sector_open current at None = None
+
+-- of such sectors, the first of which is sector `at`
+abbrev pub reports_from : Option Header → ℕ → List ReadState → List Finding
+reports_from current at [] = []
+reports_from current at (s ∷ more) = sector_report current at s ++ reports_from (sector_open current at s) (at + 1) more
+
+abbrev pub open_from : Option Header → ℕ → List ReadState → Option Header
+open_from current at [] = current
+open_from current at (s ∷ more) = open_from (sector_open current at s) (at + 1) more
+
+-- What all sectors of a disk show: what each shows that was read, in the order of the sectors; but a LUKS2 header after the sector at
+-- which its checksum is known. Lost sectors show nothing.
+abbrev pub findings_in : List ReadState → List Finding
+findings_in states = reports_from None 0 states ++ interrupted Unchecked (open_from None 0 states)

@@ -1,5 +1,7 @@
--- The names of the kinds of things, and of the commands that open them.
-use Rattle.std.specs.Prelude.{ℕ, List, codes}
+-- The names of the kinds of things, of the commands that open them, and of what their checksums show.
+use Rattle.std.specs.Prelude.{ℕ, Bool, true, false, List, codes}
+use Rattle.find_commands.specs.declared.checksum.Checksum.{Checksum}
+use Rattle.find_commands.specs.declared.checksum.Checksum.TheVariants.{Valid, Wrong, Unchecked}
 use Rattle.find_commands.specs.declared.kind.Kind.{Kind}
 use Rattle.find_commands.specs.declared.kind.Kind.TheVariants.{Gpt, GptBackup, Verity, Luks2, Luks2Secondary, Ext4, Erofs, Squashfs, Xfs, Btrfs}
 
@@ -27,3 +29,14 @@ opener_name Erofs = codes "mount"
 opener_name Squashfs = codes "mount"
 opener_name Xfs = codes "mount"
 opener_name Btrfs = codes "mount"
+
+abbrev pub checksum_name : Checksum → List ℕ
+checksum_name Valid = codes "valid"
+checksum_name Wrong = codes "wrong"
+checksum_name Unchecked = codes "unchecked"
+
+-- the headers of LUKS2
+abbrev pub is_luks2 : Kind → Bool
+is_luks2 Luks2 = true
+is_luks2 Luks2Secondary = true
+is_luks2 kind = false

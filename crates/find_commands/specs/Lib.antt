@@ -1,8 +1,9 @@
 pub mod Fields
 pub mod Kinds
 pub mod Signatures
-pub mod Findings
 pub mod Luks
+pub mod Headers
+pub mod Findings
 pub mod CryptLines
 pub mod Lines
 pub mod Objects

@@ -5,9 +5,9 @@ use Rattle.std.specs.Str.{bytes_eq}
 use Rattle.dm_table.specs.Numbers.{number}
 use Rattle.serde_json.specs.Data.{Data}
 use Rattle.serde_json.specs.Find.{as_number, as_str, as_u64, get}
+use Rattle.find_commands.specs.declared.checksum.Checksum.{Checksum}
+use Rattle.find_commands.specs.declared.checksum.Checksum.TheVariants.{Valid, Unchecked}
 use Rattle.find_commands.specs.declared.finding.Finding.{Finding}
-use Rattle.find_commands.specs.declared.kind.Kind.{Kind}
-use Rattle.find_commands.specs.declared.kind.Kind.TheVariants.{Luks2}
 use Rattle.find_commands.specs.declared.luks.Extent.{Extent}
 
 -- ---- the JSON area: what follows the binary header of 4,096 bytes, which are 8 sectors, up to the header's size (hdr_size)
@@ -20,24 +20,25 @@ abbrev pub stated_size : Option ℕ → ℕ
 stated_size (Some size) = size
 stated_size None = 0
 
--- the size of a primary header
-abbrev pub header_size : Kind → Option ℕ → ℕ
-header_size Luks2 size = stated_size size
-header_size kind size = 0
+-- the size of a header, of which no other checksum is known
+abbrev pub header_size : Option Checksum → Option ℕ → ℕ
+header_size (Some Valid) size = stated_size size
+header_size (Some Unchecked) size = stated_size size
+header_size other size = 0
 
 -- a header of a size that there is ends on a disk of so many sectors
 abbrev pub fits_header : ℕ → ℕ → ℕ → Bool
-fits_header sectors offset size = is_header_size size && nat_le (offset / 512 + size / 512) sectors
+fits_header sectors first size = is_header_size size && (nat_le (size / 512) sectors && nat_le first (sectors - size / 512))
 
 abbrev pub has_area : ℕ → Finding → Bool
-has_area sectors f = fits_header sectors f.offset (header_size f.kind f.size)
+has_area sectors f = fits_header sectors f.sector (header_size f.checksum f.size)
 
 -- the first sector of the area, and how many sectors it has
 abbrev pub area_first : Finding → ℕ
-area_first f = f.offset / 512 + 8
+area_first f = f.sector + 8
 
 abbrev pub area_sectors : Finding → ℕ
-area_sectors f = header_size f.kind f.size / 512 - 8
+area_sectors f = header_size f.checksum f.size / 512 - 8
 
 -- ---- a segment: an object of the object `segments`, whose name is a number
 

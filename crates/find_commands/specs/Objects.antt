@@ -5,9 +5,10 @@ use Rattle.uuid.specs.Text.{hyphenated_text, lower}
 use Rattle.serde_json.specs.Data.{Data, array, null, number, object, string, unsigned, member, no_members}
 use Rattle.serde_json.specs.View.{items_of}
 use Rattle.stack_recovery.specs.declared.recovery.Counts.{Counts}
+use Rattle.find_commands.specs.declared.checksum.Checksum.{Checksum}
 use Rattle.find_commands.specs.declared.finding.Finding.{Finding}
 use Rattle.find_commands.specs.declared.luks.Extent.{Extent}
-use Rattle.find_commands.specs.Kinds.{found_name, opener_name}
+use Rattle.find_commands.specs.Kinds.{checksum_name, found_name, opener_name}
 use Rattle.find_commands.specs.CryptLines.{crypt_line}
 use Rattle.find_commands.specs.Luks.{crypt_in, segment_at}
 
@@ -57,18 +58,24 @@ segments_json None = null
 
 -- ---- findings
 
+-- what the checksum of a LUKS2 header shows
+abbrev pub checksum_json : Option Checksum → Data
+checksum_json (Some checksum) = string (checksum_name checksum)
+checksum_json None = null
+
 -- a finding, as its line says, and the segments that it shows
 abbrev pub finding_json : Finding → Data → Data
 finding_json f segments =
     object
     (member (codes "blocks") (stated_json f.blocks)
+    (member (codes "checksum") (checksum_json f.checksum)
     (member (codes "kind") (string (found_name f.kind))
     (member (codes "offset") (number (unsigned f.offset))
     (member (codes "opener") (string (opener_name f.kind))
     (member (codes "segments") segments
     (member (codes "size") (stated_json f.size)
     (member (codes "uuid") (uuid_json f.uuid)
-    no_members)))))))
+    no_members))))))))
 
 abbrev pub shown_json : Finding × Data → Data
 shown_json shown = finding_json shown.0 shown.1

@@ -1,5 +1,5 @@
 //! The JSON area of a LUKS2 header.
-ghost use Rattle.std.specs.Prelude.{◌≡◌, ◌+◌, ◌*◌, ◌≤◌, ◌<◌, ◌==◌, length, option_map, true, None, IfErr, IfOk};
+ghost use Rattle.std.specs.Prelude.{◌≡◌, ◌+◌, ◌*◌, ◌≤◌, ◌<◌, ◌==◌, ◌^◌, length, option_map, true, None, IfErr, IfOk};
 ghost use Rattle.block_device.specs.Call.{IsCall, Read};
 ghost use Rattle.partition_table.specs.Labels.{before_zero};
 ghost use Rattle.serde_json.specs.Errors.{IsMemory};
@@ -7,8 +7,8 @@ ghost use Rattle.serde_json.specs.View.{view};
 ghost use Rattle.find_commands.specs.Areas.{IsJson, MissesArea};
 ghost use Rattle.find_commands.specs.Luks.{area_first, area_sectors, fits_header, has_area, header_size, is_header_size, stated_size};
 
+use crate::checksum::Checksum;
 use crate::finding::Finding;
-use crate::kind::Kind;
 use allocation::{OutOfMemory, push, zeros};
 use block_device::{BlockDev, DeviceFault};
 use serde_json::{Error, Value};
@@ -43,63 +43,59 @@ impl From<OutOfMemory> for AreaFault {
     }
 }
 
-/// Returns whether a thing is a primary LUKS2 header of a size that there is, which ends on a disk of `sectors` sectors.
+/// Returns whether a thing is a LUKS2 header of a size that there is, which ends on a disk of `sectors` sectors and whose checksum isn't
+/// wrong.
 pub(crate) fn has_area(sectors: u64, finding: &Finding) -> bool
     ensures { result ≡ has_area sectors finding.now }
 {
     fits_header(
         sectors,
-        finding.offset,
-        header_size(finding.kind, finding.size),
+        finding.sector,
+        header_size(finding.checksum, finding.size),
     )
 }
 
 /// Returns the first sector of the area.
 pub(crate) fn area_first(finding: &Finding) -> u64
+    requires { finding.now.sector ≤ 2 ^ 54 }
     ensures { result ≡ area_first finding.now }
 {
-    finding.offset / 512 + 8
+    finding.sector + 8
 }
 
 /// Returns how many sectors the area has.
 pub(crate) fn area_sectors(finding: &Finding) -> u64
     ensures { result ≡ area_sectors finding.now }
 {
-    (header_size(finding.kind, finding.size) / 512).saturating_sub(8)
+    (header_size(finding.checksum, finding.size) / 512).saturating_sub(8)
 }
 
-fn fits_header(sectors: u64, offset: u64, size: u64) -> bool
-    ensures { result ≡ fits_header sectors offset size }
+fn fits_header(sectors: u64, first: u64, size: u64) -> bool
+    ensures { result ≡ fits_header sectors first size }
 {
-    is_header_size(size) && offset / 512 + size / 512 <= sectors
+    is_header_size(size) && size / 512 <= sectors && first <= sectors - size / 512
 }
 
 #[tactic(auto, unfolding(crate::specs::Luks::is_header_size))]
-fn is_header_size(size: u64) -> bool
+pub(crate) fn is_header_size(size: u64) -> bool
     ensures { result ≡ is_header_size size }
 {
     size.is_power_of_two() && 16384 <= size && size <= 4_194_304
 }
 
-// The size of a primary header.
-fn header_size(kind: Kind, size: Option<u64>) -> u64
-    ensures { result ≡ header_size kind size }
+// The size of a header whose checksum isn't wrong.
+fn header_size(checksum: Option<Checksum>, size: Option<u64>) -> u64
+    ensures { result ≡ header_size checksum size }
 {
-    match kind {
-        Kind::Luks2 => stated_size(size),
-        Kind::Gpt
-        | Kind::GptBackup
-        | Kind::Verity
-        | Kind::Luks2Secondary
-        | Kind::Ext4
-        | Kind::Erofs
-        | Kind::Squashfs
-        | Kind::Xfs
-        | Kind::Btrfs => 0,
+    match checksum {
+        Some(Checksum::Valid) => stated_size(size),
+        Some(Checksum::Unchecked) => stated_size(size),
+        Some(Checksum::Wrong) => 0,
+        None => 0,
     }
 }
 
-fn stated_size(size: Option<u64>) -> u64
+pub(crate) fn stated_size(size: Option<u64>) -> u64
     ensures { result ≡ stated_size size }
 {
     match size {

@@ -9,7 +9,7 @@ use block_device::BlockDev;
 use command_line::FindWords;
 use image_files::{Images, open_place};
 use program_io::Counted;
-use scan_commands::{RecoveringFault, tell_counts};
+use scan_commands::{RecoveringFault, has_missing, tell_counts};
 use stack_files::StackFault;
 use std::alloc::Global;
 use std::io::Write;
@@ -87,7 +87,7 @@ fn find_object<'a, D: BlockDev, W: Write>(
     };
     let line = found_line(alloc, device, kept.findings.as_slice(), counts)?;
     writer.put(line.as_bytes())?;
-    if counts.lost > 0 {
+    if has_missing(counts) {
         return Err(RecoveringFault::LostAsSaid);
     }
     Ok(())

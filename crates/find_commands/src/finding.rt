@@ -1,7 +1,8 @@
 //! What is found on a disk.
 ghost use Rattle.std.specs.Prelude.{◌≡◌, ◌≤◌, ◌^◌};
-ghost use Rattle.find_commands.specs.Findings.{blocks_in, ext4_block, ext4_blocks, found_as, found_at, luks2_uuid, sectors_back, size_in, uuid_in};
+ghost use Rattle.find_commands.specs.Findings.{blocks_in, checksum_in, ext4_block, ext4_blocks, found_as, found_at, luks2_uuid, sectors_back, size_in, uuid_in};
 
+use crate::checksum::Checksum;
 use crate::fields::{big_endian32, big_endian64, block_bytes, blocks_product, identifier};
 use crate::kind::Kind;
 use crate::signatures::kind_at;
@@ -13,19 +14,22 @@ const MOST_LOGARITHM: u32 = 6;
 
 const HIGH_HALF: u64 = 1 << 32;
 
-/// A thing that was found: the byte at which it begins, its kind, its size in bytes and in blocks if its header states one, and its
-/// identifier in the byte order of its text form. The size of a hash image is that of its data.
+/// A thing that was found: the byte at which it begins, the sector that shows it, its kind, its size in bytes and in blocks if its header
+/// states one, its identifier in the byte order of its text form, and what its checksum shows if it is a header of LUKS2. The size of a
+/// hash image is that of its data.
 #[derive(Clone, Copy)]
 pub struct Finding {
     pub offset: u64,
+    pub sector: u64,
     pub kind: Kind,
     pub size: Option<u64>,
     pub blocks: Option<u64>,
     pub uuid: Option<[u8; 16]>,
+    pub checksum: Option<Checksum>,
 }
 
 /// Returns the thing that sector `at` shows, by its bytes alone. `None` if it has no signature, or if the thing would begin before
-/// sector 0.
+/// sector 0. The checksum of a LUKS2 header isn't checked.
 #[tactic(auto, unfolding(crate::specs::Findings::found_at))]
 pub fn found_at(at: u64, sector: &[u8; 512]) -> Option<Finding>
     requires { at ≤ 2 ^ 54 }
@@ -47,10 +51,12 @@ fn found_as(at: u64, sector: &[u8; 512], kind: Kind) -> Option<Finding>
     }
     Some(Finding {
         offset: 512 * (at - before),
+        sector: at,
         kind,
         size: size_in(kind, sector),
         blocks: blocks_in(kind, sector),
         uuid: uuid_in(kind, sector),
+        checksum: checksum_in(kind),
     })
 }
 
@@ -112,6 +118,17 @@ fn uuid_in(kind: Kind, sector: &[u8; 512]) -> Option<[u8; 16]>
         Kind::Erofs => Some(identifier(sector, 48)),
         Kind::Squashfs => None,
         Kind::Xfs | Kind::Btrfs => Some(identifier(sector, 32)),
+    }
+}
+
+// That of a header of LUKS2 isn't checked by its first sector alone.
+fn checksum_in(kind: Kind) -> Option<Checksum>
+    ensures { result ≡ checksum_in kind }
+{
+    if kind.is_luks2() {
+        Some(Checksum::Unchecked)
+    } else {
+        None
     }
 }
 

@@ -1,6 +1,6 @@
 //! The kinds of things that a sector shows.
 ghost use Rattle.std.specs.Prelude.{◌≡◌};
-ghost use Rattle.find_commands.specs.Kinds.{found_name, opener_name};
+ghost use Rattle.find_commands.specs.Kinds.{found_name, is_luks2, opener_name};
 
 /// What a sector shows: its header, or the superblock of a file system.
 #[derive(Clone, Copy, Debug, PartialEq, Eq)]
@@ -39,6 +39,23 @@ impl Kind {
             Kind::Squashfs => "squashfs",
             Kind::Xfs => "xfs",
             Kind::Btrfs => "btrfs",
+        }
+    }
+
+    /// Returns whether it is a header of LUKS2.
+    pub(crate) fn is_luks2(self) -> bool
+        ensures { result ≡ is_luks2 self }
+    {
+        match self {
+            Kind::Luks2 | Kind::Luks2Secondary => true,
+            Kind::Gpt
+            | Kind::GptBackup
+            | Kind::Verity
+            | Kind::Ext4
+            | Kind::Erofs
+            | Kind::Squashfs
+            | Kind::Xfs
+            | Kind::Btrfs => false,
         }
     }
 

@@ -2,10 +2,12 @@
 #![tactic(auto)]
 
 mod area;
+mod checksum;
 mod crypt_line;
 mod fields;
 mod find;
 mod finding;
+mod header;
 mod kind;
 mod line;
 mod listing;
@@ -17,6 +19,7 @@ mod sectors;
 mod segments;
 mod signatures;
 
+pub use checksum::Checksum;
 pub use find::invoke_find;
 pub use finding::{Finding, found_at};
 pub use kind::Kind;

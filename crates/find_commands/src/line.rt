@@ -1,15 +1,17 @@
 //! The line of a finding.
 ghost use Rattle.std.specs.Prelude.{◌++◌, codes};
 ghost use Rattle.program_io.specs.Counted.{Writes};
-ghost use Rattle.find_commands.specs.Lines.{finding_line, stated_number, opening_text, place_text, stated_uuid};
+ghost use Rattle.find_commands.specs.Lines.{finding_line, stated_number, opening_text, place_text, stated_uuid, volume_opening};
 
+use crate::checksum::Checksum;
 use crate::finding::Finding;
 use crate::kind::Kind;
 use program_io::{Counted, WriteFault};
 use std::io::Write;
 use uuid::Uuid;
 
-/// Writes `OFFSET KIND SIZE BLOCKS UUID OPENER`, with `-` for a number or an identifier that isn't stated.
+/// Writes `OFFSET KIND SIZE BLOCKS UUID OPENER`, with `-` for a number or an identifier that isn't stated, and `damaged` in place of the
+/// command for a LUKS2 header whose checksum is wrong.
 ///
 /// # Errors
 ///
@@ -20,16 +22,18 @@ pub fn say_finding<W: Write>(writer: &mut Counted<W>, finding: Finding) -> Resul
 {
     let Finding {
         offset,
+        sector: _,
         kind,
         size,
         blocks,
         uuid,
+        checksum,
     } = finding;
     say_place(writer, offset, kind)?;
     say_number(writer, size)?;
     say_number(writer, blocks)?;
     say_uuid(writer, uuid)?;
-    say_opening(writer, offset, kind)?;
+    say_opening(writer, offset, kind, checksum)?;
     writer.put(b"\n")
 }
 
@@ -78,15 +82,34 @@ fn say_word<W: Write>(writer: &mut Counted<W>, word: &[u8]) -> Result<(), WriteF
 }
 
 // The command that opens it, with the option that has the offset.
-fn say_opening<W: Write>(writer: &mut Counted<W>, offset: u64, kind: Kind) -> Result<(), WriteFault>
-    ensures { Writes W.contents writer.old writer.new (opening_text offset kind) result }
+fn say_opening<W: Write>(
+    writer: &mut Counted<W>,
+    offset: u64,
+    kind: Kind,
+    checksum: Option<Checksum>,
+) -> Result<(), WriteFault>
+    ensures { Writes W.contents writer.old writer.new (opening_text offset kind checksum) result }
 {
     match kind {
         Kind::Gpt | Kind::GptBackup => writer.put(b"partitions"),
         Kind::Verity => writer.print(format_args!("verify --hash-offset {offset}")),
-        Kind::Luks2 | Kind::Luks2Secondary => writer.put(b"cryptsetup open"),
+        Kind::Luks2 | Kind::Luks2Secondary => say_volume_opening(writer, checksum),
         Kind::Ext4 | Kind::Erofs | Kind::Squashfs | Kind::Xfs | Kind::Btrfs => {
             writer.print(format_args!("mount -o ro,offset={offset}"))
         }
+    }
+}
+
+// The command for a LUKS2 volume, by the checksum of its header.
+fn say_volume_opening<W: Write>(
+    writer: &mut Counted<W>,
+    checksum: Option<Checksum>,
+) -> Result<(), WriteFault>
+    ensures { Writes W.contents writer.old writer.new (volume_opening checksum) result }
+{
+    match checksum {
+        Some(Checksum::Wrong) => writer.put(b"damaged"),
+        Some(Checksum::Unchecked) => writer.put(b"cryptsetup open unchecked"),
+        Some(Checksum::Valid) | None => writer.put(b"cryptsetup open"),
     }
 }

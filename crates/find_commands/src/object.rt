@@ -3,8 +3,9 @@ ghost use Rattle.std.specs.Prelude.{◌≡◌, ◌++◌, ◌∷◌, [], map, str
 ghost use Rattle.serde_json.specs.Data.{array};
 ghost use Rattle.serde_json.specs.View.{items_of, view};
 ghost use Rattle.find_commands.specs.Areas.{SeeksSome, StatesFindings, StatesFound, StatesLine};
-ghost use Rattle.find_commands.specs.Objects.{counted_json, finding_json, stated_json, uuid_json};
+ghost use Rattle.find_commands.specs.Objects.{checksum_json, counted_json, finding_json, stated_json, uuid_json};
 
+use crate::checksum::Checksum;
 use crate::finding::Finding;
 use crate::segments::find_segments;
 use allocation::push;
@@ -17,7 +18,7 @@ use uuid::Uuid;
 
 /// Reads the JSON areas of the LUKS2 headers among the findings, and returns the line of the object:
 /// `{"found":[..],"lost":N,"read":N}` with
-/// `{"blocks":N,"kind":NAME,"offset":N,"opener":NAME,"segments":[..],"size":N,"uuid":TEXT}` for each finding.
+/// `{"blocks":N,"checksum":NAME,"kind":NAME,"offset":N,"opener":NAME,"segments":[..],"size":N,"uuid":TEXT}` for each finding.
 ///
 /// # Errors
 ///
@@ -52,7 +53,11 @@ fn found_value<D: BlockDev>(
 fn counted_value(alloc: Global, found: Value, counts: Counts) -> Result<Value, AllocError>
     ensures { IfOk result (λ value. view value ≡ counted_json (view found) counts) }
 {
-    let Counts { read, lost } = counts;
+    let Counts {
+        read,
+        lost,
+        untried: _,
+    } = counts;
     json!(in alloc; {"found": found, "lost": lost, "read": read})
 }
 
@@ -99,8 +104,10 @@ fn finding_value(alloc: Global, finding: &Finding, segments: Value) -> Result<Va
     let blocks = number_value(finding.blocks);
     let size = number_value(finding.size);
     let uuid = uuid_value(alloc, finding.uuid)?;
+    let checksum = checksum_value(alloc, finding.checksum)?;
     json!(in alloc; {
         "blocks": blocks,
+        "checksum": checksum,
         "kind": finding.kind.name(),
         "offset": finding.offset,
         "opener": finding.kind.opener(),
@@ -117,6 +124,15 @@ pub(crate) fn number_value(number: Option<u64>) -> Value
     match number {
         Some(number) => Value::from(number),
         None => Value::Null,
+    }
+}
+
+fn checksum_value(alloc: Global, checksum: Option<Checksum>) -> Result<Value, AllocError>
+    ensures { IfOk result (λ value. view value ≡ checksum_json checksum) }
+{
+    match checksum {
+        Some(checksum) => Value::try_from_str(alloc, checksum.name()),
+        None => Ok(Value::Null),
     }
 }
 

@@ -3,9 +3,11 @@ ghost use Rattle.std.specs.Prelude.{◌≡◌, length, IfErr, IfOk};
 ghost use Rattle.block_device.specs.Call.{DeviceDoes};
 ghost use Rattle.find_commands.specs.Searches.{Searches, StopsSearch, search_sides};
 
+use crate::checksum::Checksum;
+use crate::header::interrupt;
 use crate::listing::{FindingList, ListFault};
 use crate::piece::Position;
-use crate::sectors::tell_sectors;
+use crate::sectors::{tell_lost, tell_sectors};
 use block_device::BlockDev;
 use stack_recovery::Counts;
 
@@ -13,7 +15,8 @@ use stack_recovery::Counts;
 const ROOM: usize = 65536;
 
 /// Reads each sector of a device, in rising order and in pieces of at most 128 sectors, and reports what each shows. A piece that
-/// can't be read is read again, each sector by itself; a sector that then can't be read is lost. Nothing is allocated.
+/// can't be read is read again, each sector by itself; a sector that then can't be read is lost. A LUKS2 header is reported after its last
+/// sector, with what its checksum shows. Nothing is allocated.
 ///
 /// # Errors
 ///
@@ -41,20 +44,26 @@ fn find_through<D: BlockDev, L: FindingList>(
 {
     let sectors = device.sectors();
     let mut position = Position::new();
+    let mut header = None;
     'pieces: while position.at < sectors {
         let at = position.at;
         let count = position.piece(sectors);
         let bytes = &mut room[..count as usize * 512];
         match device.read(at, bytes) {
             Ok(()) => {
-                tell_sectors(list, at, bytes)?;
+                header = tell_sectors(list, header, at, bytes)?;
                 position = position.after_read(count);
             }
-            Err(_fault) => position = position.after_failure(count),
+            Err(_fault) => {
+                header = tell_lost(list, header, count)?;
+                position = position.after_failure(count);
+            }
         }
     }
+    interrupt(list, header, Checksum::Unchecked)?;
     Ok(Counts {
         read: sectors - position.lost,
         lost: position.lost,
+        untried: 0,
     })
 }

@@ -20,7 +20,7 @@ use std::alloc::{AllocError, Global};
 /// How many segments a volume can have.
 const MOST_SEGMENTS: u64 = 32;
 
-/// Returns an array of the segments that a primary LUKS2 header states, each as
+/// Returns an array of the segments that a LUKS2 header states whose checksum isn't wrong, each as
 /// `{"encryption":TEXT,"id":N,"iv_tweak":N,"line":TEXT,"offset":N,"sector_size":N,"size":N}`. Null for another thing, and if the
 /// header's JSON area can't be read or is no JSON text.
 ///

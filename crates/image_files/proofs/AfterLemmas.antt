@@ -20,7 +20,7 @@ use Rattle.image_files.specs.FilesAfter.{files_after, files_at, grown_files, id_
 use Rattle.image_files.specs.Histories.{IsCallAt}
 use Rattle.image_files.specs.ImageCalls.{ImageCall, Grow, Replace}
 use Rattle.image_files.specs.OneFile.{is_one_file}
-use Rattle.image_files.specs.Promises.{AreApart, FileRecord, Files, HoldsSectors, IsApartFrom, TakesPart, grown_bytes}
+use Rattle.image_files.specs.Promises.{AreApart, FileRecord, Files, HoldsSectors, IsApartFrom, TakesPart, grown_bytes, shrunk_bytes}
 
 -- ---- names of one file
 
@@ -137,6 +137,7 @@ calls-change {D} state whole ids start calls =
       kept_reading = λ n n' path most outcome c. after state ids start calls n n' _ c;
       kept_opening_part = λ n n' path writable part outcome c. after state ids start calls n n' _ c;
       kept_narrowing = λ n n' device narrowed part c. after state ids start calls n n' _ c;
+      kept_lacking = λ n n' device lacking lost c. after state ids start calls n n' _ c;
       kept_measuring = λ n n' path outcome c. after state ids start calls n n' _ c;
       kept_comparing = λ n n' path other outcome c. after state ids start calls n n' _ c;
       kept_trying = λ n n' path outcome c. after state ids start calls n n' _ c;
@@ -163,6 +164,13 @@ calls-change {D} state whole ids start calls =
       kept_growing = λ n n' path other sectors file another c is is' apart.
           under n n' _ other c
           ∙ (ap (λ (o : Option FileRecord). grown_files o (at n) path (ids n) sectors other) is ∙ changed-apart (at n) path other (grown_bytes sectors) file another is is' apart);
+      shrunk = λ n n' path sectors file c is. (
+        record file { bytes = shrunk_bytes sectors file },
+        under n n' _ path c ∙ changed-here (at n) path (shrunk_bytes sectors) file is,
+        record { same = record { id = refl; regular = refl }; bytes = refl },
+      );
+      kept_shrinking = λ n n' path other sectors file another c is is' apart.
+          under n n' _ other c ∙ changed-apart (at n) path other (shrunk_bytes sectors) file another is is' apart;
       replaced = λ n n' path bytes c. (
         record { id = ids n; bytes = bytes; regular = true },
         under n n' _ path c ∙ new-here (at n) path (ids n) bytes,

@@ -1,14 +1,15 @@
 -- What a proof sees of images in files: no clause of the library says which file a path leads to, nor what it holds.
-use Rattle.std.specs.Prelude.{◌≡◌, ◌≢◌, ◌⊎◌, ◌*◌, ◌%◌, ◌↔◌, ℕ, Bool, true, IsTrue, List, Option, None, Result, Ok, Err, IfErr, IfOk, OnErr, codes}
+use Rattle.std.specs.Prelude.{◌≡◌, ◌≢◌, ◌⊎◌, ◌*◌, ◌%◌, ◌↔◌, ℕ, Bool, true, IsTrue, List, Option, None, Result, Ok, Err, IfErr, IfOk, OnErr, OnOk, codes}
 use Rattle.std.specs.Fs.{file_type, metadata_len, IsFile}
 use Rattle.std.specs.declared.fs.File.{File}
 use Rattle.std.specs.declared.fs.attrs.Metadata.{Metadata}
 use Rattle.block_device.specs.declared.file_id.FileId.{FileId}
 use Rattle.block_device.specs.declared.open_fault.OpenFault.{OpenFault}
+use Rattle.block_device.specs.Call.{Sync}
 use Rattle.block_device.specs.Device.{Device}
 use Rattle.block_device.specs.File.{IsOpened}
-use Rattle.block_device.specs.FileCalls.{IsOfFile, IsOfPath, IsUnsaidOfPath, Opened}
-use Rattle.block_device.specs.Identity.{IsLongEnough, IsToldId}
+use Rattle.block_device.specs.FileCalls.{Called, IsOfFile, IsOfPath, IsUnsaidOfPath, Opened}
+use Rattle.block_device.specs.Identity.{IsLongEnough, IsShortEnough, IsToldId}
 use Rattle.device_adapters.specs.declared.part.Part.{Part}
 use Rattle.device_adapters.specs.Parts.{LiesInside}
 use Rattle.device_adapters.specs.Windows.{windowed}
@@ -17,10 +18,10 @@ use Rattle.image_files.specs.declared.images.OpenImage.{OpenImage}
 use Rattle.image_files.specs.Calls.{FileRelations}
 use Rattle.image_files.specs.Drafts.{Replaces, Tries}
 use Rattle.image_files.specs.FileLocks.{IsUnopenedFile, Locks, LocksAtMost}
-use Rattle.image_files.specs.ImageCalls.{WasMade, Open, OpenPart, Narrow, ReadText, Close, ClosePart, Grow, Measure, Compare, Replace, TryReplace}
+use Rattle.image_files.specs.ImageCalls.{WasMade, Open, OpenPart, Narrow, Lack, ReadText, Close, ClosePart, Grow, Shrink, Measure, Compare, Replace, TryReplace}
 use Rattle.image_files.specs.NewFiles.{FailsToMake, Makes}
 use Rattle.image_files.specs.OnePlace.{IsPlaceUnknown, ResolvesAtMost}
-use Rattle.image_files.specs.Opener.{Opener}
+use Rattle.image_files.specs.Opener.{IsLacking, Opener}
 use Rattle.image_files.specs.declared.texts.ReplaceFault.{ReplaceFault}
 
 -- What a proof sees of a device, which file it is, whether the system opened it under a path, for writing too or not, which
@@ -33,6 +34,8 @@ pub record FileView (S D C F : Type 0) : Type 1 where
   -- the device of all sectors of its file, and what the system said of how many they are
   pub whole : D → Device
   pub sized : D → ℕ → Type 0
+  -- the parts of its file whose sectors it lacks
+  pub lost : D → List Part
   -- which file the system opened under a path to read a text
   pub read : List ℕ → File → Type 0
   -- what each call of the file system leaves, and the file system of an opener
@@ -59,6 +62,12 @@ pub record IsOpenPart {S D C F : Type 0} (view : FileView S D C F) (image : Open
 pub record IsNarrowedFile {S D C F : Type 0} (view : FileView S D C F) (device : D) (part : Part) (narrowed : D) : Type 0 where
   pub whole : view.whole narrowed ≡ view.whole device
   pub part_state : view.state narrowed ≡ windowed (view.state device) part
+
+-- an open device without the sectors of these parts of its file, and no others: all else is as it was
+pub record IsLackingFile {S D C F : Type 0} (view : FileView S D C F) (device : D) (lost : List Part) (lacking : D) : Type 0 where
+  pub lost_are : view.lost lacking ≡ lost
+  pub holds : IsLacking (view.state device) (view.state lacking)
+  pub steady : (view.state lacking).steady ≡ (view.state device).steady
 
 abbrev pub OpensFile : {D E : Type 0} → (OpenImage D → Type 0) → Result (OpenImage D) E → Type 0
 OpensFile Is (Ok image) = Is image
@@ -103,6 +112,19 @@ abbrev pub Grows : {C F : Type 0} → FileRelations C F → C → List ℕ → �
 Grows r old path sectors (Ok done) new = IsOfFixedSize old path new ⊎ IsGrownFile r old path sectors new
 Grows r old path sectors (Err fault) new = (new ≡ old) ⊎ (Makes r old path new ⊎ FailsToMake r old path fault new)
 
+-- The file that was opened has at most that many sectors, and was synced. It is resized only if it had more bytes.
+pub record IsShrunkFile (path : List ℕ) (sectors : ℕ) : Type 0 where
+  pub file : File
+  pub left : File
+  pub synced : File
+  pub opened : Opened path true file
+  pub short : IsShortEnough file (sectors * 512) left
+  pub syncs : Called left (Sync true) synced
+
+-- a regular file is opened, shortened and synced
+abbrev pub Shrinks : {C : Type 0} → C → List ℕ → ℕ → C → Type 0
+Shrinks old path sectors new = IsOfFixedSize old path new ⊎ IsShrunkFile path sectors
+
 -- whether a regular file ends inside a sector, by the size that the system said of the path
 abbrev pub EndsInPart : List ℕ → Result Bool OpenFault → Type 0
 EndsInPart path (Ok part) = (said : Metadata) × IsOfPath path said × (IsTrue part ↔ (IsFile (file_type said) × (metadata_len said % 512 ≢ 0)))
@@ -115,10 +137,12 @@ file_relations {D = D} view = record {
   opens = λ old path writable outcome new. WasMade old (Open path writable outcome) new × CallsNothing view old new × LocksFile view writable outcome old new × OpensFile (λ image. IsOpenFile view image path writable) outcome × IfErr outcome (IsUnopenedFile path writable);
   opens_part = λ old path writable part outcome new. WasMade old (OpenPart path writable part outcome) new × CallsNothing view old new × LocksFile view writable outcome old new × OpensFile (λ image. IsOpenPart view image path writable part) outcome;
   narrows = λ old device part narrowed new. WasMade old (Narrow device part narrowed) new × CallsNothing view old new × LocksNoMore view old new × IsNarrowedFile view device part narrowed;
+  lacks = λ old device lost lacking new. WasMade old (Lack device lost lacking) new × CallsNothing view old new × LocksNoMore view old new × IsLackingFile view device lost lacking;
   tells = λ old path most outcome new. WasMade {D = D} old (ReadText path most outcome) new × CallsNothing view old new × LocksNoMore view old new × IfOk outcome (IsTextOf (view.read path) path);
   takes = λ old path device new. WasMade old (Close path device) new × CallsNothing view old new × LocksNoMore view old new;
   takes_part = λ old path part device new. WasMade old (ClosePart path part device) new × CallsNothing view old new × LocksNoMore view old new;
   grows = λ old path sectors outcome new. WasMade {D = D} old (Grow path sectors outcome) new × LocksAtMost (view.locked old) (view.locked new) × Grows view.relations (view.calls old) path sectors outcome (view.calls new);
+  shrinks = λ old path sectors outcome new. WasMade {D = D} old (Shrink path sectors outcome) new × CallsNothing view old new × LocksAtMost (view.locked old) (view.locked new) × OnOk outcome (Shrinks (view.calls old) path sectors (view.calls new));
   measures = λ old path outcome new. WasMade {D = D} old (Measure path outcome) new × CallsNothing view old new × LocksNoMore view old new × EndsInPart path outcome × IfErr outcome (IsUnsaidOfPath path);
   compares = λ old path other outcome new. WasMade {D = D} old (Compare path other outcome) new × LocksNoMore view old new × ResolvesAtMost view.relations (view.calls old) path other (view.calls new) × OnErr outcome (IsPlaceUnknown view.relations (view.calls old) path other (view.calls new));
   replaces = λ old path bytes outcome new. WasMade {D = D} old (Replace path bytes outcome) new × LocksNoMore view old new × Replaces view.relations (view.calls old) path bytes outcome (view.calls new);

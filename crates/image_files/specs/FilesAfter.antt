@@ -5,9 +5,9 @@ use Rattle.std.specs.Option.{option_and_then, option_map}
 use Rattle.std.specs.Str.{bytes_eq}
 use Rattle.block_device.specs.declared.file_id.FileId.{FileId}
 use Rattle.block_device.specs.Device.{Device}
-use Rattle.image_files.specs.ImageCalls.{ImageCall, Close, ClosePart, Grow, Replace}
+use Rattle.image_files.specs.ImageCalls.{ImageCall, Close, ClosePart, Grow, Replace, Shrink}
 use Rattle.image_files.specs.OneFile.{is_one_file}
-use Rattle.image_files.specs.Promises.{FileRecord, Files, grown_bytes}
+use Rattle.image_files.specs.Promises.{FileRecord, Files, grown_bytes, shrunk_bytes}
 
 abbrev pub id_under : Files → List ℕ → Option FileId
 id_under files path = option_and_then (λ (file : FileRecord). file.id) (files path)
@@ -39,6 +39,7 @@ abbrev pub files_after : {D : Type 0} → (D → Device) → Option FileId → F
 files_after state id files (Close path device) = with_changed files path (λ file. concat (state device).image)
 files_after state id files (ClosePart path part device) = with_changed files path (overwritten_bytes (part.first * 512) (concat (state device).image))
 files_after state id files (Grow path sectors (Ok done)) = grown_files (files path) files path id sectors
+files_after state id files (Shrink path sectors (Ok done)) = with_changed files path (shrunk_bytes sectors)
 files_after state id files (Replace path bytes (Ok done)) = with_new files path id bytes
 files_after state id files call = files
 

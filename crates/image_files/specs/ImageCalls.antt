@@ -13,10 +13,12 @@ pub data ImageCall (D : Type 0) : Type 0 where
   Open : List ℕ → Bool → Result (OpenImage D) OpenFault → ImageCall D
   OpenPart : List ℕ → Bool → Part → Result (OpenImage D) PartFault → ImageCall D
   Narrow : D → Part → D → ImageCall D
+  Lack : D → List Part → D → ImageCall D
   ReadText : List ℕ → ℕ → Result FileText OpenFault → ImageCall D
   Close : List ℕ → D → ImageCall D
   ClosePart : List ℕ → Part → D → ImageCall D
   Grow : List ℕ → ℕ → Result (Unit {0}) OpenFault → ImageCall D
+  Shrink : List ℕ → ℕ → Result (Unit {0}) OpenFault → ImageCall D
   Measure : List ℕ → Result Bool OpenFault → ImageCall D
   Compare : List ℕ → List ℕ → Result Bool OpenFault → ImageCall D
   Replace : List ℕ → List ℕ → Result (Unit {0}) ReplaceFault → ImageCall D

@@ -1,5 +1,5 @@
--- Images as they are opened, closed and grown at the places that a command line names.
-use Rattle.std.specs.Prelude.{◌≡◌, ◌⊎◌, ℕ, Bool, true, false, List, Option, None, Some, Ok, Err}
+-- Images as they are opened, closed and resized at the places that a command line names.
+use Rattle.std.specs.Prelude.{◌≡◌, ◌⊎◌, ℕ, Bool, true, false, List, Option, None, Some, Result, Ok, Err}
 use Rattle.block_device.specs.declared.open_fault.OpenFault.{OpenFault}
 use Rattle.block_device.specs.declared.open_fault.OpenFault.TheVariants.{NotFound, SameFile}
 use Rattle.command_line.specs.FilePlaces.{FilePlaceRecord, NamedPartRecord, NamedPartitionRecord, file_place_of, of_partition, of_sectors}
@@ -220,31 +220,61 @@ abbrev pub TellsName : {S D : Type 0} → Calls S D → List ℕ → Bool → Ty
 TellsName w text true = NamesFile w text
 TellsName w text false = NamesPart w text
 
--- the file under the argument has at least so many sectors from then on
-abbrev pub GrowsFile : {S D : Type 0} → Calls S D → List ℕ → ℕ → Type 0
-GrowsFile w text sectors = w.relations.grows w.old text sectors (Ok tt) w.new
+-- a call that makes files longer or shorter: of an opener before it, a path, so many sectors, the outcome, and the opener after it
+abbrev pub Resizing : Type 0 → Type 1
+Resizing S = S → List ℕ → ℕ → Result (Unit {0}) OpenFault → S → Type 0
 
--- or can't be made so long
-pub record FailsToGrowFile {S D : Type 0} (w : Calls S D) (text : List ℕ) (sectors : ℕ) (file : UnopenedFile) : Type 0 where
+-- the file under the argument was resized by that call
+abbrev pub ResizesFile : {S D : Type 0} → Resizing S → Calls S D → List ℕ → ℕ → Type 0
+ResizesFile resizes w text sectors = resizes w.old text sectors (Ok tt) w.new
+
+-- or can't be
+pub record FailsToResizeFile {S D : Type 0} (resizes : Resizing S) (w : Calls S D) (text : List ℕ) (sectors : ℕ) (file : UnopenedFile) : Type 0 where
   pub path_is : file.path.now ≡ text
-  pub failed : w.relations.grows w.old text sectors (Err file.fault) w.new
+  pub failed : resizes w.old text sectors (Err file.fault) w.new
 
--- the argument names a file, which has at least so many sectors from then on
-pub record GrowsNamed {S D : Type 0} (w : Calls S D) (text : List ℕ) (sectors : ℕ) : Type 0 where
+-- the argument names a file, which was resized
+pub record ResizesNamed {S D : Type 0} (resizes : Resizing S) (w : Calls S D) (text : List ℕ) (sectors : ℕ) : Type 0 where
   pub between : S
   pub named : NamesFile (record w { new = between }) text
-  pub grown : GrowsFile (record w { old = between }) text sectors
+  pub resized : ResizesFile resizes (record w { old = between }) text sectors
 
--- that, or it names a part of a file, which has a size of its own: nothing was made
-abbrev pub GrowsPlace : {S D : Type 0} → Calls S D → List ℕ → ℕ → Type 0
-GrowsPlace w text sectors = GrowsNamed w text sectors ⊎ NamesPart w text
+-- that, or it names a part of a file, which has a size of its own: nothing was made or resized
+abbrev pub ResizesPlace : {S D : Type 0} → Resizing S → Calls S D → List ℕ → ℕ → Type 0
+ResizesPlace resizes w text sectors = ResizesNamed resizes w text sectors ⊎ NamesPart w text
 
--- the argument names a file, which can't be made so long
-pub record FailsToGrowNamed {S D : Type 0} (w : Calls S D) (text : List ℕ) (sectors : ℕ) (file : UnopenedFile) : Type 0 where
+-- the argument names a file, which can't be resized
+pub record FailsToResizeNamed {S D : Type 0} (resizes : Resizing S) (w : Calls S D) (text : List ℕ) (sectors : ℕ) (file : UnopenedFile) : Type 0 where
   pub between : S
   pub named : NamesFile (record w { new = between }) text
-  pub failed : FailsToGrowFile (record w { old = between }) text sectors file
+  pub failed : FailsToResizeFile resizes (record w { old = between }) text sectors file
 
 -- that, or it isn't known whether there is a file under it
+abbrev pub FailsToResizePlace : {S D : Type 0} → Resizing S → Calls S D → List ℕ → ℕ → UnopenedFile → Type 0
+FailsToResizePlace resizes w text sectors file = IsUntold w text file ⊎ FailsToResizeNamed resizes w text sectors file
+
+-- the file has at least so many sectors from then on, or can't be made so long
+abbrev pub GrowsFile : {S D : Type 0} → Calls S D → List ℕ → ℕ → Type 0
+GrowsFile w text sectors = ResizesFile w.relations.grows w text sectors
+
+abbrev pub FailsToGrowFile : {S D : Type 0} → Calls S D → List ℕ → ℕ → UnopenedFile → Type 0
+FailsToGrowFile w text sectors file = FailsToResizeFile w.relations.grows w text sectors file
+
+abbrev pub GrowsPlace : {S D : Type 0} → Calls S D → List ℕ → ℕ → Type 0
+GrowsPlace w text sectors = ResizesPlace w.relations.grows w text sectors
+
 abbrev pub FailsToGrowPlace : {S D : Type 0} → Calls S D → List ℕ → ℕ → UnopenedFile → Type 0
-FailsToGrowPlace w text sectors file = IsUntold w text file ⊎ FailsToGrowNamed w text sectors file
+FailsToGrowPlace w text sectors file = FailsToResizePlace w.relations.grows w text sectors file
+
+-- the file has at most so many sectors from then on, or can't be made so short
+abbrev pub ShrinksFile : {S D : Type 0} → Calls S D → List ℕ → ℕ → Type 0
+ShrinksFile w text sectors = ResizesFile w.relations.shrinks w text sectors
+
+abbrev pub FailsToShrinkFile : {S D : Type 0} → Calls S D → List ℕ → ℕ → UnopenedFile → Type 0
+FailsToShrinkFile w text sectors file = FailsToResizeFile w.relations.shrinks w text sectors file
+
+abbrev pub ShrinksPlace : {S D : Type 0} → Calls S D → List ℕ → ℕ → Type 0
+ShrinksPlace w text sectors = ResizesPlace w.relations.shrinks w text sectors
+
+abbrev pub FailsToShrinkPlace : {S D : Type 0} → Calls S D → List ℕ → ℕ → UnopenedFile → Type 0
+FailsToShrinkPlace w text sectors file = FailsToResizePlace w.relations.shrinks w text sectors file

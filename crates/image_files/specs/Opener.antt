@@ -17,6 +17,8 @@ pub record Opener (S D : Type 0) : Type 1 where
   pub opens_part : S → List ℕ → Bool → Part → Result (OpenImage D) PartFault → S → Type 0
   -- an open device, a part of it, and the device of that part
   pub narrows : S → D → Part → D → S → Type 0
+  -- an open device, parts of its file, and the device without their sectors
+  pub lacks : S → D → List Part → D → S → Type 0
   -- a path, and how many bytes of its file are taken at most
   pub tells : S → List ℕ → ℕ → Result FileText OpenFault → S → Type 0
   -- a path, and the device that is closed
@@ -25,6 +27,8 @@ pub record Opener (S D : Type 0) : Type 1 where
   pub takes_part : S → List ℕ → Part → D → S → Type 0
   -- a path, and how many sectors its file has then at least
   pub grows : S → List ℕ → ℕ → Result (Unit {0}) OpenFault → S → Type 0
+  -- a path, and how many sectors its file has then at most
+  pub shrinks : S → List ℕ → ℕ → Result (Unit {0}) OpenFault → S → Type 0
   -- a path, and whether its file ends inside a sector
   pub measures : S → List ℕ → Result Bool OpenFault → S → Type 0
   -- a path and another one, and whether both lead to one place
@@ -45,6 +49,13 @@ pub record IsNarrowed (device : Device) (part : Part) (narrowed : Device) : Type
   pub image : narrowed.image ≡ run_of device.image part.first part.count
   pub may_write : narrowed.may_write ≡ device.may_write
   pub clean : device.dirty ≡ false → narrowed.dirty ≡ false
+
+-- A device that lacks some sectors, and holds what the device holds. Whether it is steady isn't said.
+pub record IsLacking (device lacking : Device) : Type 0 where
+  pub size : lacking.size ≡ device.size
+  pub image : lacking.image ≡ device.image
+  pub may_write : lacking.may_write ≡ device.may_write
+  pub clean : device.dirty ≡ false → lacking.dirty ≡ false
 
 -- an opener before and after some calls, its relations, and what a proof sees of its devices
 pub record Calls (S D : Type 0) : Type 1 where

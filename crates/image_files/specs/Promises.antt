@@ -47,6 +47,14 @@ pub record IsGrown (file file' : FileRecord) (sectors : ℕ) : Type 0 where
   pub same : IsSameFile file file'
   pub bytes : file'.bytes ≡ grown_bytes sectors file
 
+-- a regular file holds the first bytes that it held; another one stays as it is
+abbrev pub shrunk_bytes : ℕ → FileRecord → List ℕ
+shrunk_bytes sectors file = if file.regular then take (sectors * 512) file.bytes else file.bytes
+
+pub record IsShrunk (file file' : FileRecord) (sectors : ℕ) : Type 0 where
+  pub same : IsSameFile file file'
+  pub bytes : file'.bytes ≡ shrunk_bytes sectors file
+
 -- a part is closed: the file holds what the device holds there, and all else is as it was
 pub record TakesPart (device : Device) (part : Part) (file file' : FileRecord) : Type 0 where
   pub same : IsSameFile file file'
@@ -72,6 +80,7 @@ pub record ShowsFiles {S D : Type 0} (o : Opener S D) (state : D → Device) (at
       → (file : FileRecord) × (at old path ≡ Some file) × (image.id ≡ file.id) × HoldsPart (state image.device) part file
   pub steady_part : (old new : S) (path : List ℕ) (writable : Bool) (part : Part) (image : OpenImage D) → o.opens_part old path writable part (Ok image) new → (state image.device).steady ≡ true
   pub steady_narrowed : (old new : S) (device narrowed : D) (part : Part) → o.narrows old device part narrowed new → (state device).steady ≡ true → (state narrowed).steady ≡ true
+  pub steady_lacking : (old new : S) (device lacking : D) (lost : List Part) → o.lacks old device lost lacking new → (state device).steady ≡ true → (state lacking).steady ≡ true
   -- a text is the first bytes of the file, if there is one: the standard input is none, nor is a pipe
   pub told : (old new : S) (path : List ℕ) (most : ℕ) (text : FileText) (file : FileRecord) → o.tells old path most (Ok text) new → at old path ≡ Some file
       → (text.id ≡ file.id) × (text.bytes.items ≡ take most file.bytes)
@@ -88,6 +97,7 @@ pub record ChangesFiles {S D : Type 0} (o : Opener S D) (state : D → Device) (
   pub kept_reading : (old new : S) (path : List ℕ) (most : ℕ) (outcome : Result FileText OpenFault) → o.tells old path most outcome new → at new ≡ at old
   pub kept_opening_part : (old new : S) (path : List ℕ) (writable : Bool) (part : Part) (outcome : Result (OpenImage D) PartFault) → o.opens_part old path writable part outcome new → at new ≡ at old
   pub kept_narrowing : (old new : S) (device narrowed : D) (part : Part) → o.narrows old device part narrowed new → at new ≡ at old
+  pub kept_lacking : (old new : S) (device lacking : D) (lost : List Part) → o.lacks old device lost lacking new → at new ≡ at old
   pub kept_measuring : (old new : S) (path : List ℕ) (outcome : Result Bool OpenFault) → o.measures old path outcome new → at new ≡ at old
   pub kept_comparing : (old new : S) (path other : List ℕ) (outcome : Result Bool OpenFault) → o.compares old path other outcome new → at new ≡ at old
   -- to find out whether a file can be created beside a path changes no file
@@ -107,6 +117,11 @@ pub record ChangesFiles {S D : Type 0} (o : Opener S D) (state : D → Device) (
   pub grown : (old new : S) (path : List ℕ) (sectors : ℕ) (file : FileRecord) → o.grows old path sectors (Ok tt) new → at old path ≡ Some file
       → (file' : FileRecord) × (at new path ≡ Some file') × IsGrown file file' sectors
   pub kept_growing : (old new : S) (path other : List ℕ) (sectors : ℕ) (file another : FileRecord) → o.grows old path sectors (Ok tt) new → at old path ≡ Some file
+      → at old other ≡ Some another → AreApart file another → at new other ≡ Some another
+  -- a file that is shortened keeps its first bytes, and no other one changes
+  pub shrunk : (old new : S) (path : List ℕ) (sectors : ℕ) (file : FileRecord) → o.shrinks old path sectors (Ok tt) new → at old path ≡ Some file
+      → (file' : FileRecord) × (at new path ≡ Some file') × IsShrunk file file' sectors
+  pub kept_shrinking : (old new : S) (path other : List ℕ) (sectors : ℕ) (file another : FileRecord) → o.shrinks old path sectors (Ok tt) new → at old path ≡ Some file
       → at old other ≡ Some another → AreApart file another → at new other ≡ Some another
   -- bytes that are put in the place of what a file holds are all that it holds then, and no other file changes
   pub replaced : (old new : S) (path bytes : List ℕ) → o.replaces old path bytes (Ok tt) new → (file : FileRecord) × (at new path ≡ Some file) × (file.bytes ≡ bytes)

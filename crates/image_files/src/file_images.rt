@@ -17,9 +17,12 @@ use crate::parts::PartFault;
 use crate::system_calls::open_to_read;
 use crate::texts::{ReplaceFault, Texts};
 use block_device::{
-    AnyDev, BlockDev, FileDev, FileId, MemoryDev, OpenFault, metadata_at, metadata_of,
+    AnyDev, BlockDev, DeviceFault, FileDev, FileId, MemoryDev, OpenFault, SyncDev, metadata_at,
+    metadata_of,
 };
-use device_adapters::{OutsideDevice, Part, Window};
+use device_adapters::{
+    Lacking, OutsideDevice, Part, Window, lacking_window, part_window, whole_window,
+};
 use std::alloc::Global;
 use std::fs::File;
 use std::io::{ErrorKind, Read};
@@ -71,7 +74,7 @@ fn open_file<R: Files<File = File>>(
 }
 
 /// Images in files, under their paths; the text under `-` is the standard input's. Each file that is opened for writing, or
-/// grown, stays locked against other processes as long as these live.
+/// resized, stays locked against other processes as long as these live.
 #[derive(Drop)]
 pub struct FileImages<'a, R, C> {
     rt: &'a R,
@@ -89,30 +92,36 @@ impl<'a, R: AllocGlobal, C> FileImages<'a, R, C> {
 }
 
 impl<R: Files<File = File> + AllocGlobal + Input, C: FileCalls> Images for FileImages<'_, R, C> {
+    ghost use Rattle.device_adapters.specs.Lacking.{parts_in};
     ghost use Rattle.image_files.specs.FileRelations.{file_relations};
     ghost use Rattle.image_files.specs.SystemFiles.{IsOpenText};
     ghost use Rattle.image_files.specs.declared.system_calls.SystemCalls.{SystemCalls};
 
-    type Dev = Window<AnyDev>;
+    type Dev = Window<Lacking<AnyDev>>;
 
     ghost relations = { file_relations (record {
-      state = ⟦<Window<AnyDev> as BlockDev>⟧.state;
-      id = λ window. any_id window.inner;
-      opened = λ window. any_opened window.inner;
+      state = ⟦<Window<Lacking<AnyDev>> as BlockDev>⟧.state;
+      id = λ window. any_id window.inner.inner;
+      opened = λ window. any_opened window.inner.inner;
       locked = λ images. images.locks.files.items;
-      whole = λ window. ⟦<AnyDev as BlockDev>⟧.state window.inner;
-      sized = λ window sectors. any_sized window.inner sectors;
+      whole = λ window. ⟦<Lacking<AnyDev> as BlockDev>⟧.state window.inner;
+      sized = λ window sectors. any_sized window.inner.inner sectors;
+      lost = λ window. parts_in window.inner.lost;
       read = IsOpenText (SystemCalls R);
       relations = C.relations;
       calls = λ images. images.texts.calls;
     }) };
 
     #[tactic(auto, using(crate::proofs::FileLemmas::made))]
-    fn open(&mut self, path: &str, writable: bool) -> Result<OpenImage<Window<AnyDev>>, OpenFault> {
+    fn open(
+        &mut self,
+        path: &str,
+        writable: bool,
+    ) -> Result<OpenImage<Window<Lacking<AnyDev>>>, OpenFault> {
         let file = open_file(self.rt, &mut self.locks, path, writable)?;
         let id = file.id();
         Ok(OpenImage {
-            device: Window::whole(AnyDev::File(file)),
+            device: whole_window(AnyDev::File(file)),
             id,
         })
     }
@@ -123,18 +132,27 @@ impl<R: Files<File = File> + AllocGlobal + Input, C: FileCalls> Images for FileI
         path: &str,
         writable: bool,
         part: Part,
-    ) -> Result<OpenImage<Window<AnyDev>>, PartFault> {
+    ) -> Result<OpenImage<Window<Lacking<AnyDev>>>, PartFault> {
         let file = open_file(self.rt, &mut self.locks, path, writable)?;
         let id = file.id();
-        match Window::new(AnyDev::File(file), part) {
+        match part_window(AnyDev::File(file), part) {
             Ok(device) => Ok(OpenImage { device, id }),
             Err(OutsideDevice) => Err(PartFault::Outside),
         }
     }
 
     #[tactic(auto, using(crate::proofs::FileLemmas::made))]
-    fn narrow(&mut self, device: Window<AnyDev>, part: Part) -> Window<AnyDev> {
+    fn narrow(&mut self, device: Window<Lacking<AnyDev>>, part: Part) -> Window<Lacking<AnyDev>> {
         device.narrow(part)
+    }
+
+    #[tactic(auto, using(crate::proofs::FileLemmas::made))]
+    fn without(
+        &mut self,
+        device: Window<Lacking<AnyDev>>,
+        lost: Vec<Part>,
+    ) -> Window<Lacking<AnyDev>> {
+        lacking_window(device, lost)
     }
 
     // A file of any kind that can be read, or the standard input.
@@ -152,12 +170,12 @@ impl<R: Files<File = File> + AllocGlobal + Input, C: FileCalls> Images for FileI
 
     // Its file holds all that there is.
     #[tactic(auto, using(crate::proofs::FileLemmas::made))]
-    fn close(&mut self, _path: &str, device: Window<AnyDev>) {
+    fn close(&mut self, _path: &str, device: Window<Lacking<AnyDev>>) {
         drop(device);
     }
 
     #[tactic(auto, using(crate::proofs::FileLemmas::made))]
-    fn close_part(&mut self, _path: &str, _part: Part, device: Window<AnyDev>) {
+    fn close_part(&mut self, _path: &str, _part: Part, device: Window<Lacking<AnyDev>>) {
         drop(device);
     }
 
@@ -175,6 +193,24 @@ impl<R: Files<File = File> + AllocGlobal + Input, C: FileCalls> Images for FileI
         make_file(&mut self.texts.calls, path)?;
         let mut file = open_file(self.rt, &mut self.locks, path, true)?;
         file.lengthen(sectors * SECTOR)
+    }
+
+    // A regular file alone.
+    #[tactic(auto, using(crate::proofs::FileLemmas::made))]
+    fn shrink(&mut self, path: &str, sectors: u64) -> Result<(), OpenFault> {
+        let metadata = metadata_at(self.rt, path)?;
+        if !metadata.is_file() {
+            return Ok(());
+        }
+        if sectors > MAX_SECTORS {
+            return Err(OpenFault::TooLarge);
+        }
+        let mut file = open_file(self.rt, &mut self.locks, path, true)?;
+        file.shorten(sectors * SECTOR)?;
+        match file.sync() {
+            Ok(()) => Ok(()),
+            Err(DeviceFault) => Err(OpenFault::OtherFault),
+        }
     }
 
     #[tactic(auto, using(crate::proofs::FileLemmas::made))]
@@ -198,7 +234,7 @@ impl<R: Files<File = File> + AllocGlobal + Input, C: FileCalls> Images for FileI
         self.texts.try_replace(path)
     }
 
-    fn of_memory(memory: MemoryDev) -> Window<AnyDev> {
-        Window::whole(AnyDev::Memory(memory))
+    fn of_memory(memory: MemoryDev) -> Window<Lacking<AnyDev>> {
+        whole_window(AnyDev::Memory(memory))
     }
 }

@@ -2,7 +2,7 @@
 ghost use Rattle.std.specs.Prelude.{◌≡◌, ◌≤◌, length, true, IfErr, IfOk};
 ghost use Rattle.block_device.specs.declared.open_fault.OpenFault.TheVariants as open_fault;
 ghost use Rattle.device_adapters.specs.Parts.{LiesInside};
-ghost use Rattle.image_files.specs.Opener.{IsFresh, IsNarrowed, Opener};
+ghost use Rattle.image_files.specs.Opener.{IsFresh, IsLacking, IsNarrowed, Opener};
 
 use crate::parts::PartFault;
 use crate::texts::ReplaceFault;
@@ -54,6 +54,12 @@ pub trait Images {
         ensures narrowed { relations.narrows self.old device part result self.new }
         ensures part { IsNarrowed (Self.Dev.state device) part (Self.Dev.state result) };
 
+    /// Makes a device without the sectors of these parts of its file of an open one: a read of one of these fails. Nothing is opened
+    /// again, and closing it closes the device.
+    fn without(&mut self, device: Self::Dev, lost: Vec<Part>) -> Self::Dev
+        ensures lacking { relations.lacks self.old device lost.items result self.new }
+        ensures holds { IsLacking (Self.Dev.state device) (Self.Dev.state result) };
+
     /// Returns at most `most` first bytes of the file under this path.
     fn read_text(&mut self, path: &str, most: usize) -> Result<FileText, OpenFault>
         ensures told { relations.tells self.old path.now most result self.new }
@@ -71,6 +77,11 @@ pub trait Images {
     /// kept, and zeros follow. What has a size of its own, as a block device, stays as it is.
     fn grow(&mut self, path: &str, sectors: u64) -> Result<(), OpenFault>
         ensures { relations.grows self.old path.now sectors result self.new };
+
+    /// Makes the file under this path at most so many sectors long, and syncs it. What has a size of its own, as a block device, stays
+    /// as it is. A device of the file that is still open is closed before.
+    fn shrink(&mut self, path: &str, sectors: u64) -> Result<(), OpenFault>
+        ensures { relations.shrinks self.old path.now sectors result self.new };
 
     /// Whether the file under this path ends inside a sector. What has a size of its own, as a block device, doesn't.
     fn has_part_sector(&mut self, path: &str) -> Result<bool, OpenFault>

@@ -35,6 +35,8 @@ pub use opening::{UnopenedFile, is_one_place, open_apart, open_image, read_text}
 pub use partitions::part_of;
 pub use parts::{PartFault, UnopenedPart, device_part, open_part};
 pub use placed_image::{Place, PlacedImage, has_own_size, is_one_image, place_use};
-pub use places::{close_place, find_place, grow_place, open_place, open_place_apart};
+pub use places::{
+    close_place, find_place, grow_file, grow_place, open_place, open_place_apart, shrink_place,
+};
 pub use system_calls::SystemCalls;
 pub use texts::{ReplaceFault, Texts};

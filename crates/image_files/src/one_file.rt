@@ -30,7 +30,7 @@ fn is_id(a: FileId, b: FileId) -> bool
     }
 }
 
-/// Whether a file is a block device, as far as the system reports it. `Images::grow` leaves its size as it is.
+/// Whether a file is a block device, as far as the system reports it. `Images::grow` and `Images::shrink` leave its size as it is.
 pub fn is_block_device(id: Option<FileId>) -> bool
     ensures { result ≡ is_block_device id }
 {

@@ -1,7 +1,7 @@
-//! Opens, closes and grows images at the places that a command line names.
+//! Opens, closes and resizes images at the places that a command line names.
 ghost use Rattle.std.specs.Prelude.{◌≡◌, IfErr, IfOk, IfSome, OnOk};
 ghost use Rattle.image_files.specs.Opener.{IsFresh, calls};
-ghost use Rattle.image_files.specs.OpenPlaces.{ClosesPlace, FailsToGrowFile, FailsToGrowPlace, FindsPlace, FindsWhole, GrowsFile, GrowsPlace, IsUntold, OpensPlace, OpensPlaceApart, RefusesPlace, RefusesPlaceApart, RefusesWhole, TellsName, TellsThere, is_missing};
+ghost use Rattle.image_files.specs.OpenPlaces.{ClosesPlace, FailsToGrowFile, FailsToGrowPlace, FailsToShrinkFile, FailsToShrinkPlace, FindsPlace, FindsWhole, GrowsFile, GrowsPlace, IsUntold, OpensPlace, OpensPlaceApart, RefusesPlace, RefusesPlaceApart, RefusesWhole, ShrinksFile, ShrinksPlace, TellsName, TellsThere, is_missing};
 
 use crate::file_use::{FileUse, has_clash};
 use crate::images::Images;
@@ -151,8 +151,13 @@ pub fn grow_place<'a, I: Images>(
     Ok(())
 }
 
-// Makes the file under an argument at least so many sectors long, and creates it if there is none.
-fn grow_file<'a, I: Images>(
+/// Makes the file under an argument at least so many sectors long, and creates it if there is none, also if the argument names a part
+/// of another file.
+///
+/// # Errors
+///
+/// `UnopenedFile` with the argument and the opener's fault.
+pub fn grow_file<'a, I: Images>(
     images: &mut I,
     text: &'a str,
     sectors: u64,
@@ -161,6 +166,41 @@ fn grow_file<'a, I: Images>(
     ensures err { IfErr result (FailsToGrowFile (calls I.relations I.Dev.state images.old images.new) text.now sectors) }
 {
     match images.grow(text, sectors) {
+        Ok(()) => Ok(()),
+        Err(fault) => Err(UnopenedFile { fault, path: text }),
+    }
+}
+
+/// Makes the file that an argument names at most so many sectors long. A part of a file has a size of its own, and stays as it is.
+///
+/// # Errors
+///
+/// `UnopenedFile` with the argument and the opener's fault.
+pub fn shrink_place<'a, I: Images>(
+    images: &mut I,
+    text: &'a str,
+    sectors: u64,
+) -> Result<(), UnopenedFile<'a>>
+    ensures ok { OnOk result (ShrinksPlace (calls I.relations I.Dev.state images.old images.new) text.now sectors) }
+    ensures err { IfErr result (FailsToShrinkPlace (calls I.relations I.Dev.state images.old images.new) text.now sectors) }
+{
+    let named = names_file(images, text)?;
+    if named {
+        return shrink_file(images, text, sectors);
+    }
+    Ok(())
+}
+
+// Makes the file under an argument at most so many sectors long, also if the argument names a part of another file.
+fn shrink_file<'a, I: Images>(
+    images: &mut I,
+    text: &'a str,
+    sectors: u64,
+) -> Result<(), UnopenedFile<'a>>
+    ensures ok { OnOk result (ShrinksFile (calls I.relations I.Dev.state images.old images.new) text.now sectors) }
+    ensures err { IfErr result (FailsToShrinkFile (calls I.relations I.Dev.state images.old images.new) text.now sectors) }
+{
+    match images.shrink(text, sectors) {
         Ok(()) => Ok(()),
         Err(fault) => Err(UnopenedFile { fault, path: text }),
     }

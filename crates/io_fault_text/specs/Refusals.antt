@@ -48,6 +48,7 @@ refusals =
     ∷ (58, codes "DividedChunk")
     ∷ (59, codes "PartSize")
     ∷ (60, codes "UnusedEntries")
+    ∷ (61, codes "ParityDoesntCover")
     ∷ []
 
 -- no two refusals of the list have one number

@@ -2,6 +2,7 @@
 use Rattle.std.proofs.Common.{◌≡◌, ℕ, max, List, [], ◌∷◌, refl, sym, ap, Some, None, map, arith}
 use Rattle.std.specs.Prelude.{slice_get}
 use Rattle.std.specs.Option.{option_map_or}
+use Rattle.dm_table.specs.declared.table.Base.{Base}
 use Rattle.dm_table.specs.declared.table.Target.{Target}
 use Rattle.dm_table.specs.declared.table.Target.TheVariants.{Verity as verity_target}
 use Rattle.dm_table.specs.declared.verity.Verity.{Verity}
@@ -11,6 +12,7 @@ use Rattle.stack_rules.specs.Names.{named, names}
 use Rattle.stack_rules.specs.Descend.{greatest, by_name}
 use Rattle.stack_rules.specs.Passing.{Mean}
 use Rattle.stack_rules.specs.Trees.{verity_of}
+use Rattle.stack_rules.specs.targets.Verity.{parity_bases}
 use Rattle.stack_rules.proofs.lemmas.LastCaseLemmas.{verity_of-is}
 use Rattle.linux_rules.specs.Blocks.{lower_block}
 use Rattle.linux_rules.specs.Rules.{are_smaller, has_small_block}
@@ -25,22 +27,22 @@ by_name-row c below (l ∷ ls) (n ∷ ns) means =
     let more : map (λ (lower : Lower). Some lower) ls ≡ map (named c) ns = cc in
     rw (← here) (ap (λ xs. below l ∷ xs) (by_name-row c below ls ns more))
 
--- the two devices of a `verity` line
+-- the first two devices of a `verity` line
 pub record AreTwo (c : Configuration) (row : List Lower) (line : Verity) : Type 0 where
   pub lower_data : Lower
   pub lower_hash : Lower
-  pub row_is : row ≡ lower_data ∷ lower_hash ∷ []
+  pub rest : List Lower
+  pub row_is : row ≡ lower_data ∷ lower_hash ∷ rest
   pub data_is : named c line.data ≡ Some lower_data
   pub hash_is : named c line.hash ≡ Some lower_hash
 
 pub two-of : (c : Configuration) (row : List Lower) (line : Verity) → Mean c row (names (verity_target line)) → AreTwo c row line
-two-of c (l ∷ m ∷ []) line means =
+two-of c (l ∷ m ∷ ls) line means =
     let first : named c line.data ≡ Some l = cc in
     let second : named c line.hash ≡ Some m = cc in
-    record { lower_data = l; lower_hash = m; row_is = refl; data_is = first; hash_is = second }
+    record { lower_data = l; lower_hash = m; rest = ls; row_is = refl; data_is = first; hash_is = second }
 two-of c [] line means = let clash : [] ≡ map (named c) (names (verity_target line)) = means in cc
-two-of c (l ∷ []) line means = let clash : [] ≡ named c line.hash ∷ [] = cc in cc
-two-of c (l ∷ m ∷ n ∷ ls) line means = let clash : map (λ (lower : Lower). Some lower) (n ∷ ls) ≡ [] = cc in cc
+two-of c (l ∷ []) line means = let clash : [] ≡ map (named c) (line.hash ∷ map (λ (base : Base). base.device) (parity_bases line.parity)) = cc in cc
 
 pub two-of-target : (c : Configuration) (row : List Lower) (target : Target) (line : Verity) → Some line ≡ verity_of target → Mean c row (names target) → AreTwo c row line
 two-of-target c row target line is means = two-of c row line (rw (verity_of-is target line is) at means)

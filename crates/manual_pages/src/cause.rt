@@ -24,6 +24,7 @@ pub fn cause_text(cause: Cause) -> &'static str
         Cause::BlockSize => "not a number below 2^32",
         Cause::Offset => "not a multiple of 512",
         Cause::SectorSize => "neither 512 nor 4096",
+        Cause::PartitionType => "names no verity partition type",
         Cause::Salt => "neither - nor 2 to 512 hexadecimal digits",
         Cause::Identifier => "not a UUID",
         Cause::RootHash => "not 64 hexadecimal digits",

@@ -13,10 +13,10 @@ const SESSION_USAGE: &str = "dmstack session [--cache N] BINDING...";
 const NBD_USAGE: &str = "dmstack nbd [--cache N] [--all] STACK NAME BINDING...";
 
 const SCAN_USAGE: &str =
-    "dmstack scan [--cache N] [--map FILE] [--retries N] [--progress] [--json] [--chart] [--disk] STACK NAME BINDING...";
+    "dmstack scan [--cache N] [--map FILE] [--retries N] [--no-scrape] [--progress] [--json] [--chart] [--disk] STACK NAME BINDING...";
 
 const COPY_USAGE: &str =
-    "dmstack copy [--cache N] [--differing] [--map FILE] [--retries N] [--progress] [--disk] [--grow] STACK NAME OUT BINDING...";
+    "dmstack copy [--cache N] [--differing] [--map FILE] [--retries N] [--no-scrape] [--progress] [--disk] [--grow] STACK NAME OUT BINDING...";
 
 const CAT_USAGE: &str =
     "dmstack cat [--cache N] [--first N] [--count N] [--progress] STACK NAME BINDING...";
@@ -39,13 +39,13 @@ const REPAIR_USAGE: &str =
     "dmstack repair [--data-block N] [--hash-block N] [--blocks N] [--salt HEX] [--hash-offset BYTES] [--root-hash-file FILE] [--no-superblock] [--check] [--fec FILE] [--fec-roots N] [--pin FILE] DATA HASH ROOT [DATACOPY HASHCOPY]...";
 
 const UPDATE_USAGE: &str =
-    "dmstack update [--json] [--progress] --pin FILE DATA HASH NEWDATA NEWHASH [DATACOPY HASHCOPY]...";
+    "dmstack update [--json] [--no-index] [--progress] --pin FILE DATA HASH NEWDATA NEWHASH [DATACOPY HASHCOPY]...";
 
 const PARTITIONS_USAGE: &str =
     "dmstack partitions [--sector-size 512|4096] [--json] [--stack] [--root ROOT] [--pin FILE] [--writable] IMAGE";
 
 const ASSEMBLE_USAGE: &str =
-    "dmstack assemble [--type TYPE] [--arch ARCH] [--fec] [--sector-size 512|4096] [--draw-from SEED] [--pin FILE] OUT DATA";
+    "dmstack assemble [--type TYPE] [--arch ARCH] [--fec] [--sector-size 512|4096] [--draw-from SEED] [--progress] [--pin FILE] OUT DATA";
 
 const FIND_USAGE: &str = "dmstack find [--json] PLACE";
 

@@ -101,6 +101,9 @@ can_multi_conn = 256
 abbrev pub send_cache : ℕ
 send_cache = 1024
 
+abbrev pub send_fast_zero : ℕ
+send_fast_zero = 2048
+
 -- the flags of every export
 abbrev pub flags_of_each : ℕ
 flags_of_each = has_flags + send_flush + send_fua + send_cache
@@ -115,4 +118,4 @@ flag_of_connections shared = if shared then can_multi_conn else 0
 
 -- the flags of an export
 abbrev pub transmission_flags : ExportRecord → Bool → ℕ
-transmission_flags e structured = flags_of_each + (if e.writable then send_trim + send_write_zeroes else read_only + flag_of_connections e.shared) + flag_of_chunks structured
+transmission_flags e structured = flags_of_each + (if e.writable then send_trim + send_write_zeroes + send_fast_zero else read_only + flag_of_connections e.shared) + flag_of_chunks structured

@@ -9,7 +9,7 @@ use Rattle.nbd_protocol.specs.declared.header.Header.{Header}
 use Rattle.nbd_protocol.specs.declared.header.Command.{Command}
 use Rattle.nbd_protocol.specs.declared.header.Command.TheVariants.{Read, Write, Zero, Hint, Flush, Status}
 use Rattle.nbd_protocol.specs.declared.request_error.RequestError.{RequestError}
-use Rattle.nbd_protocol.specs.declared.request_error.RequestError.TheVariants.{NotPermitted, InputOutput, NoMemory, Invalid, NoSpace}
+use Rattle.nbd_protocol.specs.declared.request_error.RequestError.TheVariants.{NotPermitted, InputOutput, NoMemory, Invalid, NoSpace, NotSupported}
 
 -- the most bytes that one READ or WRITE transfers: 32 MiB
 abbrev pub most_length : ℕ
@@ -28,14 +28,16 @@ header_of bytes = record {
   length = big_endian32 bytes 24;
 }
 
--- The flag that a request may set besides FUA, which is 1: NO_HOLE of WRITE_ZEROES, DF of a READ if its reply consists of
+-- A flag that a request may set besides FUA, which is 1: NO_HOLE of WRITE_ZEROES, DF of a READ if its reply consists of
 -- chunks, and REQ_ONE of BLOCK_STATUS. For the other requests it is FUA itself.
 abbrev pub own_flag : Agreement → Header → ℕ
 own_flag a h = if h.kind == 6 then 2 else if (h.kind == 0) && a.structured then 4 else if (h.kind == 7) && a.status then 8 else 1
 
--- the request sets no other flags than FUA and its own
+-- the request sets no other flags than FUA and its own; a WRITE_ZEROES may also set FAST_ZERO, which is 16
 abbrev pub has_offered : Agreement → Header → Bool
-has_offered a h = nat_lt (h.flags % own_flag a h) 2 && nat_lt h.flags (2 * own_flag a h)
+has_offered a h =
+    if h.kind == 6 then nat_lt (h.flags % 16) 4 && nat_lt h.flags 32
+    else nat_lt (h.flags % own_flag a h) 2 && nat_lt h.flags (2 * own_flag a h)
 
 -- the data must be durable before the reply
 abbrev pub has_fua : Header → Bool
@@ -49,23 +51,24 @@ read_command e h =
     else Ok (Read h.offset h.length)
 
 -- a request that changes bytes of a writable export; `past` is the error if the bytes end past the export
-abbrev pub changing : ExportRecord → Header → RequestError → Command → Result Command RequestError
+abbrev pub changing : ExportRecord → Header → RequestError → Result Command RequestError → Result Command RequestError
 changing e h past command =
     if not e.writable then Err NotPermitted
     else if nat_lt e.size (h.offset + h.length) then Err past
-    else Ok command
+    else command
 
 -- a WRITE of bytes within the export
 abbrev pub write_command : ExportRecord → Header → Result Command RequestError
-write_command e h = if nat_lt most_length h.length then Err Invalid else changing e h NoSpace (Write h.offset h.length (has_fua h))
+write_command e h = if nat_lt most_length h.length then Err Invalid else changing e h NoSpace (Ok (Write h.offset h.length (has_fua h)))
 
--- a WRITE_ZEROES, which has no payload and therefore no greatest length
+-- A WRITE_ZEROES, which has no payload and therefore no greatest length. With FAST_ZERO it isn't supported, since it is never
+-- faster than a WRITE.
 abbrev pub zero_command : ExportRecord → Header → Result Command RequestError
-zero_command e h = changing e h NoSpace (Zero h.offset h.length (has_fua h))
+zero_command e h = changing e h NoSpace (if nat_le 16 h.flags then Err NotSupported else Ok (Zero h.offset h.length (has_fua h)))
 
 -- a TRIM: the client no longer needs the bytes
 abbrev pub trim_command : ExportRecord → Header → Result Command RequestError
-trim_command e h = changing e h Invalid Hint
+trim_command e h = changing e h Invalid (Ok Hint)
 
 -- a CACHE: the client will need the bytes soon
 abbrev pub cache_command : ExportRecord → Header → Result Command RequestError
@@ -119,6 +122,7 @@ error_number InputOutput = 5
 error_number NoMemory = 12
 error_number Invalid = 22
 error_number NoSpace = 28
+error_number NotSupported = 95
 
 -- the error by which a fault of the stack is reported
 abbrev pub error_of : IoFault → RequestError

@@ -27,6 +27,8 @@ const CAN_MULTI_CONN: u16 = 256;
 
 const SEND_CACHE: u16 = 1024;
 
+const SEND_FAST_ZERO: u16 = 2048;
+
 /// A mapped device as a range of bytes.
 #[derive(Clone, Copy, Debug, PartialEq, Eq)]
 pub struct Export<'a> {
@@ -75,7 +77,7 @@ impl<'a> Export<'a> {
         let chunks = if structured { SEND_DF } else { 0 };
         let several = if self.shared { CAN_MULTI_CONN } else { 0 };
         if self.writable {
-            each + SEND_TRIM + SEND_WRITE_ZEROES + chunks
+            each + SEND_TRIM + SEND_WRITE_ZEROES + SEND_FAST_ZERO + chunks
         } else {
             each + READ_ONLY + several + chunks
         }

@@ -35,6 +35,8 @@ const DONT_FRAGMENT: u16 = 4;
 
 const REQUEST_ONE: u16 = 8;
 
+const FAST_ZERO: u16 = 16;
+
 /// The type of DISC, the request by which a client ends the session.
 pub const DISCONNECT: u16 = 2;
 
@@ -95,7 +97,7 @@ impl Header {
         agreed.structured && (self.kind == READ || self.kind == BLOCK_STATUS)
     }
 
-    // The flag that the request may set besides FUA; FUA itself if there is no other.
+    // A flag that the request may set besides FUA; FUA itself if there is no other.
     fn own_flag(self, agreed: Agreement) -> u16
         ensures value { result ≡ own_flag agreed self }
         ensures some { 0 < result }
@@ -113,6 +115,9 @@ impl Header {
     fn has_offered(self, agreed: Agreement) -> bool
         ensures { result ≡ has_offered agreed self }
     {
+        if self.kind == WRITE_ZEROES {
+            return self.flags % FAST_ZERO < 2 * NO_HOLE && self.flags < 2 * FAST_ZERO;
+        }
         let own = self.own_flag(agreed);
         self.flags % own < 2 && self.flags < 2 * own
     }
@@ -133,6 +138,7 @@ impl Header {
     ///   offset or a length, a BLOCK_STATUS has no length, or a READ, CACHE, TRIM or BLOCK_STATUS ends past the export.
     /// - `NotPermitted` if a WRITE, WRITE_ZEROES or TRIM is for a read-only export.
     /// - `NoSpace` if a WRITE or a WRITE_ZEROES ends past the export.
+    /// - `NotSupported` if a WRITE_ZEROES must be faster than a WRITE (FAST_ZERO).
     #[tactic(auto, unfolding(crate::specs::Headers::command_of))]
     pub fn command(self, export: &Export<'_>, agreed: Agreement) -> Result<Command, RequestError>
         ensures value { result ≡ command_of (export_record export.now) agreed self }
@@ -180,20 +186,24 @@ impl Header {
             length,
             fua,
         };
-        self.changing(export, RequestError::NoSpace, write)
+        self.changing(export, RequestError::NoSpace, Ok(write))
     }
 
-    // A WRITE_ZEROES must be within the export, which must be writable.
+    // A WRITE_ZEROES must be within the export, which must be writable. It is never faster than a WRITE.
     fn zero_command(self, export: &Export<'_>) -> Result<Command, RequestError>
         ensures value { result ≡ zero_command (export_record export.now) self }
         ensures within { IfOk result (IsWithin (export_record export.now)) }
     {
         let Header { offset, length, .. } = self;
         let fua = self.has_fua();
-        let zero = Command::Zero {
-            offset,
-            length,
-            fua,
+        let zero = if self.flags >= FAST_ZERO {
+            Err(RequestError::NotSupported)
+        } else {
+            Ok(Command::Zero {
+                offset,
+                length,
+                fua,
+            })
         };
         self.changing(export, RequestError::NoSpace, zero)
     }
@@ -203,7 +213,7 @@ impl Header {
         ensures value { result ≡ trim_command (export_record export.now) self }
         ensures within { IfOk result (IsWithin (export_record export.now)) }
     {
-        self.changing(export, RequestError::Invalid, Command::Hint)
+        self.changing(export, RequestError::Invalid, Ok(Command::Hint))
     }
 
     // A CACHE is a hint: it is checked, and does nothing.
@@ -234,12 +244,13 @@ impl Header {
         })
     }
 
-    // Checks a request that changes bytes: the export must be writable. The error is `past` if the bytes end past the export.
+    // Checks a request that changes bytes: the export must be writable. The error is `past` if the bytes end past the export. Then
+    // the result is `command`.
     fn changing(
         self,
         export: &Export<'_>,
         past: RequestError,
-        command: Command,
+        command: Result<Command, RequestError>,
     ) -> Result<Command, RequestError>
         ensures value { result ≡ changing (export_record export.now) self past command }
         ensures within { IfOk result (λ _. (self.offset + self.length ≤ export.now.size) × IsTrue export.now.writable) }
@@ -251,7 +262,7 @@ impl Header {
         if ends_past(export.size, offset, length) {
             return Err(past);
         }
-        Ok(command)
+        command
     }
 
     // A FLUSH must have offset 0 and length 0.

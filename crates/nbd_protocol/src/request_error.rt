@@ -23,9 +23,12 @@ pub enum RequestError {
     /// The request is malformed or too long, or reads past the end.
     #[error("invalid")]
     Invalid = 22,
-    /// A write past the end of the export.
+    /// A write past the end of the export, or one for which a backing device has no space left.
     #[error("no space")]
     NoSpace = 28,
+    /// Zeros that must be written faster than other bytes.
+    #[error("not supported")]
+    NotSupported = 95,
 }
 
 impl RequestError {
@@ -39,6 +42,7 @@ impl RequestError {
             RequestError::NoMemory => 12,
             RequestError::Invalid => 22,
             RequestError::NoSpace => 28,
+            RequestError::NotSupported => 95,
         }
     }
 }

@@ -12,14 +12,15 @@ use Rattle.nbd_protocol.specs.declared.header.Command.TheVariants.{Read, Write, 
 use Rattle.nbd_protocol.specs.declared.request_error.RequestError.{RequestError}
 use Rattle.nbd_server.specs.declared.failure.Failure.{Failure}
 use Rattle.nbd_server.specs.declared.reply.Data.{Data}
-use Rattle.nbd_protocol.specs.declared.request_error.RequestError.TheVariants.{NotPermitted, Invalid, NoSpace}
+use Rattle.nbd_protocol.specs.declared.request_error.RequestError.TheVariants.{NotPermitted, Invalid, NoSpace, NotSupported}
 use Rattle.nbd_protocol.specs.Exports.{ExportRecord}
 use Rattle.nbd_protocol.specs.Headers.{cache_command, command_of, flush_command, has_fua, has_offered, payload_len, most_length, read_command, status_command, trim_command, write_command, zero_command}
 use Rattle.nbd_server.specs.Premises.{IsBare}
 use Rattle.nbd_server.specs.Sectors.{IsStored, IsStoredAtOnce, FailsToPutAtOnce, FailsToZero}
+use Rattle.nbd_server.specs.Failures.{write_failure}
 use Rattle.nbd_server.specs.Replies.{RequestOutcome}
 use Rattle.nbd_server.specs.Status.{touched}
-use Rattle.nbd_server.specs.Transmission.{FailsToReadEnds, Flushes, IsFramed, IsPartInside, IsPart, IsSendable, reply_data, ReadsExport, ReadsEnds, ServesRequest, ServesCommand, Settles, Stays, WritesAtOnce, WritesGiven, WritesByRuns, WritesAny, room_behind, no_bytes}
+use Rattle.nbd_server.specs.Transmission.{FailsToReadEnds, Flushes, IsFramed, IsPartInside, IsPart, IsSendable, reply_data, ReadsExport, ReportsSpace, ReadsEnds, ServesRequest, ServesCommand, Settles, Stays, WritesAtOnce, WritesGiven, WritesByRuns, WritesAny, room_behind, no_bytes}
 use Rattle.nbd_server.specs.Zeros.{WritesInRuns}
 
 -- ---- what is around some bytes
@@ -78,16 +79,17 @@ module _ (offset length : ℕ) (fua : Bool) where
   cache-no-write true h = let clash : Err Invalid ≡ Ok (Write offset length fua) = h in cc
   cache-no-write false h = let clash : Ok Hint ≡ Ok (Write offset length fua) = h in cc
 
-  changing-write : (a b : Bool) (past : RequestError) (command : Command) → (if a then Err NotPermitted else if b then Err past else Ok command) ≡ Ok (Write offset length fua) → command ≡ Write offset length fua
+  changing-write : (a b : Bool) (past : RequestError) (command : Result Command RequestError) → (if a then Err NotPermitted else if b then Err past else command) ≡ Ok (Write offset length fua) → command ≡ Ok (Write offset length fua)
   changing-write true b past command h = let clash : Err NotPermitted ≡ Ok (Write offset length fua) = h in cc
   changing-write false true past command h = let clash : Err past ≡ Ok (Write offset length fua) = h in cc
-  changing-write false false past command h = let same : Ok command ≡ Ok (Write offset length fua) = h in cc
+  changing-write false false past command h = h
 
   trim-no-write : (a b : Bool) → (if a then Err NotPermitted else if b then Err Invalid else Ok Hint) ≡ Ok (Write offset length fua) → ⊥
-  trim-no-write a b h = let clash : Hint ≡ Write offset length fua = changing-write a b Invalid Hint h in cc
+  trim-no-write a b h = let clash : Ok Hint ≡ Ok (Write offset length fua) = changing-write a b Invalid (Ok Hint) h in cc
 
-  zero-no-write : (a b : Bool) (o l : ℕ) (f : Bool) → (if a then Err NotPermitted else if b then Err NoSpace else Ok (Zero o l f)) ≡ Ok (Write offset length fua) → ⊥
-  zero-no-write a b o l f h = let clash : Zero o l f ≡ Write offset length fua = changing-write a b NoSpace (Zero o l f) h in cc
+  zero-no-write : (a b d : Bool) (o l : ℕ) (f : Bool) → (if a then Err NotPermitted else if b then Err NoSpace else if d then Err NotSupported else Ok (Zero o l f)) ≡ Ok (Write offset length fua) → ⊥
+  zero-no-write a b true o l f h = let clash : Err NotSupported ≡ Ok (Write offset length fua) = changing-write a b NoSpace (Err NotSupported) h in cc
+  zero-no-write a b false o l f h = let clash : Ok (Zero o l f) ≡ Ok (Write offset length fua) = changing-write a b NoSpace (Ok (Zero o l f)) h in cc
 
   status-no-write : (a b : Bool) (o l : ℕ) (one : Bool) → (if a then Err Invalid else if b then Err Invalid else Ok (Status o l one)) ≡ Ok (Write offset length fua) → ⊥
   status-no-write true b o l one h = let clash : Err Invalid ≡ Ok (Write offset length fua) = h in cc
@@ -96,7 +98,7 @@ module _ (offset length : ℕ) (fua : Bool) where
 
   write-length : (a b c : Bool) (o l : ℕ) (f : Bool) → (if a then Err Invalid else if b then Err NotPermitted else if c then Err NoSpace else Ok (Write o l f)) ≡ Ok (Write offset length fua) → l ≡ length
   write-length true b c o l f h = let clash : Err Invalid ≡ Ok (Write offset length fua) = h in cc
-  write-length false b c o l f h = let same : Write o l f ≡ Write offset length fua = changing-write b c NoSpace (Write o l f) h in cc
+  write-length false b c o l f h = let same : Ok (Write o l f) ≡ Ok (Write offset length fua) = changing-write b c NoSpace (Ok (Write o l f)) h in cc
 
   last-no-write : (b : Bool) (statuses : Result Command RequestError) → (statuses ≡ Ok (Write offset length fua) → ⊥) → (if b then statuses else Err Invalid) ≡ Ok (Write offset length fua) → ⊥
   last-no-write true statuses t h = t h
@@ -128,12 +130,19 @@ module _ (offset length : ℕ) (fua : Bool) where
       (if h.kind == 3 then flush_command h else if h.kind == 4 then trim_command e h else if h.kind == 5 then cache_command e h else if h.kind == 6 then zero_command e h else last) h.length
       (read-no-write (nat_lt most_length h.length) past h.offset h.length)
       (others-no-write (h.kind == 3) (h.kind == 4) (h.kind == 5) (h.kind == 6) (flush_command h) (trim_command e h) (cache_command e h) (zero_command e h) last
-      (flush-no-write ((h.offset == 0) && (h.length == 0))) (trim-no-write (not e.writable) past) (cache-no-write past) (zero-no-write (not e.writable) past h.offset h.length (has_fua h))
+      (flush-no-write ((h.offset == 0) && (h.length == 0))) (trim-no-write (not e.writable) past) (cache-no-write past) (zero-no-write (not e.writable) past (nat_le 16 h.flags) h.offset h.length (has_fua h))
       (last-no-write ((h.kind == 7) && a.status) (status_command e h) (status-no-write (h.length == 0) past h.offset h.length (nat_le 8 h.flags))))
       (write-length (nat_lt most_length h.length) (not e.writable) past h.offset h.length (has_fua h)) is
 
+-- what a write without a fault comes to, and one with a fault
+pub reports-done : (Does : RequestOutcome → World → Type 0) (w' : World) → Does (Ok []) w' → ReportsSpace Does (Ok []) w'
+reports-done Does w' p = (Ok [], p, refl)
+
+pub reports-failed : (Does : RequestOutcome → World → Type 0) (w' : World) (error : Failure) → Does (Err error) w' → ReportsSpace Does (Err (write_failure w'.stack.leaves error)) w'
+reports-failed Does w' error p = (Err error, p, refl)
+
 pub served-write : (e : ExportRecord) (a : Agreement) (w w' : World) (h : Header) (offset length : ℕ) (fua : Bool) (payload : List ℕ) (outcome : RequestOutcome) → command_of e a h ≡ Ok (Write offset length fua)
-    → Settles fua (WritesGiven e w offset payload) outcome w' → ServesRequest e a w h payload outcome w'
+    → Settles fua (ReportsSpace (WritesGiven e w offset payload)) outcome w' → ServesRequest e a w h payload outcome w'
 served-write e a w w' h offset length fua payload outcome command p = subst (λ c. ServesCommand e w c payload outcome w') (sym command) p
 
 -- ---- commands that no bytes follow

@@ -183,8 +183,8 @@ joined-extent said Has first most extent next p low q same = record {
 }
 
 -- the next sector is of another kind
-pub ends-before : (said : ℕ → Said) (Has : ℕ → ExtentKind → Type 0) (first most : ℕ) (extent next : Extent) → IsToldExtent said Has (first + extent.count) (most - extent.count) next → is_same_kind next.kind extent.kind ≡ false
-    → EndsExtent Has first most extent
-ends-before said Has first most extent next q other =
+pub ends-before : (said : ℕ → Said) (Has : ℕ → ExtentKind → Type 0) (first most : ℕ) (extent next : Extent) (rest : ℕ) → IsToldExtent said Has (first + extent.count) (most - extent.count) next → is_same_kind next.kind extent.kind ≡ false
+    → EndsExtent Has first most extent rest
+ends-before said Has first most extent next rest q other =
     let at : first + extent.count + 0 ≡ first + extent.count = omega arith in
     inr (inr (next.kind, kind-other next.kind extent.kind other, subst (λ (n : ℕ). Has n next.kind) at (q.kind 0 (omega (arith, q.some)))))

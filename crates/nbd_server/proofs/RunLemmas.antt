@@ -16,7 +16,7 @@ use Rattle.nbd_server.specs.declared.failure.Failure.{Failure}
 use Rattle.nbd_protocol.specs.Exports.{ExportRecord, export_at}
 use Rattle.nbd_protocol.specs.Headers.{command_of, header_of}
 use Rattle.nbd_server.specs.Replies.{RequestOutcome}
-use Rattle.nbd_server.specs.Transmission.{FailsToReadEnds, Flushes, IsFramed, ReadsExport, ServesCommand, Settles, WritesAtOnce, WritesGiven, WritesPayload, WritesAny, room_behind}
+use Rattle.nbd_server.specs.Transmission.{FailsToReadEnds, Flushes, IsFramed, ReadsExport, ReportsSpace, ServesCommand, Settles, WritesAtOnce, WritesGiven, WritesPayload, WritesAny, room_behind}
 use Rattle.nbd_server.specs.Service.{BeginsMessage, Conversation, begins, goes_on, IsLastRequest, IsServedRequest, GivesReply, TakesMessage}
 use Rattle.nbd_server.specs.Delivery.{delivery_of}
 use Rattle.nbd_server.specs.declared.delivery.Delivery.{Delivery}
@@ -73,8 +73,8 @@ settle-led w true Does led (Err error) w' (inr p) = led-then EachPart w p.0 w' (
 command-led : (e : ExportRecord) (w : World) (command : Result Command RequestError) (payload : List ℕ) (outcome : RequestOutcome) (w' : World) → ServesCommand e w command payload outcome w' → IsLed EachPart w w'
 command-led e w (Err error) payload outcome w' p = stays-led w w' p.1
 command-led e w (Ok (Read offset length)) payload outcome w' p = read-led e w offset length outcome w' p
-command-led e w (Ok (Write offset length fua)) payload outcome w' p = settle-led w fua (WritesGiven e w offset payload) (λ o v q. given-led e w offset payload o v q) outcome w' p
-command-led e w (Ok (Zero offset length fua)) payload outcome w' p = settle-led w fua (WritesAny e w offset (replicate length 0)) (λ o v q. write-led e w offset (replicate length 0) o v q) outcome w' p
+command-led e w (Ok (Write offset length fua)) payload outcome w' p = settle-led w fua (ReportsSpace (WritesGiven e w offset payload)) (λ o v q. given-led e w offset payload q.0 v q.1) outcome w' p
+command-led e w (Ok (Zero offset length fua)) payload outcome w' p = settle-led w fua (ReportsSpace (WritesAny e w offset (replicate length 0))) (λ o v q. write-led e w offset (replicate length 0) q.0 v q.1) outcome w' p
 command-led e w (Ok Hint) payload outcome w' p = stays-led w w' p.1
 command-led e w (Ok Flush) payload outcome w' p = flush-led w outcome w' p
 command-led e w (Ok (Status offset length one)) payload outcome w' p = status-led e w offset length one outcome w' p

@@ -23,7 +23,7 @@ use Rattle.nbd_protocol.specs.Numbers.{big_endian32}
 use Rattle.nbd_protocol.specs.Headers.{command_of, header_of}
 use Rattle.nbd_server.specs.Sectors.{EndsPut, StopsPut}
 use Rattle.nbd_server.specs.Replies.{RequestOutcome}
-use Rattle.nbd_server.specs.Transmission.{FailsToReadEnds, Flushes, IsFramed, ServesCommand, Settles, WritesAtOnce, WritesGiven, WritesPayload, WritesAny, room_behind}
+use Rattle.nbd_server.specs.Transmission.{FailsToReadEnds, Flushes, IsFramed, ReportsSpace, ServesCommand, Settles, WritesAtOnce, WritesGiven, WritesPayload, WritesAny, room_behind}
 use Rattle.nbd_protocol.specs.Handshake.{greeting, is_info, name_in, phase_after, serving_at, terms_after, terms_after_long}
 use Rattle.nbd_protocol.proofs.lemmas.ExportLemmas.{asked-inside}
 use Rattle.nbd_server.specs.Premises.{IsExportPlaced}
@@ -274,8 +274,8 @@ settle-config w true Does kept (Err error) w' (inr p) = flush-config p.0 (Err er
 command-config : (e : ExportRecord) (w : World) (command : Result Command RequestError) (payload : List ℕ) (outcome : RequestOutcome) (w' : World) → ServesCommand e w command payload outcome w' → w'.stack.config ≡ w.stack.config
 command-config e w (Err error) payload outcome w' p = same-config w w' p.1
 command-config e w (Ok (Read offset length)) payload outcome w' p = read-config e w offset length outcome w' p
-command-config e w (Ok (Write offset length fua)) payload outcome w' p = settle-config w fua (WritesGiven e w offset payload) (λ o v q. given-config e w offset payload o v q) outcome w' p
-command-config e w (Ok (Zero offset length fua)) payload outcome w' p = settle-config w fua (WritesAny e w offset (replicate length 0)) (λ o v q. write-config e w offset (replicate length 0) o v q) outcome w' p
+command-config e w (Ok (Write offset length fua)) payload outcome w' p = settle-config w fua (ReportsSpace (WritesGiven e w offset payload)) (λ o v q. given-config e w offset payload q.0 v q.1) outcome w' p
+command-config e w (Ok (Zero offset length fua)) payload outcome w' p = settle-config w fua (ReportsSpace (WritesAny e w offset (replicate length 0))) (λ o v q. write-config e w offset (replicate length 0) q.0 v q.1) outcome w' p
 command-config e w (Ok Hint) payload outcome w' p = same-config w w' p.1
 command-config e w (Ok Flush) payload outcome w' p = flush-config w outcome w' p
 command-config e w (Ok (Status offset length one)) payload outcome w' p = status-config e w offset length one outcome w' p

@@ -8,7 +8,7 @@ use Rattle.stack_rules.specs.Records.{Configuration}
 use Rattle.stack_meaning.specs.Meaning.{said_at}
 use Rattle.nbd_server.specs.declared.extent.Extent.{Extent}
 use Rattle.nbd_server.specs.declared.extent.ExtentKind.TheVariants as known
-use Rattle.nbd_server.specs.Extents.{EndsExtent, HasKind, IsToldExtent, is_same_kind}
+use Rattle.nbd_server.specs.Extents.{EndsExtent, HasKind, IsToldExtent, is_same_kind, most_runs}
 use Rattle.nbd_protocol.specs.Exports.{ExportRecord}
 use Rattle.nbd_protocol.specs.Numbers.{bytes32}
 use Rattle.nbd_server.specs.declared.status.BlockStatus.{BlockStatus}
@@ -18,11 +18,13 @@ use Rattle.nbd_server.specs.Status.{HasStatus, IsByteExtent, IsLineStatus, IsOth
 use Rattle.nbd_server.proofs.ExtentLemmas.{kind-other, kind-same}
 
 -- the part of an extent that was asked for
-module _ (c : Configuration) (e : ExportRecord) (at left count : ℕ) (extent : Extent) (some : 0 < left) (is : count ≡ min (512 * extent.count - at % 512) left) where
-  extent-ends : 0 < extent.count → EndsExtent (HasKind c (mapped e.device)) (at / 512) (touched at left) extent → (count ≡ left) ⊎ ((2097152 < count) ⊎ IsOtherKind c e extent.kind (at + count))
+module _ (c : Configuration) (e : ExportRecord) (runs at left count : ℕ) (extent : Extent) (rest : ℕ) (some : 0 < left) (is : count ≡ min (512 * extent.count - at % 512) left) (joined : runs ≤ extent.count + rest) where
+  extent-ends : 0 < extent.count → EndsExtent (HasKind c (mapped e.device)) (at / 512) (touched at left) extent rest → (count ≡ left) ⊎ ((at / 512 + runs ≤ (at + count) / 512) ⊎ IsOtherKind c e extent.kind (at + count))
   extent-ends more (inl all) = inl (omega (arith, is, all))
-  extent-ends more (inr (inl many)) = elim (cases_lt (512 * extent.count - at % 512) left) [
-    | inl part ↦ inr (inl (omega (arith, is, many, part)))
+  extent-ends more (inr (inl none)) = elim (cases_lt (512 * extent.count - at % 512) left) [
+    | inl part ↦
+        let place : at / 512 + extent.count ≡ (at + count) / 512 = omega (arith, is, part, more) in
+        inr (inl (omega (arith, place, joined, none)))
     | inr whole ↦ inl (omega (arith, is, whole))
   ]
   extent-ends more (inr (inr other)) = elim (cases_lt (512 * extent.count - at % 512) left) [
@@ -32,8 +34,8 @@ module _ (c : Configuration) (e : ExportRecord) (at left count : ℕ) (extent : 
     | inr whole ↦ inl (omega (arith, is, whole))
   ]
 
-  pub extent-is : IsToldExtent (said_at c (mapped e.device)) (HasKind c (mapped e.device)) (at / 512) (touched at left) extent → EndsExtent (HasKind c (mapped e.device)) (at / 512) (touched at left) extent
-      → IsByteExtent c e at left (record { count = count; kind = extent.kind })
+  pub extent-is : IsToldExtent (said_at c (mapped e.device)) (HasKind c (mapped e.device)) (at / 512) (touched at left) extent → EndsExtent (HasKind c (mapped e.device)) (at / 512) (touched at left) extent rest
+      → IsByteExtent c e runs at left (record { count = count; kind = extent.kind })
   extent-is p q = record {
     some = omega (arith, p.some, is, some);
     few = omega (arith, is);
@@ -42,18 +44,24 @@ module _ (c : Configuration) (e : ExportRecord) (at left count : ℕ) (extent : 
     ends = extent-ends p.some q;
   }
 
+  -- how many more runs may be joined
+  pub extent-rest : 0 < extent.count → count < left → at / 512 + runs ≤ (at + count) / 512 + rest
+  extent-rest more short =
+      let place : at / 512 + extent.count ≡ (at + count) / 512 = omega (arith, is, short, more) in
+      omega (arith, place, joined)
+
 -- what is reported of an extent
-pub extent-status : (c : Configuration) (e : ExportRecord) (offset at left : ℕ) (extent : ByteExtent) (s : BlockStatus) → IsByteExtent c e at left extent → s.count ≡ extent.count → s.zeros ≡ is_same_kind extent.kind known.Zeros
+pub extent-status : (c : Configuration) (e : ExportRecord) (offset runs at left : ℕ) (extent : ByteExtent) (s : BlockStatus) → offset / 512 + most_runs ≤ at / 512 + runs → IsByteExtent c e runs at left extent → s.count ≡ extent.count → s.zeros ≡ is_same_kind extent.kind known.Zeros
     → (offset < at → extent.kind ≢ known.IgnoresZeros) → IsStatus (IsLineStatus c e offset) at left s
-extent-status c e offset at left extent s p count zeros later = record {
+extent-status c e offset runs at left extent s budget p count zeros later = record {
   some = omega (arith, p.some, count);
   few = omega (arith, p.few, count);
-  is = record { extent = extent; is = p; count = count; zeros = zeros; later = later };
+  is = record { runs = runs; runs_left = budget; extent = extent; is = p; count = count; zeros = zeros; later = later };
 }
 
 -- the kind with which an extent begins
-pub extent-begins : (c : Configuration) (e : ExportRecord) (at left : ℕ) (extent : ByteExtent) → IsByteExtent c e at left extent → HasKind c (mapped e.device) (at / 512) extent.kind
-extent-begins c e at left extent p =
+pub extent-begins : (c : Configuration) (e : ExportRecord) (runs at left : ℕ) (extent : ByteExtent) → IsByteExtent c e runs at left extent → HasKind c (mapped e.device) (at / 512) extent.kind
+extent-begins c e runs at left extent p =
     let place : at / 512 + 0 ≡ at / 512 = omega arith in
     subst (λ (n : ℕ). HasKind c (mapped e.device) n extent.kind) place (p.kind 0 (omega (arith, p.some)))
 
@@ -62,7 +70,7 @@ pub status-zeros : (c : Configuration) (e : ExportRecord) (offset at left : ℕ)
 status-zeros c e offset at left s p sure = subst (λ (n : ℕ). TouchZeros c e at n) (sym p.count) (p.is.zeros (kind-same p.extent.kind known.Zeros (sym p.zeros ∙ sure)))
 
 pub status-other : (c : Configuration) (e : ExportRecord) (offset at left : ℕ) (s : BlockStatus) → IsLineStatus c e offset at left s → s.zeros ≡ false → IsOtherKind c e known.Zeros at
-status-other c e offset at left s p none = (p.extent.kind, kind-other p.extent.kind known.Zeros (sym p.zeros ∙ none), extent-begins c e at left p.extent p.is)
+status-other c e offset at left s p none = (p.extent.kind, kind-other p.extent.kind known.Zeros (sym p.zeros ∙ none), extent-begins c e p.runs at left p.extent p.is)
 
 bytes-four : (n : ℕ) → length (bytes32 n) ≡ 4
 unfolding bytes32

@@ -71,18 +71,19 @@ pub record IsToldExtent (said : ℕ → Said) (Has : ℕ → ExtentKind → Type
 abbrev pub HasOtherKind : (ℕ → ExtentKind → Type 0) → ExtentKind → ℕ → Type 0
 HasOtherKind Has kind s = (other : ExtentKind) × (other ≢ kind) × Has s other
 
--- the most runs that are joined to one extent
+-- the most runs that are joined to the extents of one reply
 abbrev pub most_runs : ℕ
-most_runs = 4096
+most_runs = 65536
 
--- an extent ends with the sectors that were asked for, before a sector of another kind, or after more than 4,096 sectors
-abbrev pub EndsExtent : (ℕ → ExtentKind → Type 0) → ℕ → ℕ → Extent → Type 0
-EndsExtent Has first most extent = (extent.count ≡ most) ⊎ ((most_runs < extent.count) ⊎ HasOtherKind Has extent.kind (first + extent.count))
+-- an extent ends with the sectors that were asked for, where no more runs may be joined, or before a sector of another kind
+abbrev pub EndsExtent : (ℕ → ExtentKind → Type 0) → ℕ → ℕ → Extent → ℕ → Type 0
+EndsExtent Has first most extent rest = (extent.count ≡ most) ⊎ ((rest ≡ 0) ⊎ HasOtherKind Has extent.kind (first + extent.count))
 
--- an extent that is as long as it can be
-pub record IsWholeExtent (said : ℕ → Said) (Has : ℕ → ExtentKind → Type 0) (first most : ℕ) (extent : Extent) : Type 0 where
+-- an extent that is as long as it can be if it joins at most so many runs, of which `rest` are left
+pub record IsWholeExtent (said : ℕ → Said) (Has : ℕ → ExtentKind → Type 0) (first most runs : ℕ) (extent : Extent) (rest : ℕ) : Type 0 where
   pub told : IsToldExtent said Has first most extent
-  pub ends : EndsExtent Has first most extent
+  pub ends : EndsExtent Has first most extent rest
+  pub joined : runs ≤ extent.count + rest
 
 -- ---- the sectors of a source
 

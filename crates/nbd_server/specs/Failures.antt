@@ -1,12 +1,14 @@
 -- Why a request isn't done, and what is reported of it.
-use Rattle.std.specs.Prelude.{ℕ, Option, Some, None}
+use Rattle.std.specs.Prelude.{ℕ, List, Option, Some, None, if◌then◌else◌}
+use Rattle.block_device.specs.Device.{Device}
 use Rattle.nbd_protocol.specs.declared.request_error.RequestError.{RequestError}
-use Rattle.nbd_protocol.specs.declared.request_error.RequestError.TheVariants.{InputOutput, NoMemory}
+use Rattle.nbd_protocol.specs.declared.request_error.RequestError.TheVariants.{InputOutput, NoMemory, NoSpace}
 use Rattle.nbd_server.specs.declared.failure.Failure.{Failure}
-use Rattle.nbd_server.specs.declared.failure.Failure.TheVariants.{Faulty, Refused}
+use Rattle.nbd_server.specs.declared.failure.Failure.TheVariants.{Faulty, Full, Refused}
 use Rattle.nbd_server.specs.declared.first_faults.SectorFault.{SectorFault}
 use Rattle.stack_meaning.specs.declared.fault.IoFault.{IoFault}
 use Rattle.stack_meaning.specs.declared.fault.IoFault.TheVariants as io
+use Rattle.stack_engine.specs.Space.{lacks_space}
 
 -- an allocation was refused
 abbrev pub no_memory : Failure
@@ -18,12 +20,20 @@ failure_of (io.Stack fault) = Faulty (io.Stack fault)
 failure_of (io.Device leaf) = Faulty (io.Device leaf)
 failure_of io.NoMemory = no_memory
 
+-- the failure of a write over these leaves: if the leaf that failed lacked space, that is reported
+abbrev pub write_failure : List Device → Failure → Failure
+write_failure leaves (Refused error) = Refused error
+write_failure leaves (Faulty fault) = if lacks_space leaves fault then Full fault else Faulty fault
+write_failure leaves (Full fault) = Full fault
+
 -- the error that the reply reports
 abbrev pub reported_error : Failure → RequestError
 reported_error (Refused error) = error
 reported_error (Faulty fault) = InputOutput
+reported_error (Full fault) = NoSpace
 
 -- a fault with a sector; other failures are none
 abbrev pub fault_at : ℕ → Failure → Option SectorFault
 fault_at sector (Refused error) = None
 fault_at sector (Faulty fault) = Some (record { sector = sector; fault = fault })
+fault_at sector (Full fault) = Some (record { sector = sector; fault = fault })

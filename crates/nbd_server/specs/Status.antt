@@ -6,7 +6,7 @@ use Rattle.stack_rules.specs.Names.{mapped}
 use Rattle.stack_rules.specs.Records.{Configuration}
 use Rattle.stack_meaning.specs.Meaning.{said_at}
 use Rattle.nbd_server.specs.Content.{zero_block}
-use Rattle.nbd_server.specs.Extents.{AreZeros, HasKind, HasOtherKind, is_same_kind}
+use Rattle.nbd_server.specs.Extents.{AreZeros, HasKind, HasOtherKind, is_same_kind, most_runs}
 use Rattle.nbd_server.specs.declared.extent.ExtentKind.{ExtentKind}
 use Rattle.nbd_server.specs.declared.extent.ExtentKind.TheVariants as known
 use Rattle.nbd_protocol.specs.Exports.{ExportRecord}
@@ -44,20 +44,28 @@ abbrev pub IsOtherKind : Configuration → ExportRecord → ExtentKind → ℕ �
 IsOtherKind c e kind at = HasOtherKind (HasKind c (mapped e.device)) kind (at / 512)
 
 -- An extent of at least one and at most `left` bytes from an offset on, all of one kind. It ends with them, before a byte of
--- another kind, or after more than 2 MiB.
-pub record IsByteExtent (c : Configuration) (e : ExportRecord) (at left : ℕ) (extent : ByteExtent) : Type 0 where
+-- another kind, or at a sector before which it joined so many runs.
+pub record IsByteExtent (c : Configuration) (e : ExportRecord) (runs at left : ℕ) (extent : ByteExtent) : Type 0 where
   pub some : 0 < extent.count
   pub few : extent.count ≤ left
   pub zeros : extent.kind ≡ known.Zeros → TouchZeros c e at extent.count
   pub kind : TouchKind c e extent.kind at extent.count
-  pub ends : (extent.count ≡ left) ⊎ ((2097152 < extent.count) ⊎ IsOtherKind c e extent.kind (at + extent.count))
+  pub ends : (extent.count ≡ left) ⊎ ((at / 512 + runs ≤ (at + extent.count) / 512) ⊎ IsOtherKind c e extent.kind (at + extent.count))
+
+-- such an extent, and how many of the runs are left
+pub record IsJoinedExtent (c : Configuration) (e : ExportRecord) (runs at left : ℕ) (extent : ByteExtent) (rest : ℕ) : Type 0 where
+  pub is : IsByteExtent c e runs at left extent
+  pub runs_left : extent.count < left → at / 512 + runs ≤ (at + extent.count) / 512 + rest
 
 -- ---- the status of an extent
 
--- by the lines alone: an extent is reported as zeros if it is on `zero` lines; after the first none is on lines that ignore zeros
+-- By the lines alone: an extent is reported as zeros if it is on `zero` lines; after the first none is on lines that ignore zeros.
+-- It joins the runs that are left, after those of the extents from `offset` on.
 pub record IsLineStatus (c : Configuration) (e : ExportRecord) (offset at left : ℕ) (s : BlockStatus) : Type 0 where
+  pub runs : ℕ
+  pub runs_left : offset / 512 + most_runs ≤ at / 512 + runs
   pub extent : ByteExtent
-  pub is : IsByteExtent c e at left extent
+  pub is : IsByteExtent c e runs at left extent
   pub count : s.count ≡ extent.count
   pub zeros : s.zeros ≡ is_same_kind extent.kind known.Zeros
   pub later : offset < at → extent.kind ≢ known.IgnoresZeros
@@ -114,9 +122,13 @@ pub record HasStatus (Is : ℕ → ℕ → BlockStatus → Type 0) (Ends : ℕ �
 abbrev pub BeginsIgnoring : Configuration → ExportRecord → ℕ → Type 0
 BeginsIgnoring c e at = HasKind c (mapped e.device) (at / 512) known.IgnoresZeros
 
+-- the status of a byte range by the lines alone ends there before lines that ignore blocks of zeros, or after 65,536 runs
+abbrev pub EndsByLines : Configuration → ExportRecord → ℕ → ℕ → Type 0
+EndsByLines c e offset at = BeginsIgnoring c e at ⊎ (offset / 512 + most_runs ≤ at / 512)
+
 -- the status by the lines alone
 abbrev pub HasLineStatus : Configuration → ExportRecord → ℕ → ℕ → Bool → List ℕ → Type 0
-HasLineStatus c e offset count one told = HasStatus (IsLineStatus c e offset) (BeginsIgnoring c e) offset count one told
+HasLineStatus c e offset count one told = HasStatus (IsLineStatus c e offset) (EndsByLines c e offset) offset count one told
 
 -- the status by bytes that were read: of all of them
 abbrev pub HasReadStatus : RequestOutcome → ℕ → ℕ → Bool → List ℕ → Type 0

@@ -12,6 +12,7 @@ use Rattle.nbd_protocol.specs.Headers.{command_of, most_length, payload_len}
 use Rattle.nbd_protocol.specs.declared.phase.Agreement.{Agreement}
 use Rattle.nbd_server.specs.Replies.{RequestOutcome}
 use Rattle.nbd_server.specs.Status.{HasLineStatus, HasReadStatus, IsByteExtent, IsOtherKind, TouchIgnoring, touched}
+use Rattle.nbd_server.specs.Extents.{most_runs}
 use Rattle.nbd_server.specs.declared.extent.ExtentKind.TheVariants as known
 use Rattle.nbd_server.specs.declared.status.ByteExtent.{ByteExtent}
 use Rattle.nbd_server.specs.Sectors.{IsFetched, FailsToFetch, IsStoredAtOnce, FailsToPutAtOnce}
@@ -25,7 +26,7 @@ use Rattle.nbd_protocol.specs.declared.fault.ServiceFault.{ServiceFault}
 use Rattle.nbd_server.specs.declared.byte_range.Ends.{Ends}
 use Rattle.nbd_server.specs.declared.reply.Data.{Data}
 use Rattle.nbd_protocol.specs.declared.request_error.RequestError.{RequestError}
-use Rattle.nbd_server.specs.Failures.{no_memory}
+use Rattle.nbd_server.specs.Failures.{no_memory, write_failure}
 use Rattle.nbd_server.specs.declared.failure.Failure.{Failure}
 use Rattle.nbd_server.specs.declared.failure.Failure.TheVariants.{Faulty, Refused}
 
@@ -101,15 +102,24 @@ abbrev pub Flushes : World → RequestOutcome → World → Type 0
 Flushes w (Ok content) w' = (content ≡ []) × Step EachPart w (sync (Ok tt)) w'
 Flushes w (Err error) w' = (fault : IoFault) × (error ≡ Faulty fault) × Step EachPart w (sync (Err fault)) w'
 
+-- the outcome of a write that left the queue so
+abbrev pub reported_outcome : World → RequestOutcome → RequestOutcome
+reported_outcome w' (Ok content) = Ok content
+reported_outcome w' (Err error) = Err (write_failure w'.stack.leaves error)
+
 -- with FUA a sync follows
 abbrev pub Settles : Bool → (RequestOutcome → World → Type 0) → RequestOutcome → World → Type 0
 Settles false Does outcome w' = Does outcome w'
 Settles true Does (Ok content) w' = (mid : World) × Does (Ok []) mid × Flushes mid (Ok content) w'
 Settles true Does (Err error) w' = Does (Err error) w' ⊎ ((mid : World) × Does (Ok []) mid × Flushes mid (Err error) w')
 
+-- a write ended so, but that a leaf that lacked space is reported
+abbrev pub ReportsSpace : (RequestOutcome → World → Type 0) → RequestOutcome → World → Type 0
+ReportsSpace Does outcome w' = (met : RequestOutcome) × Does met w' × (outcome ≡ reported_outcome w' met)
+
 -- a WRITE_ZEROES: a write of zeros, run by run
 abbrev pub ServesZero : ExportRecord → World → ℕ → ℕ → Bool → RequestOutcome → World → Type 0
-ServesZero e w offset length fua outcome w' = Settles fua (WritesAny e w offset (replicate length 0)) outcome w'
+ServesZero e w offset length fua outcome w' = Settles fua (ReportsSpace (WritesAny e w offset (replicate length 0))) outcome w'
 
 -- ---- block status
 
@@ -134,7 +144,7 @@ pub record ReadsStatus (e : ExportRecord) (w : World) (offset count : ℕ) (one 
 -- the status of a byte range that begins on lines that ignore blocks of zeros: of the extent on these lines
 pub record TellsIgnoring (e : ExportRecord) (w : World) (offset count : ℕ) (one : Bool) (told : List ℕ) (w' : World) : Type 0 where
   pub extent : ByteExtent
-  pub is : IsByteExtent w.stack.config e offset count extent
+  pub is : IsByteExtent w.stack.config e most_runs offset count extent
   pub kind : extent.kind ≡ known.IgnoresZeros
   pub reads : ReadsStatus e w offset extent.count one told w'
 
@@ -181,7 +191,7 @@ WritesGiven e w offset bytes outcome w' = LacksSectors w offset bytes outcome w'
 abbrev pub ServesCommand : ExportRecord → World → Result Command RequestError → List ℕ → RequestOutcome → World → Type 0
 ServesCommand e w (Err error) payload outcome w' = RefusesRequest w error outcome w'
 ServesCommand e w (Ok (Read offset length)) payload outcome w' = ReadsExport e w offset length outcome w'
-ServesCommand e w (Ok (Write offset length fua)) payload outcome w' = Settles fua (WritesGiven e w offset payload) outcome w'
+ServesCommand e w (Ok (Write offset length fua)) payload outcome w' = Settles fua (ReportsSpace (WritesGiven e w offset payload)) outcome w'
 ServesCommand e w (Ok (Zero offset length fua)) payload outcome w' = ServesZero e w offset length fua outcome w'
 ServesCommand e w (Ok Hint) payload outcome w' = Stays w outcome w'
 ServesCommand e w (Ok Flush) payload outcome w' = Flushes w outcome w'

@@ -10,8 +10,8 @@ ghost use Rattle.nbd_server.specs.Extents.{HasKind, IsToldExtent, IsWholeExtent,
 use stack_config::{Config, DevId, Lower};
 use stack_lines::{Source, VerityPart, run_at};
 
-// The most runs that are joined to one extent.
-const MOST_RUNS: u32 = 4096;
+/// The most runs that are joined to the extents of one reply.
+pub(crate) const MOST_RUNS: u32 = 65536;
 
 /// What is known of sectors before they are read.
 #[derive(Clone, Copy, Debug, PartialEq, Eq)]
@@ -114,25 +114,25 @@ fn device_extent(config: &Config, d: DevId, first: u64, most: u64) -> Extent
     source_extent(config, run.source, run.count)
 }
 
-/// Returns an extent of at most `most` sectors of a mapped device, from sector `first` on. It joins up to 4,096 runs and may
-/// therefore end before the kind changes.
-pub fn extent_at(config: &Config, d: DevId, first: u64, most: u64) -> Extent
+/// Returns an extent of at most `most` sectors of a mapped device, from sector `first` on, and how many more runs may be joined.
+/// It joins up to `runs` runs and may therefore end before the kind changes.
+pub fn extent_at(config: &Config, d: DevId, first: u64, most: u64, runs: u32) -> (Extent, u32)
     requires loaded { IsLoaded config.now }
-    requires some { 0 < most }
+    requires some { (0 < most) × (0 < runs) }
     requires inside { first + most ≤ size config.now (mapped d.0) }
-    ensures { IsWholeExtent (said_at config.now (mapped d.0)) (HasKind config.now (mapped d.0)) first most result }
+    ensures { IsWholeExtent (said_at config.now (mapped d.0)) (HasKind config.now (mapped d.0)) first most runs result.0 result.1 }
 {
     let mut extent = device_extent(config, d, first, most);
-    for _run in 0..MOST_RUNS {
+    for run in 1..runs {
         if extent.count == most {
-            return extent;
+            return (extent, runs - run);
         }
         let at = first + extent.count;
         let next = device_extent(config, d, at, most - extent.count);
         if !is_same_kind(next.kind, extent.kind) {
-            return extent;
+            return (extent, runs - run);
         }
         extent.count += next.count;
     }
-    extent
+    (extent, 0)
 }

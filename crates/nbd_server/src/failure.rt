@@ -1,19 +1,23 @@
 //! Why a request isn't done.
 ghost use Rattle.std.specs.Prelude.{◌≡◌};
-ghost use Rattle.nbd_server.specs.Failures.{failure_of, fault_at, no_memory, reported_error};
+ghost use Rattle.nbd_server.specs.Failures.{failure_of, fault_at, no_memory, reported_error, write_failure};
 
 use crate::first_faults::SectorFault;
 use allocation::OutOfMemory;
+use block_device::BlockDev;
 use nbd_protocol::RequestError;
+use stack_engine::Stack;
 use stack_meaning::IoFault;
 
-/// Why a request isn't done: by an error of its own, or by a fault that is reported as an input/output error.
+/// Why a request isn't done: by an error of its own, or by a fault of the stack.
 #[derive(Clone, Copy, Debug, PartialEq, Eq)]
 pub(crate) enum Failure {
     /// The request isn't allowed, or an allocation failed.
     Refused(RequestError),
     /// The stack refused the access, or a device failed.
     Faulty(IoFault),
+    /// A device failed to write because it has no space left.
+    Full(IoFault),
 }
 
 impl Failure {
@@ -24,6 +28,24 @@ impl Failure {
         match self {
             Failure::Refused(error) => error,
             Failure::Faulty(_) => RequestError::InputOutput,
+            Failure::Full(_) => RequestError::NoSpace,
+        }
+    }
+
+    /// Returns the failure of a write: that no space is left if the device that failed lacked it.
+    pub(crate) fn of_write<D: BlockDev>(self, stack: &Stack<D>) -> Failure
+        ensures { result ≡ write_failure stack.now.leaves self }
+    {
+        match self {
+            Failure::Refused(error) => Failure::Refused(error),
+            Failure::Faulty(fault) => {
+                if stack.lacks_space(fault) {
+                    Failure::Full(fault)
+                } else {
+                    Failure::Faulty(fault)
+                }
+            }
+            Failure::Full(fault) => Failure::Full(fault),
         }
     }
 
@@ -33,7 +55,7 @@ impl Failure {
     {
         match self {
             Failure::Refused(_) => None,
-            Failure::Faulty(fault) => Some(SectorFault { sector, fault }),
+            Failure::Faulty(fault) | Failure::Full(fault) => Some(SectorFault { sector, fault }),
         }
     }
 }

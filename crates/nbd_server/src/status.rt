@@ -6,11 +6,11 @@ ghost use Rattle.nbd_protocol.specs.Numbers.{bytes32};
 ghost use Rattle.stack_rules.specs.Rules.{IsLoaded};
 ghost use Rattle.nbd_server.specs.declared.extent.ExtentKind.TheVariants as known;
 ghost use Rattle.nbd_server.specs.Premises.{AreBytesOf};
-ghost use Rattle.nbd_server.specs.Extents.{is_same_kind};
-ghost use Rattle.nbd_server.specs.Status.{IsByteExtent, IsLineStatus, IsStatus, IsStatusOfLines, descriptor, status_flags};
+ghost use Rattle.nbd_server.specs.Extents.{is_same_kind, most_runs};
+ghost use Rattle.nbd_server.specs.Status.{IsByteExtent, IsJoinedExtent, IsLineStatus, IsStatus, IsStatusOfLines, descriptor, status_flags};
 
 use crate::byte_range::touched;
-use crate::extent::{ExtentKind, extent_at, is_same_kind};
+use crate::extent::{ExtentKind, MOST_RUNS, extent_at, is_same_kind};
 use allocation::{OutOfMemory, append};
 use nbd_protocol::Export;
 use stack_config::Config;
@@ -59,20 +59,39 @@ impl ByteExtent {
     }
 }
 
+// Returns the extent of at most `left` bytes of the export, from `at` on, and how many more runs may be joined. It joins up to
+// `runs` runs.
+fn joined_at(
+    config: &Config,
+    export: &Export<'_>,
+    at: u64,
+    left: u32,
+    runs: u32,
+) -> (ByteExtent, u32)
+    requires loaded { IsLoaded config.now }
+    requires bytes { AreBytesOf config.now (export_record export.now) at left }
+    requires some { (0 < left) × (0 < runs) }
+    ensures { IsJoinedExtent config.now (export_record export.now) runs at left result.0 result.1 }
+{
+    let sectors = touched(at, left) as u64;
+    let (extent, rest) = extent_at(config, export.device, at / 512, sectors, runs);
+    let count = (512 * extent.count - at % 512).min(u64::from(left));
+    let bytes = ByteExtent {
+        count: count as u32,
+        kind: extent.kind,
+    };
+    (bytes, rest)
+}
+
 /// Returns the extent of at most `left` bytes of the export, from `at` on.
 pub(crate) fn bytes_at(config: &Config, export: &Export<'_>, at: u64, left: u32) -> ByteExtent
     requires loaded { IsLoaded config.now }
     requires bytes { AreBytesOf config.now (export_record export.now) at left }
     requires some { 0 < left }
-    ensures { IsByteExtent config.now (export_record export.now) at left result }
+    ensures { IsByteExtent config.now (export_record export.now) most_runs at left result }
 {
-    let sectors = touched(at, left) as u64;
-    let extent = extent_at(config, export.device, at / 512, sectors);
-    let count = (512 * extent.count - at % 512).min(u64::from(left));
-    ByteExtent {
-        count: count as u32,
-        kind: extent.kind,
-    }
+    let (extent, _) = joined_at(config, export, at, left, MOST_RUNS);
+    extent
 }
 
 /// Returns the status of at most `left` bytes of the export, from `at` on. Nothing is read.
@@ -120,8 +139,8 @@ pub(crate) fn first_status(alloc: Global, status: BlockStatus) -> Result<Vec<u8>
     Ok(told)
 }
 
-/// Returns the status of a byte range without reading it, in at most 1,024 extents. If `one` is set, only the first extent is
-/// reported.
+/// Returns the status of a byte range without reading it, in at most 1,024 extents that join at most 65,536 runs. If `one` is set,
+/// only the first extent is reported.
 ///
 /// Extents after the first end before `verity` lines that ignore blocks of zeros.
 ///
@@ -142,8 +161,8 @@ pub(crate) fn status_of(
     ensures ok { IfOk result (IsStatusOfLines config.now (export_record export.now) offset len one) }
     ensures err { OnErr result (IsOutOfMemory 4) }
 {
-    let first = status_at(config, export, offset, len);
-    let mut told = first_status(alloc, first)?;
+    let (first, mut runs) = joined_at(config, export, offset, len, MOST_RUNS);
+    let mut told = first_status(alloc, first.status())?;
     if one {
         return Ok(told);
     }
@@ -152,13 +171,18 @@ pub(crate) fn status_of(
         if done == len {
             return Ok(told);
         }
-        let extent = bytes_at(config, export, offset + u64::from(done), len - done);
+        if runs == 0 {
+            return Ok(told);
+        }
+        let at = offset + u64::from(done);
+        let (extent, rest) = joined_at(config, export, at, len - done, runs);
         if is_same_kind(extent.kind, ExtentKind::IgnoresZeros) {
             return Ok(told);
         }
         let status = extent.status();
         push_status(&mut told, status)?;
         done += status.count;
+        runs = rest;
     }
     Ok(told)
 }

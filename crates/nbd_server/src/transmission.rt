@@ -113,8 +113,10 @@ fn zero<D: SyncDev>(
     ensures value { ServesZero (export_record export.now) queue.old offset len fua (data_outcome result) queue.new }
     ensures inside { IsSendable result }
 {
-    write_zeros(alloc, queue, export, offset, len)?;
-    settle(alloc, queue, fua)
+    match write_zeros(alloc, queue, export, offset, len) {
+        Ok(()) => settle(alloc, queue, fua),
+        Err(error) => Err(error.of_write(queue.stack())),
+    }
 }
 
 // Returns the status of a byte range. If the range begins on `verity` lines that ignore blocks of zeros, its first bytes are
@@ -219,7 +221,7 @@ fn serve_request<D: SyncDev, R: Read>(
             fua,
         } => match take_write(alloc, queue, export, offset, length, reader)? {
             Ok(()) => Ok(settle(alloc, queue, fua)),
-            Err(error) => Ok(Err(error)),
+            Err(error) => Ok(Err(error.of_write(queue.stack()))),
         },
         _ => {
             skip(reader, header.payload_len())?;

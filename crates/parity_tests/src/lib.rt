@@ -14,4 +14,6 @@ mod repairing;
 #[cfg(test)]
 mod restoring;
 #[cfg(test)]
+mod summing;
+#[cfg(test)]
 mod unreadable;

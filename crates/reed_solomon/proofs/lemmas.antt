@@ -1,1 +1,2 @@
 pub mod ParityLemmas
+pub mod SumLemmas

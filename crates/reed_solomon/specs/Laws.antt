@@ -1,5 +1,7 @@
 -- Laws that hold for every code.
 use Rattle.std.specs.Prelude.{◌≡◌, ℕ, ◌+◌, ◌<◌, ◌≤◌, List, ◌++◌, length, slice_index, EachIndex}
+use Rattle.reed_solomon.specs.Field.{total}
+use Rattle.reed_solomon.specs.Sums.{summand_beside}
 use Rattle.reed_solomon.specs.Code.{IsCodeword}
 use Rattle.reed_solomon.specs.Correcting.{IsCorrected}
 use Rattle.reed_solomon.specs.Restoring.{AgreesOutside}
@@ -17,3 +19,12 @@ CodewordsAreApart = (parity : ℕ) → (lost v w : List ℕ) → length lost ≤
 -- at most one codeword differs from a word at no more than half as many positions as there are parity bytes
 abbrev pub NearCodewordsAreEqual : Type 0
 NearCodewordsAreEqual = (parity : ℕ) → (word v w : List ℕ) → IsCorrected parity word v → IsCorrected parity word w → v ≡ w
+
+-- the bytes of a codeword sum to 0
+abbrev pub CodewordsSumToZero : Type 0
+CodewordsSumToZero = (parity : ℕ) → (word : List ℕ) → 0 < parity → IsCodeword parity word → total (slice_index word) 255 ≡ 0
+
+-- each byte of a codeword is the sum of the other bytes
+abbrev pub OneLostByteIsASum : Type 0
+OneLostByteIsASum = (parity : ℕ) → (word : List ℕ) → (place : ℕ) → 0 < parity → IsCodeword parity word → place < 255
+    → total (summand_beside (slice_index word) place) 255 ≡ slice_index word place

@@ -1,4 +1,5 @@
 pub mod Field
+pub mod Sums
 pub mod Code
 pub mod Restoring
 pub mod Factors

@@ -1,6 +1,6 @@
 //! Laws that hold for every code, as clauses of functions that do nothing.
 
-ghost use Rattle.reed_solomon.specs.Laws.{EveryMessageHasParity, CodewordsAreApart, NearCodewordsAreEqual};
+ghost use Rattle.reed_solomon.specs.Laws.{EveryMessageHasParity, CodewordsAreApart, CodewordsSumToZero, NearCodewordsAreEqual, OneLostByteIsASum};
 
 /// Every message has parity bytes that complete it to a codeword.
 pub fn every_message_has_parity()
@@ -15,4 +15,14 @@ pub fn codewords_are_apart()
 /// At most one codeword differs from a word at no more than half as many positions as there are parity bytes.
 pub fn near_codewords_are_equal()
     ensures { NearCodewordsAreEqual }
+{}
+
+/// The bytes of a codeword with parity sum to 0, by exclusive-or.
+pub fn codewords_sum_to_zero()
+    ensures { CodewordsSumToZero }
+{}
+
+/// Each byte of a codeword with parity is the exclusive-or of the other bytes.
+pub fn one_lost_byte_is_a_sum()
+    ensures { OneLostByteIsASum }
 {}

@@ -10,6 +10,7 @@ mod field;
 pub mod laws;
 mod products;
 mod restoring;
+mod sums;
 mod tables;
 
 pub use columns::{add_products, parity_products, restoring_products};
@@ -18,3 +19,4 @@ pub use encoding::{encode, is_codeword, syndrome};
 pub use field::{inverse, multiply, power};
 pub use products::Products;
 pub use restoring::{combination, factors, restore};
+pub use sums::add_parity;

@@ -90,4 +90,8 @@ impl<D: BlockDev, K: Former> BlockDev for OnlyRead<D, K> {
     fn failures(&self) -> u64 {
         self.inner.failures()
     }
+
+    fn lacked_space(&self) -> bool {
+        self.inner.lacked_space()
+    }
 }

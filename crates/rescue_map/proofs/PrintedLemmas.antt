@@ -122,49 +122,51 @@ map_number-decimal n fits = cond-false (has_base (decimal n)) _ _ (no_base-decim
 
 -- ---- lines
 
-plain-status : (had tried : Bool) → IsPlain (status_word had tried)
-plain-status true tried = (omega arith, All-cons (λ b. is_white b ≡ false) 43 [] refl (All-nil (λ b. is_white b ≡ false)))
-plain-status false true = (omega arith, All-cons (λ b. is_white b ≡ false) 45 [] refl (All-nil (λ b. is_white b ≡ false)))
-plain-status false false = (omega arith, All-cons (λ b. is_white b ≡ false) 63 [] refl (All-nil (λ b. is_white b ≡ false)))
+plain-status : (no_scrape had tried : Bool) → IsPlain (status_word no_scrape had tried)
+plain-status no_scrape true tried = (omega arith, All-cons (λ b. is_white b ≡ false) 43 [] refl (All-nil (λ b. is_white b ≡ false)))
+plain-status true false true = (omega arith, All-cons (λ b. is_white b ≡ false) 47 [] refl (All-nil (λ b. is_white b ≡ false)))
+plain-status false false true = (omega arith, All-cons (λ b. is_white b ≡ false) 45 [] refl (All-nil (λ b. is_white b ≡ false)))
+plain-status no_scrape false false = (omega arith, All-cons (λ b. is_white b ≡ false) 63 [] refl (All-nil (λ b. is_white b ≡ false)))
 
-status-read : (had tried : Bool) → status_of (status_word had tried) ≡ Some had
-status-read true tried = refl
-status-read false true = refl
-status-read false false = refl
+status-read : (no_scrape had tried : Bool) → status_of (status_word no_scrape had tried) ≡ Some had
+status-read no_scrape true tried = refl
+status-read true false true = refl
+status-read false false true = refl
+status-read no_scrape false false = refl
 
-module _ (tried : Option ℕ) (at : ℕ) (run : Run) (few : at + run.count ≤ 2 ^ 54) where
+module _ (no_scrape : Bool) (tried : Option ℕ) (at : ℕ) (run : Run) (few : at + run.count ≤ 2 ^ 54) where
   low : at * 512 < 2 ^ 64
   low = omega (arith, few)
 
   high : run.count * 512 < 2 ^ 64
   high = omega (arith, few)
 
-  line-words : words (join_with_byte 32 (run_words tried at run)) ≡ run_words tried at run
+  line-words : words (join_with_byte 32 (run_words no_scrape tried at run)) ≡ run_words no_scrape tried at run
   unfolding run_words
   line-words =
-      words-next (decimal (at * 512)) (decimal (run.count * 512) ++ 32 ∷ status_word run.had (is_tried tried (at + run.count))) (plain-decimal (at * 512) low)
-      ∙ ap (λ (ws : List Word). decimal (at * 512) ∷ ws) (words-next (decimal (run.count * 512)) (status_word run.had (is_tried tried (at + run.count))) (plain-decimal (run.count * 512) high)
-      ∙ ap (λ (ws : List Word). decimal (run.count * 512) ∷ ws) (words-last (status_word run.had (is_tried tried (at + run.count))) (plain-status run.had (is_tried tried (at + run.count)))))
+      words-next (decimal (at * 512)) (decimal (run.count * 512) ++ 32 ∷ status_word no_scrape run.had (is_tried tried (at + run.count))) (plain-decimal (at * 512) low)
+      ∙ ap (λ (ws : List Word). decimal (at * 512) ∷ ws) (words-next (decimal (run.count * 512)) (status_word no_scrape run.had (is_tried tried (at + run.count))) (plain-decimal (run.count * 512) high)
+      ∙ ap (λ (ws : List Word). decimal (run.count * 512) ∷ ws) (words-last (status_word no_scrape run.had (is_tried tried (at + run.count))) (plain-status no_scrape run.had (is_tried tried (at + run.count)))))
 
-  line-one : All (λ b. eqb b 10 ≡ false) (join_with_byte 32 (run_words tried at run))
+  line-one : All (λ b. eqb b 10 ≡ false) (join_with_byte 32 (run_words no_scrape tried at run))
   unfolding run_words
   line-one =
       let P = λ (b : ℕ). eqb b 10 ≡ false in
-      All-append P (decimal (at * 512)) (32 ∷ decimal (run.count * 512) ++ 32 ∷ status_word run.had (is_tried tried (at + run.count))) (one_line _ (plain-decimal (at * 512) low).1)
-      (All-cons P 32 (decimal (run.count * 512) ++ 32 ∷ status_word run.had (is_tried tried (at + run.count))) refl
-      (All-append P (decimal (run.count * 512)) (32 ∷ status_word run.had (is_tried tried (at + run.count))) (one_line _ (plain-decimal (run.count * 512) high).1)
-      (All-cons P 32 (status_word run.had (is_tried tried (at + run.count))) refl (one_line _ (plain-status run.had (is_tried tried (at + run.count))).1))))
+      All-append P (decimal (at * 512)) (32 ∷ decimal (run.count * 512) ++ 32 ∷ status_word no_scrape run.had (is_tried tried (at + run.count))) (one_line _ (plain-decimal (at * 512) low).1)
+      (All-cons P 32 (decimal (run.count * 512) ++ 32 ∷ status_word no_scrape run.had (is_tried tried (at + run.count))) refl
+      (All-append P (decimal (run.count * 512)) (32 ∷ status_word no_scrape run.had (is_tried tried (at + run.count))) (one_line _ (plain-decimal (run.count * 512) high).1)
+      (All-cons P 32 (status_word no_scrape run.had (is_tried tried (at + run.count))) refl (one_line _ (plain-status no_scrape run.had (is_tried tried (at + run.count))).1))))
 
-  line-said : is_skipped (run_words tried at run) ≡ false
+  line-said : is_skipped (run_words no_scrape tried at run) ≡ false
   unfolding run_words
   line-said = let numeral = decimal_is_IsNumeral (at * 512) low in digits-no_comment (decimal (at * 512)) numeral.0.0 numeral.0.1
 
-  line-block : map_block (run_words tried at run) ≡ Ok (record { first = at * 512; count = run.count * 512; had = run.had })
+  line-block : map_block (run_words no_scrape tried at run) ≡ Ok (record { first = at * 512; count = run.count * 512; had = run.had })
   unfolding run_words
   line-block =
-      ap (λ o. block_from o (map_number (decimal (run.count * 512))) (status_of (status_word run.had (is_tried tried (at + run.count))))) (map_number-decimal (at * 512) low)
-      ∙ ap (λ o. block_from (Some (at * 512)) o (status_of (status_word run.had (is_tried tried (at + run.count))))) (map_number-decimal (run.count * 512) high)
-      ∙ ap (block_from (Some (at * 512)) (Some (run.count * 512))) (status-read run.had (is_tried tried (at + run.count)))
+      ap (λ o. block_from o (map_number (decimal (run.count * 512))) (status_of (status_word no_scrape run.had (is_tried tried (at + run.count))))) (map_number-decimal (at * 512) low)
+      ∙ ap (λ o. block_from (Some (at * 512)) o (status_of (status_word no_scrape run.had (is_tried tried (at + run.count))))) (map_number-decimal (run.count * 512) high)
+      ∙ ap (block_from (Some (at * 512)) (Some (run.count * 512))) (status-read no_scrape run.had (is_tried tried (at + run.count)))
 
   line-run : (sectors : ℕ) → 1 ≤ run.count → at + run.count ≤ sectors → run_at at sectors (record { first = at * 512; count = run.count * 512; had = run.had }) ≡ Ok run
   line-run sectors some inside =
@@ -191,21 +193,21 @@ said-line line ws more e kept =
 length-marks : (run : Run) (more : List Run) → length (marks (run ∷ more)) ≡ run.count + length (marks more)
 length-marks run more = length-append _ (marks more) ∙ ap (λ (n : ℕ). n + length (marks more)) (length-replicate {A = Bool} run.count run.had)
 
-runs-read : (tried : Option ℕ) (sectors at : ℕ) (runs : List Run) → All (λ (r : Run). 1 ≤ r.count) runs → at + length (marks runs) ≡ sectors → sectors ≤ 2 ^ 54
-    → map_runs_from sectors at (said (slice_split (λ b. eqb b 10) (map_runs_text tried at runs))) ≡ Ok runs
+runs-read : (no_scrape : Bool) (tried : Option ℕ) (sectors at : ℕ) (runs : List Run) → All (λ (r : Run). 1 ≤ r.count) runs → at + length (marks runs) ≡ sectors → sectors ≤ 2 ^ 54
+    → map_runs_from sectors at (said (slice_split (λ b. eqb b 10) (map_runs_text no_scrape tried at runs))) ≡ Ok runs
 unfolding words
-runs-read tried sectors at [] each all few = cond-true (eqb at sectors) _ _ (eq-eqb at sectors (omega (arith, all)))
-runs-read tried sectors at (run ∷ more) each all few =
+runs-read no_scrape tried sectors at [] each all few = cond-true (eqb at sectors) _ _ (eq-eqb at sectors (omega (arith, all)))
+runs-read no_scrape tried sectors at (run ∷ more) each all few =
     let some : 1 ≤ run.count = All-head (λ (r : Run). 1 ≤ r.count) run more each in
     let len = length-marks run more in
     let inside : at + run.count ≤ sectors = omega (arith, all, len) in
     let room : at + run.count ≤ 2 ^ 54 = omega (arith, inside, few) in
-    let rest : List (List ℕ) = slice_split (λ b. eqb b 10) (map_runs_text tried (at + run.count) more) in
-    let below = runs-read tried sectors (at + run.count) more (All-tail (λ (r : Run). 1 ≤ r.count) run more each) (omega (arith, all, len)) few in
-    ap (λ (l : List (List ℕ)). map_runs_from sectors at (said l)) (split-line (join_with_byte 32 (run_words tried at run)) (map_runs_text tried (at + run.count) more) (line-one tried at run room))
-    ∙ ap (map_runs_from sectors at) (said-line (join_with_byte 32 (run_words tried at run)) (run_words tried at run) rest (line-words tried at run room) (line-said tried at run room))
-    ∙ ap (λ (r : Result Block MapFault). r >>= (λ (block : Block). run_at at sectors block >>= (λ (run : Run). map_runs_from sectors (at + run.count) (said rest) >>= (λ (runs : List Run). Ok (run ∷ runs))))) (line-block tried at run room)
-    ∙ ap (λ (r : Result Run MapFault). r >>= (λ (run : Run). map_runs_from sectors (at + run.count) (said rest) >>= (λ (runs : List Run). Ok (run ∷ runs)))) (line-run tried at run room sectors some inside)
+    let rest : List (List ℕ) = slice_split (λ b. eqb b 10) (map_runs_text no_scrape tried (at + run.count) more) in
+    let below = runs-read no_scrape tried sectors (at + run.count) more (All-tail (λ (r : Run). 1 ≤ r.count) run more each) (omega (arith, all, len)) few in
+    ap (λ (l : List (List ℕ)). map_runs_from sectors at (said l)) (split-line (join_with_byte 32 (run_words no_scrape tried at run)) (map_runs_text no_scrape tried (at + run.count) more) (line-one no_scrape tried at run room))
+    ∙ ap (map_runs_from sectors at) (said-line (join_with_byte 32 (run_words no_scrape tried at run)) (run_words no_scrape tried at run) rest (line-words no_scrape tried at run room) (line-said no_scrape tried at run room))
+    ∙ ap (λ (r : Result Block MapFault). r >>= (λ (block : Block). run_at at sectors block >>= (λ (run : Run). map_runs_from sectors (at + run.count) (said rest) >>= (λ (runs : List Run). Ok (run ∷ runs))))) (line-block no_scrape tried at run room)
+    ∙ ap (λ (r : Result Run MapFault). r >>= (λ (run : Run). map_runs_from sectors (at + run.count) (said rest) >>= (λ (runs : List Run). Ok (run ∷ runs)))) (line-run no_scrape tried at run room sectors some inside)
     ∙ ap (λ (r : Result (List Run) MapFault). r >>= (λ (runs : List Run). Ok (run ∷ runs))) below
 
 state-word : Option ℕ → Word
@@ -230,14 +232,14 @@ head-one (Some tried) =
     let P = λ (b : ℕ). eqb b 10 ≡ false in
     All-cons P 48 (32 ∷ 63 ∷ []) refl (All-cons P 32 (63 ∷ []) refl (All-cons P 63 [] refl (All-nil P)))
 
-blocks-read : (tried : Option ℕ) (runs : List Run) → AreRuns runs → runs_behind (length (marks runs)) (said (slice_split (λ b. eqb b 10) (blocks_text tried runs))) ≡ Ok runs
-blocks-read tried runs whole =
+blocks-read : (no_scrape : Bool) (tried : Option ℕ) (runs : List Run) → AreRuns runs → runs_behind (length (marks runs)) (said (slice_split (λ b. eqb b 10) (blocks_text no_scrape tried runs))) ≡ Ok runs
+blocks-read no_scrape tried runs whole =
     let sectors : ℕ = length (marks runs) in
-    let rest : List (List ℕ) = slice_split (λ b. eqb b 10) (map_runs_text tried 0 runs) in
-    ap (λ (l : List (List ℕ)). runs_behind sectors (said l)) (split-line (status_text tried) (map_runs_text tried 0 runs) (head-one tried))
+    let rest : List (List ℕ) = slice_split (λ b. eqb b 10) (map_runs_text no_scrape tried 0 runs) in
+    ap (λ (l : List (List ℕ)). runs_behind sectors (said l)) (split-line (status_text tried) (map_runs_text no_scrape tried 0 runs) (head-one tried))
     ∙ ap (runs_behind sectors) (said-line (status_text tried) (codes "0" ∷ state-word tried ∷ []) rest (head-words tried) refl)
     ∙ cond-true (is_status (codes "0" ∷ state-word tried ∷ [])) _ _ (head-status tried)
-    ∙ runs-read tried sectors 0 runs whole.some (omega arith) whole.few
+    ∙ runs-read no_scrape tried sectors 0 runs whole.some (omega arith) whole.few
 
 -- ---- marks
 
@@ -267,58 +269,58 @@ no_mark (a ∷ b ∷ d ∷ []) kept = ap (λ (s : Bool). s && bytes_eq b (codes 
 kind-line : (line : List ℕ) (ws : List Word) (more : List (List ℕ)) → words line ≡ ws → is_skipped ws ≡ false → kind_in (line ∷ more) ≡ kind_in more
 kind-line line ws more e kept = cond-false (is_mark (words line)) _ _ (ap is_mark e ∙ no_mark ws kept)
 
-kind-runs : (tried : Option ℕ) (at : ℕ) (runs : List Run) → at + length (marks runs) ≤ 2 ^ 54 → kind_in (slice_split (λ b. eqb b 10) (map_runs_text tried at runs)) ≡ Copy
+kind-runs : (no_scrape : Bool) (tried : Option ℕ) (at : ℕ) (runs : List Run) → at + length (marks runs) ≤ 2 ^ 54 → kind_in (slice_split (λ b. eqb b 10) (map_runs_text no_scrape tried at runs)) ≡ Copy
 unfolding words
-kind-runs tried at [] few = refl
-kind-runs tried at (run ∷ more) few =
+kind-runs no_scrape tried at [] few = refl
+kind-runs no_scrape tried at (run ∷ more) few =
     let len = length-marks run more in
     let room : at + run.count ≤ 2 ^ 54 = omega (arith, len, few) in
-    ap kind_in (split-line (join_with_byte 32 (run_words tried at run)) (map_runs_text tried (at + run.count) more) (line-one tried at run room))
-    ∙ kind-line (join_with_byte 32 (run_words tried at run)) (run_words tried at run) (slice_split (λ b. eqb b 10) (map_runs_text tried (at + run.count) more)) (line-words tried at run room) (line-said tried at run room)
-    ∙ kind-runs tried (at + run.count) more (omega (arith, len, few))
+    ap kind_in (split-line (join_with_byte 32 (run_words no_scrape tried at run)) (map_runs_text no_scrape tried (at + run.count) more) (line-one no_scrape tried at run room))
+    ∙ kind-line (join_with_byte 32 (run_words no_scrape tried at run)) (run_words no_scrape tried at run) (slice_split (λ b. eqb b 10) (map_runs_text no_scrape tried (at + run.count) more)) (line-words no_scrape tried at run room) (line-said no_scrape tried at run room)
+    ∙ kind-runs no_scrape tried (at + run.count) more (omega (arith, len, few))
 
-kind-blocks : (tried : Option ℕ) (runs : List Run) → AreRuns runs → kind_in (slice_split (λ b. eqb b 10) (blocks_text tried runs)) ≡ Copy
-kind-blocks tried runs whole =
-    ap kind_in (split-line (status_text tried) (map_runs_text tried 0 runs) (head-one tried))
-    ∙ kind-line (status_text tried) (codes "0" ∷ state-word tried ∷ []) (slice_split (λ b. eqb b 10) (map_runs_text tried 0 runs)) (head-words tried) refl
-    ∙ kind-runs tried 0 runs (omega (arith, whole.few))
+kind-blocks : (no_scrape : Bool) (tried : Option ℕ) (runs : List Run) → AreRuns runs → kind_in (slice_split (λ b. eqb b 10) (blocks_text no_scrape tried runs)) ≡ Copy
+kind-blocks no_scrape tried runs whole =
+    ap kind_in (split-line (status_text tried) (map_runs_text no_scrape tried 0 runs) (head-one tried))
+    ∙ kind-line (status_text tried) (codes "0" ∷ state-word tried ∷ []) (slice_split (λ b. eqb b 10) (map_runs_text no_scrape tried 0 runs)) (head-words tried) refl
+    ∙ kind-runs no_scrape tried 0 runs (omega (arith, whole.few))
 
 -- what was printed gives the runs back
-pub map-read : (kind : MapKind) (tried : Option ℕ) (runs : List Run) → AreRuns runs → map_of (length (marks runs)) (map_text kind tried runs) ≡ Ok runs
+pub map-read : (kind : MapKind) (no_scrape : Bool) (tried : Option ℕ) (runs : List Run) → AreRuns runs → map_of (length (marks runs)) (map_text kind no_scrape tried runs) ≡ Ok runs
 unfolding map_of map_text text_lines words
-map-read Copy tried runs whole = blocks-read tried runs whole
-map-read Scan tried runs whole =
-    ap (λ (l : List (List ℕ)). runs_behind (length (marks runs)) (said l)) (split-line scan_mark (blocks_text tried runs) mark-one) ∙ blocks-read tried runs whole
+map-read Copy no_scrape tried runs whole = blocks-read no_scrape tried runs whole
+map-read Scan no_scrape tried runs whole =
+    ap (λ (l : List (List ℕ)). runs_behind (length (marks runs)) (said l)) (split-line scan_mark (blocks_text no_scrape tried runs) mark-one) ∙ blocks-read no_scrape tried runs whole
 
 -- and its kind
-pub map-kind : (kind : MapKind) (tried : Option ℕ) (runs : List Run) → AreRuns runs → kind_of (map_text kind tried runs) ≡ kind
+pub map-kind : (kind : MapKind) (no_scrape : Bool) (tried : Option ℕ) (runs : List Run) → AreRuns runs → kind_of (map_text kind no_scrape tried runs) ≡ kind
 unfolding kind_of map_text text_lines
-map-kind Copy tried runs whole = kind-blocks tried runs whole
-map-kind Scan tried runs whole =
-    ap kind_in (split-line scan_mark (blocks_text tried runs) mark-one)
-    ∙ cond-true (is_mark (words scan_mark)) Scan (kind_in (slice_split (λ b. eqb b 10) (blocks_text tried runs))) mark-is
+map-kind Copy no_scrape tried runs whole = kind-blocks no_scrape tried runs whole
+map-kind Scan no_scrape tried runs whole =
+    ap kind_in (split-line scan_mark (blocks_text no_scrape tried runs) mark-one)
+    ∙ cond-true (is_mark (words scan_mark)) Scan (kind_in (slice_split (λ b. eqb b 10) (blocks_text no_scrape tried runs))) mark-is
 
 append-end : (l : List ℕ) → l ++ [] ≡ l
 append-end [] = refl
 append-end (x ∷ l) = ap (λ (m : List ℕ). x ∷ m) (append-end l)
 
-runs_text-push : (tried : Option ℕ) (at : ℕ) (runs : List Run) (run : Run) → map_runs_text tried at (runs ++ run ∷ []) ≡ map_runs_text tried at runs ++ map_run_text tried (at + length (marks runs)) run
-runs_text-push tried at [] run = let here : at ≡ at + 0 = omega arith in append-end (map_run_text tried at run) ∙ ap (λ (n : ℕ). map_run_text tried n run) here
-runs_text-push tried at (x ∷ more) run =
+runs_text-push : (no_scrape : Bool) (tried : Option ℕ) (at : ℕ) (runs : List Run) (run : Run) → map_runs_text no_scrape tried at (runs ++ run ∷ []) ≡ map_runs_text no_scrape tried at runs ++ map_run_text no_scrape tried (at + length (marks runs)) run
+runs_text-push no_scrape tried at [] run = let here : at ≡ at + 0 = omega arith in append-end (map_run_text no_scrape tried at run) ∙ ap (λ (n : ℕ). map_run_text no_scrape tried n run) here
+runs_text-push no_scrape tried at (x ∷ more) run =
     let here : at + x.count + length (marks more) ≡ at + length (marks (x ∷ more)) = omega (arith, length-marks x more) in
-    ap (λ (l : List ℕ). map_run_text tried at x ++ l) (runs_text-push tried (at + x.count) more run ∙ ap (λ (n : ℕ). map_runs_text tried (at + x.count) more ++ map_run_text tried n run) here)
-    ∙ sym (append_assoc (map_run_text tried at x) (map_runs_text tried (at + x.count) more) (map_run_text tried (at + length (marks (x ∷ more))) run))
+    ap (λ (l : List ℕ). map_run_text no_scrape tried at x ++ l) (runs_text-push no_scrape tried (at + x.count) more run ∙ ap (λ (n : ℕ). map_runs_text no_scrape tried (at + x.count) more ++ map_run_text no_scrape tried n run) here)
+    ∙ sym (append_assoc (map_run_text no_scrape tried at x) (map_runs_text no_scrape tried (at + x.count) more) (map_run_text no_scrape tried (at + length (marks (x ∷ more))) run))
 
-blocks_text-push : (tried : Option ℕ) (runs : List Run) (run : Run) → blocks_text tried runs ++ map_run_text tried (length (marks runs)) run ≡ blocks_text tried (runs ++ run ∷ [])
-blocks_text-push tried runs run =
-    append_assoc (status_text tried ++ 10 ∷ []) (map_runs_text tried 0 runs) (map_run_text tried (length (marks runs)) run)
-    ∙ ap (λ (l : List ℕ). (status_text tried ++ 10 ∷ []) ++ l) (ap (λ (n : ℕ). map_runs_text tried 0 runs ++ map_run_text tried n run) zero-more ∙ sym (runs_text-push tried 0 runs run))
+blocks_text-push : (no_scrape : Bool) (tried : Option ℕ) (runs : List Run) (run : Run) → blocks_text no_scrape tried runs ++ map_run_text no_scrape tried (length (marks runs)) run ≡ blocks_text no_scrape tried (runs ++ run ∷ [])
+blocks_text-push no_scrape tried runs run =
+    append_assoc (status_text tried ++ 10 ∷ []) (map_runs_text no_scrape tried 0 runs) (map_run_text no_scrape tried (length (marks runs)) run)
+    ∙ ap (λ (l : List ℕ). (status_text tried ++ 10 ∷ []) ++ l) (ap (λ (n : ℕ). map_runs_text no_scrape tried 0 runs ++ map_run_text no_scrape tried n run) zero-more ∙ sym (runs_text-push no_scrape tried 0 runs run))
   where
     zero-more : length (marks runs) ≡ 0 + length (marks runs)
     zero-more = omega arith
 
 -- one run more
-pub map_text-push : (kind : MapKind) (tried : Option ℕ) (runs : List Run) (run : Run) → map_text kind tried runs ++ map_run_text tried (length (marks runs)) run ≡ map_text kind tried (runs ++ run ∷ [])
+pub map_text-push : (kind : MapKind) (no_scrape : Bool) (tried : Option ℕ) (runs : List Run) (run : Run) → map_text kind no_scrape tried runs ++ map_run_text no_scrape tried (length (marks runs)) run ≡ map_text kind no_scrape tried (runs ++ run ∷ [])
 unfolding map_text
-map_text-push kind tried runs run =
-    append_assoc (mark_text kind) (blocks_text tried runs) (map_run_text tried (length (marks runs)) run) ∙ ap (λ (l : List ℕ). mark_text kind ++ l) (blocks_text-push tried runs run)
+map_text-push kind no_scrape tried runs run =
+    append_assoc (mark_text kind) (blocks_text no_scrape tried runs) (map_run_text no_scrape tried (length (marks runs)) run) ∙ ap (λ (l : List ℕ). mark_text kind ++ l) (blocks_text-push no_scrape tried runs run)

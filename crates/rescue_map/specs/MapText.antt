@@ -42,20 +42,20 @@ abbrev pub is_tried : Option ℕ → ℕ → Bool
 is_tried None end = true
 is_tried (Some tried) end = nat_le end tried
 
--- recovered, bad, or not tried
-abbrev pub status_word : Bool → Bool → Word
-status_word had tried = if had then codes "+" else if tried then codes "-" else codes "?"
+-- recovered, bad, or not scraped if the pass doesn't scrape, or not tried
+abbrev pub status_word : Bool → Bool → Bool → Word
+status_word no_scrape had tried = if had then codes "+" else if tried then (if no_scrape then codes "/" else codes "-") else codes "?"
 
 -- positions and sizes are in bytes and decimal
-unfoldable pub run_words : Option ℕ → ℕ → Run → List Word
-run_words tried at run = decimal (at * 512) ∷ decimal (run.count * 512) ∷ status_word run.had (is_tried tried (at + run.count)) ∷ []
+unfoldable pub run_words : Bool → Option ℕ → ℕ → Run → List Word
+run_words no_scrape tried at run = decimal (at * 512) ∷ decimal (run.count * 512) ∷ status_word no_scrape run.had (is_tried tried (at + run.count)) ∷ []
 
-abbrev pub map_run_text : Option ℕ → ℕ → Run → List ℕ
-map_run_text tried at run = join_with_byte 32 (run_words tried at run) ++ 10 ∷ []
+abbrev pub map_run_text : Bool → Option ℕ → ℕ → Run → List ℕ
+map_run_text no_scrape tried at run = join_with_byte 32 (run_words no_scrape tried at run) ++ 10 ∷ []
 
-abbrev pub map_runs_text : Option ℕ → ℕ → List Run → List ℕ
-map_runs_text tried at [] = []
-map_runs_text tried at (run ∷ more) = map_run_text tried at run ++ map_runs_text tried (at + run.count) more
+abbrev pub map_runs_text : Bool → Option ℕ → ℕ → List Run → List ℕ
+map_runs_text no_scrape tried at [] = []
+map_runs_text no_scrape tried at (run ∷ more) = map_run_text no_scrape tried at run ++ map_runs_text no_scrape tried (at + run.count) more
 
 -- the status of the whole: finished, or copying
 abbrev pub status_text : Option ℕ → List ℕ
@@ -63,12 +63,12 @@ status_text None = codes "0 +"
 status_text (Some tried) = codes "0 ?"
 
 -- the status line and the blocks
-abbrev pub blocks_text : Option ℕ → List Run → List ℕ
-blocks_text tried runs = (status_text tried ++ 10 ∷ []) ++ map_runs_text tried 0 runs
+abbrev pub blocks_text : Bool → Option ℕ → List Run → List ℕ
+blocks_text no_scrape tried runs = (status_text tried ++ 10 ∷ []) ++ map_runs_text no_scrape tried 0 runs
 
 -- a map of this kind; the mark is a comment
-unfoldable pub map_text : MapKind → Option ℕ → List Run → List ℕ
-map_text kind tried runs = mark_text kind ++ blocks_text tried runs
+unfoldable pub map_text : MapKind → Bool → Option ℕ → List Run → List ℕ
+map_text kind no_scrape tried runs = mark_text kind ++ blocks_text no_scrape tried runs
 
 -- the result is the value of the text, unless the allocation of room for one run failed
 abbrev pub IsMapAnswer : Result (List Run) MapFault → Result (List Run) MapFault → Type 0

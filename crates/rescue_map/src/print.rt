@@ -15,7 +15,7 @@ use std::alloc::Global;
 /// Returns the text of a map: the mark of a scan, a status line, and a line for each run, in bytes. If `tried` is
 /// `None`, all sectors were tried, and the status is finished. Otherwise only the sectors before `tried` were tried,
 /// the status is copying, and a run of sectors that weren't recovered is `-` if it ends there or before, and `?` if
-/// it doesn't.
+/// it doesn't. With `no_scrape` it is `/` in place of `-`.
 ///
 /// # Errors
 ///
@@ -25,8 +25,9 @@ pub fn print_map(
     kind: MapKind,
     map: &Map,
     tried: Option<u64>,
+    no_scrape: bool,
 ) -> Result<Vec<u8>, OutOfMemory>
-    ensures text { IfOk result (λ text. text.items ≡ map_text kind tried map.now) }
+    ensures text { IfOk result (λ text. text.items ≡ map_text kind no_scrape tried map.now) }
     ensures kind { IfOk result (λ text. kind_of text.items ≡ kind) }
     ensures reads_back { IfOk result (λ text. map_of (length (marks map.now)) text.items ≡ Ok map.now) }
     ensures err { OnErr result (IsOutOfMemory 40) }
@@ -35,7 +36,7 @@ pub fn print_map(
     append(&mut text, status_line(tried))?;
     let mut at = 0;
     for run in map.runs() {
-        print_run(&mut text, tried, at, *run)?;
+        print_run(&mut text, no_scrape, tried, at, *run)?;
         at += run.count;
     }
     Ok(text)
@@ -61,16 +62,25 @@ fn status_line(tried: Option<u64>) -> &'static [u8]
     }
 }
 
-fn print_run(text: &mut Vec<u8>, tried: Option<u64>, at: u64, run: Run) -> Result<(), OutOfMemory>
+fn print_run(
+    text: &mut Vec<u8>,
+    no_scrape: bool,
+    tried: Option<u64>,
+    at: u64,
+    run: Run,
+) -> Result<(), OutOfMemory>
     requires { at + run.count ≤ 2 ^ 54 }
-    ensures ok { OnOk result (text.new.items ≡ text.old.items ++ map_run_text tried at run) }
+    ensures ok { OnOk result (text.new.items ≡ text.old.items ++ map_run_text no_scrape tried at run) }
     ensures err { IfErr result (λ e. asked e ≤ 40) }
 {
     push_number(text, at * 512)?;
     push(text, b' ')?;
     push_number(text, run.count * 512)?;
     push(text, b' ')?;
-    append(text, status_word(run.had, is_tried(tried, at + run.count)))?;
+    append(
+        text,
+        status_word(no_scrape, run.had, is_tried(tried, at + run.count)),
+    )?;
     push(text, b'\n')?;
     Ok(())
 }
@@ -93,12 +103,15 @@ fn is_tried(tried: Option<u64>, end: u64) -> bool
     }
 }
 
-fn status_word(had: bool, tried: bool) -> &'static [u8]
-    ensures value { result.now ≡ status_word had tried }
+fn status_word(no_scrape: bool, had: bool, tried: bool) -> &'static [u8]
+    ensures value { result.now ≡ status_word no_scrape had tried }
     ensures short { length result.now ≤ 40 }
 {
     if had {
         return b"+";
     }
-    if tried { b"-" } else { b"?" }
+    if !tried {
+        return b"?";
+    }
+    if no_scrape { b"/" } else { b"-" }
 }

@@ -19,8 +19,8 @@ writes-then (Some a) (Some b) (Some c) xs ys p q = q ∙ ap (λ (l : List ℕ). 
 -- after the lines and the map, the counts end a report
 pub chart-end : (counts : Counts) (told middle : Listed) (old new : Option (List ℕ)) (failed : Bool) (fault : RecoveringFault) (kept : AreKept told)
     → Appends old middle.text (charted_text kept.runs counts) → IsCountsEnd counts middle new failed fault → IsChartEnd counts told old new failed fault
-chart-end counts told middle old new failed (Lost read lost) kept written (is_read, is_lost, some, is, whole) =
-    (kept, is_read, is_lost, some, let P : Option (List ℕ) → Type 0 = λ text. Appends old text (charted_text kept.runs counts) in subst P (sym is) written)
+chart-end counts told middle old new failed (Lost of) kept written (are, some, is, whole) =
+    (kept, are, some, let P : Option (List ℕ) → Type 0 = λ text. Appends old text (charted_text kept.runs counts) in subst P (sym is) written)
 chart-end counts told middle old new failed Write kept written is = (kept, is)
 chart-end counts told middle old new failed NoMemory kept written is = absurd is
 chart-end counts told middle old new failed (Stack fault) kept written is = absurd is

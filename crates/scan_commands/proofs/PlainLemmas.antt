@@ -1,12 +1,13 @@
 -- The devices and the lost runs as JSON objects have no float.
-use Rattle.std.proofs.Common.{◌≡◌, ◌++◌, ℕ, zero, suc, false, List, [], ◌∷◌, length, refl}
+use Rattle.std.proofs.Common.{◌≡◌, ◌==◌, ◌++◌, ℕ, zero, suc, Bool, true, false, List, [], ◌∷◌, length, refl, codes, if◌then◌else◌}
 use Rattle.std.proofs.lemmas.Bool.{or_from, or_parts}
-use Rattle.serde_json.specs.Data.{Data}
+use Rattle.serde_json.specs.Data.{Data, member, no_members, number, unsigned}
 use Rattle.serde_json.specs.View.{items_of}
-use Rattle.serde_json.specs.Written.{has_float, items_have_float}
-use Rattle.stack_meaning.specs.declared.fault.IoFault.{IoFault}
+use Rattle.serde_json.specs.Written.{has_float, items_have_float, members_have_float}
 use Rattle.stack_meaning.specs.declared.fault.IoFault.TheVariants.{Device, NoMemory, Stack}
 use Rattle.stack_rules.specs.Records.{Configuration}
+use Rattle.stack_recovery.specs.declared.lost_run.Loss.{Loss}
+use Rattle.stack_recovery.specs.declared.lost_run.Loss.TheVariants.{Lost, Unscraped}
 use Rattle.stack_recovery.specs.LostRuns.{LostRun}
 use Rattle.stack_recovery.specs.declared.recovery.Counts.{Counts}
 use Rattle.scan_commands.specs.LostJson.{lost_json, lost_run_json, lost_runs_json}
@@ -25,14 +26,21 @@ plain_devices c (suc n) = both_plain (devices_json c n) (device_json c n ∷ [])
 pub plain_load : (c : Configuration) → has_float (load_json c) ≡ false
 plain_load c = or_from _ _ (plain_devices c (length c.devices)) refl
 
-plain_run : (first count : ℕ) (fault : IoFault) → has_float (lost_run_json (record { first = first; count = count; kind = fault })) ≡ false
-plain_run first count (Stack fault) = refl
-plain_run first count (Device leaf) = refl
-plain_run first count NoMemory = refl
+plain_run : (first count : ℕ) (loss : Loss) → has_float (lost_run_json (record { first = first; count = count; kind = loss })) ≡ false
+plain_run first count (Lost (Stack fault)) = refl
+plain_run first count (Lost (Device leaf)) = refl
+plain_run first count (Lost NoMemory) = refl
+plain_run first count (Unscraped (Stack fault)) = refl
+plain_run first count (Unscraped (Device leaf)) = refl
+plain_run first count (Unscraped NoMemory) = refl
 
 plain_runs : (runs : List LostRun) → items_have_float (items_of (lost_runs_json runs)) ≡ false
 plain_runs [] = refl
 plain_runs (run ∷ more) = or_from _ _ (plain_run run.first run.count run.kind) (plain_runs more)
 
+plain_untried : (none : Bool) (untried : ℕ) → members_have_float (if none then no_members else member (codes "untried") (number (unsigned untried)) no_members) ≡ false
+plain_untried true untried = refl
+plain_untried false untried = refl
+
 pub plain_lost : (runs : List LostRun) (counts : Counts) → has_float (lost_json runs counts) ≡ false
-plain_lost runs counts = or_from _ _ (plain_runs runs) refl
+plain_lost runs counts = or_from _ _ (plain_runs runs) (plain_untried (counts.untried == 0) counts.untried)

@@ -1,10 +1,11 @@
 -- A map of a device's lost sectors, after the lines of the lost runs.
-use Rattle.std.specs.Prelude.{ℕ, ◌+◌, Bool, List, ◌++◌, codes, if◌then◌else◌}
+use Rattle.std.specs.Prelude.{ℕ, Bool, List, ◌++◌, codes, if◌then◌else◌}
 use Rattle.std.specs.List.{list_any}
 use Rattle.block_device.specs.Device.{capped}
 use Rattle.charts.specs.Charts.{Marking, chart_text, is_touched}
 use Rattle.stack_recovery.specs.declared.recovery.Counts.{Counts}
 use Rattle.stack_recovery.specs.LostRuns.{LostRun}
+use Rattle.stack_recovery.specs.Recoveries.{counted_sectors}
 use Rattle.stack_recovery.specs.Texts.{lost_text}
 
 -- one of `width` sectors from `at` on is in the run
@@ -21,4 +22,4 @@ lost_mark runs at width = if is_lost runs at width then codes "x" else codes "."
 
 -- a line for each lost run, and the map of all sectors
 abbrev pub charted_text : List LostRun → Counts → List ℕ
-charted_text runs counts = lost_text runs ++ chart_text (lost_mark runs) (capped (counts.read + counts.lost))
+charted_text runs counts = lost_text runs ++ chart_text (lost_mark runs) (capped (counted_sectors counts))

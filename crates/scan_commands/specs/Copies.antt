@@ -28,19 +28,20 @@ use Rattle.scan_commands.specs.Counting.{IsPassEnd, IsRecoveryStackless, listed_
 use Rattle.scan_commands.specs.Reports.{IsUnreported, Reports}
 
 -- a device of a stack file over bindings or a disk, the image to copy to, whether only sectors that differ are written, the path of the map
--- file, if there is one, and how many times lost sectors are read again
+-- file, if there is one, how many times lost sectors are read again, and whether failed pieces aren't searched sector by sector
 pub record CopyWords : Type 0 where
   pub words : SourceWords
   pub out : List ℕ
   pub differing : Bool
   pub map : Option (List ℕ)
   pub retries : ℕ
+  pub no_scrape : Bool
 
-abbrev pub copy_words : SourceWords → List ℕ → Bool → Option (List ℕ) → ℕ → CopyWords
-copy_words words out differing map retries = record { words = words; out = out; differing = differing; map = map; retries = retries }
+abbrev pub copy_words : SourceWords → List ℕ → Bool → Option (List ℕ) → ℕ → Bool → CopyWords
+copy_words words out differing map retries no_scrape = record { words = words; out = out; differing = differing; map = map; retries = retries; no_scrape = no_scrape }
 
 abbrev pub words_to_copy : DeviceSource → CopyPlan → CopyWords
-words_to_copy source plan = copy_words (source_words source) plan.out.now plan.differing (option_map (λ p. p.now) plan.map) plan.retries
+words_to_copy source plan = copy_words (source_words source) plan.out.now plan.differing (option_map (λ p. p.now) plan.map) plan.retries plan.no_scrape
 
 -- OUT's device as the pass sees it: with `--differing` a device that reads before it writes, and counts its own calls
 abbrev pub IsOutputSeenAs : Bool → Device → Device → Type 0
@@ -92,7 +93,7 @@ pub record Copies {S D : Type 0} (w : Calls S D) (words : CopyWords) (before : L
   pub between : S
   pub behind : S
   pub found : FindsSourceOutput (record w { new = between }) words.words words.out at image
-  pub copied : CopiesTo words.differing (record w { old = between; new = behind }) words.map (retried at.d words.retries) (moving (sides at.stack (w.state image.device) before) (sides left (w.state image') told)) counts
+  pub copied : CopiesTo words.differing (record w { old = between; new = behind }) words.map (retried at.d words.retries words.no_scrape) (moving (sides at.stack (w.state image.device) before) (sides left (w.state image') told)) counts
   pub back : w.relations.takes behind words.out image' w.new
 
 -- the copy began and ended early, and OUT's image was closed
@@ -104,7 +105,7 @@ pub record StopsCopy {S D : Type 0} (w : Calls S D) (words : CopyWords) (before 
   pub between : S
   pub behind : S
   pub found : FindsSourceOutput (record w { new = between }) words.words words.out at image
-  pub stops : IsPassEnd (EndsCopying words.differing (record w { old = between; new = behind }) words.map (retried at.d words.retries) (moving (sides at.stack (w.state image.device) before) (sides left (w.state image') told))) fault
+  pub stops : IsPassEnd (EndsCopying words.differing (record w { old = between; new = behind }) words.map (retried at.d words.retries words.no_scrape) (moving (sides at.stack (w.state image.device) before) (sides left (w.state image') told))) fault
   pub back : w.relations.takes behind words.out image' w.new
 
 -- no sector is lost, and all was reported

@@ -1,5 +1,5 @@
--- How many sectors of a device are readable, and how many are lost.
-use Rattle.std.specs.Prelude.{◌≡◌, ℕ, ◌<◌, ◌++◌, Bool, true, false, List, codes, decimal, Option}
+-- How many sectors of a device were read, and how many are lost or unscraped.
+use Rattle.std.specs.Prelude.{◌≡◌, ℕ, ◌++◌, ◌==◌, ◌||◌, nat_lt, Bool, true, false, List, codes, decimal, Option, if◌then◌else◌}
 use Rattle.std.specs.Io.KnownBytes.{Appends}
 use Rattle.program_io.specs.Counted.{CountedRecord}
 use Rattle.scan_commands.specs.declared.rescue_fault.PassFault.{PassFault}
@@ -26,21 +26,32 @@ abbrev pub IsPassEnd : (PassFault → Type 0) → RecoveringFault → Type 0
 IsPassEnd Ends (Pass fault) = Ends fault
 IsPassEnd Ends fault = ⊥
 
--- how many sectors of a device are readable, and how many are lost
-abbrev pub counts_text : ℕ → ℕ → List ℕ
-counts_text read lost = codes "read " ++ (decimal read ++ (codes " lost " ++ (decimal lost ++ codes "\n")))
+-- if no sector is unscraped, and else
+abbrev pub tried_text : ℕ → ℕ → List ℕ
+tried_text read lost = codes "read " ++ (decimal read ++ (codes " lost " ++ (decimal lost ++ codes "\n")))
+
+abbrev pub untried_text : ℕ → ℕ → ℕ → List ℕ
+untried_text read lost untried = codes "read " ++ (decimal read ++ (codes " lost " ++ (decimal lost ++ (codes " untried " ++ (decimal untried ++ codes "\n")))))
+
+-- how many sectors of a device were read, how many are lost, and how many are unscraped, if any
+abbrev pub counts_text : Counts → List ℕ
+counts_text c = if c.untried == 0 then tried_text c.read c.lost else untried_text c.read c.lost c.untried
+
+-- sectors are lost or unscraped
+abbrev pub has_missing : Counts → Bool
+has_missing c = nat_lt 0 c.lost || nat_lt 0 c.untried
 
 -- what a counted writer holds, and whether it failed
 abbrev pub listed_by : {T : Type 0} → (T → Option (List ℕ)) → CountedRecord T → Listed
 listed_by contents writer = listed (contents writer.inner) writer.failed
 
--- no sector is lost, and the counts were printed
+-- all sectors were read, and the counts were printed
 abbrev pub TellsCounts : Counts → Option (List ℕ) → Option (List ℕ) → Type 0
-TellsCounts counts old new = (counts.lost ≡ 0) × Appends old new (counts_text counts.read 0)
+TellsCounts counts old new = (has_missing counts ≡ false) × Appends old new (counts_text counts)
 
--- sectors are lost, or this line or an earlier one can't be written
+-- sectors are lost or unscraped, or this line or an earlier one can't be written
 abbrev pub IsCountsEnd : Counts → Listed → Option (List ℕ) → Bool → RecoveringFault → Type 0
-IsCountsEnd counts old new failed (Lost read lost) = (read ≡ counts.read) × (lost ≡ counts.lost) × (0 < counts.lost) × (new ≡ old.text) × (old.failed ≡ false)
+IsCountsEnd counts old new failed (Lost of) = (of ≡ counts) × (has_missing counts ≡ true) × (new ≡ old.text) × (old.failed ≡ false)
 IsCountsEnd counts old new failed Write = failed ≡ true
 IsCountsEnd counts old new failed fault = ⊥
 

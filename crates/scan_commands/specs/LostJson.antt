@@ -1,29 +1,41 @@
 -- The lost sectors of a device as a JSON object.
-use Rattle.std.specs.Prelude.{ℕ, List, [], map, codes}
-use Rattle.serde_json.specs.Data.{Data, Members, array, number, object, string, unsigned, member, no_members}
+use Rattle.std.specs.Prelude.{ℕ, ◌==◌, true, List, [], map, codes, if◌then◌else◌}
+use Rattle.serde_json.specs.Data.{Data, Members, array, boolean, number, object, string, unsigned, member, no_members}
 use Rattle.serde_json.specs.View.{items_of}
 use Rattle.stack_meaning.specs.declared.fault.IoFault.{IoFault}
 use Rattle.stack_meaning.specs.declared.fault.IoFault.TheVariants.{Device}
 use Rattle.stack_meaning.specs.IoFaults.{io_name}
+use Rattle.stack_recovery.specs.declared.lost_run.Loss.{Loss}
+use Rattle.stack_recovery.specs.declared.lost_run.Loss.TheVariants.{Lost, Unscraped}
 use Rattle.stack_recovery.specs.LostRuns.{LostRun}
+use Rattle.stack_recovery.specs.Surveys.{fault_of}
 use Rattle.stack_recovery.specs.declared.recovery.Counts.{Counts}
 
 -- the index of the backing device, if it failed
-abbrev pub leaf_member : IoFault → Members
-leaf_member (Device leaf) = member (codes "leaf") (number (unsigned leaf)) no_members
-leaf_member fault = no_members
+abbrev pub leaf_member : IoFault → Members → Members
+leaf_member (Device leaf) more = member (codes "leaf") (number (unsigned leaf)) more
+leaf_member fault more = more
+
+-- that the sectors weren't read one by one
+abbrev pub unscraped_member : Loss → Members
+unscraped_member (Lost fault) = no_members
+unscraped_member (Unscraped fault) = member (codes "unscraped") (boolean true) no_members
 
 -- a run: how many sectors it has, the name of the fault and its first sector
 abbrev pub lost_run_json : LostRun → Data
 lost_run_json run =
     object
     (member (codes "count") (number (unsigned run.count))
-    (member (codes "fault") (string (io_name run.kind))
+    (member (codes "fault") (string (io_name (fault_of run.kind)))
     (member (codes "first") (number (unsigned run.first))
-    (leaf_member run.kind))))
+    (leaf_member (fault_of run.kind) (unscraped_member run.kind)))))
 
 abbrev pub lost_runs_json : List LostRun → List Data
 lost_runs_json runs = map lost_run_json runs
+
+-- how many sectors are unscraped, if any
+abbrev pub untried_member : ℕ → Members
+untried_member untried = if untried == 0 then no_members else member (codes "untried") (number (unsigned untried)) no_members
 
 -- how many sectors are lost, how many were read, and the lost runs
 abbrev pub lost_json : List LostRun → Counts → Data
@@ -32,4 +44,4 @@ lost_json runs counts =
     (member (codes "lost") (number (unsigned counts.lost))
     (member (codes "read") (number (unsigned counts.read))
     (member (codes "runs") (array (items_of (lost_runs_json runs)))
-    no_members)))
+    (untried_member counts.untried))))

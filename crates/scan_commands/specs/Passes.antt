@@ -3,7 +3,6 @@ use Rattle.std.specs.Prelude.{◌≡◌, ◌⊎◌, ℕ, ◌<◌, ◌≤◌, IsT
 use Rattle.block_device.specs.Device.{Device}
 use Rattle.image_files.specs.Opener.{Calls, Opener, calls}
 use Rattle.rescue_map.specs.declared.map.Run.{Run}
-use Rattle.rescue_map.specs.declared.totals.Totals.{Totals}
 use Rattle.rescue_map.specs.Maps.{marks}
 use Rattle.scan_commands.specs.declared.rescue_fault.PassFault.{PassFault}
 use Rattle.scan_commands.specs.declared.rescue_fault.PassFault.TheVariants.{NoMemory, Output}
@@ -17,8 +16,9 @@ use Rattle.stack_rules.specs.Names.{mapped, size}
 use Rattle.stack_recovery.specs.declared.fault.RecoveryFault.TheVariants as recovery
 use Rattle.stack_recovery.specs.declared.recovery.Counts.{Counts}
 use Rattle.stack_recovery.specs.Listings.{Listed}
+use Rattle.stack_recovery.specs.PassPieces.{scanned}
 use Rattle.stack_recovery.specs.Recoveries.{Sides, sides}
-use Rattle.stack_recovery.specs.Retries.{Retried, retried}
+use Rattle.stack_recovery.specs.Retries.{Retried, retried, scan_of}
 use Rattle.stack_recovery.specs.TwoPasses.{IsRecoveryEnd, Recovers}
 
 -- the stack, the output device and the reported lines, before and after
@@ -29,28 +29,22 @@ pub record Moving : Type 0 where
 abbrev pub moving : Sides → Sides → Moving
 moving old new = record { old = old; new = new }
 
--- how many sectors a map marks as read, and how many as lost
-abbrev pub counts_of : Totals → Counts
-counts_of totals = record { read = totals.had; lost = totals.lost }
-
 -- ---- with a map file
 
 -- A map file was read; or there is none, and no sector was read before. Then the other sectors were read in passes, each in turns,
 -- and the map was replaced after each turn.
 pub record IsRescued {S D : Type 0} (w : Calls S D) (file : MapPathRecord) (t : Retried) (m : Moving) (counts : Counts) : Type 0 where
-  pub totals : Totals
   pub runs : List Run
   pub between : S
   pub read : IsMapRead (record w { new = between }) file (size m.old.stack.config (mapped t.d)) runs
-  pub rescued : RescuesInTurns (kept w.relations.replaces file t.d (size m.old.stack.config (mapped t.d))) t.retries (progressed between m.old runs 0) w.new m.new totals
-  pub counted : counts ≡ counts_of totals
+  pub rescued : RescuesInTurns (kept w.relations.replaces file (scan_of t) (size m.old.stack.config (mapped t.d))) t.retries (progressed between m.old runs 0 0) w.new m.new counts
 
 -- the map was read, and a turn ended early
 pub record IsCutShort {S D : Type 0} (w : Calls S D) (file : MapPathRecord) (t : Retried) (m : Moving) (fault : PassFault) : Type 0 where
   pub runs : List Run
   pub between : S
   pub read : IsMapRead (record w { new = between }) file (size m.old.stack.config (mapped t.d)) runs
-  pub ends : IsTurnsEnd (kept w.relations.replaces file t.d (size m.old.stack.config (mapped t.d))) t.retries (progressed between m.old runs 0) w.new m.new fault
+  pub ends : IsTurnsEnd (kept w.relations.replaces file (scan_of t) (size m.old.stack.config (mapped t.d))) t.retries (progressed between m.old runs 0 0) w.new m.new fault
 
 -- the map wasn't read, and nothing was done; or a turn ended early
 abbrev pub IsUnrescued : {S D : Type 0} → Calls S D → MapPathRecord → Retried → Moving → PassFault → Type 0
@@ -81,18 +75,18 @@ pub record CanPass {D O : Type 0} (state : O → Device) (p : Passing D O) : Typ
   pub room : size p.stack.config (mapped p.device.0) ≤ (state p.out).size
   pub allowed : IsTrue (state p.out).may_write
 
--- the device, and how many times lost sectors are read again
+-- the device, how many times lost sectors are read again, and whether failed pieces aren't searched
 abbrev pub retried_of : {D O : Type 0} → Passing D O → Retried
-retried_of p = retried p.device.0 p.retries
+retried_of p = retried p.device.0 p.retries p.no_scrape
 
 -- the passes that report nothing, after which the map is that one
 abbrev pub RetriesMapBy : {S D O : Type 0} → Replaces S → (O → Device) → MapPath → List Run → S → S → Passing D O → Passing D O → TriedMap → Type 0
 RetriesMapBy replaces state file map images images' old new tried =
-    RetriesBy (kept replaces (map_path_of file) old.device.0 (size old.stack.config (mapped old.device.0))) old.retries (after_turns images old.stack (state old.out) map) images' new.stack (state new.out) tried
+    RetriesBy (kept replaces (map_path_of file) (scanned old.device.0 old.no_scrape) (size old.stack.config (mapped old.device.0))) old.retries (after_turns images old.stack (state old.out) map) images' new.stack (state new.out) tried
 
 abbrev pub EndsRetriesBy : {S D O : Type 0} → Replaces S → (O → Device) → MapPath → List Run → S → S → Passing D O → Passing D O → PassFault → Type 0
 EndsRetriesBy replaces state file map images images' old new fault =
-    EndsRetries (kept replaces (map_path_of file) old.device.0 (size old.stack.config (mapped old.device.0))) old.retries (after_turns images old.stack (state old.out) map) images' new.stack (state new.out) fault
+    EndsRetries (kept replaces (map_path_of file) (scanned old.device.0 old.no_scrape) (size old.stack.config (mapped old.device.0))) old.retries (after_turns images old.stack (state old.out) map) images' new.stack (state new.out) fault
 
 -- what the last pass needs: the map is of all sectors, and the device can still be read and copied
 pub record LeavesPassing {D O : Type 0} (state : O → Device) (old new : Passing D O) (tried : TriedMap) : Type 0 where

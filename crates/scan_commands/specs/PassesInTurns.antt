@@ -1,10 +1,11 @@
 -- The passes over a device with a map file, each in turns.
-use Rattle.std.specs.Prelude.{◌≡◌, ◌⊎◌, ℕ, ◌<◌, ◌==◌, List, if◌then◌else◌}
+use Rattle.std.specs.Prelude.{◌≡◌, ◌⊎◌, ℕ, ◌-◌, ◌<◌, ◌==◌, List, if◌then◌else◌}
 use Rattle.block_device.specs.Device.{Device}
 use Rattle.rescue_map.specs.declared.map.Run.{Run}
 use Rattle.rescue_map.specs.Maps.{map_totals}
 use Rattle.rescue_map.specs.declared.totals.Totals.{Totals}
 use Rattle.stack_engine.specs.Stacks.{StackRecord}
+use Rattle.stack_recovery.specs.declared.recovery.Counts.{Counts}
 use Rattle.stack_recovery.specs.Listings.{Listed}
 use Rattle.stack_recovery.specs.Recoveries.{Sides, sides}
 use Rattle.stack_recovery.specs.Retries.{AfterPass, IsEnough, Steps, after_pass}
@@ -12,7 +13,8 @@ use Rattle.scan_commands.specs.declared.phase.Phase.{Phase}
 use Rattle.scan_commands.specs.declared.phase.Phase.TheVariants.{Rescue, Retry, Skim}
 use Rattle.scan_commands.specs.declared.rescue_fault.PassFault.{PassFault}
 use Rattle.scan_commands.specs.declared.retries.TriedMap.{TriedMap}
-use Rattle.scan_commands.specs.Turns.{IsPassTurnsEnd, Kept, Progressed, ReadsInTurns, progressed}
+use Rattle.scan_commands.specs.declared.turns.ReadMap.{ReadMap}
+use Rattle.scan_commands.specs.Turns.{IsPassTurnsEnd, Kept, Progressed, ReadsInTurns, progressed, made_map}
 
 -- what the turns of a pass leave: the opener, and the stack, the output device and the map
 pub record AfterTurns (S : Type 0) : Type 0 where
@@ -22,9 +24,13 @@ pub record AfterTurns (S : Type 0) : Type 0 where
 abbrev pub after_turns : {S : Type 0} → S → StackRecord → Device → List Run → AfterTurns S
 after_turns images stack out map = record { images = images; left = after_pass stack out map }
 
+-- how many sectors a map marks as read, and how many of the others are lost and unscraped
+abbrev pub counts_of : Totals → ℕ → Counts
+counts_of totals untried = record { read = totals.had; lost = totals.lost - untried; untried = untried }
+
 -- the next pass begins at the first sector
 abbrev pub pass_from : {S : Type 0} → AfterTurns S → Listed → Progressed S
-pass_from a printed = progressed a.images (sides a.left.stack a.left.out printed) a.left.map 0
+pass_from a printed = progressed a.images (sides a.left.stack a.left.out printed) a.left.map 0 0
 
 -- the pass after the first one and n further ones
 abbrev pub phase_after : ℕ → Phase
@@ -32,22 +38,22 @@ phase_after n = if n == 0 then Rescue else Retry
 
 -- the pass after the first one and n further ones, which reported to nobody
 abbrev pub IsSilentTurns : {S : Type 0} → Kept S → ℕ → AfterTurns S → AfterTurns S → Type 0
-IsSilentTurns k n old new = (before : Listed) × (after : Listed) × ReadsInTurns k (phase_after n) (pass_from old before) new.images (sides new.left.stack new.left.out after) new.left.map
+IsSilentTurns k n old new = (before : Listed) × (after : Listed) × (untried : ℕ) × ReadsInTurns k (phase_after n) (pass_from old before) new.images (sides new.left.stack new.left.out after) (made_map new.left.map untried)
 
 -- so many passes after the first one, which reported to nobody; one for each retry, or fewer if no sector is left to be read
 abbrev pub RetriesInTurns : {S : Type 0} → Kept S → ℕ → AfterTurns S → ℕ → AfterTurns S → Type 0
 RetriesInTurns k retries old passes new = Steps (IsSilentTurns k) old passes new × IsEnough retries passes new.left.map
 
--- The first pass, those that report nothing, and the last one, with a map between them. The totals are those of the last map.
-pub record RescuesInTurns {S : Type 0} (k : Kept S) (retries : ℕ) (first : Progressed S) (images : S) (sides : Sides) (totals : Totals) : Type 0 where
+-- The first pass, those that report nothing, and the last one, with a map between them. The counts are those of the last pass.
+pub record RescuesInTurns {S : Type 0} (k : Kept S) (retries : ℕ) (first : Progressed S) (images : S) (sides : Sides) (counts : Counts) : Type 0 where
   pub between : Progressed S
   pub passes : ℕ
   pub left : AfterTurns S
-  pub runs : List Run
-  pub skims : ReadsInTurns k Skim first between.images between.sides between.runs
+  pub made : ReadMap
+  pub skims : ReadsInTurns k Skim first between.images between.sides (made_map between.runs between.untried)
   pub again : RetriesInTurns k retries (after_turns between.images between.sides.stack between.sides.out between.runs) passes left
-  pub rescues : ReadsInTurns k (phase_after passes) (pass_from left between.sides.printed) images sides runs
-  pub counted : totals ≡ map_totals runs
+  pub rescues : ReadsInTurns k (phase_after passes) (pass_from left between.sides.printed) images sides made
+  pub counted : counts ≡ counts_of (map_totals made.map) made.untried
 
 -- ---- a pass that ended early
 
@@ -75,7 +81,7 @@ EndsLaterTurns k retries old printed images new fault =
 -- the first pass was completed, and a later one wasn't
 pub record IsRescueTurnsEnd {S : Type 0} (k : Kept S) (retries : ℕ) (first : Progressed S) (images : S) (new : Sides) (fault : PassFault) : Type 0 where
   pub between : Progressed S
-  pub skims : ReadsInTurns k Skim first between.images between.sides between.runs
+  pub skims : ReadsInTurns k Skim first between.images between.sides (made_map between.runs between.untried)
   pub later : EndsLaterTurns k retries (after_turns between.images between.sides.stack between.sides.out between.runs) between.sides.printed images new fault
 
 abbrev pub IsTurnsEnd : {S : Type 0} → Kept S → ℕ → Progressed S → S → Sides → PassFault → Type 0

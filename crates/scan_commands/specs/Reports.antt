@@ -1,6 +1,6 @@
 -- The report on a device after a complete pass: lines as lost runs are found, and then the counts; the
 -- lines, a map and the counts; or one JSON object.
-use Rattle.std.specs.Prelude.{◌≡◌, ◌⊎◌, ℕ, ◌<◌, Bool, true, false, List, [], ◌++◌, Option, Some, is_some}
+use Rattle.std.specs.Prelude.{◌≡◌, ◌⊎◌, ℕ, Bool, true, false, List, [], ◌++◌, Option, Some, is_some}
 use Rattle.std.specs.Io.KnownBytes.{Appends}
 use Rattle.allocation.specs.Refusal.{IsOutOfMemory}
 use Rattle.program_io.specs.Counted.{CountedRecord}
@@ -16,7 +16,7 @@ use Rattle.scan_commands.specs.declared.recovering_fault.RecoveringFault.TheVari
 use Rattle.charts.specs.declared.form.ReportForm.{ReportForm}
 use Rattle.charts.specs.declared.form.ReportForm.TheVariants.{Lines, Chart, Object}
 use Rattle.scan_commands.specs.Charts.{charted_text}
-use Rattle.scan_commands.specs.Counting.{IsCountsEnd, TellsCounts, counts_text}
+use Rattle.scan_commands.specs.Counting.{IsCountsEnd, TellsCounts, counts_text, has_missing}
 
 -- a pass over a device, by what was reported before it and after it: completed with these counts, or ended early
 abbrev pub Whole : Type 1
@@ -40,26 +40,26 @@ pub record AreKept (told : Listed) : Type 0 where
 abbrev pub PrintsLost : List LostRun → Counts → Option (List ℕ) → Option (List ℕ) → Type 0
 PrintsLost runs counts old new = Appends old new (json_line (lost_json runs counts))
 
--- no sector is lost, and all was printed
+-- all sectors were read, and all was printed
 abbrev pub IsReported : ReportForm → Counts → Listed → Option (List ℕ) → Option (List ℕ) → Type 0
 IsReported Lines counts told old new = (told.failed ≡ false) × TellsCounts counts told.text new
-IsReported Chart counts told old new = (kept : AreKept told) × (counts.lost ≡ 0) × Appends old new (charted_text kept.runs counts ++ counts_text counts.read 0)
-IsReported Object counts told old new = (kept : AreKept told) × (counts.lost ≡ 0) × PrintsLost kept.runs counts old new
+IsReported Chart counts told old new = (kept : AreKept told) × (has_missing counts ≡ false) × Appends old new (charted_text kept.runs counts ++ counts_text counts)
+IsReported Object counts told old new = (kept : AreKept told) × (has_missing counts ≡ false) × PrintsLost kept.runs counts old new
 
 -- room for one run was refused, so a run wasn't kept
 abbrev pub IsRunRefused : Listed → Type 0
 IsRunRefused told = (told.failed ≡ true) × IsOutOfMemory 1
 
--- sectors are lost, as the object states; or the object can't be written; or memory ran out for a run or for the object
+-- sectors are lost or unscraped, as the object states; or the object can't be written; or memory ran out for a run or for the object
 abbrev pub IsObjectEnd : Counts → Listed → Option (List ℕ) → Option (List ℕ) → Bool → RecoveringFault → Type 0
-IsObjectEnd counts told old new failed LostAsSaid = (kept : AreKept told) × (0 < counts.lost) × PrintsLost kept.runs counts old new
+IsObjectEnd counts told old new failed LostAsSaid = (kept : AreKept told) × (has_missing counts ≡ true) × PrintsLost kept.runs counts old new
 IsObjectEnd counts told old new failed Write = AreKept told × (failed ≡ true)
 IsObjectEnd counts told old new failed NoMemory = (IsRunRefused told ⊎ AreKept told) × (new ≡ old)
 IsObjectEnd counts told old new failed fault = ⊥
 
--- sectors are lost, after the lines and the map; or not all is printed; or memory ran out for a run
+-- sectors are lost or unscraped, after the lines and the map; or not all is printed; or memory ran out for a run
 abbrev pub IsChartEnd : Counts → Listed → Option (List ℕ) → Option (List ℕ) → Bool → RecoveringFault → Type 0
-IsChartEnd counts told old new failed (Lost read lost) = (kept : AreKept told) × (read ≡ counts.read) × (lost ≡ counts.lost) × (0 < counts.lost) × Appends old new (charted_text kept.runs counts)
+IsChartEnd counts told old new failed (Lost of) = (kept : AreKept told) × (of ≡ counts) × (has_missing counts ≡ true) × Appends old new (charted_text kept.runs counts)
 IsChartEnd counts told old new failed Write = AreKept told × (failed ≡ true)
 IsChartEnd counts told old new failed NoMemory = IsRunRefused told × (new ≡ old)
 IsChartEnd counts told old new failed fault = ⊥
@@ -75,7 +75,7 @@ KeepsReport Lines told old new failed = told ≡ listed new failed
 KeepsReport Chart told old new failed = new ≡ old
 KeepsReport Object told old new failed = new ≡ old
 
--- the pass was completed, no sector is lost, and all was printed
+-- the pass was completed, all sectors were read, and all was printed
 pub record Reports (Done : Whole) (form : ReportForm) (old new : Option (List ℕ)) : Type 0 where
   pub counts : Counts
   pub before : Listed
@@ -84,7 +84,7 @@ pub record Reports (Done : Whole) (form : ReportForm) (old new : Option (List �
   pub done : Done before counts told
   pub reported : IsReported form counts told old new
 
--- the pass was completed, and sectors are lost or not all is printed
+-- the pass was completed, and sectors are lost or unscraped, or not all is printed
 pub record LosesSectors (Done : Whole) (form : ReportForm) (old new : Option (List ℕ)) (failed : Bool) (fault : RecoveringFault) : Type 0 where
   pub counts : Counts
   pub before : Listed

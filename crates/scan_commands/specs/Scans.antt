@@ -22,19 +22,20 @@ use Rattle.scan_commands.specs.declared.scan.ScanPlan.{ScanPlan}
 use Rattle.scan_commands.specs.Counting.{IsPassEnd, IsRecoveryStackless}
 use Rattle.scan_commands.specs.Reports.{IsUnreported, Reports}
 
--- a device of a stack file over bindings or a disk, the path of its map file, if there is one, how many times lost sectors are read again, and
--- the form of the report
+-- a device of a stack file over bindings or a disk, the path of its map file, if there is one, how many times lost sectors are read again,
+-- whether failed pieces aren't searched sector by sector, and the form of the report
 pub record ScanWords : Type 0 where
   pub words : SourceWords
   pub map : Option (List ℕ)
   pub retries : ℕ
+  pub no_scrape : Bool
   pub form : ReportForm
 
-abbrev pub scan_words : SourceWords → Option (List ℕ) → ℕ → ReportForm → ScanWords
-scan_words words map retries form = record { words = words; map = map; retries = retries; form = form }
+abbrev pub scan_words : SourceWords → Option (List ℕ) → ℕ → Bool → ReportForm → ScanWords
+scan_words words map retries no_scrape form = record { words = words; map = map; retries = retries; no_scrape = no_scrape; form = form }
 
 abbrev pub words_to_scan : DeviceSource → ScanPlan → ScanWords
-words_to_scan source plan = scan_words (source_words source) (option_map (λ p. p.now) plan.map) plan.retries plan.form
+words_to_scan source plan = scan_words (source_words source) (option_map (λ p. p.now) plan.map) plan.retries plan.no_scrape plan.form
 
 -- the device was scanned, with a scan's map if there is one
 pub record Scans {S D : Type 0} (w : Calls S D) (words : ScanWords) (before : Listed) (counts : Counts) (told : Listed) : Type 0 where
@@ -44,7 +45,7 @@ pub record Scans {S D : Type 0} (w : Calls S D) (words : ScanWords) (before : Li
   pub left : StackRecord
   pub between : S
   pub found : FindsSource (record w { new = between }) words.words at
-  pub passed : Passes (record w { old = between }) (map_at words.map map_kind.Scan) (retried at.d words.retries) (moving (sides at.stack out before) (sides left out' told)) counts
+  pub passed : Passes (record w { old = between }) (map_at words.map map_kind.Scan) (retried at.d words.retries words.no_scrape) (moving (sides at.stack out before) (sides left out' told)) counts
 
 -- the scan began and ended early; the device that it copies to never fails
 pub record StopsScan {S D : Type 0} (w : Calls S D) (words : ScanWords) (before : Listed) (fault : RecoveringFault) (told : Listed) : Type 0 where
@@ -55,7 +56,7 @@ pub record StopsScan {S D : Type 0} (w : Calls S D) (words : ScanWords) (before 
   pub between : S
   pub found : FindsSource (record w { new = between }) words.words at
   pub sure : IsTrue out.never_fails
-  pub stops : IsPassEnd (StopsPass (record w { old = between }) (map_at words.map map_kind.Scan) (retried at.d words.retries) (moving (sides at.stack out before) (sides left out' told))) fault
+  pub stops : IsPassEnd (StopsPass (record w { old = between }) (map_at words.map map_kind.Scan) (retried at.d words.retries words.no_scrape) (moving (sides at.stack out before) (sides left out' told))) fault
 
 -- no sector is lost, and all was reported
 abbrev pub PrintsScan : {S D : Type 0} → Calls S D → ScanWords → Option (List ℕ) → Option (List ℕ) → Type 0

@@ -11,7 +11,7 @@ use Rattle.stack_rules.specs.declared.lower.Lower.{Lower}
 use Rattle.stack_rules.specs.declared.lower.Lower.TheVariants.{Leaf as leaf, Device as device}
 use Rattle.stack_rules.specs.Records.{Configuration}
 use Rattle.stack_rules.specs.Names.{name_of, size, may_write}
-use Rattle.command_line.specs.Bindings.{BackingRecord, BindingRecord, file, part, partition, zeros, ramp}
+use Rattle.command_line.specs.Bindings.{BackingRecord, BindingRecord, file, part, partition, mapped, zeros, ramp}
 use Rattle.io_fault_text.specs.Paths.{shown_path}
 
 -- the branches at the left of a row: a bar for each device above it that has further rows
@@ -34,14 +34,17 @@ type_of (targets.Unstriped line) = types.Unstriped
 unfoldable pub line_text : Line → List ℕ
 line_text line = type_word (type_of line.target) ++ (codes " " ++ (decimal line.start ++ (codes " " ++ decimal line.length)))
 
--- the sector of device i of a target at which its range begins, or its hash tree
+-- the sector of device i of a target at which its range begins, or its hash tree or parity
 abbrev pub offset_of : Target → ℕ → ℕ
 offset_of (targets.Linear base) i = base.offset
 offset_of (targets.Striped chunk bases) i = option_map_or (λ base. base.offset) (slice_get bases i) 0
 offset_of targets.Zero i = 0
 offset_of targets.Error i = 0
 offset_of (targets.Crypt line) i = line.base.offset
-offset_of (targets.Verity line) i = if i == 0 then 0 else line.start * (line.hash_block / 512)
+offset_of (targets.Verity line) i =
+    if i == 0 then 0
+    else if i == 1 then line.start * (line.hash_block / 512)
+    else option_map_or (λ parity. parity.start * (line.data_block / 512)) line.parity 0
 offset_of (targets.Unstriped line) i = line.base.offset
 
 -- ` sectors S rw`, or `ro`
@@ -66,6 +69,7 @@ abbrev pub backing_text : BackingRecord → List ℕ
 backing_text (file path writable) = codes " file " ++ shown_path path
 backing_text (part path writable at) = codes " file " ++ shown_path path
 backing_text (partition path writable named) = codes " file " ++ shown_path path
+backing_text (mapped path map_file) = codes " file " ++ shown_path path
 backing_text (zeros sectors) = []
 backing_text (ramp sectors) = []
 

@@ -2,7 +2,7 @@
 use Rattle.std.specs.Prelude.{◌≡◌, ◌⊎◌, ℕ, ◌+◌, ◌-◌, ◌*◌, ◌/◌, ◌<◌, ◌≤◌, max, min, Bool, true, IsTrue, List, length, replicate, Option, Some, None, Result, Ok, Err, if◌then◌else◌}
 use Rattle.std.specs.List.{list_all}
 use Rattle.allocation.specs.Refusal.{IsOutOfMemory}
-use Rattle.block_device.specs.Device.{Device, HasFailed, IsUnsynced, synced}
+use Rattle.block_device.specs.Device.{Device, HasFailed, IsUnsynced, capped, synced}
 use Rattle.rescue_map.specs.declared.map.Run.{Run}
 use Rattle.rescue_map.specs.declared.splicing.Span.{Span}
 use Rattle.rescue_map.specs.Maps.{is_had_from, marks, spliced_marks}
@@ -12,11 +12,12 @@ use Rattle.stack_recovery.specs.declared.deadline.DevicePass.{DevicePass}
 use Rattle.stack_recovery.specs.declared.fault.RecoveryFault.{RecoveryFault}
 use Rattle.stack_recovery.specs.declared.recovery.Counts.{Counts}
 use Rattle.stack_recovery.specs.Deadlines.{EndsAt}
-use Rattle.stack_recovery.specs.FirstPasses.{EndsSkim, FailsSkimOutput, SkimsShort, SkimsTo}
+use Rattle.stack_recovery.specs.FirstPasses.{EndsSkim, FailsSkimOutput, SkimsBy, SkimsShort, SkimsTo, Transfer}
 use Rattle.stack_rules.specs.Names.{mapped, size}
 use Rattle.stack_meaning.specs.Memory.{largest_allocation}
 use Rattle.stack_recovery.specs.Listings.{Listed}
-use Rattle.stack_recovery.specs.Recoveries.{FailsOutput, GoesOverTo, IsRescueEnd, Parties, RunsShort, Sides, seen_sides, sides}
+use Rattle.stack_recovery.specs.PassPieces.{Scanned, scanned}
+use Rattle.stack_recovery.specs.Recoveries.{FailsOutput, GoesOverTo, IsRescueEnd, Parties, RunsShort, Sides, scanned_by, seen_sides, sides}
 use Rattle.stack_recovery.specs.TwoPasses.{transfer_of}
 use Rattle.image_files.specs.declared.texts.ReplaceFault.{ReplaceFault}
 use Rattle.scan_commands.specs.MapFiles.{MapPathRecord, map_path_of}
@@ -25,6 +26,7 @@ use Rattle.scan_commands.specs.declared.map_file.MapPath.{MapPath}
 use Rattle.scan_commands.specs.declared.phase.Phase.{Phase}
 use Rattle.scan_commands.specs.declared.phase.Phase.TheVariants.{Rescue, Retry, Skim}
 use Rattle.scan_commands.specs.declared.turns.NextTurn.{NextTurn}
+use Rattle.scan_commands.specs.declared.turns.ReadMap.{ReadMap}
 use Rattle.scan_commands.specs.declared.turns.TurnEnd.{TurnEnd}
 use Rattle.scan_commands.specs.declared.rescue_fault.PassFault.{PassFault}
 use Rattle.scan_commands.specs.declared.rescue_fault.PassFault.TheVariants.{NoMemory, Output, Unwritten}
@@ -33,25 +35,30 @@ use Rattle.scan_commands.specs.declared.rescue_fault.PassFault.TheVariants.{NoMe
 abbrev pub Replaces : Type 0 → Type 1
 Replaces S = S → List ℕ → List ℕ → Result (Unit {0}) ReplaceFault → S → Type 0
 
--- a device of so many sectors, its map file, and how the file is replaced
+-- a device of so many sectors and how it is scanned, its map file, and how the file is replaced
 pub record Kept (S : Type 0) : Type 1 where
   pub replaces : Replaces S
   pub file : MapPathRecord
-  pub d : ℕ
+  pub scan : Scanned
   pub sectors : ℕ
 
-abbrev pub kept : {S : Type 0} → Replaces S → MapPathRecord → ℕ → ℕ → Kept S
-kept replaces file d sectors = record { replaces = replaces; file = file; d = d; sectors = sectors }
+abbrev pub kept : {S : Type 0} → Replaces S → MapPathRecord → Scanned → ℕ → Kept S
+kept replaces file scan sectors = record { replaces = replaces; file = file; scan = scan; sectors = sectors }
 
--- the opener, the stack with the output device and the reported lines, and the map; the sectors before `at` are done
+-- the opener, the stack with the output device and the reported lines, and the map; the sectors before `at` are done, and so many
+-- of them are unscraped
 pub record Progressed (S : Type 0) : Type 0 where
   pub images : S
   pub sides : Sides
   pub runs : List Run
   pub at : ℕ
+  pub untried : ℕ
 
-abbrev pub progressed : {S : Type 0} → S → Sides → List Run → ℕ → Progressed S
-progressed images sides runs at = record { images = images; sides = sides; runs = runs; at = at }
+abbrev pub progressed : {S : Type 0} → S → Sides → List Run → ℕ → ℕ → Progressed S
+progressed images sides runs at untried = record { images = images; sides = sides; runs = runs; at = at; untried = untried }
+
+abbrev pub made_map : List Run → ℕ → ReadMap
+made_map runs untried = record { map = runs; untried = untried }
 
 -- the most sectors of a turn: 64 MiB, or of a device above 4 TiB about a 65,536th, in whole groups of eight sectors
 unfoldable pub turn_len : ℕ → ℕ
@@ -80,14 +87,14 @@ pub record IsSpan (sectors at : ℕ) (span : Span) (at' : ℕ) : Type 0 where
   pub end : at' ≡ at + span.count
   pub inside : at' ≤ sectors
 
--- sectors were read in a pass after the first one, which made a map of these sectors
-abbrev pub ReadsLeft : List Bool → ℕ → Sides → List Run → Sides → Type 0
-ReadsLeft before d old made new = (counts : Counts) × GoesOverTo before d (length (marks made)) old counts (Some made) new
+-- sectors were read in a pass after the first one, which made a map of these sectors, of which so many are unscraped
+abbrev pub ReadsLeft : List Bool → Scanned → Sides → ReadMap → Sides → Type 0
+ReadsLeft before scan old made new = (counts : Counts) × GoesOverTo before scan (length (marks made.map)) old counts (Some made.map) new × (made.untried ≡ counts.untried)
 
 -- sectors were read in a pass by the marks before it, which made a map of them; the first pass reports nothing
-abbrev pub ReadsSectors : Phase → List Bool → ℕ → Sides → List Run → Sides → Type 0
-ReadsSectors Skim before d old made new = SkimsTo true before d (length (marks made)) (transfer_of old) made (transfer_of new) × (new.printed ≡ old.printed)
-ReadsSectors later before d old made new = ReadsLeft before d old made new
+abbrev pub ReadsSectors : Phase → List Bool → Scanned → Sides → ReadMap → Sides → Type 0
+ReadsSectors Skim before scan old made new = SkimsTo true before scan.d (length (marks made.map)) (transfer_of old) made.map (transfer_of new) × (new.printed ≡ old.printed) × (made.untried ≡ 0)
+ReadsSectors later before scan old made new = ReadsLeft before scan old made new
 
 -- the sectors from sector `first` on and before `end`
 abbrev pub span_between : ℕ → ℕ → Span
@@ -100,13 +107,14 @@ pub record IsTurn {S : Type 0} (k : Kept S) (phase : Phase) (old new : Progresse
   pub end : ℕ
   pub next : IsSpan k.sectors old.at span end
   pub left : Sides
-  pub made : List Run
-  pub reads : ReadsSectors phase (asked_marks span k.sectors old.runs) k.d old.sides made left
+  pub made : ReadMap
+  pub reads : ReadsSectors phase (asked_marks span k.sectors old.runs) k.scan old.sides made left
   pub on_medium : new.sides ≡ sides left.stack (synced left.out) left.printed
   pub some : old.at < new.at
-  pub here : new.at ≡ min end (length (marks made))
-  pub map : marks new.runs ≡ spliced_marks (span_between old.at new.at) (marks old.runs) (marks made)
-  pub written : k.replaces old.images k.file.path (map_text k.file.kind (tried_before phase new.runs new.at) new.runs) (Ok tt) new.images
+  pub here : new.at ≡ min end (length (marks made.map))
+  pub map : marks new.runs ≡ spliced_marks (span_between old.at new.at) (marks old.runs) (marks made.map)
+  pub untried : new.untried ≡ capped (old.untried + made.untried)
+  pub written : k.replaces old.images k.file.path (map_text k.file.kind k.scan.no_scrape (tried_before phase new.runs new.at) new.runs) (Ok tt) new.images
 
 -- all of the next sectors were read before, so that nothing is done
 pub record IsSkipped {S : Type 0} (k : Kept S) (old new : Progressed S) : Type 0 where
@@ -123,8 +131,8 @@ pub data Turns {S : Type 0} (k : Kept S) (phase : Phase) (first : Progressed S) 
   passes : {now next : Progressed S} → Turns k phase first now → IsSkipped k now next → Turns k phase first next
 
 -- the turns of a whole pass, which result in this map
-abbrev pub ReadsInTurns : {S : Type 0} → Kept S → Phase → Progressed S → S → Sides → List Run → Type 0
-ReadsInTurns k phase first images sides runs = Turns k phase first (progressed images sides runs k.sectors)
+abbrev pub ReadsInTurns : {S : Type 0} → Kept S → Phase → Progressed S → S → Sides → ReadMap → Type 0
+ReadsInTurns k phase first images sides made = Turns k phase first (progressed images sides made.map k.sectors made.untried)
 
 -- the most elements that one allocation requests when a map is printed
 abbrev pub largest_print_allocation : ℕ
@@ -143,35 +151,35 @@ IsUnfailed old new = new.out.failures ≡ old.out.failures
 -- The output device was not synced after the sectors of a turn were done.
 pub record FailsToSyncTurn {S : Type 0} (k : Kept S) (phase : Phase) (span : Span) (now : Progressed S) (new : Sides) : Type 0 where
   pub left : Sides
-  pub made : List Run
-  pub reads : ReadsSectors phase (asked_marks span k.sectors now.runs) k.d now.sides made left
+  pub made : ReadMap
+  pub reads : ReadsSectors phase (asked_marks span k.sectors now.runs) k.scan now.sides made left
   pub unsynced : IsUnsynced left.out new.out
   pub stack : new.stack ≡ left.stack
   pub printed : new.printed ≡ left.printed
 
 -- a write of the pass failed; the first pass reports nothing
-abbrev pub FailsToWrite : Phase → List Bool → ℕ → Sides → Sides → Type 0
-FailsToWrite Skim before d old new = FailsSkimOutput true before d (transfer_of old) (transfer_of new) × (new.printed ≡ old.printed)
-FailsToWrite later before d old new = FailsOutput true before d old new
+abbrev pub FailsToWrite : Phase → List Bool → Scanned → Sides → Sides → Type 0
+FailsToWrite Skim before scan old new = FailsSkimOutput true before scan.d (transfer_of old) (transfer_of new) × (new.printed ≡ old.printed)
+FailsToWrite later before scan old new = FailsOutput true before scan old new
 
 -- The output device failed in the next turn: a write of the turn failed, or the sync after it.
 pub record FailsInTurn {S : Type 0} (k : Kept S) (phase : Phase) (now : Progressed S) (new : Sides) : Type 0 where
   pub span : Span
   pub end : ℕ
   pub next : IsSpan k.sectors now.at span end
-  pub fails : FailsToWrite phase (asked_marks span k.sectors now.runs) k.d now.sides new ⊎ FailsToSyncTurn k phase span now new
+  pub fails : FailsToWrite phase (asked_marks span k.sectors now.runs) k.scan now.sides new ⊎ FailsToSyncTurn k phase span now new
 
 -- memory ran out for a read of the pass or for its map; the lines printed are the first of those of the pass
-abbrev pub RunsOut : Phase → List Bool → ℕ → Sides → Sides → Type 0
-RunsOut Skim before d old new = SkimsShort true before d (transfer_of old) (transfer_of new) × (new.printed ≡ old.printed)
-RunsOut later before d old new = RunsShort true before d old new
+abbrev pub RunsOut : Phase → List Bool → Scanned → Sides → Sides → Type 0
+RunsOut Skim before scan old new = SkimsShort true before scan.d (transfer_of old) (transfer_of new) × (new.printed ≡ old.printed)
+RunsOut later before scan old new = RunsShort true before scan old new
 
 -- memory ran out in the next turn, for a read or its map
 pub record RunsOutInTurn {S : Type 0} (k : Kept S) (phase : Phase) (now : Progressed S) (new : Sides) : Type 0 where
   pub span : Span
   pub end : ℕ
   pub next : IsSpan k.sectors now.at span end
-  pub short : RunsOut phase (asked_marks span k.sectors now.runs) k.d now.sides new
+  pub short : RunsOut phase (asked_marks span k.sectors now.runs) k.scan now.sides new
 
 -- The sectors of the next turn were done, and the output device was synced.
 pub record EndsUnmapped {S : Type 0} (k : Kept S) (phase : Phase) (now : Progressed S) (new : Sides) : Type 0 where
@@ -179,8 +187,8 @@ pub record EndsUnmapped {S : Type 0} (k : Kept S) (phase : Phase) (now : Progres
   pub end : ℕ
   pub next : IsSpan k.sectors now.at span end
   pub left : Sides
-  pub made : List Run
-  pub reads : ReadsSectors phase (asked_marks span k.sectors now.runs) k.d now.sides made left
+  pub made : ReadMap
+  pub reads : ReadsSectors phase (asked_marks span k.sectors now.runs) k.scan now.sides made left
   pub on_medium : new ≡ sides left.stack (synced left.out) left.printed
 
 -- the next turn wasn't begun, was ended by a read, or lacks its map alone
@@ -204,54 +212,58 @@ pub record IsPassTurnsEnd {S : Type 0} (k : Kept S) (phase : Phase) (first : Pro
 -- ---- in terms of the arguments of a call
 
 -- Sectors were read, past sector `first`.
-pub record ReadsPast (phase : Phase) (before : List Bool) (d first : ℕ) (old : Sides) (made : List Run) (new : Sides) : Type 0 where
-  pub reads : ReadsSectors phase before d old made new
-  pub some : first < length (marks made)
-  pub few : length (marks made) ≤ size old.stack.config (mapped d)
+pub record ReadsPast (phase : Phase) (before : List Bool) (scan : Scanned) (first : ℕ) (old : Sides) (made : ReadMap) (new : Sides) : Type 0 where
+  pub reads : ReadsSectors phase before scan old made new
+  pub some : first < length (marks made.map)
+  pub few : length (marks made.map) ≤ size old.stack.config (mapped scan.d)
 
 -- the sectors of a turn were read, or the first of them; or the pass ended early
-abbrev pub ReadsTurnBy : {O L : Type 0} → (O → Device) → (L → Listed) → ℕ → NextTurn → Parties O L → Parties O L → List Run → Type 0
-ReadsTurnBy state told d turn old new made = ReadsPast turn.phase (marks turn.wanted.now) d turn.span.first (seen_sides state told old) made (seen_sides state told new)
+abbrev pub ReadsTurnBy : {O L : Type 0} → (O → Device) → (L → Listed) → ℕ → NextTurn → Parties O L → Parties O L → ReadMap → Type 0
+ReadsTurnBy state told d turn old new made = ReadsPast turn.phase (marks turn.wanted.now) (scanned d turn.no_scrape) turn.span.first (seen_sides state told old) made (seen_sides state told new)
 
-abbrev pub EndsSectors : Phase → List Bool → ℕ → Sides → Sides → RecoveryFault → Type 0
-EndsSectors Skim before d old new fault = EndsSkim true before d (transfer_of old) (transfer_of new) fault × (new.printed ≡ old.printed)
-EndsSectors later before d old new fault = IsRescueEnd before d old new fault
+abbrev pub EndsSectors : Phase → List Bool → Scanned → Sides → Sides → RecoveryFault → Type 0
+EndsSectors Skim before scan old new fault = EndsSkim true before scan.d (transfer_of old) (transfer_of new) fault × (new.printed ≡ old.printed)
+EndsSectors later before scan old new fault = IsRescueEnd before scan old new fault
 
 abbrev pub EndsTurnRead : {O L : Type 0} → (O → Device) → (L → Listed) → ℕ → NextTurn → Parties O L → Parties O L → RecoveryFault → Type 0
-EndsTurnRead state told d turn old new fault = EndsSectors turn.phase (marks turn.wanted.now) d (seen_sides state told old) (seen_sides state told new) fault
+EndsTurnRead state told d turn old new fault = EndsSectors turn.phase (marks turn.wanted.now) (scanned d turn.no_scrape) (seen_sides state told old) (seen_sides state told new) fault
 
 -- a turn, which results in this map and ends before that sector
 abbrev pub TakesTurn : {S O L : Type 0} → Replaces S → (O → Device) → (L → Listed) → ℕ → NextTurn → S → Parties O L → S → Parties O L → TurnEnd → Type 0
 TakesTurn replaces state told d turn images old images' new ended =
-    IsTurn (kept replaces (map_path_of turn.file) d turn.sectors) turn.phase (progressed images (seen_sides state told old) turn.map.now turn.span.first) (progressed images' (seen_sides state told new) ended.map ended.at)
+    IsTurn (kept replaces (map_path_of turn.file) (scanned d turn.no_scrape) turn.sectors) turn.phase (progressed images (seen_sides state told old) turn.map.now turn.span.first turn.untried) (progressed images' (seen_sides state told new) ended.map ended.at ended.untried)
 
 abbrev pub StopsTurn : {S O L : Type 0} → Replaces S → (O → Device) → (L → Listed) → ℕ → NextTurn → S → Parties O L → S → Parties O L → PassFault → Type 0
 StopsTurn replaces state told d turn images old images' new fault =
-    StopsIn (kept replaces (map_path_of turn.file) d turn.sectors) turn.phase (progressed images (seen_sides state told old) turn.map.now turn.span.first) images' (seen_sides state told new) fault
+    StopsIn (kept replaces (map_path_of turn.file) (scanned d turn.no_scrape) turn.sectors) turn.phase (progressed images (seen_sides state told old) turn.map.now turn.span.first turn.untried) images' (seen_sides state told new) fault
 
 -- all turns of a pass over a device with the map of a file
-abbrev pub ReadsByFile : {S O L : Type 0} → Replaces S → (O → Device) → (L → Listed) → ℕ → MapFile → S → Parties O L → S → Parties O L → List Run → Type 0
-ReadsByFile replaces state told d kept_map images old images' new runs =
-    ReadsInTurns (kept replaces (map_path_of kept_map.file) d (size old.stack.config (mapped d))) kept_map.phase (progressed images (seen_sides state told old) kept_map.map 0) images' (seen_sides state told new) runs
+abbrev pub ReadsByFile : {S O L : Type 0} → Replaces S → (O → Device) → (L → Listed) → ℕ → MapFile → S → Parties O L → S → Parties O L → ReadMap → Type 0
+ReadsByFile replaces state told d kept_map images old images' new made =
+    ReadsInTurns (kept replaces (map_path_of kept_map.file) (scanned d kept_map.no_scrape) (size old.stack.config (mapped d))) kept_map.phase (progressed images (seen_sides state told old) kept_map.map 0 0) images' (seen_sides state told new) made
 
 abbrev pub StopsByFile : {S O L : Type 0} → Replaces S → (O → Device) → (L → Listed) → ℕ → MapFile → S → Parties O L → S → Parties O L → PassFault → Type 0
 StopsByFile replaces state told d kept_map images old images' new fault =
-    IsPassTurnsEnd (kept replaces (map_path_of kept_map.file) d (size old.stack.config (mapped d))) kept_map.phase (progressed images (seen_sides state told old) kept_map.map 0) images' (seen_sides state told new) fault
+    IsPassTurnsEnd (kept replaces (map_path_of kept_map.file) (scanned d kept_map.no_scrape) (size old.stack.config (mapped d))) kept_map.phase (progressed images (seen_sides state told old) kept_map.map 0 0) images' (seen_sides state told new) fault
 
 -- what the next pass needs: the map is of all sectors, the configuration stays, and so does the output device
-pub record GoesOn {O L : Type 0} (state : O → Device) (d : ℕ) (old new : Parties O L) (runs : List Run) : Type 0 where
-  pub map : length (marks runs) ≡ size old.stack.config (mapped d)
+pub record GoesOn {O L : Type 0} (state : O → Device) (d : ℕ) (old new : Parties O L) (made : ReadMap) : Type 0 where
+  pub map : length (marks made.map) ≡ size old.stack.config (mapped d)
   pub config : new.stack.config ≡ old.stack.config
   pub same_size : (state new.out).size ≡ (state old.out).size
   pub allowed : IsTrue (state new.out).may_write
 
--- the map of a file isn't replaced by this one
-abbrev pub LeavesMap : {S : Type 0} → Replaces S → MapPath → S → Option ℕ → List Run → S → PassFault → Type 0
-LeavesMap replaces file images tried map images' = IsMapUnwritten replaces file.path.now images (map_text file.kind tried map) images'
+-- the map of a file isn't replaced by this text
+abbrev pub LeavesMap : {S : Type 0} → Replaces S → MapPath → S → List ℕ → S → PassFault → Type 0
+LeavesMap replaces file images text images' = IsMapUnwritten replaces file.path.now images text images'
+
+-- sectors were read in the first pass, which ended after the last sector or early, and left none unscraped
+abbrev pub SkimsLeftBy : {O : Type 0} → (O → Device) → DevicePass → List Bool → Transfer O → Transfer O → ReadMap → Type 0
+SkimsLeftBy state pass before old new made = SkimsBy state pass true before old new made.map × (made.untried ≡ 0)
 
 -- sectors were read in a pass after the first one, which ended after the last sector or early
-abbrev pub ReadsLeftUntil : Option Deadline → List Bool → ℕ → Sides → List Run → Sides → Type 0
-ReadsLeftUntil deadline before d old made new = ReadsLeft before d old made new × EndsAt deadline (length (marks made)) (size old.stack.config (mapped d))
+abbrev pub ReadsLeftUntil : Option Deadline → List Bool → Scanned → Sides → ReadMap → Sides → Type 0
+ReadsLeftUntil deadline before scan old made new = ReadsLeft before scan old made new × EndsAt deadline (length (marks made.map)) (size old.stack.config (mapped scan.d))
 
-abbrev pub ReadsLeftBy : {O L : Type 0} → (O → Device) → (L → Listed) → DevicePass → List Bool → Parties O L → Parties O L → List Run → Type 0
-ReadsLeftBy state told pass before old new made = ReadsLeftUntil pass.deadline before pass.device.0 (seen_sides state told old) made (seen_sides state told new)
+abbrev pub ReadsLeftBy : {O L : Type 0} → (O → Device) → (L → Listed) → DevicePass → List Bool → Parties O L → Parties O L → ReadMap → Type 0
+ReadsLeftBy state told pass before old new made = ReadsLeftUntil pass.deadline before (scanned_by pass) (seen_sides state told old) made (seen_sides state told new)

@@ -1,6 +1,8 @@
 //! A map of a device's lost sectors.
 ghost use Rattle.std.specs.Prelude.{◌≡◌, IfErr, OnOk};
 ghost use Rattle.program_io.specs.Counted.{Writes};
+ghost use Rattle.block_device.specs.Device.{capped};
+ghost use Rattle.stack_recovery.specs.Recoveries.{counted_sectors};
 ghost use Rattle.stack_recovery.specs.Texts.{lost_text};
 ghost use Rattle.scan_commands.specs.Reports.{EndsChart, TellsChart};
 ghost use Rattle.scan_commands.specs.Charts.{charted_text, is_lost, touches};
@@ -46,13 +48,13 @@ fn touches(at: u64, width: u64, run: LostRun) -> bool
     is_touched(at, width, run.first, run.count)
 }
 
-/// Prints a line for each lost run, a map of all sectors, and the counts if no sector is lost.
+/// Prints a line for each lost run, a map of all sectors, and the counts if all were read.
 ///
 /// # Errors
 ///
 /// - `NoMemory` if memory ran out for a run.
 /// - `Write` if not all can be written.
-/// - `Lost` with the counts if sectors are lost.
+/// - `Lost` with the counts if sectors are lost or unscraped.
 pub(crate) fn tell_chart<'a, W: Write>(
     kept: &KeptRuns,
     counts: Counts,
@@ -77,8 +79,15 @@ fn say_charted<W: Write>(
     ensures { Writes W.contents writer.old writer.new (charted_text runs.now counts) result }
 {
     say_lost(writer, runs)?;
-    let sectors = counts.read.saturating_add(counts.lost);
-    say_chart(writer, &LostRuns { runs }, sectors)
+    say_chart(writer, &LostRuns { runs }, all_sectors(counts))
+}
+
+// How many sectors are counted.
+fn all_sectors(counts: Counts) -> u64
+    ensures { result ≡ capped (counted_sectors counts) }
+{
+    let missing = counts.lost.saturating_add(counts.untried);
+    counts.read.saturating_add(missing)
 }
 
 // Prints a line for each run.

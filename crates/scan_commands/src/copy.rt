@@ -21,14 +21,15 @@ use stack_recovery::Counts;
 use std::alloc::Global;
 use std::io::Write;
 
-/// The path of the image to copy to, whether only sectors that differ are written, the path of the map file, if there is one, and
-/// how many times lost sectors are read again.
+/// The path of the image to copy to, whether only sectors that differ are written, the path of the map file, if there is one,
+/// how many times lost sectors are read again, and whether failed pieces aren't searched sector by sector.
 #[derive(Clone, Copy, Debug, PartialEq, Eq)]
 pub struct CopyPlan<'a> {
     pub out: &'a str,
     pub differing: bool,
     pub map: Option<&'a str>,
     pub retries: u64,
+    pub no_scrape: bool,
 }
 
 /// Copies the readable sectors of a device of a stack file, or of a disk, to an image. The image is synced and closed before the counts are
@@ -58,11 +59,13 @@ pub fn copy_device<'a, I: Images, W: Write, P: Progress>(
     let (stack, device, image) = open_with_room(alloc, images, source, plan.out)?;
     let OpenImage { device: out, id: _ } = image;
     let retries = plan.retries;
+    let no_scrape = plan.no_scrape;
     let passing = Passing {
         stack,
         device,
         out,
         retries,
+        no_scrape,
     };
     let (left, outcome) = copy_synced(alloc, images, passing, plan, writer, progress);
     images.close(plan.out, left.out);
@@ -116,6 +119,7 @@ fn copy_to<'a, I: Images, D: BlockDev + Drop, O: SyncDev + Drop, W: Write, P: Pr
             device,
             out,
             retries,
+            no_scrape,
         } = passing;
         let out = Differing::new(out);
         let mut compared = Passing {
@@ -123,6 +127,7 @@ fn copy_to<'a, I: Images, D: BlockDev + Drop, O: SyncDev + Drop, W: Write, P: Pr
             device,
             out,
             retries,
+            no_scrape,
         };
         let copied = run_pass(alloc, images, &mut compared, map, writer, progress);
         let Passing {
@@ -130,6 +135,7 @@ fn copy_to<'a, I: Images, D: BlockDev + Drop, O: SyncDev + Drop, W: Write, P: Pr
             device,
             out,
             retries,
+            no_scrape,
         } = compared;
         let out = out.inner;
         let left = Passing {
@@ -137,6 +143,7 @@ fn copy_to<'a, I: Images, D: BlockDev + Drop, O: SyncDev + Drop, W: Write, P: Pr
             device,
             out,
             retries,
+            no_scrape,
         };
         return (left, copied);
     }

@@ -3,16 +3,17 @@ ghost use Rattle.std.specs.Prelude.{◌≡◌, string_bytes, IfOk};
 ghost use Rattle.program_io.specs.JsonLines.{json_line};
 ghost use Rattle.serde_json.specs.Data.{array};
 ghost use Rattle.serde_json.specs.View.{items_of, view};
+ghost use Rattle.stack_recovery.specs.declared.lost_run.Loss.TheVariants as loss;
 ghost use Rattle.scan_commands.specs.LostJson.{lost_json, lost_run_json, lost_runs_json};
 
 use program_io::line_of;
 use serde_json::{Value, json};
 use stack_engine::IoFault;
-use stack_recovery::{Counts, LostRun};
+use stack_recovery::{Counts, Loss, LostRun};
 use std::alloc::{AllocError, Global};
 
-/// Returns the line of the object: `{"lost":N,"read":N,"runs":[..]}` with `{"count":N,"fault":NAME,"first":N}` for each run,
-/// followed by `"leaf":N` if a backing device failed.
+/// Returns the line of the object: `{"lost":N,"read":N,"runs":[..]}`, with `"untried":N` if sectors are unscraped, and for each run
+/// `{"count":N,"fault":NAME,"first":N}`, with `"leaf":N` if a backing device failed, and `"unscraped":true` if its sectors are.
 ///
 /// # Errors
 ///
@@ -29,9 +30,16 @@ pub fn lost_line(alloc: Global, runs: &[LostRun], counts: Counts) -> Result<Stri
 fn lost_value(alloc: Global, runs: &[LostRun], counts: Counts) -> Result<Value, AllocError>
     ensures { IfOk result (λ value. view value ≡ lost_json runs.now counts) }
 {
-    let Counts { read, lost } = counts;
+    let Counts {
+        read,
+        lost,
+        untried,
+    } = counts;
     let runs = runs_value(alloc, runs)?;
-    json!(in alloc; {"lost": lost, "read": read, "runs": runs})
+    if untried == 0 {
+        return json!(in alloc; {"lost": lost, "read": read, "runs": runs});
+    }
+    json!(in alloc; {"lost": lost, "read": read, "runs": runs, "untried": untried})
 }
 
 // Returns the array of the runs.
@@ -50,15 +58,53 @@ fn runs_value(alloc: Global, runs: &[LostRun]) -> Result<Value, AllocError>
 fn run_value(alloc: Global, run: LostRun) -> Result<Value, AllocError>
     ensures { IfOk result (λ value. view value ≡ lost_run_json run) }
 {
-    let LostRun {
-        first,
-        count,
-        kind: fault,
-    } = run;
+    let LostRun { first, count, kind } = run;
+    match kind {
+        Loss::Lost(fault) => lost_run_value(alloc, first, count, fault),
+        Loss::Unscraped(fault) => unscraped_value(alloc, first, count, fault),
+    }
+}
+
+// Returns the object of a run of lost sectors.
+fn lost_run_value(
+    alloc: Global,
+    first: u64,
+    count: u64,
+    fault: IoFault,
+) -> Result<Value, AllocError>
+    ensures { IfOk result (λ value. view value ≡ lost_run_json (record { first = first; count = count; kind = loss.Lost fault })) }
+{
     match fault {
         IoFault::Device(leaf) => {
             json!(in alloc; {"count": count, "fault": fault.name(), "first": first, "leaf": leaf})
         }
         _ => json!(in alloc; {"count": count, "fault": fault.name(), "first": first}),
+    }
+}
+
+// Returns the object of a run of unscraped sectors.
+fn unscraped_value(
+    alloc: Global,
+    first: u64,
+    count: u64,
+    fault: IoFault,
+) -> Result<Value, AllocError>
+    ensures { IfOk result (λ value. view value ≡ lost_run_json (record { first = first; count = count; kind = loss.Unscraped fault })) }
+{
+    let unscraped = true;
+    match fault {
+        IoFault::Device(leaf) => json!(in alloc; {
+            "count": count,
+            "fault": fault.name(),
+            "first": first,
+            "leaf": leaf,
+            "unscraped": unscraped
+        }),
+        _ => json!(in alloc; {
+            "count": count,
+            "fault": fault.name(),
+            "first": first,
+            "unscraped": unscraped
+        }),
     }
 }

@@ -30,12 +30,13 @@ pub fn map_at<'a>(path: Option<&'a str>, kind: MapKind) -> Option<MapPath<'a>>
     Some(MapPath { path, kind })
 }
 
-/// A map of a device, the file that it is kept in, and the pass that goes by it.
+/// A map of a device, the file that it is kept in, and the pass that goes by it, which may leave failed pieces unsearched.
 #[derive(Drop)]
 pub struct MapFile<'a> {
     pub file: MapPath<'a>,
     pub map: Map,
     pub phase: Phase,
+    pub no_scrape: bool,
 }
 
 /// Returns the map of a device of `sectors` sectors that a file holds. The map marks no sector as read if there is no file, or

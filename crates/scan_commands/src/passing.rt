@@ -1,6 +1,7 @@
 //! A pass over a mapped device, with or without a map file.
 ghost use Rattle.std.specs.Prelude.{◌≡◌, IfOk, IfErr};
-ghost use Rattle.scan_commands.specs.Passes.{CanPass, PassesBy, PassesMapBy, StopsBy, StopsMapBy, counts_of};
+ghost use Rattle.scan_commands.specs.Passes.{CanPass, PassesBy, PassesMapBy, StopsBy, StopsMapBy};
+ghost use Rattle.scan_commands.specs.PassesInTurns.{counts_of};
 
 use crate::map_file::{MapFile, MapPath, read_map};
 use crate::phase::{Phase, phase_after};
@@ -16,13 +17,15 @@ use stack_engine::Stack;
 use stack_recovery::{Counts, Listing, RecoveryPlan, recover_with};
 use std::alloc::Global;
 
-/// A mapped device of a stack, the device that its readable sectors are copied to, and how many times lost sectors are read again.
+/// A mapped device of a stack, the device that its readable sectors are copied to, how many times lost sectors are read again, and
+/// whether a failed piece isn't searched sector by sector after its first lost sector.
 #[derive(Drop)]
 pub struct Passing<D: BlockDev, O> {
     pub stack: Stack<D>,
     pub device: DevId,
     pub out: O,
     pub retries: u64,
+    pub no_scrape: bool,
 }
 
 /// Reads each sector of a mapped device, copies the readable sectors to the same offset of another device, and reports the
@@ -58,6 +61,7 @@ pub fn run_pass<'a, I: Images, D: BlockDev, O: SyncDev, L: Listing, P: Progress>
             RecoveryPlan {
                 device: passing.device,
                 retries: passing.retries,
+                no_scrape: passing.no_scrape,
             },
             &mut passing.out,
             listing,
@@ -83,12 +87,14 @@ fn pass_by_map<'a, I: Images, D: BlockDev, O: SyncDev, L: Listing, P: Progress>(
     // The call provides the bound on a device's sectors.
     let _most = passing.out.sectors();
     let device = passing.device;
+    let no_scrape = passing.no_scrape;
     let sectors = passing.stack.config().sectors(device);
     let map = read_map(alloc, images, file, sectors)?;
     let first = MapFile {
         file,
         map,
         phase: Phase::Skim,
+        no_scrape,
     };
     let skimmed = read_in_turns(
         alloc,
@@ -100,11 +106,12 @@ fn pass_by_map<'a, I: Images, D: BlockDev, O: SyncDev, L: Listing, P: Progress>(
         listing,
         progress,
     )?;
-    let tried = retry_in_turns(alloc, images, passing, file, skimmed, progress)?;
+    let tried = retry_in_turns(alloc, images, passing, file, skimmed.map, progress)?;
     let last = MapFile {
         file,
         map: tried.map,
         phase: phase_after(tried.passes),
+        no_scrape,
     };
     let rescued = read_in_turns(
         alloc,
@@ -116,14 +123,16 @@ fn pass_by_map<'a, I: Images, D: BlockDev, O: SyncDev, L: Listing, P: Progress>(
         listing,
         progress,
     )?;
-    Ok(counts_of(totals_of(&rescued)))
+    Ok(counts_of(totals_of(&rescued.map), rescued.untried))
 }
 
-fn counts_of(totals: Totals) -> Counts
-    ensures { result ≡ counts_of totals }
+// The counts of a map, of whose sectors so many are unscraped.
+fn counts_of(totals: Totals, untried: u64) -> Counts
+    ensures { result ≡ counts_of totals untried }
 {
     Counts {
         read: totals.had,
-        lost: totals.lost,
+        lost: totals.lost.saturating_sub(untried),
+        untried,
     }
 }

@@ -5,6 +5,7 @@ ghost use Rattle.scan_commands.specs.declared.recovering_fault.RecoveringFault.T
 use crate::rescue_fault::PassFault;
 use program_io::WriteFault;
 use stack_files::StackFault;
+use stack_recovery::Counts;
 use std::alloc::AllocError;
 
 /// Why a scan or a copy of a device ended early or didn't read all sectors.
@@ -18,9 +19,9 @@ pub enum RecoveringFault<'a> {
     OutputTooSmall { needed: u64 },
     /// The pass over the device ended early.
     Pass(PassFault<'a>),
-    /// So many sectors of a device are readable, and so many are lost.
-    Lost { read: u64, lost: u64 },
-    /// Sectors of a device are lost, as the JSON object states.
+    /// Sectors of a device are lost or unscraped; these are the counts.
+    Lost(Counts),
+    /// Sectors of a device are lost or unscraped, as the JSON object states.
     LostAsSaid,
     /// A line can't be written; the pass over the device was completed.
     Write,

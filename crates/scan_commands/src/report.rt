@@ -1,7 +1,7 @@
 //! What `scan` and `copy` report after a complete pass over a device.
-ghost use Rattle.std.specs.Prelude.{IfErr, OnOk};
+ghost use Rattle.std.specs.Prelude.{◌≡◌, IfErr, OnOk};
 ghost use Rattle.program_io.specs.Counted.{Writes};
-ghost use Rattle.scan_commands.specs.Counting.{EndsCounts, TellsCountsBy, counts_text};
+ghost use Rattle.scan_commands.specs.Counting.{EndsCounts, TellsCountsBy, counts_text, has_missing};
 ghost use Rattle.scan_commands.specs.Reports.{EndsObject, TellsObject};
 
 use crate::lost_json::lost_line;
@@ -11,11 +11,11 @@ use stack_recovery::{Counts, KeptRuns};
 use std::alloc::Global;
 use std::io::Write;
 
-/// Prints the counts if no sector is lost.
+/// Prints the counts if all sectors were read.
 ///
 /// # Errors
 ///
-/// - `Lost` with the counts if sectors are lost.
+/// - `Lost` with the counts if sectors are lost or unscraped.
 /// - `Write` if this line or an earlier one can't be written.
 pub fn tell_counts<'a, W: Write>(
     counts: Counts,
@@ -27,22 +27,37 @@ pub fn tell_counts<'a, W: Write>(
     if writer.failed() {
         return Err(RecoveringFault::Write);
     }
-    let Counts { read, lost } = counts;
-    if lost > 0 {
-        return Err(RecoveringFault::Lost { read, lost });
+    if has_missing(counts) {
+        return Err(RecoveringFault::Lost(counts));
     }
-    Ok(say_counts(writer, read, lost)?)
+    Ok(say_counts(writer, counts)?)
 }
 
-/// Prints `read N lost M`.
+/// Returns whether sectors are lost or unscraped.
+pub fn has_missing(counts: Counts) -> bool
+    ensures { result ≡ has_missing counts }
+{
+    counts.lost > 0 || counts.untried > 0
+}
+
+/// Prints `read N lost N`, and `untried N` behind it if sectors are unscraped.
 ///
 /// # Errors
 ///
 /// `WriteFault` if the writer failed.
-pub fn say_counts<W: Write>(writer: &mut Counted<W>, read: u64, lost: u64) -> Result<(), WriteFault>
-    ensures { Writes W.contents writer.old writer.new (counts_text read lost) result }
+pub fn say_counts<W: Write>(writer: &mut Counted<W>, counts: Counts) -> Result<(), WriteFault>
+    ensures { Writes W.contents writer.old writer.new (counts_text counts) result }
 {
-    writer.print(format_args!("read {read} lost {lost}\n"))
+    let Counts {
+        read,
+        lost,
+        untried,
+    } = counts;
+    if untried == 0 {
+        writer.print(format_args!("read {read} lost {lost}\n"))
+    } else {
+        writer.print(format_args!("read {read} lost {lost} untried {untried}\n"))
+    }
 }
 
 /// Prints one JSON object with the counts and the lost runs.
@@ -51,7 +66,7 @@ pub fn say_counts<W: Write>(writer: &mut Counted<W>, read: u64, lost: u64) -> Re
 ///
 /// - `NoMemory` if memory ran out for a run or for the object.
 /// - `Write` if the object can't be written.
-/// - `LostAsSaid` if sectors are lost.
+/// - `LostAsSaid` if sectors are lost or unscraped.
 pub(crate) fn tell_object<'a, W: Write>(
     alloc: Global,
     kept: &KeptRuns,
@@ -66,7 +81,7 @@ pub(crate) fn tell_object<'a, W: Write>(
     }
     let line = lost_line(alloc, kept.runs.as_slice(), counts)?;
     writer.put(line.as_bytes())?;
-    if counts.lost > 0 {
+    if has_missing(counts) {
         return Err(RecoveringFault::LostAsSaid);
     }
     Ok(())

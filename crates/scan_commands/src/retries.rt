@@ -46,6 +46,7 @@ pub(crate) fn retry_in_turns<'a, I: Images, D: BlockDev, O: SyncDev, P: Progress
 {
     let device = passing.device;
     let retries = passing.retries;
+    let no_scrape = passing.no_scrape;
     let mut left = map;
     let mut passes = 0;
     'passes: while passes < retries && !is_had(&left) {
@@ -53,8 +54,9 @@ pub(crate) fn retry_in_turns<'a, I: Images, D: BlockDev, O: SyncDev, P: Progress
             file,
             map: left,
             phase: phase_after(passes),
+            no_scrape,
         };
-        left = read_in_turns(
+        let read = read_in_turns(
             alloc,
             images,
             &mut passing.stack,
@@ -64,6 +66,7 @@ pub(crate) fn retry_in_turns<'a, I: Images, D: BlockDev, O: SyncDev, P: Progress
             &mut NoListing,
             progress,
         )?;
+        left = read.map;
         passes += 1;
     }
     Ok(TriedMap { map: left, passes })

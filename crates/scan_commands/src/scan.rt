@@ -21,12 +21,13 @@ use stack_recovery::{Discard, KeptRuns};
 use std::alloc::Global;
 use std::io::Write;
 
-/// The path of the map file of the device to be scanned, if there is one, how many times lost sectors are read again, and the form of
-/// the report.
+/// The path of the map file of the device to be scanned, if there is one, how many times lost sectors are read again, whether
+/// failed pieces aren't searched sector by sector, and the form of the report.
 #[derive(Clone, Copy, Debug, PartialEq, Eq)]
 pub struct ScanPlan<'a> {
     pub map: Option<&'a str>,
     pub retries: u64,
+    pub no_scrape: bool,
     pub form: ReportForm,
 }
 
@@ -54,11 +55,13 @@ pub fn scan_device<'a, I: Images, W: Write, P: Progress>(
     let (stack, device) = open_source(alloc, images, source)?;
     let out = Discard::new(stack.config().sectors(device));
     let retries = plan.retries;
+    let no_scrape = plan.no_scrape;
     let mut passing = Passing {
         stack,
         device,
         out,
         retries,
+        no_scrape,
     };
     report_scan(alloc, images, &mut passing, plan, writer, progress)
 }

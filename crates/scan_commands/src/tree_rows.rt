@@ -64,7 +64,7 @@ fn type_of(target: &Target) -> TargetType
     }
 }
 
-/// Returns the sector of device `i` of a target at which its range begins, or its hash tree.
+/// Returns the sector of device `i` of a target at which its range begins, or its hash tree or parity.
 pub(crate) fn offset_of(target: &Target, i: u32) -> u128
     ensures { result ≡ offset_of target.now i }
 {
@@ -80,8 +80,15 @@ pub(crate) fn offset_of(target: &Target, i: u32) -> u128
         Target::Verity(verity) => {
             if i == 0 {
                 0
-            } else {
+            } else if i == 1 {
                 u128::from(verity.start) * u128::from(verity.hash_block / 512)
+            } else {
+                match &verity.parity {
+                    Some(parity) => {
+                        u128::from(parity.start) * u128::from(verity.data_block / 512)
+                    }
+                    None => 0,
+                }
             }
         }
         Target::Unstriped(unstriped) => u128::from(unstriped.base.offset),
@@ -140,6 +147,7 @@ pub(crate) fn say_file<W: Write>(
                 part: _,
             } => say_path_of(path, writer),
             Backing::Partition { path, .. } => say_path_of(path, writer),
+            Backing::Mapped { path, map_file: _ } => say_path_of(path, writer),
             Backing::Zeros(_) => Ok(()),
             Backing::Ramp(_) => Ok(()),
         },

@@ -1,11 +1,12 @@
 //! Reads a mapped device in turns. After each turn its map file is replaced.
-ghost use Rattle.std.specs.Prelude.{◌≡◌, ◌+◌, ◌≤◌, ◌<◌, length, IsTrue, IfOk, IfErr, OnErr, OnOk};
+ghost use Rattle.std.specs.Prelude.{◌≡◌, ◌+◌, ◌≤◌, ◌<◌, length, true, IsTrue, IfOk, IfErr, OnErr, OnOk};
 ghost use Rattle.allocation.specs.Refusal.{IsOutOfMemory};
 ghost use Rattle.rescue_map.specs.Maps.{marks};
 ghost use Rattle.rescue_map.specs.MapText.{map_text};
 ghost use Rattle.stack_rules.specs.Names.{mapped, size};
+ghost use Rattle.stack_recovery.specs.FirstPasses.{EndsSkimBy, transfer};
 ghost use Rattle.stack_recovery.specs.Recoveries.{EndsRescue, parties};
-ghost use Rattle.scan_commands.specs.Turns.{EndsTurnRead, GoesOn, IsSpan, LeavesMap, ReadsByFile, ReadsLeftBy, ReadsTurnBy, StopsByFile, StopsTurn, TakesTurn, asked_marks, tried_before, turn_len};
+ghost use Rattle.scan_commands.specs.Turns.{EndsTurnRead, GoesOn, IsSpan, LeavesMap, ReadsByFile, ReadsLeftBy, ReadsTurnBy, SkimsLeftBy, StopsByFile, StopsTurn, TakesTurn, asked_marks, tried_before, turn_len};
 
 use crate::map_file::{MapFile, MapPath};
 use crate::phase::Phase;
@@ -17,7 +18,7 @@ use image_files::Images;
 use rescue_map::{Map, Span, is_had, is_had_from, print_map, sectors_of, splice};
 use stack_config::DevId;
 use stack_engine::Stack;
-use stack_recovery::{Deadline, DevicePass, Listing, RecoveryFault, rescue, skim};
+use stack_recovery::{Deadline, DevicePass, Listing, RecoveryFault, Rescued, rescue, skim};
 use std::alloc::Global;
 
 const LEAST_TURN: u64 = 131_072;
@@ -76,34 +77,46 @@ fn write_map<'a, I: Images>(
     file: MapPath<'_>,
     map: &Map,
     tried: Option<u64>,
+    no_scrape: bool,
 ) -> Result<(), PassFault<'a>>
-    ensures ok { OnOk result (I.relations.replaces images.old file.entry.path.now (map_text file.entry.kind tried map.now) (Ok tt) images.new) }
-    ensures err { IfErr result (LeavesMap I.relations.replaces file.entry images.old tried map.now images.new) }
+    ensures ok { OnOk result (I.relations.replaces images.old file.entry.path.now (map_text file.entry.kind no_scrape tried map.now) (Ok tt) images.new) }
+    ensures err { IfErr result (LeavesMap I.relations.replaces file.entry images.old (map_text file.entry.kind no_scrape tried map.now) images.new) }
 {
-    let text = print_map(alloc, file.kind, map, tried)?;
+    let text = print_map(alloc, file.kind, map, tried, no_scrape)?;
     Ok(images.replace(file.path, text.as_slice())?)
 }
 
-/// A turn of a pass: its sectors, the map before it, the map that it reads by, and the time at which it ends early.
+/// A turn of a pass: whether failed pieces aren't searched, its sectors, the map before it, the map that it reads by, how many sectors
+/// before it are unscraped, and the time at which it ends early.
 #[derive(Clone, Copy)]
 struct NextTurn<'a> {
     phase: Phase,
+    no_scrape: bool,
     span: Span,
     sectors: u64,
     file: MapPath<'a>,
     map: &'a Map,
     wanted: &'a Map,
+    untried: u64,
     seconds: u64,
 }
 
-/// The map after a turn, and the sector before which the turn ended.
+/// The map after a turn, the sector before which the turn ended, and how many sectors before that one are unscraped.
 #[derive(Drop)]
 struct TurnEnd {
     map: Map,
     at: u64,
+    untried: u64,
 }
 
-// Reads the sectors of a turn until its time is up, and returns the map of what was read.
+/// The map of the sectors that were read, and how many are unscraped.
+#[derive(Drop)]
+pub struct ReadMap {
+    pub map: Map,
+    pub untried: u64,
+}
+
+// Reads the sectors of a turn until its time is up.
 fn read_turn<D: BlockDev, O: SyncDev, L: Listing, P: Progress>(
     alloc: Global,
     stack: &mut Stack<D>,
@@ -112,7 +125,7 @@ fn read_turn<D: BlockDev, O: SyncDev, L: Listing, P: Progress>(
     turn: NextTurn<'_>,
     listing: &mut L,
     progress: &mut P,
-) -> Result<Map, RecoveryFault>
+) -> Result<ReadMap, RecoveryFault>
     requires device { d.0 < length stack.old.config.devices }
     requires some { turn.span.first < size stack.old.config (mapped d.0) }
     requires fits { length (marks turn.wanted.now) ≡ size stack.old.config (mapped d.0) }
@@ -123,19 +136,42 @@ fn read_turn<D: BlockDev, O: SyncDev, L: Listing, P: Progress>(
 {
     let pass = DevicePass {
         device: d,
+        no_scrape: turn.no_scrape,
         deadline: Some(Deadline {
             first: turn.span.first,
             seconds: turn.seconds,
         }),
     };
     match turn.phase {
-        Phase::Skim => skim(alloc, stack, pass, out, turn.wanted, progress),
+        Phase::Skim => skim_left(alloc, stack, pass, out, turn.wanted, progress),
         Phase::Rescue => read_left(alloc, stack, pass, out, turn.wanted, listing, progress),
         Phase::Retry => read_left(alloc, stack, pass, out, turn.wanted, listing, progress),
     }
 }
 
-// Reads the sectors that a map doesn't mark as read, in a pass after the first one, and returns the new map.
+// Reads the sectors that a map doesn't mark as read, in the first pass, which leaves none unscraped.
+fn skim_left<D: BlockDev, O: SyncDev, P: Progress>(
+    alloc: Global,
+    stack: &mut Stack<D>,
+    pass: DevicePass,
+    out: &mut O,
+    wanted: &Map,
+    progress: &mut P,
+) -> Result<ReadMap, RecoveryFault>
+    requires device { pass.device.0 < length stack.old.config.devices }
+    requires fits { length (marks wanted.now) ≡ size stack.old.config (mapped pass.device.0) }
+    requires room { size stack.old.config (mapped pass.device.0) ≤ (O.state out.old).size }
+    requires allowed { IsTrue (O.state out.old).may_write }
+    ensures ok { IfOk result (SkimsLeftBy O.state pass (marks wanted.now) (transfer stack.old out.old) (transfer stack.new out.new)) }
+    ensures err { IfErr result (EndsSkimBy O.state true (marks wanted.now) pass.device.0 (transfer stack.old out.old) (transfer stack.new out.new)) }
+{
+    match skim(alloc, stack, pass, out, wanted, progress) {
+        Ok(map) => Ok(ReadMap { map, untried: 0 }),
+        Err(fault) => Err(fault),
+    }
+}
+
+// Reads the sectors that a map doesn't mark as read, in a pass after the first one.
 fn read_left<D: BlockDev, O: SyncDev, L: Listing, P: Progress>(
     alloc: Global,
     stack: &mut Stack<D>,
@@ -144,16 +180,20 @@ fn read_left<D: BlockDev, O: SyncDev, L: Listing, P: Progress>(
     wanted: &Map,
     listing: &mut L,
     progress: &mut P,
-) -> Result<Map, RecoveryFault>
+) -> Result<ReadMap, RecoveryFault>
     requires device { pass.device.0 < length stack.old.config.devices }
     requires fits { length (marks wanted.now) ≡ size stack.old.config (mapped pass.device.0) }
     requires room { size stack.old.config (mapped pass.device.0) ≤ (O.state out.old).size }
     requires allowed { IsTrue (O.state out.old).may_write }
     ensures ok { IfOk result (ReadsLeftBy O.state L.told pass (marks wanted.now) (parties stack.old out.old listing.old) (parties stack.new out.new listing.new)) }
-    ensures err { IfErr result (EndsRescue O.state L.told (marks wanted.now) pass.device.0 (parties stack.old out.old listing.old) (parties stack.new out.new listing.new)) }
+    ensures err { IfErr result (EndsRescue O.state L.told pass (marks wanted.now) (parties stack.old out.old listing.old) (parties stack.new out.new listing.new)) }
 {
     let rescued = rescue(alloc, stack, pass, out, wanted, listing, progress)?;
-    Ok(rescued.map)
+    let Rescued { counts, map } = rescued;
+    Ok(ReadMap {
+        map,
+        untried: counts.untried,
+    })
 }
 
 // Reads the sectors of a turn until its time is up, syncs the other device, and replaces the map file.
@@ -181,16 +221,18 @@ fn take_turn<'a, I: Images, D: BlockDev, O: SyncDev, L: Listing, P: Progress>(
     let read = read_turn(alloc, stack, d, out, turn, listing, progress)?;
     out.sync()?;
     let first = turn.span.first;
-    let at = (first + turn.span.count).min(sectors_of(&read));
+    let made = &read.map;
+    let at = (first + turn.span.count).min(sectors_of(made));
     let count = at - first;
-    let map = splice(alloc, turn.map, &read, Span { first, count }, turn.sectors)?;
+    let map = splice(alloc, turn.map, made, Span { first, count }, turn.sectors)?;
+    let untried = turn.untried.saturating_add(read.untried);
     let tried = tried_before(turn.phase, &map, at);
-    write_map(alloc, images, turn.file, &map, tried)?;
-    Ok(TurnEnd { map, at })
+    write_map(alloc, images, turn.file, &map, tried, turn.no_scrape)?;
+    Ok(TurnEnd { map, at, untried })
 }
 
 /// Reads the sectors of a mapped device that a map doesn't mark as read, by one pass in turns of at most 64 MiB, or about a
-/// 65,536th of a device above 4 TiB, and returns the new map. A turn ends before a further piece once it has taken 30 seconds, but in
+/// 65,536th of a device above 4 TiB, and returns the new map and how many sectors are unscraped. A turn ends before a further piece once it has taken 30 seconds, but in
 /// the first pass not after a failed read.
 ///
 /// Each turn copies the readable sectors to the same offset of another device, which has room for all, and syncs that device.
@@ -213,7 +255,7 @@ pub fn read_in_turns<'a, I: Images, D: BlockDev, O: SyncDev, L: Listing, P: Prog
     kept: MapFile<'_>,
     listing: &mut L,
     progress: &mut P,
-) -> Result<Map, PassFault<'a>>
+) -> Result<ReadMap, PassFault<'a>>
     requires device { d.0 < length stack.old.config.devices }
     requires fits { length (marks kept.map) ≡ size stack.old.config (mapped d.0) }
     requires room { size stack.old.config (mapped d.0) ≤ (O.state out.old).size }
@@ -227,7 +269,9 @@ pub fn read_in_turns<'a, I: Images, D: BlockDev, O: SyncDev, L: Listing, P: Prog
         file,
         mut map,
         phase,
+        no_scrape,
     } = kept;
+    let mut untried = 0;
     let mut at = 0;
     'turns: while at < sectors {
         let count = turn_len(sectors).min(sectors - at);
@@ -238,17 +282,20 @@ pub fn read_in_turns<'a, I: Images, D: BlockDev, O: SyncDev, L: Listing, P: Prog
         } else {
             let turn = NextTurn {
                 phase,
+                no_scrape,
                 span,
                 sectors,
                 file,
                 map: &map,
                 wanted: &wanted,
+                untried,
                 seconds: progress.seconds().saturating_add(TURN_SECONDS),
             };
             let ended = take_turn(alloc, images, stack, d, out, turn, listing, progress)?;
             map = ended.map;
             at = ended.at;
+            untried = ended.untried;
         }
     }
-    Ok(map)
+    Ok(ReadMap { map, untried })
 }

@@ -1,6 +1,6 @@
 -- Refusals with numbers from 18 on are in the list.
-use Rattle.std.proofs.Common.{◌≡◌, ◌++◌, ℕ, List, Some, inl, inr, refl}
-use Rattle.std.specs.Prelude.{codes, decimal}
+use Rattle.std.proofs.Common.{◌≡◌, ◌++◌, ℕ, List, Some, inl, inr, refl, arith}
+use Rattle.std.specs.Prelude.{◌<◌, ◌⊎◌, codes, decimal}
 use Rattle.std.specs.Fmt.{digits}
 use Rattle.fec_area.specs.declared.writing.ParityFault.{ParityFault}
 use Rattle.fec_area.specs.declared.writing.ParityFault.TheVariants as parity
@@ -23,6 +23,9 @@ use Rattle.linux_rules.specs.Kinds.{linux_name, linux_number}
 use Rattle.rescue_map.specs.declared.fault.MapFault.{MapFault}
 use Rattle.rescue_map.specs.declared.fault.MapFault.TheVariants as map_fault
 use Rattle.scan_commands.specs.MapTexts.{no_map_text, unreplaced_text}
+use Rattle.stack_rules.specs.FaultKinds.{load_name, load_number}
+use Rattle.stack_rules.specs.declared.refusal.LoadKind.{LoadKind}
+use Rattle.stack_rules.specs.declared.refusal.LoadKind.TheVariants as loads
 use Rattle.tree_difference.specs.declared.fault.Unlike.{Unlike}
 use Rattle.tree_difference.specs.declared.fault.Unlike.TheVariants as unlike
 use Rattle.verity_commands.specs.Texts.{pin_fault_text, unwritten_pin_text}
@@ -32,6 +35,27 @@ use Rattle.stack_commands.specs.Refusals.{AreFileLines, AreImageLines, AreNumber
 -- a line with a number and name of the list
 row : (number : ℕ) (name rest : List ℕ) → refusal_name number ≡ Some name → IsNumbered (codes "refused " ++ kind_then number name rest)
 row number name rest own = record { number = number; name = name; rest = rest; own = inr own; is = refl }
+
+load-rows : (kind : LoadKind) → (load_number kind < 18) ⊎ (refusal_name (load_number kind) ≡ Some (load_name kind))
+unfolding refusals
+load-rows loads.DuplicateName = inl (omega arith)
+load-rows loads.TooMany = inl (omega arith)
+load-rows loads.NoSuchDevice = inl (omega arith)
+load-rows loads.StandsOnItself = inl (omega arith)
+load-rows loads.ZeroLength = inl (omega arith)
+load-rows loads.Gap = inl (omega arith)
+load-rows loads.TooLarge = inl (omega arith)
+load-rows loads.StripesDontDivide = inl (omega arith)
+load-rows loads.BeyondDevice = inl (omega arith)
+load-rows loads.LineBeyondTree = inl (omega arith)
+load-rows loads.TreeBeyondDevice = inl (omega arith)
+load-rows loads.NeedsReadOnly = inl (omega arith)
+load-rows loads.LowerReadOnly = inl (omega arith)
+load-rows loads.TooDeep = inl (omega arith)
+load-rows loads.CostTooLarge = inl (omega arith)
+load-rows loads.UnitDoesntDivide = inl (omega arith)
+load-rows loads.IvOffset = inl (omega arith)
+load-rows loads.ParityDoesntCover = inr refl
 
 linux-rows : (kind : LinuxKind) → refusal_name (linux_number kind) ≡ Some (linux_name kind)
 unfolding refusals
@@ -148,4 +172,4 @@ image-lines = record {
 }
 
 pub are-numbered : HaveOwnNumbers → AreNumbered
-are-numbered own = record { own = own; linux = linux-rows; pin = pin-rows; unpinned = mismatch-rows; files = file-lines; images = image-lines }
+are-numbered own = record { own = own; loads = load-rows; linux = linux-rows; pin = pin-rows; unpinned = mismatch-rows; files = file-lines; images = image-lines }

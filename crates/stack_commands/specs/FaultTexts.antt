@@ -93,13 +93,13 @@ recovering_text recovering.NoMemory = no_memory
 recovering_text (recovering.Stack fault) = stack_fault_text fault
 recovering_text (recovering.OutputTooSmall needed) = too_small_text needed
 recovering_text (recovering.Pass fault) = pass_text fault
-recovering_text (recovering.Lost read lost) = counts_text read lost
+recovering_text (recovering.Lost counts) = counts_text counts
 recovering_text recovering.LostAsSaid = []
 recovering_text recovering.Write = []
 
 -- 3 for lost sectors
 abbrev pub recovering_status : RecoveringFault → ℕ
-recovering_status (recovering.Lost read lost) = 3
+recovering_status (recovering.Lost counts) = 3
 recovering_status recovering.LostAsSaid = 3
 recovering_status fault = 1
 

@@ -127,7 +127,7 @@ IsStoreCommandEnd w s old new failed fault = BySource s
 -- ---- a whole device
 
 abbrev pub scanned : ScanRecord → ScanWords
-scanned s = scan_words (source_on s.source s.cache false s.bindings) s.map s.retries s.form
+scanned s = scan_words (source_on s.source s.cache false s.bindings) s.map s.retries s.no_scrape s.form
 
 abbrev pub ScansSectors : {S D : Type 0} → Calls S D → ScanRecord → Option (List ℕ) → Option (List ℕ) → Type 0
 ScansSectors w s old new = PrintsScan w (scanned s) old new
@@ -136,7 +136,7 @@ abbrev pub IsScanWordsEnd : {S D : Type 0} → Calls S D → ScanRecord → Opti
 IsScanWordsEnd w s old new failed fault = IsRecoveringEnd (IsScanEnd w (scanned s) old new failed) fault
 
 abbrev pub copied : CopyRecord → CopyWords
-copied c = copy_words (source_on c.source c.cache c.grow c.bindings) c.out c.differing c.map c.retries
+copied c = copy_words (source_on c.source c.cache c.grow c.bindings) c.out c.differing c.map c.retries c.no_scrape
 
 abbrev pub CopiesSectors : {S D : Type 0} → Calls S D → CopyRecord → Option (List ℕ) → Option (List ℕ) → Type 0
 CopiesSectors w c old new = PrintsCopy w (copied c) old new

@@ -1,5 +1,5 @@
 -- Refusals with numbers from 18 on are in the list.
-use Rattle.std.specs.Prelude.{◌≡◌, ◌⊎◌, ℕ, List, Some}
+use Rattle.std.specs.Prelude.{◌≡◌, ◌⊎◌, ◌<◌, ℕ, List, Some}
 use Rattle.fec_area.specs.declared.writing.ParityFault.{ParityFault}
 use Rattle.fec_commands.specs.declared.fault.FecFault.TheVariants as fec
 use Rattle.fec_commands.specs.FaultTexts.{fec_text, parity_text}
@@ -16,6 +16,8 @@ use Rattle.linux_rules.specs.Kinds.{linux_name, linux_number}
 use Rattle.rescue_map.specs.declared.fault.MapFault.{MapFault}
 use Rattle.scan_commands.specs.declared.rescue_fault.PassFault.TheVariants as pass
 use Rattle.scan_commands.specs.MapTexts.{no_map_text, pass_text, unreplaced_text}
+use Rattle.stack_rules.specs.FaultKinds.{load_name, load_number}
+use Rattle.stack_rules.specs.declared.refusal.LoadKind.{LoadKind}
 use Rattle.tree_difference.specs.declared.fault.Unlike.{Unlike}
 use Rattle.tree_difference.specs.declared.fault.Which.{Which}
 use Rattle.verity_commands.specs.declared.tree_fault.TreeFault.TheVariants as trees
@@ -51,6 +53,7 @@ pub record AreImageLines : Type 0 where
 -- no two refusals of the list have one number, and each refusal with a number from 18 on is in it
 pub record AreNumbered : Type 0 where
   pub own : HaveOwnNumbers
+  pub loads : (kind : LoadKind) → (load_number kind < 18) ⊎ (refusal_name (load_number kind) ≡ Some (load_name kind))
   pub linux : (kind : LinuxKind) → refusal_name (linux_number kind) ≡ Some (linux_name kind)
   pub pin : (fault : PinFault) → refusal_name (fault_number fault) ≡ Some (fault_name fault)
   pub unpinned : (found : Mismatch) → refusal_name (mismatch_number found) ≡ Some (mismatch_name found)

@@ -12,7 +12,7 @@ use scan_commands::{CopyPlan, copy_device};
 use std::alloc::Global;
 use std::io::Write;
 
-/// `copy [--cache N] [--differing] [--map FILE] [--retries N] [--progress] (STACK NAME OUT BINDING... | --disk [--grow] DISK OUT)`:
+/// `copy [--cache N] [--differing] [--map FILE] [--retries N] [--no-scrape] [--progress] (STACK NAME OUT BINDING... | --disk [--grow] DISK OUT)`:
 /// copies the readable sectors of a device.
 ///
 /// # Errors
@@ -37,6 +37,7 @@ pub fn invoke_copy<'a, I: Images, W: Write, P: Progress>(
         bindings,
         map,
         retries,
+        no_scrape,
         progress: is_shown,
     } = words;
     if is_shown {
@@ -48,6 +49,7 @@ pub fn invoke_copy<'a, I: Images, W: Write, P: Progress>(
         differing,
         map,
         retries,
+        no_scrape,
     };
     Ok(copy_device(alloc, images, read, plan, writer, progress)?)
 }

@@ -168,7 +168,7 @@ pub fn say_recovering_fault<W: Write>(
         RecoveringFault::Stack(fault) => say_stack_fault(writer, fault),
         RecoveringFault::OutputTooSmall { needed } => say_too_small(writer, needed),
         RecoveringFault::Pass(fault) => say_pass_fault(writer, fault),
-        RecoveringFault::Lost { read, lost } => say_counts(writer, read, lost),
+        RecoveringFault::Lost(counts) => say_counts(writer, counts),
         RecoveringFault::LostAsSaid => Ok(()),
         RecoveringFault::Write => Ok(()),
     }
@@ -186,7 +186,7 @@ pub fn recovering_status(fault: RecoveringFault<'_>) -> u8
     ensures { result ≡ recovering_status fault.entry }
 {
     match fault {
-        RecoveringFault::Lost { .. } => FAULT,
+        RecoveringFault::Lost(_) => FAULT,
         RecoveringFault::LostAsSaid => FAULT,
         _ => REFUSED,
     }

@@ -12,7 +12,7 @@ use scan_commands::{ScanPlan, scan_device};
 use std::alloc::Global;
 use std::io::Write;
 
-/// `scan [--cache N] [--map FILE] [--retries N] [--progress] [--json | --chart] (STACK NAME BINDING... | --disk DISK)`: reports which
+/// `scan [--cache N] [--map FILE] [--retries N] [--no-scrape] [--progress] [--json | --chart] (STACK NAME BINDING... | --disk DISK)`: reports which
 /// sectors of a device are lost.
 ///
 /// # Errors
@@ -34,6 +34,7 @@ pub fn invoke_scan<'a, I: Images, W: Write, P: Progress>(
         bindings,
         map,
         retries,
+        no_scrape,
         progress: is_shown,
         form,
     } = words;
@@ -41,6 +42,11 @@ pub fn invoke_scan<'a, I: Images, W: Write, P: Progress>(
         progress.begin();
     }
     let read = device_source(source, cache, false, &bindings);
-    let plan = ScanPlan { map, retries, form };
+    let plan = ScanPlan {
+        map,
+        retries,
+        no_scrape,
+        form,
+    };
     Ok(scan_device(alloc, images, read, plan, writer, progress)?)
 }

@@ -13,7 +13,7 @@ use std::io::Write;
 use update_commands::{UpdateOrder, update_images};
 use verity_commands::VerityFault;
 
-/// `update [--json] [--progress] --pin FILE DATA HASH NEWDATA NEWHASH [COPY ..]`: the pin is read before an image is opened.
+/// `update [--json] [--no-index] [--progress] --pin FILE DATA HASH NEWDATA NEWHASH [COPY ..]`: the pin is read before an image is opened.
 ///
 /// # Errors
 ///
@@ -38,6 +38,7 @@ pub fn update_image<'a, I: Images, S: Watchers, W: Write>(
         hash: words.hash_path,
         release_hash: words.release_hash,
         pin,
+        no_index: words.no_index,
         progress: words.progress,
         json: words.json,
     };

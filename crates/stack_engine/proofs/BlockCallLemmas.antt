@@ -1,5 +1,5 @@
 -- Calls of reads of whole data blocks of a `verity` line: what those of a block say of all.
-use Rattle.std.proofs.Common.{◌≡◌, ◌⊎◌, ℕ, zero, suc, ◌+◌, ◌-◌, ◌*◌, ◌/◌, ◌<◌, ◌≤◌, max, Bool, true, false, List, [], ◌∷◌, ◌++◌, length, take, drop, replicate, Result, Ok, Err, inl, inr, refl, sym, ap, ◌∙◌, subst, arith}
+use Rattle.std.proofs.Common.{◌≡◌, ◌⊎◌, ℕ, zero, suc, ◌+◌, ◌-◌, ◌*◌, ◌/◌, ◌<◌, ◌≤◌, max, Bool, true, false, List, [], ◌∷◌, ◌++◌, length, take, drop, replicate, None, Result, Ok, Err, inl, inr, refl, sym, ap, ◌∙◌, subst, arith}
 use Rattle.std.proofs.lemmas.Bool.{cases_lt}
 use Rattle.std.proofs.lemmas.List.{append-nil, drop-drop, drop-take, drop_all, length-drop, length-replicate, length-take-le, take-append-drop, take_all}
 use Rattle.std.proofs.lemmas.Slice.{drop-put_mid, take-put_mid, take-put_mid_below, between-put_mid}
@@ -222,11 +222,11 @@ module _ {D : Type 0} {does : D → Call → D → Type 0} {c : Configuration} {
     starts : j * block_size x ≤ length out
     starts = omega (arith, end)
 
-    pub block-unlike : is_ignored x.verity.now way.0 ≡ false → j < r → (digest x.verity.now.salt stood ≡ way.0 → ⊥) → Gives does c (Blocks x) n old new (Err (io.Stack why.Mismatch))
-    block-unlike used low other =
+    pub block-unlike : is_ignored x.verity.now way.0 ≡ false → j < r → (digest x.verity.now.salt stood ≡ way.0 → ⊥) → x.verity.now.parity ≡ None → Gives does c (Blocks x) n old new (Err (io.Stack why.Mismatch))
+    block-unlike used low other plain =
         let first : stood ++ drop (block_size x) (ahead (block_size x) r j out) ≡ ahead (block_size x) r j out = ap (λ (l : List ℕ). l ++ drop (block_size x) (ahead (block_size x) r j out)) (sym stood-is) ∙ ahead-first (block_size x) r j out low in
         h.later new (Err (io.Stack why.Mismatch)) (subst (λ (l : List ℕ). ReadsBy does c (data_of (nth_place x j) 0 way.0 way.1 (blocks_left (blocks_in x n - j) l)) new new (Err (io.Stack why.Mismatch))) first
-        (makes-none (next_differs (blocks_in x n - j) stood (drop (block_size x) (ahead (block_size x) r j out)) way.1 used (stood-wide ∙ whole) other)))
+        (makes-none (next_differs (blocks_in x n - j) stood (drop (block_size x) (ahead (block_size x) r j out)) way.1 used (stood-wide ∙ whole) other plain)))
 
     block-on : (block : List ℕ) → length block ≡ block_size x
         → ((end : List D) (answer : Result (List ℕ) IoFault) → ReadsBy does c (blocks_of (next_place (nth_place x j)) (blocks_in x n - (j + 1)) (drop (block_size x) (ahead (block_size x) r j out))) new end answer → ReadsBy does c (data_of (nth_place x j) 0 way.0 way.1 (blocks_left (suc (blocks_in x n - (j + 1))) (ahead (block_size x) r j out))) new end (bytes_before block answer))

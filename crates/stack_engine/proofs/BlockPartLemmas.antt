@@ -22,7 +22,8 @@ use Rattle.stack_lines.specs.declared.source.VerityPart.{VerityPart}
 use Rattle.stack_lines.specs.declared.source.Source.TheVariants.{Block}
 use Rattle.stack_meaning.specs.Outcomes.{Images}
 use Rattle.stack_meaning.specs.Found.{FoundRecord, Entry, found_entry}
-use Rattle.stack_meaning.specs.Meaning.{said_by_name}
+use Rattle.stack_meaning.specs.Beneath.{below}
+use Rattle.stack_meaning.specs.Meaning.{none_said, said_by_name}
 use Rattle.stack_meaning.specs.Reading.{MeetVerity}
 use Rattle.stack_meaning.specs.Kept.{target_leaves, verity_block, LineKeeps, IsOfVerity, IsKept, AllKept}
 use Rattle.stack_meaning.specs.Leaves.{steady_images, AreSteady}
@@ -30,6 +31,7 @@ use Rattle.stack_lines.specs.Caches.{StackCache}
 use Rattle.stack_lines.specs.Sources.{LieInBlock, source_said, source_place, ReadsSource}
 use Rattle.stack_lines.specs.Walks.{HasVerity, block_in, chain_expected, GetsChain}
 use Rattle.stack_meaning.proofs.lemmas.LeafListLemmas.{AreRead-none, AreRead-more, AreSteady-kept, AreSteady-within, images-kept}
+use Rattle.stack_lines.proofs.lemmas.BudgetLemmas.{chain-cost as priced}
 use Rattle.stack_lines.proofs.lemmas.TouchLemmas.{verity-leaves, verity-names}
 use Rattle.stack_lines.proofs.lemmas.VerityLineLemmas.{IsWholeSectors, data-whole, part-index}
 use Rattle.stack_meaning.proofs.lemmas.FoundLemmas.{Grown-none, kept-later}
@@ -40,7 +42,7 @@ use Rattle.allocation.specs.Refusal.{IsOutOfMemory}
 use Rattle.stack_meaning.specs.Memory.{largest_allocation}
 
 -- what was found for an entry of a verity line
-pub kept_for : (c : Configuration) (leaves : List Device) (d l i : ℕ) (v : Verity) (x : FoundRecord) → HasVerity c d l v → found_entry x ≡ (d, l, i) → IsKept c leaves x → IsOfVerity (said_by_name c v.data) (said_by_name c v.hash) (target_leaves c (verity_target v)) leaves v x.chain
+pub kept_for : (c : Configuration) (leaves : List Device) (d l i : ℕ) (v : Verity) (x : FoundRecord) → HasVerity c d l v → found_entry x ≡ (d, l, i) → IsKept c leaves x → IsOfVerity (below none_said (said_by_name c) (verity_target v)) (target_leaves c (verity_target v)) leaves v x.chain
 kept_for c leaves d l i v x line at kept =
     let device : x.device ≡ d = ap (λ (e : Entry). e.0) at in
     let number : x.line ≡ l = ap (λ (e : Entry). e.1) at in
@@ -94,11 +96,13 @@ module _ {c : Configuration} {p : VerityPart} {n : ℕ} (b : BlockAt c p n) wher
     said = λ j h.
         refl;
     cost = omega arith;
-    leaves = λ i is. verity-names c p.device.0 p.line 0 p.verity.now b.loaded b.line i (subst IsTrue (sym (verity-leaves c p.verity.now i)) is);
+    leaves = λ i is. verity-names c p.device.0 p.line 0 p.verity.now b.loaded b.line i (subst IsTrue (sym (verity-leaves c p.verity.now 0 i)) is);
   }
 
   block-cost : (chain_expected (block_in c p.verity.now (p.first / block_sectors p.verity.now))).cost ≤ read_cost c (mapped p.device.0)
-  block-cost = subst (λ (t : Target). line_read_cost (by_name c 0 (read_cost c)) t ≤ read_cost c (mapped p.device.0)) b.line.has (line-read-cost c p.device.0 p.line b.line.line b.loaded.valid b.line.is)
+  block-cost =
+      let line : line_read_cost (by_name c 0 (read_cost c)) (verity_target p.verity.now) ≤ read_cost c (mapped p.device.0) = subst (λ (t : Target). line_read_cost (by_name c 0 (read_cost c)) t ≤ read_cost c (mapped p.device.0)) b.line.has (line-read-cost c p.device.0 p.line b.line.line b.loaded.valid b.line.is) in
+      omega (arith, line, priced c p.verity.now (p.first / block_sectors p.verity.now))
 
   -- from a chain that is there
   pub part_found : (leaves : List Device) (found : List FoundRecord) (x : FoundRecord) {bytes : List ℕ} → found_entry x ≡ (p.device.0, p.line, p.first / block_sectors p.verity.now) → Contains found x → AllKept c leaves found
@@ -109,7 +113,7 @@ module _ {c : Configuration} {p : VerityPart} {n : ℕ} (b : BlockAt c p n) wher
       let number : x.chain.index ≡ p.first / block_sectors p.verity.now = ap (λ (e : Entry). e.2) here in
       pass passes (record { old = leaves; new = leaves; before = found; after = found }) (Ok _) (record {
         got = chain_fills (block_in c p.verity.now (p.first / block_sectors p.verity.now)) (p.device.0, p.line) p.first n (read_cost c (mapped p.device.0)) refl b.within b.size.whole found x (AreRead-none _ leaves)
-            (λ steady. ap (verity_block c (steady_images leaves) p.verity.now) (sym number) ∙ one.exact (AreSteady-within leaves (λ i is. subst IsTrue (verity-leaves c p.verity.now i) is) steady)) one.good here given is;
+            (λ steady. ap (verity_block c (steady_images leaves) p.verity.now) (sym number) ∙ one.exact (AreSteady-within leaves (λ i is. subst IsTrue (verity-leaves c p.verity.now 0 i) is) steady)) one.good here given is;
         grown = Grown-none _ 0 n found;
         kept = kept;
       })
@@ -122,11 +126,11 @@ module _ {c : Configuration} {p : VerityPart} {n : ℕ} (b : BlockAt c p n) wher
   part_walked {old = old} {new = new} found chain kept q is =
       let x : FoundRecord = record { device = p.device.0; line = p.line; chain = chain } in
       let here : found_entry x ≡ (p.device.0, p.line, p.first / block_sectors p.verity.now) = ap (λ (k : ℕ). (p.device.0, p.line, k)) q.may.0 in
-      let one : IsOfVerity (said_by_name c p.verity.now.data) (said_by_name c p.verity.now.hash) (target_leaves c (verity_target p.verity.now)) new p.verity.now chain = record {
+      let one : IsOfVerity (below none_said (said_by_name c) (verity_target p.verity.now)) (target_leaves c (verity_target p.verity.now)) new p.verity.now chain = record {
         good = q.may.1;
         exact = λ steady.
             let before : AreSteady (chain_expected (block_in c p.verity.now (p.first / block_sectors p.verity.now))).leaves old =
-            AreSteady-kept new old (sym q.moved.moved.fixed) (AreSteady-within new (λ i is. subst IsTrue (sym (verity-leaves c p.verity.now i)) is) steady) in
+            AreSteady-kept new old (sym q.moved.moved.fixed) (AreSteady-within new (λ i is. subst IsTrue (sym (verity-leaves c p.verity.now 0 i)) is) steady) in
             ap (verity_block c (steady_images new) p.verity.now) q.may.0 ∙ ap (λ (m : Images). verity_block c m p.verity.now (p.first / block_sectors p.verity.now)) (images-kept q.moved) ∙ q.exact before;
       } in
       pass passes (record { old = old; new = new; before = found; after = found ++ (x ∷ []) }) (Ok _) (record {

@@ -1,10 +1,8 @@
 -- Whole data blocks of a verity line of a configuration, which are read at once.
-use Rattle.std.proofs.Common.{◌≡◌, ℕ, zero, suc, ◌+◌, ◌*◌, ◌/◌, ◌%◌, ◌<◌, ◌≤◌, IsTrue, Bool, true, false, cond, List, [], ◌∷◌, ◌++◌, length, get_or, take, drop, Some, Result, Ok, Err, inl, inr, refl, sym, ap, ◌∙◌, subst, arith}
+use Rattle.std.proofs.Common.{None, ◌≡◌, ℕ, zero, suc, ◌+◌, ◌*◌, ◌/◌, ◌%◌, ◌<◌, ◌≤◌, IsTrue, Bool, true, false, List, [], ◌∷◌, ◌++◌, length, get_or, take, drop, Some, Result, Ok, Err, inl, inr, refl, sym, ap, ◌∙◌, subst, arith}
 use Rattle.std.proofs.lemmas.Bool.{cases_lt}
 use Rattle.std.proofs.lemmas.List.{take_all, length-take-le, length-drop}
 use Rattle.std.proofs.lemmas.List.Elements.{All-cons, All-nil, All-append, Contains-push}
-use Rattle.std.proofs.lemmas.Slice.Eq.{bytes_eq-Decides}
-use Rattle.std.specs.Str.{bytes_eq}
 use Rattle.std.proofs.lemmas.Nat.{div-add-mod', div-mul-add, mod-mul-add}
 use Rattle.std.proofs.Math.Nat.{add-mul, mul_comm, mul_assoc, mul-le-mul_left, mul-le-mul_right}
 use Rattle.hash_tree.specs.Chain.{ChainRecord}
@@ -27,7 +25,8 @@ use Rattle.stack_lines.specs.declared.source.Source.TheVariants.{Blocks}
 use Rattle.stack_meaning.specs.Outcomes.{Images, Outcome, mismatch, span, then_outcome}
 use Rattle.stack_meaning.specs.Blocks.{hash_sectors, checked, is_ignored}
 use Rattle.stack_meaning.specs.Found.{FoundRecord, Entry, found_entry}
-use Rattle.stack_meaning.specs.Meaning.{line_said, said_by_name}
+use Rattle.stack_meaning.specs.Beneath.{below}
+use Rattle.stack_meaning.specs.Meaning.{line_said, none_said, said_by_name}
 use Rattle.stack_meaning.specs.Places.{Place, place_of, run_expected, LeafRead}
 use Rattle.stack_meaning.specs.Reading.{Gets, Finds, MeetVerity}
 use Rattle.stack_meaning.specs.Kept.{target_leaves, verity_block, LineKeeps, IsOfVerity, AllKept}
@@ -36,6 +35,7 @@ use Rattle.stack_lines.specs.AtOnce.{AreBefore, GoAtOnce}
 use Rattle.stack_lines.specs.Clear.{IsClear}
 use Rattle.stack_lines.specs.Caches.{StackCache}
 use Rattle.stack_lines.specs.Sources.{AreWholeBlocks, source_said, ReadsSource}
+use Rattle.stack_lines.proofs.lemmas.BudgetLemmas.{chain-cost as priced}
 use Rattle.stack_lines.proofs.lemmas.TouchLemmas.{verity-leaves, verity-names}
 use Rattle.stack_lines.specs.Touches.{leaves_of}
 use Rattle.stack_lines.specs.Walks.{HasVerity, block_in, checked_expected, chain_expected, GetsChain, IsWalked}
@@ -43,7 +43,10 @@ use Rattle.stack_meaning.proofs.lemmas.LeafListLemmas.{AreRead-none, AreRead-mor
 use Rattle.stack_meaning.proofs.lemmas.FoundLemmas.{Grown-none, kept-later}
 use Rattle.stack_meaning.proofs.lemmas.RunLemmas.{Passes, pass, AllMono, run_ok, run_err}
 use Rattle.stack_lines.proofs.lemmas.VerityLineLemmas.{IsWholeSectors, data-whole, blocks-below}
-use Rattle.stack_engine.proofs.lemmas.WalkLemmas.{checked-same, data_zeros, data_read, walk_ends, walk_fails}
+use Rattle.stack_meaning.proofs.lemmas.CheckedLemmas.{checked-same}
+use Rattle.stack_engine.proofs.HealLemmas.{checked-other}
+use Rattle.stack_engine.proofs.lemmas.MendLemmas.{spare-none}
+use Rattle.stack_engine.proofs.lemmas.WalkLemmas.{data_zeros, data_read, data_healed, walk_ends, walk_fails}
 use Rattle.stack_engine.proofs.lemmas.BlockLemmas.{block_place, chain_fills, block_fails, AllKept-push, Grown-push}
 use Rattle.stack_engine.specs.Premises.{CanRead}
 use Rattle.stack_engine.proofs.PathLemmas.{checked-at}
@@ -61,13 +64,6 @@ path_cost c v = levels (tree_of v) * (hash_sectors v * (block_in c v 0).on_hash.
 -- what n sectors and the ways to so many blocks cost
 abbrev pub read_cost_so_far : Configuration → Verity → ℕ → ℕ → ℕ
 read_cost_so_far c v n blocks = n * (block_in c v 0).on_data.cost + blocks * path_cost c v
-
-checked-other : (salt expected block : List ℕ) → (digest salt block ≡ expected → ⊥) → checked salt expected block ≡ Err mismatch
-checked-other salt expected block other = go (bytes_eq (digest salt block) expected) refl
-  where
-    go : (b : Bool) → bytes_eq (digest salt block) expected ≡ b → checked salt expected block ≡ Err mismatch
-    go true e = absurd (other ((bytes_eq-Decides (digest salt block) expected).0 e))
-    go false e = ap (λ (b : Bool). cond b (Ok block) (Err mismatch)) e
 
 -- leaves that were read twice have the same images
 same-images : {old a b : List Device} {q r : ℕ} → AreRead old q a → AreRead old r b → {these : ℕ → Bool} → AreSteady these b → AreSteady these a × (steady_images b ≡ steady_images a)
@@ -94,6 +90,7 @@ pub record BlocksAt (c : Configuration) (p : VerityPart) (n : ℕ) (found : List
   pub some : 0 < n / block_sectors p.verity.now
   pub few : n ≤ 128
   pub clear : IsClear c p.data
+  pub plain : p.verity.now.parity ≡ None
   pub before : AreBefore p.device.0 p.line (p.first / block_sectors p.verity.now) found
   pub below : p.first + n ≤ lower_size c p.data
   pub there : (j : ℕ) → j < n / block_sectors p.verity.now → p.first / block_sectors p.verity.now + j < p.verity.now.blocks
@@ -118,6 +115,7 @@ blocks-at {c = c} {p = p} {found = found} {out = out} can =
       some = quotient-some (n / block_sectors v) (block_sectors v) n count some;
       few = go.few;
       clear = go.clear;
+      plain = go.plain;
       before = go.before;
       below = blocks-below c p n loaded blocks;
       there = λ j inside.
@@ -164,7 +162,7 @@ module _ {c : Configuration} {p : VerityPart} {n : ℕ} {found : List FoundRecor
         let e : p.first + (0 + j * block_sectors p.verity.now + t) ≡ p.first + j * block_sectors p.verity.now + (0 + t) = omega arith in
         sym (ap (λ (s : ℕ). line_said (said_by_name c) p.device.0 p.line (verity_target p.verity.now) s) e);
     cost = omega arith;
-    leaves = λ i is. verity-names c p.device.0 p.line 0 p.verity.now b.loaded b.line i (subst IsTrue (sym (verity-leaves c p.verity.now i)) is);
+    leaves = λ i is. verity-names c p.device.0 p.line 0 p.verity.now b.loaded b.line i (subst IsTrue (sym (verity-leaves c p.verity.now 0 i)) is);
   }
 
   -- ---- a block that was read with others
@@ -197,7 +195,7 @@ module _ {c : Configuration} {p : VerityPart} {n : ℕ} {found : List FoundRecor
     block-had taken was len there same =
         let good : digest p.verity.now.salt block ≡ expected = sym was.made_is ∙ same in
         walk_ends (λ (x : List ℕ). x) (block_in c p.verity.now (index + j)) b.size.whole walked block there
-        (data_read (λ (x : List ℕ). x) (block_in c p.verity.now (index + j)) expected (Ok block) taken
+        (data_read (λ (x : List ℕ). x) (block_in c p.verity.now (index + j)) expected block taken
         (at-place (Ok block) (record {
           moved = AreRead-none _ now;
           may = (len, good);
@@ -215,12 +213,13 @@ module _ {c : Configuration} {p : VerityPart} {n : ℕ} {found : List FoundRecor
     block-other taken was different =
         let other : digest p.verity.now.salt block ≡ expected → ⊥ = λ good. different (was.made_is ∙ good) in
         walk_fails (λ (x : List ℕ). x) (block_in c p.verity.now (index + j)) b.size.whole walked (io.Stack mismatch)
-        (data_read (λ (x : List ℕ). x) (block_in c p.verity.now (index + j)) expected (Err (io.Stack mismatch)) taken
+        (data_healed (λ (x : List ℕ). x) (block_in c p.verity.now (index + j)) expected mismatch taken
         (at-place (Err (io.Stack mismatch)) (record {
           moved = AreRead-none _ now;
           may = inl refl;
           exact = λ steady. ap (λ (s : Outcome). then_outcome s (checked p.verity.now.salt expected)) (here was steady) ∙ checked-other p.verity.now.salt expected block other;
-        })))
+        }))
+        (Err (io.Stack mismatch)) (spare-none (block_in c p.verity.now (index + j)) expected now b.plain))
 
   mono : AllMono (blocks_place c p n)
   mono s = λ u w more b h. (h.0, record { given = more h.0 h.1.given; at = h.1.at; good = h.1.good }, h.2)
@@ -228,7 +227,9 @@ module _ {c : Configuration} {p : VerityPart} {n : ℕ} {found : List FoundRecor
   -- ---- costs
 
   chain-cost : (i : ℕ) → (chain_expected (block_in c p.verity.now i)).cost ≤ read_cost c (mapped p.device.0)
-  chain-cost i = subst (λ (t : Target). line_read_cost (by_name c 0 (read_cost c)) t ≤ read_cost c (mapped p.device.0)) b.line.has (line-read-cost c p.device.0 p.line b.line.line b.loaded.valid b.line.is)
+  chain-cost i =
+      let line : line_read_cost (by_name c 0 (read_cost c)) (verity_target p.verity.now) ≤ read_cost c (mapped p.device.0) = subst (λ (t : Target). line_read_cost (by_name c 0 (read_cost c)) t ≤ read_cost c (mapped p.device.0)) b.line.has (line-read-cost c p.device.0 p.line b.line.line b.loaded.valid b.line.is) in
+      omega (arith, line, priced c p.verity.now i)
 
   pub total-cost : (r j : ℕ) → r ≤ m → j ≤ m → read_cost_so_far c p.verity.now (r * block_sectors p.verity.now) j ≤ n * read_cost c (mapped p.device.0)
   total-cost r j read most =
@@ -287,11 +288,11 @@ module _ {c : Configuration} {p : VerityPart} {n : ℕ} {found : List FoundRecor
     blocks-more content path len got =
         let chain : ChainRecord = record { index = index + j; content = content; path = path } in
         let one : FoundRecord = record { device = p.device.0; line = p.line; chain = chain } in
-        let whole : IsOfVerity (said_by_name c p.verity.now.data) (said_by_name c p.verity.now.hash) (target_leaves c (verity_target p.verity.now)) new p.verity.now chain = record {
+        let whole : IsOfVerity (below none_said (said_by_name c) (verity_target p.verity.now)) (target_leaves c (verity_target p.verity.now)) new p.verity.now chain = record {
           good = got.may.1;
           exact = λ steady.
               let before : AreSteady (chain_expected (block_in c p.verity.now (index + j))).leaves mid =
-              AreSteady-kept new mid (sym moved.moved.fixed) (AreSteady-within new (λ i is. subst IsTrue (sym (verity-leaves c p.verity.now i)) is) steady) in
+              AreSteady-kept new mid (sym moved.moved.fixed) (AreSteady-within new (λ i is. subst IsTrue (sym (verity-leaves c p.verity.now 0 i)) is) steady) in
               ap (λ (i : Images). verity_block c i p.verity.now (index + j)) (images-kept moved) ∙ got.exact before;
         } in
         let is : content ≡ take (512 * block_sectors p.verity.now) (drop (512 * ((p.first + j * block_sectors p.verity.now) % block_sectors p.verity.now)) content) =

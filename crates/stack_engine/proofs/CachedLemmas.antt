@@ -30,7 +30,7 @@ use Rattle.stack_meaning.specs.Places.{Place, place_of}
 use Rattle.stack_meaning.specs.Reading.{Gets}
 use Rattle.stack_lines.specs.Walks.{HasVerity, IsBlockOfDigest, checked_expected}
 use Rattle.stack_meaning.proofs.lemmas.LeafListLemmas.{AreRead-none, AreSteady-kept, AreSteady-within, images-kept}
-use Rattle.stack_engine.proofs.lemmas.WalkLemmas.{checked-same}
+use Rattle.stack_meaning.proofs.lemmas.CheckedLemmas.{checked-same}
 use Rattle.stack_lines.proofs.lemmas.StandingLemmas.{or-true, name-stands, verity-stands}
 use Rattle.stack_lines.proofs.lemmas.ForgetLemmas.{kept-written, others-alone}
 use Rattle.stack_lines.proofs.lemmas.VerityLineLemmas.{hash-whole, same-verity, place-named}

@@ -1,5 +1,5 @@
 -- The words of a `verity` line that are for the kernel alone.
-use Rattle.std.proofs.Common.{◌≡◌, ℕ, zero, suc, ◌+◌, ◌-◌, ◌/◌, Bool, true, false, cond, List, [], ◌∷◌, length, map, not, Option, Some, None, Ok, Err, refl, sym, ap, ◌∙◌}
+use Rattle.std.proofs.Common.{◌≡◌, ℕ, zero, suc, ◌+◌, ◌-◌, ◌*◌, ◌/◌, Bool, true, false, cond, List, [], ◌∷◌, length, map, not, Option, Some, None, Ok, Err, refl, sym, ap, ◌∙◌}
 use Rattle.std.specs.Prelude.{find, nat_lt, position, slice_get, option_map}
 use Rattle.std.specs.List.{enumerate_from, position_or_len}
 use Rattle.std.specs.Option.{option_map_or, option_or}
@@ -10,6 +10,7 @@ use Rattle.tree_shape.specs.Shape.{levels}
 use Rattle.dm_table.specs.declared.table.Line.{Line}
 use Rattle.dm_table.specs.declared.table.Target.{Target}
 use Rattle.dm_table.specs.declared.table.Target.TheVariants as targets
+use Rattle.dm_table.specs.declared.parity.Parity.{Parity}
 use Rattle.dm_table.specs.declared.verity.Verity.{Verity}
 use Rattle.stack_rules.specs.declared.lower.Lower.{Lower}
 use Rattle.stack_rules.specs.declared.lower.Lower.TheVariants.{Leaf as leaf, Device as device}
@@ -17,10 +18,13 @@ use Rattle.stack_rules.specs.Descend.{descend, after_steps, most_devices, by_nam
 use Rattle.stack_rules.specs.Lines.{line_in}
 use Rattle.stack_rules.specs.Names.{mapped, named, path_of, lines_of}
 use Rattle.stack_rules.specs.Records.{Configuration, DeviceRecord, LeafRecord}
-use Rattle.stack_rules.specs.Trees.{tree_of, block_sectors}
+use Rattle.stack_rules.specs.Trees.{tree_of, block_sectors, zero_block}
+use Rattle.stack_rules.specs.targets.Verity.{parity_bases}
 use Rattle.stack_meaning.specs.declared.units.CryptUnits.{CryptUnits}
-use Rattle.stack_meaning.specs.Beneath.{beneath, said_or}
-use Rattle.stack_meaning.specs.Blocks.{hash_sectors, hash_start, next_digest, checked_span, block_below, verified_block}
+use Rattle.stack_meaning.specs.Beneath.{below, beneath, said_or}
+use Rattle.stack_meaning.specs.Blocks.{hash_sectors, hash_start, next_digest, checked_span, block_below, is_ignored, verified_block}
+use Rattle.stack_meaning.specs.Spares.{BlockSources, data_spare, healed_outcome}
+use Rattle.stack_meaning.specs.targets.Verity.{sources_over}
 use Rattle.stack_meaning.specs.Found.{FoundRecord, Entry}
 use Rattle.stack_meaning.specs.Meaning.{IsShown, Said, content_part, leaf_said, line_said, none_said, said_by_name}
 use Rattle.stack_meaning.specs.Outcomes.{Images, Outcome, changed_outcome, then_outcome}
@@ -36,15 +40,21 @@ then-same : (x : Outcome) (next other : List ℕ → Outcome) → ((bytes : List
 then-same (Ok bytes) next other same = same bytes
 then-same (Err fault) next other same = refl
 
+-- the same spare
+spare-same : (v : Verity) (from : BlockSources) (o : Option Parity) (i : ℕ) (expected : List ℕ) → data_spare (without_kernel_words v) from o i expected ≡ data_spare v from o i expected
+spare-same v from None i expected = refl
+spare-same v from (Some p) i expected = refl
+
 -- from any level down
-block-same : (v : Verity) (on_data on_hash : ℕ → Outcome) (i l : ℕ) (expected : List ℕ) → block_below (without_kernel_words v) on_data on_hash i l expected ≡ block_below v on_data on_hash i l expected
-block-same v on_data on_hash i zero expected = refl
-block-same v on_data on_hash i (suc l) expected =
+block-same : (v : Verity) (from : BlockSources) (i l : ℕ) (expected : List ℕ) → block_below (without_kernel_words v) from i l expected ≡ block_below v from i l expected
+block-same v from i zero expected =
+    ap (λ (x : Outcome). cond (is_ignored v expected) (Ok (zero_block v)) (healed_outcome (checked_span from.on_data (block_sectors v * i) (block_sectors v) v.salt expected) x)) (spare-same v from v.parity i expected)
+block-same v from i (suc l) expected =
     then-same
-    (checked_span on_hash (hash_start v l i) (hash_sectors v) v.salt expected)
-    (λ block. block_below (without_kernel_words v) on_data on_hash i l (next_digest v l i block))
-    (λ block. block_below v on_data on_hash i l (next_digest v l i block))
-    (λ block. block-same v on_data on_hash i l (next_digest v l i block))
+    (checked_span from.on_hash (hash_start v l i) (hash_sectors v) v.salt expected)
+    (λ block. block_below (without_kernel_words v) from i l (next_digest v l i block))
+    (λ block. block_below v from i l (next_digest v l i block))
+    (λ block. block-same v from i l (next_digest v l i block))
 
 -- ---- a line, over devices whose sectors mean the same
 
@@ -65,12 +75,17 @@ module _ (images : Images) (at' at : List ℕ → ℕ → Said) (all : (name : L
   target-same d l (targets.Verity v) s =
       let i : ℕ = s / block_sectors v in
       let next : List ℕ → Outcome = λ block. Ok (content_part v s block) in
-      let f : (List ℕ → ℕ → Said) → List ℕ → ℕ → Outcome = λ said name t. (said name t).means images in
-      let on_data : (λ t. (at' v.data t).means images) ≡ (λ t. (at v.data t).means images) = fun_ext (all v.data) in
-      let on_hash : (λ t. (at' v.hash t).means images) ≡ (λ t. (at v.hash t).means images) = fun_ext (all v.hash) in
-      ap (λ (o : Outcome). then_outcome o next) (block-same v (f at' v.data) (f at' v.hash) i (levels (tree_of v)) v.root)
-      ∙ ap (λ (g : ℕ → Outcome). then_outcome (verified_block v g (f at' v.hash) i) next) on_data
-      ∙ ap (λ (g : ℕ → Outcome). then_outcome (verified_block v (f at v.data) g i) next) on_hash
+      let of : (List ℕ → ℕ → Said) → BlockSources = λ said. sources_over (below none_said said (targets.Verity v)) images in
+      let third : ℕ → Option (List ℕ × ℕ) = λ t. option_map (λ base. (base.device, t)) (slice_get (record { device = v.data; offset = 0 } ∷ record { device = v.hash; offset = 0 } ∷ parity_bases v.parity) 2) in
+      let on_data : (of at').on_data ≡ (of at).on_data = fun_ext (all v.data) in
+      let on_hash : (of at').on_hash ≡ (of at).on_hash = fun_ext (all v.hash) in
+      let on_parity : (of at').on_parity ≡ (of at).on_parity = fun_ext (λ t. or-same (third t)) in
+      let same : of at' ≡ of at =
+      ap {B = BlockSources} (λ (g : ℕ → Outcome). record { on_data = g; on_hash = (of at').on_hash; on_parity = (of at').on_parity }) on_data
+      ∙ ap {B = BlockSources} (λ (g : ℕ → Outcome). record { on_data = (of at).on_data; on_hash = g; on_parity = (of at').on_parity }) on_hash
+      ∙ ap {B = BlockSources} (λ (g : ℕ → Outcome). record { on_data = (of at).on_data; on_hash = (of at).on_hash; on_parity = g }) on_parity in
+      ap (λ (o : Outcome). then_outcome o next) (block-same v (of at') i (levels (tree_of v)) v.root)
+      ∙ ap (λ (g : BlockSources). then_outcome (verified_block v g i) next) same
   target-same d l (targets.Unstriped line) s = or-same (beneath (targets.Unstriped line) s)
 
   choose : (d s : ℕ) (p' p : ℕ × Line) (b : Bool) (o' o : Option (ℕ × Line))

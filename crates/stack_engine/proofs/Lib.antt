@@ -28,3 +28,7 @@ pub mod RefusedLemmas
 pub mod SyncCallLemmas
 pub mod DirtyLemmas
 pub mod KernelWordLemmas
+pub mod HealLemmas
+pub mod SumLemmas
+pub mod MendCallLemmas
+pub mod LostBlockLemmas

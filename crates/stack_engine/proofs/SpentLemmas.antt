@@ -1,6 +1,6 @@
 -- What a read has spent of its budget: run by run, of units, and of data blocks.
 use Rattle.std.proofs.Common.{◌≡◌, ℕ, ◌+◌, ◌-◌, ◌*◌, ◌/◌, ◌<◌, ◌≤◌, ◌⊎◌, false, List, inl, inr, sym, ap, ◌∙◌, arith}
-use Rattle.std.proofs.Math.Nat.{add-mul, mul-add, mul_assoc, mul-le-mul_right}
+use Rattle.std.proofs.Math.Nat.{add-mul, mul-add, mul_assoc, mul-le-mul_left, mul-le-mul_right}
 use Rattle.block_device.specs.Device.{Device}
 use Rattle.dm_table.specs.declared.table.Target.TheVariants.{Verity as verity_target}
 use Rattle.stack_rules.specs.declared.lower.Lower.TheVariants.{Leaf as leaf}
@@ -8,7 +8,9 @@ use Rattle.stack_rules.specs.Records.{Configuration}
 use Rattle.stack_rules.specs.Names.{mapped}
 use Rattle.stack_rules.specs.Descend.{by_name, line_read_cost, read_cost}
 use Rattle.stack_rules.specs.Rules.{IsLoaded}
-use Rattle.stack_rules.specs.Trees.{block_sectors}
+use Rattle.stack_rules.specs.Trees.{block_sectors, tree_of}
+use Rattle.stack_meaning.specs.Blocks.{hash_sectors}
+use Rattle.tree_shape.specs.Shape.{levels}
 use Rattle.stack_meaning.specs.Units.{per_unit}
 use Rattle.stack_meaning.proofs.lemmas.UnitSizeLemmas.{per_unit-some}
 use Rattle.std.proofs.lemmas.Nat.{div-add-mod'}
@@ -25,7 +27,7 @@ use Rattle.stack_lines.specs.declared.units.WholeUnit.{WholeUnit}
 use Rattle.stack_lines.specs.Budgets.{ReadsAtMost, budget, crypt_budget, part_budget, source_budget}
 use Rattle.stack_lines.specs.Sources.{AreUnits, LieInUnit, IsWholeOf, from_unit, IsServed, EndsRun}
 use Rattle.stack_lines.specs.Walks.{block_in, chain_expected}
-use Rattle.stack_lines.proofs.lemmas.BudgetLemmas.{budget-leaf, budget-apart, served-budget, units-budget, unit-budget, blocks-budget, block-budget}
+use Rattle.stack_lines.proofs.lemmas.BudgetLemmas.{chain-cost as priced, budget-leaf, budget-apart, served-budget, units-budget, unit-budget, blocks-budget, block-budget}
 use Rattle.stack_lines.proofs.lemmas.UnitSourceLemmas.{units-of}
 use Rattle.stack_lines.proofs.lemmas.VerityLineLemmas.{place-named}
 use Rattle.stack_engine.proofs.BlockPartLemmas.{BlockAt}
@@ -90,8 +92,7 @@ unit-spent c x whole n of lies some old new spent =
 -- a part of one
 pub block-spent : {c : Configuration} {p : VerityPart} {n : ℕ} (i : ℕ) {old new : List Device} → BlockAt c p n → AreRead old ((chain_expected (block_in c p.verity.now i)).cost) new → ReadsAtMost (part_budget c p n) old new
 block-spent {c = c} {p = p} {n = n} i {old = old} {new = new} b read =
-    let most : ReadsAtMost (line_read_cost (by_name c 0 (read_cost c)) (verity_target p.verity.now)) old new = read.moved.reads.sum in
-    omega (arith, most, block-budget c p n b.some b.within)
+    omega (arith, read.moved.reads.sum, priced c p.verity.now i, block-budget c p n b.some b.within)
 
 -- what r blocks and many more cost, with the ways to j of m blocks
 rows-cost : (m u price way r j many : ℕ) → r + many ≤ m → j ≤ m → r * u * price + many * u * price + j * way ≤ m * (u * price + way)
@@ -117,8 +118,13 @@ module _ {c : Configuration} {p : VerityPart} {n : ℕ} {found : List FoundRecor
   abbrev data_cost : ℕ
   data_cost = (block_in c p.verity.now 0).on_data.cost
 
-  all-is : part_budget c p n ≡ m * (block_sectors p.verity.now * data_cost + path_cost c p.verity.now)
-  all-is = blocks-budget c p n m b.size.some b.aligned b.count ∙ ap (λ (k : ℕ). m * (block_sectors p.verity.now * data_cost + k)) (mul_assoc _ _ (block_in c p.verity.now 0).on_hash.cost)
+  all-is : m * (block_sectors p.verity.now * data_cost + path_cost c p.verity.now) ≤ part_budget c p n
+  all-is =
+      let line : ℕ = line_read_cost (by_name c 0 (read_cost c)) (verity_target p.verity.now) in
+      let way = mul_assoc (levels (tree_of p.verity.now)) (hash_sectors p.verity.now) (block_in c p.verity.now 0).on_hash.cost in
+      let each : block_sectors p.verity.now * data_cost + path_cost c p.verity.now ≤ line = omega (arith, priced c p.verity.now 0, way) in
+      let all : m * (block_sectors p.verity.now * data_cost + path_cost c p.verity.now) ≤ m * line = mul-le-mul_left m each in
+      omega (arith, all, blocks-budget c p n m b.size.some b.aligned b.count)
 
   -- so many blocks, of which data were read as far as block r
   pub had-spent : (r j : ℕ) {old mid : List Device} → r ≤ n / block_sectors p.verity.now → j ≤ n / block_sectors p.verity.now → AreRead old (read_cost_so_far c p.verity.now (r * block_sectors p.verity.now) j) mid → ReadsAtMost (part_budget c p n) old mid

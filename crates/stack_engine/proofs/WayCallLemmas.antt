@@ -1,5 +1,6 @@
 -- Calls of reads of blocks on the way to data of a `verity` line.
 use Rattle.std.proofs.Common.{◌≡◌, ℕ, suc, ◌+◌, ◌-◌, ◌*◌, ◌/◌, ◌<◌, ◌≤◌, true, false, List, [], ◌∷◌, ◌++◌, length, get_or, Option, Some, Result, Ok, Err, inl, inr, refl, sym, ap, ◌∙◌, subst, arith}
+use Rattle.std.specs.Prelude.{IfErr}
 use Rattle.std.proofs.lemmas.Bool.{cases_lt}
 use Rattle.hash_tree.specs.Chain.{ChainRecord, IsGood}
 use Rattle.tree_shape.specs.Digests.{digest}
@@ -9,6 +10,7 @@ use Rattle.stack_rules.specs.declared.lower.Lower.{Lower}
 use Rattle.stack_rules.specs.Records.{Configuration}
 use Rattle.stack_rules.specs.Trees.{tree_of, block_sectors}
 use Rattle.stack_meaning.specs.Blocks.{next_digest, is_ignored}
+use Rattle.stack_meaning.specs.declared.fault.Fault.{Fault}
 use Rattle.stack_meaning.specs.declared.fault.Fault.TheVariants as why
 use Rattle.stack_meaning.specs.declared.fault.IoFault.{IoFault}
 use Rattle.stack_meaning.specs.declared.fault.IoFault.TheVariants as io
@@ -17,7 +19,8 @@ use Rattle.stack_lines.specs.declared.source.VerityPart.{VerityPart}
 use Rattle.stack_lines.specs.declared.tree.Extent.{Extent}
 use Rattle.stack_lines.specs.declared.tree.Tree.{Tree}
 use Rattle.verified_cache.specs.Cache.{CachedBlock}
-use Rattle.stack_engine.specs.SectorCalls.{AreReadTogether, DataPlace, digest_after, DataRead, ExpectedBlock, Gives, LeadsTo, ReadOf, ReadsBy, block_of, block_part, data_of, expected_data, expected_hash, hash_of, last_bytes, one_block, place_at, place_in, whole_data, chain_found, data_read, data_unread, data_full, block_checked, block_differs, block_unread, hash_lost, hash_read, way_down, way_stops, way_full, one_read}
+use Rattle.stack_engine.specs.SectorCalls.{AreReadTogether, DataPlace, digest_after, DataRead, ExpectedBlock, Gives, LeadsTo, ReadOf, ReadsBy, block_of, block_part, data_of, expected_data, expected_hash, hash_of, last_bytes, one_block, place_at, place_in, spare_of, whole_data, chain_found, data_read, data_unread, data_full, block_checked, block_differs, block_unread, hash_lost, hash_read, way_down, way_stops, way_full, one_read, one_healed}
+use Rattle.stack_engine.specs.Healing.{IsSettled, healed_result}
 use Rattle.stack_engine.proofs.LeafCallLemmas.{makes-none, makes-as, makes-then}
 
 -- the last block of a path
@@ -50,14 +53,16 @@ together-more {p = p} {last = last} {many = many} more here unlike h = record {
 }
 
 -- a place by the tree of a part's line is the part's place
-pub place-same : (x : VerityPart) (tree : Tree) (i : ℕ) {hash : Option Lower} → hash ≡ Some tree.hash → hash ≡ Some x.hash → tree.data ≡ x.data → place_in x.verity.now tree i ≡ place_at x i
-place-same x tree i is own under =
+pub place-same : (x : VerityPart) (tree : Tree) (i : ℕ) {hash parity : Option Lower} → hash ≡ Some tree.hash → hash ≡ Some x.hash → tree.data ≡ x.data → parity ≡ tree.parity → parity ≡ x.parity → place_in x.verity.now tree i ≡ place_at x i
+place-same x tree i is own under stored kept =
     let both : Some tree.hash ≡ Some x.hash = sym is ∙ own in
     let same : tree.hash ≡ x.hash = cc in
-    ap {B = DataPlace} (λ (l : Lower). record { verity = x.verity.now; on_data = l; on_hash = tree.hash; index = i }) under ∙ ap {B = DataPlace} (λ (l : Lower). record { verity = x.verity.now; on_data = x.data; on_hash = l; index = i }) same
+    ap {B = DataPlace} (λ (l : Lower). record { verity = x.verity.now; on_data = l; on_hash = tree.hash; on_parity = tree.parity; index = i }) under
+    ∙ ap {B = DataPlace} (λ (l : Lower). record { verity = x.verity.now; on_data = x.data; on_hash = l; on_parity = tree.parity; index = i }) same
+    ∙ ap {B = DataPlace} (λ (l : Option Lower). record { verity = x.verity.now; on_data = x.data; on_hash = x.hash; on_parity = l; index = i }) (sym stored ∙ kept)
 
-pub place-turn : (x : VerityPart) (tree : Tree) (i j : ℕ) {hash : Option Lower} → hash ≡ Some tree.hash → hash ≡ Some x.hash → tree.data ≡ x.data → i ≡ x.first / block_sectors x.verity.now + j → place_in x.verity.now tree i ≡ place_at x (x.first / block_sectors x.verity.now + j)
-place-turn x tree i j is own under index = place-same x tree i is own under ∙ ap (λ (k : ℕ). place_at x k) index
+pub place-turn : (x : VerityPart) (tree : Tree) (i j : ℕ) {hash parity : Option Lower} → hash ≡ Some tree.hash → hash ≡ Some x.hash → tree.data ≡ x.data → parity ≡ tree.parity → parity ≡ x.parity → i ≡ x.first / block_sectors x.verity.now + j → place_in x.verity.now tree i ≡ place_at x (x.first / block_sectors x.verity.now + j)
+place-turn x tree i j is own under stored kept index = place-same x tree i is own under stored kept ∙ ap (λ (k : ℕ). place_at x k) index
 
 module _ {D : Type 0} {does : D → Call → D → Type 0} {c : Configuration} where
   -- ---- an expected block
@@ -110,10 +115,16 @@ module _ {D : Type 0} {does : D → Call → D → Type 0} {c : Configuration} w
 
   -- ---- one data block
 
-  pub one-given : {p : DataPlace} {e : Extent} {expected : List ℕ} {old new : List D} {answer : Result (List ℕ) IoFault} (last : List ℕ) → is_ignored p.verity expected ≡ false → e ≡ (expected_data p expected).extent
+  pub one-given : {p : DataPlace} {e : Extent} {expected : List ℕ} {old new : List D} {answer : Result (List ℕ) IoFault} (last : List ℕ) → is_ignored p.verity expected ≡ false → e ≡ (expected_data p expected).extent → IfErr answer IsSettled
       → ReadsBy does c (block_of (record { extent = e; salt = p.verity.salt; digest = expected })) old new answer → ReadsBy does c (data_of p 0 expected last one_block) old new answer
-  one-given {p = p} {expected = expected} {old = old} {new = new} {answer = answer} last used at h =
-      makes-as (λ calls a. one_read last used a) (subst (λ (x : Extent). ReadsBy does c (block_of (record { extent = x; salt = p.verity.salt; digest = expected })) old new answer) at h)
+  one-given {p = p} {expected = expected} {old = old} {new = new} {answer = answer} last used at settled h =
+      makes-as (λ calls a. one_read last used settled a) (subst (λ (x : Extent). ReadsBy does c (block_of (record { extent = x; salt = p.verity.salt; digest = expected })) old new answer) at h)
+
+  -- by its spare
+  pub one-healed : {p : DataPlace} {e : Extent} {expected : List ℕ} {fault : Fault} {old mid new : List D} {spare : Result (List ℕ) IoFault} (last : List ℕ) → is_ignored p.verity expected ≡ false → e ≡ (expected_data p expected).extent
+      → ReadsBy does c (block_of (record { extent = e; salt = p.verity.salt; digest = expected })) old mid (Err (io.Stack fault)) → ReadsBy does c (spare_of p expected) mid new spare → ReadsBy does c (data_of p 0 expected last one_block) old new (healed_result fault spare)
+  one-healed {p = p} {expected = expected} {fault = fault} {old = old} {mid = mid} last used at h got =
+      makes-then (λ calls later a b. one_healed last used a b) (subst (λ (x : Extent). ReadsBy does c (block_of (record { extent = x; salt = p.verity.salt; digest = expected })) old mid (Err (io.Stack fault))) at h) got
 
   -- of a part
   module _ (x : VerityPart) (n : ℕ) {p : DataPlace} {s : ℕ} (sectors : s ≡ block_sectors x.verity.now) (same : p ≡ place_at x (x.first / s)) where

@@ -2,8 +2,11 @@
 pub mod AnsweredLemmas
 pub mod BlockLemmas
 pub mod CallEndLemmas
+pub mod DamagedLemmas
 pub mod FormattedLemmas
+pub mod MendLemmas
 pub mod PieceLemmas
+pub mod RoundLemmas
 pub mod SyncLemmas
 pub mod WalkLemmas
 pub mod WritePieceLemmas

@@ -1,8 +1,10 @@
+pub mod Space
 pub mod Stacks
 pub mod KeptBlocks
 pub mod Premises
 pub mod Backings
 pub mod LeafCalls
+pub mod Healing
 pub mod SectorCalls
 pub mod Keeping
 pub mod Uncut
@@ -11,6 +13,8 @@ pub mod Bytes
 pub mod WritePieces
 pub mod Dirty
 pub mod ReadSteps
+pub mod Spares
 pub mod WriteSteps
 pub mod Syncs
 pub mod Laws
+pub mod DamagedData

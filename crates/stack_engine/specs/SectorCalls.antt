@@ -1,22 +1,25 @@
 -- Which calls on the devices of leaves a read and a write of sectors make, whatever the devices answer: which sectors of which
 -- leaves, in which order, with which bytes, and none after the first that failed. A device is accessed by its longest runs,
 -- and a leaf by one call for each run.
-use Rattle.std.specs.Prelude.{◌≡◌, ℕ, zero, suc, ◌+◌, ◌*◌, ◌/◌, ◌%◌, ◌<◌, ◌≤◌, true, false, List, [], ◌∷◌, ◌++◌, length, take, drop, replicate, Result, Ok, Err}
+use Rattle.std.specs.Prelude.{◌≡◌, ℕ, zero, suc, ◌+◌, ◌-◌, ◌*◌, ◌/◌, ◌%◌, ◌<◌, ◌≤◌, ◌==◌, nat_lt, true, false, if◌then◌else◌, List, [], ◌∷◌, ◌++◌, length, take, drop, replicate, Option, Some, None, option_map, Result, Ok, Err, IfErr}
 use Rattle.hash_tree.specs.Chain.{ChainRecord, IsGood}
 use Rattle.tree_shape.specs.Digests.{digest, digest_in}
 use Rattle.tree_shape.specs.Shape.{levels, slot, ancestor}
 use Rattle.block_device.specs.Call.{Call, Read, Write}
+use Rattle.dm_table.specs.declared.parity.Parity.{Parity}
 use Rattle.dm_table.specs.declared.verity.Verity.{Verity}
 use Rattle.stack_rules.specs.declared.lower.Lower.{Lower}
 use Rattle.stack_rules.specs.declared.lower.Lower.TheVariants.{Leaf}
 use Rattle.stack_rules.specs.Names.{mapped}
 use Rattle.stack_rules.specs.Records.{Configuration}
-use Rattle.stack_rules.specs.Trees.{tree_of, block_sectors, zero_block}
+use Rattle.stack_rules.specs.Trees.{tree_of, block_sectors, round_count, zero_block}
 use Rattle.stack_meaning.specs.Blocks.{hash_sectors, hash_start, next_digest, is_ignored}
+use Rattle.stack_meaning.specs.declared.fault.Fault.{Fault}
 use Rattle.stack_meaning.specs.declared.fault.Fault.TheVariants as why
 use Rattle.stack_meaning.specs.declared.fault.IoFault.{IoFault}
 use Rattle.stack_meaning.specs.declared.fault.IoFault.TheVariants as io
 use Rattle.stack_meaning.specs.Meaning.{said_at}
+use Rattle.stack_meaning.specs.Spares.{added_block, covered_start, parity_start, place_number, with_parity}
 use Rattle.stack_meaning.specs.Units.{per_unit, unit_first, encrypted_units, decrypted_units}
 use Rattle.stack_lines.specs.declared.source.CryptPart.{CryptPart}
 use Rattle.stack_lines.specs.declared.source.Run.{Run}
@@ -29,6 +32,7 @@ use Rattle.stack_lines.specs.Runs.{IsRunAt}
 use Rattle.stack_lines.specs.Sources.{from_unit}
 use Rattle.stack_lines.specs.Walks.{IsBlockOfDigest}
 use Rattle.stack_lines.specs.Writing.{SomeEncrypt}
+use Rattle.stack_engine.specs.Healing.{IsSettled, healed_result}
 use Rattle.stack_engine.specs.LeafCalls.{LeafCall, MakesCalls}
 use Rattle.verified_cache.specs.Cache.{CachedBlock}
 
@@ -64,18 +68,19 @@ pub record ExpectedBlock : Type 0 where
   pub salt : List ℕ
   pub digest : List ℕ
 
--- data block `index` of a `verity` line, and the devices of its data blocks and hash blocks
+-- data block `index` of a `verity` line, and the devices of its data blocks, hash blocks and parity
 pub record DataPlace : Type 0 where
   pub verity : Verity
   pub on_data : Lower
   pub on_hash : Lower
+  pub on_parity : Option Lower
   pub index : ℕ
 
 abbrev pub place_in : Verity → Tree → ℕ → DataPlace
-place_in v tree index = record { verity = v; on_data = tree.data; on_hash = tree.hash; index = index }
+place_in v tree index = record { verity = v; on_data = tree.data; on_hash = tree.hash; on_parity = tree.parity; index = index }
 
 abbrev pub place_at : VerityPart → ℕ → DataPlace
-place_at x index = record { verity = x.verity.now; on_data = x.data; on_hash = x.hash; index = index }
+place_at x index = record { verity = x.verity.now; on_data = x.data; on_hash = x.hash; on_parity = x.parity; index = index }
 
 abbrev pub next_place : DataPlace → DataPlace
 next_place p = record p { index = p.index + 1 }
@@ -86,6 +91,30 @@ expected_hash p l expected = record { extent = record { lower = p.on_hash; first
 
 abbrev pub expected_data : DataPlace → List ℕ → ExpectedBlock
 expected_data p expected = record { extent = record { lower = p.on_data; first = block_sectors p.verity * p.index; sectors = block_sectors p.verity }; salt = p.verity.salt; digest = expected }
+
+-- where covered block k lies
+abbrev pub covered_at : DataPlace → ℕ → Extent
+covered_at p k = record { lower = if nat_lt k p.verity.blocks then p.on_data else p.on_hash; first = covered_start p.verity k; sectors = block_sectors p.verity }
+
+-- the number of the covered block at position i of the round of data block j, unless that is block j, or there is none
+abbrev pub other_number : Parity → ℕ → ℕ → Option ℕ
+other_number q j i =
+    if i == j / round_count q then None
+    else if nat_lt (place_number q (j % round_count q) i) q.blocks then Some (place_number q (j % round_count q) i)
+    else None
+
+-- where it lies
+abbrev pub other_at : DataPlace → Parity → ℕ → Option Extent
+other_at p q i = option_map (covered_at p) (other_number q p.index i)
+
+-- without parity nowhere
+abbrev pub other_by : DataPlace → Option Parity → ℕ → Option Extent
+other_by p None i = None
+other_by p (Some q) i = other_at p q i
+
+-- the first sector of the parity of its round
+abbrev pub parity_first : DataPlace → Parity → ℕ
+parity_first p q = parity_start p.verity q (p.index % round_count q)
 
 -- n sectors of a part of a data block, of the bytes of the block
 abbrev pub block_part : VerityPart → ℕ → List ℕ → List ℕ
@@ -116,13 +145,16 @@ pub record AreReadTogether (p : DataPlace) (last : List ℕ) (left many : ℕ) :
 
 -- What is read: n sectors of a source; an expected block, or one that may be kept; what is beneath so many levels of hash blocks,
 -- when a digest is expected of the next block, after a hash block of those bytes; so many data blocks from a place on, of which
--- those bytes were read before.
+-- those bytes were read before; the spare of a data block, of which a digest is expected; what is added to sums for it, from a
+-- position of its round on.
 pub data ReadOf : Type 0 where
   sectors_of : Source → ℕ → ReadOf
   block_of : ExpectedBlock → ReadOf
   hash_of : ExpectedBlock → ReadOf
   data_of : DataPlace → ℕ → List ℕ → List ℕ → DataRead → ReadOf
   blocks_of : DataPlace → ℕ → List ℕ → ReadOf
+  spare_of : DataPlace → List ℕ → ReadOf
+  sums_of : DataPlace → Parity → ℕ → List ℕ → ReadOf
 
 -- data from the root down
 abbrev pub whole_data : DataPlace → DataRead → ReadOf
@@ -171,15 +203,18 @@ pub data ReadCalls (c : Configuration) : ReadOf → List LeafCall → Result (Li
       → ReadCalls c (data_of p (suc l) expected last next) (calls ++ later) answer
   way_stops : {p : DataPlace} {l : ℕ} {expected : List ℕ} (last : List ℕ) (next : DataRead) {calls : List LeafCall} {fault : IoFault} → ReadCalls c (hash_of (expected_hash p l expected)) calls (Err fault) → ReadCalls c (data_of p (suc l) expected last next) calls (Err fault)
   way_full : (p : DataPlace) (l : ℕ) (expected last : List ℕ) (next : DataRead) → ReadCalls c (data_of p l expected last next) [] (Err io.NoMemory)
-  -- the one data block: zeros, if the line ignores it, or it is read
+  -- the one data block: zeros, if the line ignores it, or it is read; and if that ends in a fault of the lines, its spare is
   one_ignored : (p : DataPlace) (expected last : List ℕ) → is_ignored p.verity expected ≡ true → ReadCalls c (data_of p zero expected last one_block) [] (Ok (zero_block p.verity))
-  one_read : {p : DataPlace} {expected : List ℕ} (last : List ℕ) {calls : List LeafCall} {answer : Result (List ℕ) IoFault} → is_ignored p.verity expected ≡ false → ReadCalls c (block_of (expected_data p expected)) calls answer → ReadCalls c (data_of p zero expected last one_block) calls answer
-  -- whole data blocks, the next of which was read before: it is ignored, or has the digest, and those after it are read; or it differs
+  one_read : {p : DataPlace} {expected : List ℕ} (last : List ℕ) {calls : List LeafCall} {answer : Result (List ℕ) IoFault} → is_ignored p.verity expected ≡ false → IfErr answer IsSettled → ReadCalls c (block_of (expected_data p expected)) calls answer → ReadCalls c (data_of p zero expected last one_block) calls answer
+  one_healed : {p : DataPlace} {expected : List ℕ} (last : List ℕ) {calls later : List LeafCall} {fault : Fault} {spare : Result (List ℕ) IoFault} → is_ignored p.verity expected ≡ false → ReadCalls c (block_of (expected_data p expected)) calls (Err (io.Stack fault)) → ReadCalls c (spare_of p expected) later spare
+      → ReadCalls c (data_of p zero expected last one_block) (calls ++ later) (healed_result fault spare)
+  -- whole data blocks, the next of which was read before: it is ignored, or has the digest, and those after it are read; or it
+  -- differs, and the line has no parity
   next_ignored : {p : DataPlace} {left : ℕ} {expected ahead : List ℕ} (last : List ℕ) {calls : List LeafCall} {answer : Result (List ℕ) IoFault} → is_ignored p.verity expected ≡ true → ReadCalls c (blocks_of (next_place p) left (drop p.verity.data_block ahead)) calls answer
       → ReadCalls c (data_of p zero expected last (blocks_left (suc left) ahead)) calls (bytes_before (zero_block p.verity) answer)
   next_checked : {p : DataPlace} {left : ℕ} {expected ahead : List ℕ} (block last : List ℕ) {calls : List LeafCall} {answer : Result (List ℕ) IoFault} → is_ignored p.verity expected ≡ false → IsBlockOfDigest (block_sectors p.verity) p.verity.salt expected block → ReadCalls c (blocks_of (next_place p) left ahead) calls answer
       → ReadCalls c (data_of p zero expected last (blocks_left (suc left) (block ++ ahead))) calls (bytes_before block answer)
-  next_differs : {p : DataPlace} {expected : List ℕ} (left : ℕ) (block ahead last : List ℕ) → is_ignored p.verity expected ≡ false → length block ≡ 512 * block_sectors p.verity → (digest p.verity.salt block ≡ expected → ⊥) → ReadCalls c (data_of p zero expected last (blocks_left left (block ++ ahead))) [] (Err (io.Stack why.Mismatch))
+  next_differs : {p : DataPlace} {expected : List ℕ} (left : ℕ) (block ahead last : List ℕ) → is_ignored p.verity expected ≡ false → length block ≡ 512 * block_sectors p.verity → (digest p.verity.salt block ≡ expected → ⊥) → p.verity.parity ≡ None → ReadCalls c (data_of p zero expected last (blocks_left left (block ++ ahead))) [] (Err (io.Stack why.Mismatch))
   -- it wasn't read before: it is read together with later ones
   together_read : {p : DataPlace} {left many : ℕ} {expected last bytes : List ℕ} {calls later : List LeafCall} {answer : Result (List ℕ) IoFault} → is_ignored p.verity expected ≡ false → AreReadTogether p last left many → ReadCalls c (sectors_of (Below p.on_data (block_sectors p.verity * p.index)) (many * block_sectors p.verity)) calls (Ok bytes)
       → ReadCalls c (data_of p zero expected last (blocks_left left bytes)) later answer → ReadCalls c (data_of p zero expected last (blocks_left left [])) (calls ++ later) answer
@@ -189,6 +224,22 @@ pub data ReadCalls (c : Configuration) : ReadOf → List LeafCall → Result (Li
   blocks_end : (p : DataPlace) (ahead : List ℕ) → ReadCalls c (blocks_of p zero ahead) [] (Ok [])
   blocks_next : {p : DataPlace} {left : ℕ} {ahead : List ℕ} {calls : List LeafCall} {answer : Result (List ℕ) IoFault} → ReadCalls c (whole_data p (blocks_left (suc left) ahead)) calls answer → ReadCalls c (blocks_of p (suc left) ahead) calls answer
   blocks_full : (p : DataPlace) (left : ℕ) (ahead : List ℕ) → ReadCalls c (blocks_of p left ahead) [] (Err io.NoMemory)
+  -- the spare of a data block: none without parity, or if memory runs out before it; or the sum of the other blocks of its round and of their parity, which has the
+  -- digest, or another one, or can't be read
+  spare_none : (p : DataPlace) (expected : List ℕ) → p.verity.parity ≡ None → ReadCalls c (spare_of p expected) [] (Err (io.Stack why.Mismatch))
+  spare_full : (p : DataPlace) (expected : List ℕ) → ReadCalls c (spare_of p expected) [] (Err io.NoMemory)
+  spare_checked : {p : DataPlace} {q : Parity} {expected bytes : List ℕ} {calls : List LeafCall} → p.verity.parity ≡ Some q → ReadCalls c (sums_of p q 0 (zero_block p.verity)) calls (Ok bytes) → digest p.verity.salt bytes ≡ expected → ReadCalls c (spare_of p expected) calls (Ok bytes)
+  spare_differs : {p : DataPlace} {q : Parity} {expected bytes : List ℕ} {calls : List LeafCall} → p.verity.parity ≡ Some q → ReadCalls c (sums_of p q 0 (zero_block p.verity)) calls (Ok bytes) → (digest p.verity.salt bytes ≡ expected → ⊥) → ReadCalls c (spare_of p expected) calls (Err (io.Stack why.Mismatch))
+  spare_unread : {p : DataPlace} {q : Parity} {expected : List ℕ} {calls : List LeafCall} {fault : IoFault} → p.verity.parity ≡ Some q → ReadCalls c (sums_of p q 0 (zero_block p.verity)) calls (Err fault) → ReadCalls c (spare_of p expected) calls (Err fault)
+  -- the blocks at the positions of the round, in order: none, or one that is added; and then the parity
+  sums_past : {p : DataPlace} {q : Parity} {i : ℕ} {sums : List ℕ} {calls : List LeafCall} {answer : Result (List ℕ) IoFault} → i < 255 - q.roots → other_at p q i ≡ None → ReadCalls c (sums_of p q (suc i) sums) calls answer → ReadCalls c (sums_of p q i sums) calls answer
+  sums_added : {p : DataPlace} {q : Parity} {i : ℕ} {e : Extent} {sums block : List ℕ} {calls later : List LeafCall} {answer : Result (List ℕ) IoFault} → i < 255 - q.roots → other_at p q i ≡ Some e → ReadCalls c (sectors_of (Below e.lower e.first) e.sectors) calls (Ok block)
+      → ReadCalls c (sums_of p q (suc i) (added_block sums block)) later answer → ReadCalls c (sums_of p q i sums) (calls ++ later) answer
+  sums_unread : {p : DataPlace} {q : Parity} {i : ℕ} {e : Extent} (sums : List ℕ) {calls : List LeafCall} {fault : IoFault} → i < 255 - q.roots → other_at p q i ≡ Some e → ReadCalls c (sectors_of (Below e.lower e.first) e.sectors) calls (Err fault) → ReadCalls c (sums_of p q i sums) calls (Err fault)
+  parity_added : {p : DataPlace} {q : Parity} {x : Lower} {parity : List ℕ} (sums : List ℕ) {calls : List LeafCall} → p.on_parity ≡ Some x → ReadCalls c (sectors_of (Below x (parity_first p q)) (block_sectors p.verity * q.roots)) calls (Ok parity)
+      → ReadCalls c (sums_of p q (255 - q.roots) sums) calls (Ok (with_parity q.roots sums parity))
+  parity_unread : {p : DataPlace} {q : Parity} {x : Lower} (sums : List ℕ) {calls : List LeafCall} {fault : IoFault} → p.on_parity ≡ Some x → ReadCalls c (sectors_of (Below x (parity_first p q)) (block_sectors p.verity * q.roots)) calls (Err fault)
+      → ReadCalls c (sums_of p q (255 - q.roots) sums) calls (Err fault)
 
 abbrev pub AreReadCalls : Configuration → Source → ℕ → List LeafCall → Result (List ℕ) IoFault → Type 0
 AreReadCalls c source n = ReadCalls c (sectors_of source n)

@@ -1,4 +1,5 @@
 //! Laws of the definitions: each function's contract is the law, and its call gives it.
+ghost use Rattle.stack_engine.specs.DamagedData.{DamagedDataIsRead};
 ghost use Rattle.stack_engine.specs.Dirty.{ReadsKeepDirty, WritesMakeDirty};
 ghost use Rattle.stack_engine.specs.Laws.{FormattedDataIsRead, IgnoredBlocksCollide, KernelWordsChangeNoLine, KernelWordsChangeNoSector, SpansStandOnLeaves, AnsweredChainsAreGood, ForgedAnswersCollide, ForgedBytesCollide, ForgedSectorsCollide, OtherLeavesChangeNoAnswer, WrittenLeavesAreForgotten};
 
@@ -10,6 +11,15 @@ use hash_tree::laws::{forged_blocks_collide, formed_chains_are_good};
 /// digest of a block of zeros.
 pub fn formatted_data_is_read()
     ensures { FormattedDataIsRead }
+{
+    formed_chains_are_good();
+}
+
+/// If a line has parity, its tree is whole and each round has lost at most one data block, a sector of the line is as it was,
+/// even if its data block is lost; or another block has the digest of that one, and the two, each after the salt, are two
+/// different inputs of one SHA-256 digest.
+pub fn damaged_data_is_read()
+    ensures { DamagedDataIsRead }
 {
     formed_chains_are_good();
 }

@@ -9,6 +9,8 @@ pub mod laws;
 mod path;
 mod read;
 mod rows;
+mod space;
+mod spare;
 mod stack;
 mod sync;
 mod write;

@@ -1,28 +1,31 @@
 //! Reads through the lines of a stack, down to its leaves.
-ghost use Rattle.std.specs.Prelude.{◌≡◌, ◌≤◌, ◌<◌, ◌+◌, ◌*◌, ◌/◌, ◌%◌, length, map, take, get_or, All, OnOk, IfOk, IfErr, Err, is_ok};
+ghost use Rattle.std.specs.Prelude.{◌≡◌, ◌≤◌, ◌<◌, ◌+◌, ◌-◌, ◌*◌, ◌/◌, ◌%◌, length, map, take, get_or, All, OnOk, IfOk, IfErr, Some, Err, is_ok};
 ghost use Rattle.block_device.specs.Call.{DeviceDoes, Read};
 ghost use Rattle.tree_shape.specs.Shape.{levels};
+ghost use Rattle.dm_table.specs.declared.parity.Parity.{Parity};
 ghost use Rattle.stack_rules.specs.Trees.{tree_of};
 ghost use Rattle.stack_rules.specs.Names.{mapped, size};
 ghost use Rattle.stack_lines.specs.declared.source.Source.TheVariants.{Below};
 ghost use Rattle.stack_meaning.specs.Reading.{buffer_answer};
 ghost use Rattle.stack_lines.specs.Extents.{LiesInsideLower};
 ghost use Rattle.stack_lines.specs.Touches.{leaves_of};
-ghost use Rattle.stack_lines.specs.Walks.{HasDataBlock};
+ghost use Rattle.stack_lines.specs.Walks.{HasDataBlock, block_in};
 ghost use Rattle.stack_lines.specs.Caches.{IsCached, IsPlaceOf};
 ghost use Rattle.verified_cache.specs.Cache.{CachedBlock};
 ghost use Rattle.stack_engine.specs.Stacks.{IsSound};
 ghost use Rattle.stack_engine.specs.Premises.{FitsIn};
 ghost use Rattle.stack_engine.specs.LeafCalls.{IsLeafCall};
 ghost use Rattle.stack_engine.specs.Backings.{leaves_in, IsBacking, Asks, StaysSound, did};
-ghost use Rattle.stack_engine.specs.SectorCalls.{block_of, hash_of, one_block, place_in, whole_data};
+ghost use Rattle.stack_engine.specs.SectorCalls.{block_of, hash_of, one_block, place_in, spare_of, sums_of, whole_data};
 ghost use Rattle.stack_engine.specs.ReadSteps.{CanFill, ReadsLeaf, StepFrom, StepAt, ReadsOn, GivesFrom, GivesAt, GivesAny, GivesData, GivesOnWay, WalksTo, GotAt, GetsBy, extent_wanted, data_wanted, way_wanted, ChainBy, WalkedBy, ReadsWay, expected_in, block_answer, content_answer};
+ghost use Rattle.stack_engine.specs.Spares.{AddsTo, HealsBy, other_wanted, spare_wanted, stored_wanted};
 ghost use Rattle.stack_engine.specs.Keeping.{ReadsAs, ReadsSourceAs};
 
 use crate::backing::Backing;
 use crate::buffer::{fill_zeros, zero_block, zero_sectors};
 use crate::path::{Chains, PathBlock, WantedBlock, put, stands};
 use crate::rows::{NextBlock, read_as_far, row_len, settle};
+use crate::spare::{LostBlock, add_block, add_stored, other_extent, stored_extent};
 use allocation::push;
 use block_device::BlockDev;
 use dm_table::Verity;
@@ -36,6 +39,11 @@ use stack_lines::{CryptPart, Source, VerityPart, run_to_read};
 use stack_meaning::{Fault, Found, IoFault};
 use tree_shape::{Digest, Salt, digest_in};
 use verified_cache::Key;
+
+/// The most bytes of a data block, and of the parity of a round.
+const MOST_BLOCK: usize = 4096;
+
+const MOST_STORED: usize = 24 * MOST_BLOCK;
 
 /// The sectors of a leaf, by one call of its device.
 fn read_leaf<D: BlockDev>(
@@ -364,7 +372,7 @@ fn walk<D: BlockDev>(
     }
 }
 
-/// The data block of which that digest is expected. One that the line ignores is zeros, and isn't read.
+/// The data block of which that digest is expected, or its spare. One that the line ignores is zeros, and isn't read.
 #[cycle(read)]
 fn read_data<D: BlockDev>(
     config: &Config,
@@ -388,7 +396,155 @@ fn read_data<D: BlockDev>(
         };
     }
     let extent = data_extent(config, verity, tree, index);
-    read_checked(config, backing, extent, &verity.salt, expected)
+    let lost = LostBlock {
+        index,
+        digest: *expected,
+    };
+    match read_checked(config, backing, extent, &verity.salt, expected) {
+        Ok(block) => Ok(block),
+        Err(IoFault::Stack(fault)) => heal(config, backing, verity, tree, &lost, fault),
+        Err(IoFault::Device(leaf)) => Err(IoFault::Device(leaf)),
+        Err(IoFault::NoMemory) => Err(IoFault::NoMemory),
+    }
+}
+
+/// The spare of a data block whose own read ended in that fault; or the fault, if the attempt is in vain.
+#[cycle(read)]
+fn heal<D: BlockDev>(
+    config: &Config,
+    backing: &mut Backing<D>,
+    verity: &Verity,
+    tree: &Tree,
+    lost: &LostBlock,
+    fault: Fault,
+) -> Result<Vec<u8>, IoFault>
+    requires stack { IsBacking D.state config.now backing.old }
+    requires block { HasDataBlock config.now verity.now tree.now lost.now.index }
+    ensures reads { HealsBy D.state (DeviceDoes D.state D.does) config.now (place_in verity.now tree.now lost.now.index) lost.now fault backing.old backing.new result }
+    ensures cached { StaysSound D.state config.now backing.old backing.new }
+    ensures touches { Asks D.state (leaves_of config.now (mapped tree.now.device.0)) backing.old backing.new result }
+{
+    let mut block = match zero_block(backing.alloc, verity.data_block) {
+        Ok(block) => block,
+        Err(_) => return Err(IoFault::NoMemory),
+    };
+    match mend(config, backing, verity, tree, lost, block.as_mut_slice()) {
+        Ok(()) => Ok(block),
+        Err(IoFault::Stack(_)) => Err(IoFault::Stack(fault)),
+        Err(IoFault::Device(failed)) => Err(IoFault::Device(failed)),
+        Err(IoFault::NoMemory) => Err(IoFault::NoMemory),
+    }
+}
+
+/// Adds to the sums the block at a position of the round of a data block, unless it is that one, or there is none.
+#[cycle(read)]
+fn add_other<D: BlockDev>(
+    config: &Config,
+    backing: &mut Backing<D>,
+    verity: &Verity,
+    tree: &Tree,
+    at: (u64, u32),
+    sums: &mut [u8],
+) -> Result<(), IoFault>
+    requires stack { IsBacking D.state config.now backing.old }
+    requires block { HasDataBlock config.now verity.now tree.now at.0 }
+    requires size { length sums.old ≡ verity.now.data_block }
+    ensures reads { (q : Parity) → verity.now.parity ≡ Some q → GetsBy D.state (other_wanted (block_in config.now verity.now at.0) q at.1 sums.old) backing.old backing.new (buffer_answer result sums.new) }
+    ensures cached { StaysSound D.state config.now backing.old backing.new }
+    ensures touches { Asks D.state (leaves_of config.now (mapped tree.now.device.0)) backing.old backing.new result }
+    ensures given { (q : Parity) → verity.now.parity ≡ Some q → at.1 < 255 - q.roots → AddsTo (DeviceDoes D.state D.does) config.now (place_in verity.now tree.now at.0) q at.1 sums.old backing.old backing.new (buffer_answer result sums.new) }
+{
+    match other_extent(config, verity, tree, at.0, at.1) {
+        None => Ok(()),
+        Some(extent) => {
+            let mut room = [0u8; MOST_BLOCK];
+            let all = room.as_mut_slice();
+            let block = &mut all[..extent.sectors as usize * 512];
+            match read_beneath(config, backing, extent.lower, extent.first, block) {
+                Err(fault) => Err(fault),
+                Ok(()) => {
+                    add_block(block, sums);
+                    Ok(())
+                }
+            }
+        }
+    }
+}
+
+/// Adds to the sums the parity of the round of a data block.
+#[cycle(read)]
+fn add_parity<D: BlockDev>(
+    config: &Config,
+    backing: &mut Backing<D>,
+    verity: &Verity,
+    tree: &Tree,
+    index: u64,
+    sums: &mut [u8],
+) -> Result<(), IoFault>
+    requires stack { IsBacking D.state config.now backing.old }
+    requires block { HasDataBlock config.now verity.now tree.now index }
+    requires size { length sums.old ≡ verity.now.data_block }
+    ensures reads { (q : Parity) → verity.now.parity ≡ Some q → GetsBy D.state (stored_wanted (block_in config.now verity.now index) q sums.old) backing.old backing.new (buffer_answer result sums.new) }
+    ensures cached { StaysSound D.state config.now backing.old backing.new }
+    ensures touches { Asks D.state (leaves_of config.now (mapped tree.now.device.0)) backing.old backing.new result }
+    ensures given { (q : Parity) → verity.now.parity ≡ Some q → ReadsOn (DeviceDoes D.state D.does) config.now (sums_of (place_in verity.now tree.now index) q (255 - q.roots) sums.old) backing.old backing.new (buffer_answer result sums.new) }
+{
+    match stored_extent(config, verity, tree, index) {
+        None => Ok(()),
+        Some(stored) => {
+            let mut room = [0u8; MOST_STORED];
+            let all = room.as_mut_slice();
+            let parity = &mut all[..stored.sectors as usize * 512];
+            match read_beneath(config, backing, stored.lower, stored.first, parity) {
+                Err(fault) => Err(fault),
+                Ok(()) => {
+                    add_stored(parity, sums);
+                    Ok(())
+                }
+            }
+        }
+    }
+}
+
+/// The spare of a data block: the sum of the other blocks of its round and of their parity, if it has the digest.
+#[cycle(read)]
+fn mend<D: BlockDev>(
+    config: &Config,
+    backing: &mut Backing<D>,
+    verity: &Verity,
+    tree: &Tree,
+    lost: &LostBlock,
+    out: &mut [u8],
+) -> Result<(), IoFault>
+    requires stack { IsBacking D.state config.now backing.old }
+    requires block { HasDataBlock config.now verity.now tree.now lost.now.index }
+    requires size { length out.old ≡ verity.now.data_block }
+    ensures reads { GetsBy D.state (spare_wanted config.now verity.now lost.now) backing.old backing.new (buffer_answer result out.new) }
+    ensures cached { StaysSound D.state config.now backing.old backing.new }
+    ensures touches { Asks D.state (leaves_of config.now (mapped tree.now.device.0)) backing.old backing.new result }
+    ensures given { ReadsOn (DeviceDoes D.state D.does) config.now (spare_of (place_in verity.now tree.now lost.now.index) lost.now.digest) backing.old backing.new (buffer_answer result out.new) }
+{
+    let index = lost.index;
+    let count = match &verity.parity {
+        None => return Err(IoFault::Stack(Fault::Mismatch)),
+        Some(parity) => 255 - parity.roots,
+    };
+    fill_zeros(out);
+    let mut place = 0;
+    while place < count {
+        match add_other(config, backing, verity, tree, (index, place), out) {
+            Err(unread) => return Err(unread),
+            Ok(()) => place += 1,
+        }
+    }
+    match add_parity(config, backing, verity, tree, index, out) {
+        Err(fault) => return Err(fault),
+        Ok(()) => {}
+    }
+    if verity.salt.digest(out) == lost.digest {
+        return Ok(());
+    }
+    Err(IoFault::Stack(Fault::Mismatch))
 }
 
 /// A hash block: the one that is kept under its key and that digest, or it is read, checked, and then kept.

@@ -10,6 +10,7 @@ ghost use Rattle.allocation.specs.Refusal.{IsOutOfMemory};
 ghost use Rattle.stack_meaning.specs.Leaves.{ServeLeaves, reads_of, writes_of};
 ghost use Rattle.stack_engine.specs.Bytes.{AnyBytes, SteadyBytes};
 ghost use Rattle.stack_engine.specs.KeptBlocks.{AreChecked, ReadKeeps};
+ghost use Rattle.stack_engine.specs.Space.{lacks_space};
 ghost use Rattle.stack_engine.specs.Stacks.{StackRecord, IsSound};
 ghost use Rattle.stack_meaning.specs.Reading.{buffer_answer};
 ghost use Rattle.stack_engine.specs.Syncs.{FailsToSync, MakesSyncs, NeverFail};
@@ -23,6 +24,7 @@ use crate::buffer::{bytes_to_encrypt, zero_sectors};
 use crate::counters::counted;
 use crate::path::Chains;
 use crate::read::read_device;
+use crate::space::lacked_space;
 use crate::sync::sync_leaves;
 use crate::write::write_device;
 use block_device::{BlockDev, SyncDev};
@@ -253,6 +255,19 @@ impl<D: BlockDev> Stack<D> {
         ensures { result ≡ (capped (reads_of self.now.leaves), capped (writes_of self.now.leaves)) }
     {
         counted(self.backing.devices.as_slice())
+    }
+
+    /// Returns whether a fault of a write names a leaf for which no space was left.
+    pub fn lacks_space(&self, fault: IoFault) -> bool
+        ensures { result ≡ lacks_space self.now.leaves fault }
+    {
+        match fault {
+            IoFault::Device(number) => {
+                let index = number.saturating_sub(1) as usize;
+                lacked_space(self.backing.devices.as_slice(), index)
+            }
+            _ => false,
+        }
     }
 }
 

@@ -7,3 +7,4 @@ pub mod ConfigurationLemmas
 pub mod DeviceLemmas
 pub mod StackLemmas
 pub mod DiskLemmas
+pub mod MappedLemmas

@@ -1,8 +1,8 @@
 -- The backing devices that names are bound to.
 use Rattle.std.specs.Global.{Global}
-use Rattle.std.specs.Prelude.{◌≡◌, ℕ, Bool, true, List, [], ◌∷◌, ◌++◌, map, Vec}
+use Rattle.std.specs.Prelude.{◌≡◌, ℕ, Bool, false, true, List, [], ◌∷◌, ◌++◌, map, Vec}
 use Rattle.block_device.specs.Device.{Device, in_memory, zeros_image, ramp_image}
-use Rattle.command_line.specs.Bindings.{BackingRecord, BindingRecord, backing_record, binding_record, file, part, partition, ramp, zeros}
+use Rattle.command_line.specs.Bindings.{BackingRecord, BindingRecord, backing_record, binding_record, file, mapped, part, partition, ramp, zeros}
 use Rattle.command_line.specs.declared.bindings.Backing.{Backing}
 use Rattle.command_line.specs.declared.bindings.Binding.{Binding}
 use Rattle.device_adapters.specs.declared.part.Part.{Part}
@@ -16,6 +16,7 @@ use Rattle.image_files.specs.Places.{device_part}
 use Rattle.stack_rules.specs.Records.{LeafRecord}
 use Rattle.stack_meaning.specs.Leaves.{ServeLeaves}
 use Rattle.stack_files.specs.declared.leaves.OpenLeaves.{OpenLeaves}
+use Rattle.stack_files.specs.MappedFiles.{OpensMapped}
 
 -- an image was opened at its path, doesn't conflict with any open file, and is one of the open files now
 pub record OpensBackingFile {S D : Type 0} (w : Calls S D) (files : List FileUse) (path : List ℕ) (writable : Bool) (device : D) (files' : List FileUse) : Type 0 where
@@ -31,6 +32,13 @@ pub record OpensPartOf {S D : Type 0} (w : Calls S D) (files : List FileUse) (pa
   pub is : device ≡ image.device
   pub more : files' ≡ files ++ part_use writable at image ∷ []
 
+-- an image was opened to be read, without the sectors that a map doesn't have, and is one of the open files now
+pub record OpensMappedFile {S D : Type 0} (w : Calls S D) (files : List FileUse) (path map_file : List ℕ) (device : D) (files' : List FileUse) : Type 0 where
+  pub image : OpenImage D
+  pub opened : OpensMapped w files path map_file image
+  pub is : device ≡ image.device
+  pub more : files' ≡ files ++ image_use false image ∷ []
+
 -- a device in memory was made, with that image
 pub record MakesMemory {S D : Type 0} (w : Calls S D) (image : List (List ℕ)) (device : D) : Type 0 where
   pub is : w.state device ≡ in_memory image true
@@ -41,6 +49,7 @@ abbrev pub OpensBacking : {S D : Type 0} → Calls S D → List FileUse → Back
 OpensBacking w files (file path writable) device files' = OpensBackingFile w files path writable device files'
 OpensBacking w files (part path writable at) device files' = OpensPartOf w files path writable (device_part at) device files'
 OpensBacking w files (partition path writable named) device files' = ⊥
+OpensBacking w files (mapped path map_file) device files' = OpensMappedFile w files path map_file device files'
 OpensBacking w files (zeros n) device files' = MakesMemory w (zeros_image n) device × (files' ≡ files)
 OpensBacking w files (ramp n) device files' = MakesMemory w (ramp_image n) device × (files' ≡ files)
 
@@ -69,6 +78,7 @@ abbrev pub ClosesBacking : {S D : Type 0} → Calls S D → BackingRecord → D 
 ClosesBacking w (file path writable) device = w.relations.takes w.old path device w.new
 ClosesBacking w (part path writable at) device = w.relations.takes_part w.old path (device_part at) device w.new
 ClosesBacking w (partition path writable named) device = w.new ≡ w.old
+ClosesBacking w (mapped path map_file) device = w.relations.takes w.old path device w.new
 ClosesBacking w (zeros n) device = w.new ≡ w.old
 ClosesBacking w (ramp n) device = w.new ≡ w.old
 

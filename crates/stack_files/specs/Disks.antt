@@ -3,11 +3,12 @@ use Rattle.std.specs.Prelude.{◌≡◌, ◌⊎◌, ℕ, ◌^◌, ◌≤◌, Boo
 use Rattle.allocation.specs.Refusal.{IsOutOfMemory}
 use Rattle.block_device.specs.Device.{Device}
 use Rattle.image_files.specs.Apart.{OpensApart, RefusesApart}
+use Rattle.image_files.specs.declared.file_use.FileUse.{FileUse}
 use Rattle.image_files.specs.declared.images.OpenImage.{OpenImage}
 use Rattle.image_files.specs.declared.opening.UnopenedFile.{UnopenedFile}
 use Rattle.image_files.specs.declared.placed_image.PlacedImage.{PlacedImage}
 use Rattle.image_files.specs.Opener.{Calls, Opener, calls}
-use Rattle.image_files.specs.OpenPlaces.{FailsToGrowPlace, GrowsPlace, OpensPlace, RefusesPlace}
+use Rattle.image_files.specs.OpenPlaces.{FailsToGrowFile, GrowsFile, OpensPlace, RefusesPlace}
 use Rattle.image_files.specs.Places.{place_use}
 use Rattle.stack_engine.specs.Stacks.{StackRecord}
 use Rattle.stack_meaning.specs.Leaves.{ServeLeaves}
@@ -17,6 +18,7 @@ use Rattle.stack_files.specs.declared.disk.DiskPlace.{DiskPlace}
 use Rattle.stack_files.specs.declared.opening_fault.OpeningFault.{OpeningFault}
 use Rattle.stack_files.specs.declared.opening_fault.OpeningFault.TheVariants.{NoMemory}
 use Rattle.stack_files.specs.declared.stack_fault.StackFault.{StackFault}
+use Rattle.stack_files.specs.declared.stack_fault.StackFault.TheVariants.{Open}
 use Rattle.stack_files.specs.declared.stack_file.OpenStack.{OpenStack}
 use Rattle.stack_files.specs.DiskEntries.{entry_room, entry_text, linear_line}
 use Rattle.stack_files.specs.Endings.{IsOpeningEnd}
@@ -80,72 +82,58 @@ FailsToFindDisk {S} {D} w words fault =
 
 -- ---- with an image to copy to
 
--- with `grow` the file of the image is made so long
+-- with `grow` the file under the path of the image is made so long
 abbrev pub MakesRoom : {S D : Type 0} → Calls S D → Bool → List ℕ → ℕ → Type 0
-MakesRoom w true out sectors = GrowsPlace w out sectors
+MakesRoom w true out sectors = GrowsFile w out sectors
 MakesRoom w false out sectors = w.new ≡ w.old
 
 -- it isn't
 abbrev pub FailsToMakeRoom : {S D : Type 0} → Calls S D → Bool → List ℕ → ℕ → UnopenedFile → Type 0
-FailsToMakeRoom w true out sectors file = FailsToGrowPlace w out sectors file
+FailsToMakeRoom w true out sectors file = FailsToGrowFile w out sectors file
 FailsToMakeRoom w false out sectors file = ⊥
 
--- the disk was opened, and then the image made as long, with `grow`
-pub record HasRoom {S D : Type 0} (w : Calls S D) (words : DiskWords) (out : List ℕ) (disk : PlacedImage D) : Type 0 where
+-- the image was made so long, with `grow`, and then it was opened next to these files
+pub record OpensWithRoom {S D : Type 0} (w : Calls S D) (files : List FileUse) (grow : Bool) (out : List ℕ) (sectors : ℕ) (image : OpenImage D) : Type 0 where
   pub between : S
-  pub opened : OpensPlace (record w { new = between }) words.place false disk
-  pub made : MakesRoom (record w { old = between }) words.grow out (w.state disk.device).size
+  pub room : MakesRoom (record w { new = between }) grow out sectors
+  pub opened : OpensApart (record w { old = between }) files out true image
 
--- and then the image was opened next to the disk
-pub record OpensDiskBeside {S D : Type 0} (w : Calls S D) (words : DiskWords) (out : List ℕ) (both : OpenStack D × OpenImage D) : Type 0 where
-  pub disk : PlacedImage D
+-- it was made so long, and isn't opened
+pub record IsOutputRefused {S D : Type 0} (w : Calls S D) (files : List FileUse) (grow : Bool) (out : List ℕ) (sectors : ℕ) (file : UnopenedFile) : Type 0 where
   pub between : S
-  pub room : HasRoom (record w { new = between }) words out disk
-  pub opened : OpensApart (record w { old = between }) (place_use false disk ∷ []) out true both.1
-  pub is : IsDiskStack w.state disk.device both.0
+  pub room : MakesRoom (record w { new = between }) grow out sectors
+  pub refused : RefusesApart (record w { old = between }) files out true file
 
--- the disk was opened, and the image isn't made as long
-pub record LacksRoom {S D : Type 0} (w : Calls S D) (words : DiskWords) (out : List ℕ) (fault : OpeningFault) : Type 0 where
-  pub disk : PlacedImage D
-  pub between : S
-  pub opened : OpensPlace (record w { new = between }) words.place false disk
-  pub fails : IsFileUnopened (FailsToMakeRoom (record w { old = between }) words.grow out (w.state disk.device).size) fault
+-- that, or it isn't made so long
+abbrev pub LacksOutput : {S D : Type 0} → Calls S D → List FileUse → Bool → List ℕ → ℕ → UnopenedFile → Type 0
+LacksOutput w files grow out sectors file = FailsToMakeRoom w grow out sectors file ⊎ IsOutputRefused w files grow out sectors file
 
--- the image isn't opened
-pub record FailsAtOutput {S D : Type 0} (w : Calls S D) (words : DiskWords) (out : List ℕ) (fault : OpeningFault) : Type 0 where
-  pub disk : PlacedImage D
-  pub between : S
-  pub room : HasRoom (record w { new = between }) words out disk
-  pub fails : IsFileUnopened (RefusesApart (record w { old = between }) (place_use false disk ∷ []) out true) fault
-
--- both are open, and an allocation was refused
-pub record IsUnmadeBeside {S D : Type 0} (w : Calls S D) (words : DiskWords) (out : List ℕ) (fault : OpeningFault) : Type 0 where
-  pub disk : PlacedImage D
-  pub image : OpenImage D
-  pub between : S
-  pub room : HasRoom (record w { new = between }) words out disk
-  pub opened : OpensApart (record w { old = between }) (place_use false disk ∷ []) out true image
-  pub unmade : IsUnmade fault
-
-abbrev pub FailsToOpenDiskTo : {S D : Type 0} → Calls S D → DiskWords → List ℕ → OpeningFault → Type 0
-FailsToOpenDiskTo w words out fault =
-    IsFileUnopened (RefusesPlace w words.place false) fault ⊎ (LacksRoom w words out fault ⊎ (FailsAtOutput w words out fault ⊎ IsUnmadeBeside w words out fault))
-
--- both were opened, and the disk has its device
+-- The disk was opened, and has its device. Only then was the image made as long as the disk and opened, next to it.
 pub record FindsDiskOutput {S D : Type 0} (w : Calls S D) (words : DiskWords) (out : List ℕ) (at : DevicePlace) (image : OpenImage D) : Type 0 where
+  pub between : S
+  pub disk : PlacedImage D
   pub over : OpenStack D
-  pub opened : OpensDiskBeside w words out (over, image)
+  pub opened : OpensPlace (record w { new = between }) words.place false disk
+  pub is : IsDiskStack w.state disk.device over
   pub has : HasDevice w.state (codes "disk") over words.cache at
+  pub output : OpensWithRoom (record w { old = between }) (place_use false disk ∷ []) words.grow out (w.state disk.device).size image
 
--- both are open, and the disk's text makes no such device
-pub record FindsNoDisk {S D : Type 0} (w : Calls S D) (words : DiskWords) (out : List ℕ) (fault : StackFault) : Type 0 where
+-- the disk was opened and has its device, and the image isn't made as long, or isn't opened
+pub record LacksDiskOutput {S D : Type 0} (w : Calls S D) (words : DiskWords) (out : List ℕ) (fault : StackFault) : Type 0 where
+  pub between : S
+  pub disk : PlacedImage D
   pub over : OpenStack D
-  pub image : OpenImage D
-  pub opened : OpensDiskBeside w words out (over, image)
-  pub fails : FailsToFind (codes "disk") over fault
+  pub found : DevicePlace
+  pub file : UnopenedFile
+  pub opened : OpensPlace (record w { new = between }) words.place false disk
+  pub is_stack : IsDiskStack w.state disk.device over
+  pub has : HasDevice w.state (codes "disk") over words.cache found
+  pub lacks : LacksOutput (record w { old = between }) (place_use false disk ∷ []) words.grow out (w.state disk.device).size file
+  pub is : fault ≡ Open file
 
+-- that, or there is no such device, and the image wasn't touched
 abbrev pub FailsToFindDiskOutput : {S D : Type 0} → Calls S D → DiskWords → List ℕ → StackFault → Type 0
-FailsToFindDiskOutput w words out fault = IsOpeningEnd (FailsToOpenDiskTo w words out) fault ⊎ FindsNoDisk w words out fault
+FailsToFindDiskOutput w words out fault = FailsToFindDisk w words fault ⊎ LacksDiskOutput w words out fault
 
 -- ---- in terms of the opener, before and after its calls, and the program's arguments
 

@@ -5,7 +5,7 @@ use Rattle.std.specs.List.{sum_by}
 use Rattle.allocation.specs.Refusal.{IsOutOfMemory}
 use Rattle.block_device.specs.declared.open_fault.OpenFault.TheVariants.{NotFound}
 use Rattle.block_device.specs.Device.{Device}
-use Rattle.command_line.specs.Bindings.{BackingRecord, BindingRecord, backing_record, binding_record, file, part, partition, ramp, zeros}
+use Rattle.command_line.specs.Bindings.{BackingRecord, BindingRecord, backing_record, binding_record, file, mapped, part, partition, ramp, zeros}
 use Rattle.command_line.specs.declared.bindings.Backing.{Backing}
 use Rattle.command_line.specs.declared.bindings.Binding.{Binding}
 use Rattle.image_files.specs.Apart.{RefusesApart}
@@ -21,6 +21,7 @@ use Rattle.stack_files.specs.declared.opening_fault.OpeningFault.{OpeningFault}
 use Rattle.stack_files.specs.declared.opening_fault.OpeningFault.TheVariants.{NoMemory, Open, Outside, TooLong}
 use Rattle.image_files.specs.Places.{device_part}
 use Rattle.stack_files.specs.Bindings.{OpensBacking, OpensEach, backings_of}
+use Rattle.stack_files.specs.MappedFiles.{RefusesMapped}
 
 -- a part of a file can't be opened
 abbrev pub part_ending : UnopenedPart → OpeningFault
@@ -68,6 +69,7 @@ RefusesBacking w files (file path writable) (Open unopened) = RefusesApart w fil
 RefusesBacking w files (part path writable at) (Open unopened) = RefusesPart w files path writable (device_part at) (unopened_part.File unopened)
 RefusesBacking w files (part path writable at) (Outside of) = RefusesPart w files path writable (device_part at) (unopened_part.Outside of)
 RefusesBacking w files (partition path writable named) (Open unopened) = IsUnresolved w path unopened
+RefusesBacking w files (mapped path map_file) (Open unopened) = RefusesMapped w files path map_file unopened
 RefusesBacking w files backing fault = ⊥
 
 -- the most elements that one allocation requests for a binding's device: its sectors in memory, or one more open file
@@ -75,6 +77,7 @@ abbrev pub backing_room : BackingRecord → ℕ
 backing_room (file path writable) = 1
 backing_room (part path writable at) = 1
 backing_room (partition path writable named) = 0
+backing_room (mapped path map_file) = 1
 backing_room (zeros n) = n * 512
 backing_room (ramp n) = n * 512
 

@@ -1,7 +1,7 @@
 //! A disk that is read without a stack file: the stack of one device, which is all of the disk.
 ghost use Rattle.std.specs.Prelude.{◌≡◌, ◌<◌, length, true, IfErr, IfOk, OnOk};
 ghost use Rattle.image_files.specs.Opener.{calls};
-ghost use Rattle.stack_files.specs.Disks.{FailsToFindDiskBy, FailsToMakeRoom, FailsToOpenDisk, FailsToOpenDiskTo, FindsDiskBy, FindsDiskTo, IsDiskStack, IsUnmade, LacksDiskTo, MakesRoom, OpensDisk, OpensDiskBeside, disk_words};
+ghost use Rattle.stack_files.specs.Disks.{FailsToFindDiskBy, FailsToMakeRoom, FailsToOpenDisk, FindsDiskBy, FindsDiskTo, IsDiskStack, IsUnmade, LacksDiskTo, LacksOutput, MakesRoom, OpensDisk, OpensWithRoom};
 
 use crate::device::{NamedDevice, find_device};
 use crate::disk_entries::push_linear_entry;
@@ -12,7 +12,8 @@ use crate::stack_file::OpenStack;
 use block_device::BlockDev;
 use device_adapters::Part;
 use image_files::{
-    FileText, Images, OpenImage, UnopenedFile, grow_place, open_apart, open_place, place_use,
+    FileText, FileUse, Images, OpenImage, UnopenedFile, grow_file, open_apart, open_place,
+    place_use,
 };
 use stack_config::DevId;
 use stack_engine::Stack;
@@ -73,29 +74,25 @@ fn make_room<'a, I: Images>(
     ensures err { IfErr result (FailsToMakeRoom (calls I.relations I.Dev.state images.old images.new) grow out.now sectors) }
 {
     if grow {
-        return grow_place(images, out, sectors);
+        return grow_file(images, out, sectors);
     }
     Ok(())
 }
 
-// Opens a disk for reading, and then an image to copy to, which mustn't be the disk.
-fn open_beside_disk<'a, I: Images>(
-    alloc: Global,
+// Opens an image to copy to, which mustn't be one of these files. If `grow` is set, its file is made so long before.
+fn open_output<'a, I: Images>(
     images: &mut I,
-    disk: DiskPlace<'a>,
+    files: &[FileUse],
+    grow: bool,
     out: &'a str,
-) -> Result<(OpenStack<I::Dev>, OpenImage<I::Dev>), OpeningFault<'a>>
-    ensures ok { IfOk result (OpensDiskBeside (calls I.relations I.Dev.state images.old images.new) (disk_words disk.entry) out.now) }
-    ensures writable { IfOk result (λ both. (I.Dev.state both.1.device).may_write ≡ true) }
-    ensures err { IfErr result (FailsToOpenDiskTo (calls I.relations I.Dev.state images.old images.new) (disk_words disk.entry) out.now) }
+    sectors: u64,
+) -> Result<OpenImage<I::Dev>, UnopenedFile<'a>>
+    ensures ok { IfOk result (OpensWithRoom (calls I.relations I.Dev.state images.old images.new) files.now grow out.now sectors) }
+    ensures writable { IfOk result (λ image. (I.Dev.state image.device).may_write ≡ true) }
+    ensures err { IfErr result (LacksOutput (calls I.relations I.Dev.state images.old images.new) files.now grow out.now sectors) }
 {
-    let opened = open_place(alloc, images, disk.place, false)?;
-    let files = [place_use(&opened, false)];
-    let sectors = opened.device.sectors();
-    make_room(images, disk.grow, out, sectors)?;
-    let image = open_apart(images, &files, out, true)?;
-    let over = disk_stack(alloc, opened.device)?;
-    Ok((over, image))
+    make_room(images, grow, out, sectors)?;
+    open_apart(images, files, out, true)
 }
 
 /// Opens a disk for reading, and returns the stack of one device, which is all of it.
@@ -126,8 +123,8 @@ pub(crate) fn open_disk<'a, I: Images>(
     )
 }
 
-/// Opens a disk as `open_disk` does, and an image to copy to, which mustn't have a sector of the disk. With `grow` the image's file is
-/// first made as long as the disk, and created if there is none.
+/// Opens a disk as `open_disk` does, and then an image to copy to, which mustn't have a sector of the disk. With `grow` the image's
+/// file is made as long as the disk before it is opened, and created if there is none.
 ///
 /// # Errors
 ///
@@ -144,7 +141,10 @@ pub(crate) fn open_disk_and_output<'a, I: Images>(
     ensures err { IfErr result (LacksDiskTo I.relations I.Dev.state images.old images.new disk.entry out.now) }
 {
     let cache = disk.cache;
-    let (over, image) = open_beside_disk(alloc, images, disk, out)?;
+    let opened = open_place(alloc, images, disk.place, false)?;
+    let files = [place_use(&opened, false)];
+    let sectors = opened.device.sectors();
+    let over = disk_stack(alloc, opened.device)?;
     let (stack, device) = find_device(
         alloc,
         over,
@@ -153,5 +153,6 @@ pub(crate) fn open_disk_and_output<'a, I: Images>(
             cache,
         },
     )?;
+    let image = open_output(images, &files, disk.grow, out, sectors)?;
     Ok((stack, device, image))
 }

@@ -17,6 +17,7 @@ fn close_backing<I: Images>(images: &mut I, backing: Backing<'_>, device: I::Dev
             part,
         } => images.close_part(path, device_part(part), device),
         Backing::Partition { .. } => drop(device),
+        Backing::Mapped { path, map_file: _ } => images.close(path, device),
         Backing::Zeros(_) | Backing::Ramp(_) => drop(device),
     }
 }

@@ -5,6 +5,7 @@ ghost use Rattle.stack_meaning.specs.Leaves.{ServeLeaves};
 ghost use Rattle.stack_files.specs.Bindings.{Backs, BindsAll, names_in};
 ghost use Rattle.stack_files.specs.Openings.{FailsToBack, FailsToBindAll};
 
+use crate::mapped_file::open_mapped;
 use crate::opening_fault::OpeningFault;
 use allocation::{OutOfMemory, copied, push};
 use block_device::{BlockDev, MemoryDev, OpenFault};
@@ -89,6 +90,16 @@ fn open_backing<'a, I: Images>(
             let fault = OpenFault::NotFound;
             Err(OpeningFault::Open(UnopenedFile { fault, path }))
         }
+        Backing::Mapped { path, map_file } => {
+            let image = open_mapped(alloc, images, files.as_slice(), path, map_file)?;
+            let file = FileUse {
+                id: image.id,
+                writable: false,
+                part: None,
+            };
+            push(files, file)?;
+            Ok(image.device)
+        }
         Backing::Zeros(sectors) => Ok(I::of_memory(MemoryDev::zeros(alloc, sectors, true)?)),
         Backing::Ramp(sectors) => Ok(I::of_memory(MemoryDev::ramp(alloc, sectors, true)?)),
     }
@@ -99,7 +110,8 @@ fn open_backing<'a, I: Images>(
 /// # Errors
 ///
 /// - `NoMemory` if an allocation was refused.
-/// - `Open` if a file can't be opened, or conflicts with an open one; `NotFound` of a partition that isn't resolved.
+/// - `Open` if a file can't be opened, or conflicts with an open one; `NotFound` of a partition that isn't resolved; `OtherFault` of
+///   a map that isn't one of its image.
 /// - `Outside` if a binding's part isn't within its file.
 pub fn open_all<'a, I: Images>(
     alloc: Global,

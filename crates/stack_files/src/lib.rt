@@ -10,6 +10,7 @@ mod disk;
 mod disk_entries;
 mod leaf_closing;
 mod leaves;
+mod mapped_file;
 mod opening_fault;
 mod resolving;
 mod source;

@@ -50,9 +50,11 @@ fn resolve_backing<'a, I: Images>(
             writable,
             named,
         } => resolve_partition(alloc, images, path, writable, named),
-        Backing::File { .. } | Backing::Part { .. } | Backing::Zeros(_) | Backing::Ramp(_) => {
-            Ok(backing)
-        }
+        Backing::File { .. }
+        | Backing::Part { .. }
+        | Backing::Mapped { .. }
+        | Backing::Zeros(_)
+        | Backing::Ramp(_) => Ok(backing),
     }
 }
 

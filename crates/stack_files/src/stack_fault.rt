@@ -42,6 +42,14 @@ impl<'a> From<OpeningFault<'a>> for StackFault<'a> {
     }
 }
 
+impl<'a> From<UnopenedFile<'a>> for StackFault<'a> {
+    ghost from_gives = { λ file given. given ≡ stack_fault.Open file };
+
+    fn from(file: UnopenedFile<'a>) -> Self {
+        StackFault::Open(file)
+    }
+}
+
 impl From<ConfigFault> for StackFault<'_> {
     ghost from_gives = { λ fault given. given ≡ stack_fault.Leaves fault };
 

@@ -12,7 +12,6 @@ use Rattle.stack_meaning.specs.Puts.{together, in_one_run}
 use Rattle.stack_lines.specs.Runs.{HasAllUnits}
 use Rattle.stack_lines.specs.Sources.{ComeFrom, EndsRun, IsServed}
 use Rattle.stack_meaning.proofs.lemmas.UnitSizeLemmas.{per_unit-some}
-use Rattle.stack_meaning.specs.Units.{per_unit}
 use Rattle.stack_meaning.proofs.lemmas.LineLemmas.{found-more}
 
 -- a run that has as many sectors as it may

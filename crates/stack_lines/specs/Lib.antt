@@ -1,6 +1,7 @@
 pub mod Sources
 pub mod Runs
 pub mod Walks
+pub mod Covered
 pub mod Extents
 pub mod Standing
 pub mod Caches

@@ -1,6 +1,6 @@
 -- Where the sectors of a device come from, as the engine reads them: from a lower device, as they are or encrypted
 -- there in units, as zeros, not at all, or from a data block that is checked.
-use Rattle.std.specs.Prelude.{◌≡◌, ◌⊎◌, ℕ, suc, ◌+◌, ◌-◌, ◌*◌, ◌/◌, ◌%◌, ◌^◌, ◌<◌, ◌≤◌, Bool, false, IsTrue, List, Some, Result}
+use Rattle.std.specs.Prelude.{◌≡◌, ◌⊎◌, ℕ, suc, ◌+◌, ◌-◌, ◌*◌, ◌/◌, ◌%◌, ◌^◌, ◌<◌, ◌≤◌, Bool, false, IsTrue, List, Option, Some, option_and_then, Result}
 use Rattle.dm_table.specs.declared.crypt.Crypt.{Crypt}
 use Rattle.dm_table.specs.declared.verity.Verity.{Verity}
 use Rattle.dm_table.specs.declared.table.Line.{Line}
@@ -45,11 +45,16 @@ pub record HasTarget (c : Configuration) (d l : ℕ) (target : Target) (n : ℕ)
 abbrev pub HasVerity : Configuration → ℕ → ℕ → Verity → Type 0
 HasVerity c d l v = HasTarget c d l (verity_target v) 0
 
+-- the device of the parity of a verity line, if it has parity
+abbrev pub parity_lower : Configuration → Verity → Option Lower
+parity_lower c v = option_and_then (λ p. named c p.device) v.parity
+
 -- a part of a verity line: what its devices mean
 pub record IsVerityPart (c : Configuration) (x : VerityPart) : Type 0 where
   pub is : HasVerity c x.device.0 x.line x.verity.now
   pub on_data : named c x.verity.now.data ≡ Some x.data
   pub on_hash : named c x.verity.now.hash ≡ Some x.hash
+  pub on_parity : parity_lower c x.verity.now ≡ x.parity
 
 -- its first n sectors lie in one data block
 pub record LieInBlock (c : Configuration) (x : VerityPart) (n : ℕ) : Type 0 where

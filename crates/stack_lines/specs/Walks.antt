@@ -1,25 +1,32 @@
 -- Contracts of reads of data blocks, from the root down.
-use Rattle.std.specs.Prelude.{◌≡◌, ◌⊎◌, ℕ, ◌+◌, ◌*◌, ◌<◌, ◌||◌, List, ◌++◌, length, Some, Result}
+use Rattle.std.specs.Prelude.{◌≡◌, ◌⊎◌, ℕ, zero, suc, ◌+◌, ◌*◌, ◌<◌, Bool, false, ◌||◌, List, [], ◌∷◌, ◌++◌, length, Some, Result}
+use Rattle.std.specs.Option.{option_map_or}
 use Rattle.hash_tree.specs.Chain.{ChainRecord, HangsFrom, IsGood}
 use Rattle.tree_shape.specs.Digests.{digest}
 use Rattle.tree_shape.specs.Shape.{levels}
 use Rattle.block_device.specs.Device.{Device}
+use Rattle.dm_table.specs.declared.table.Target.TheVariants.{Verity as verity_target}
 use Rattle.dm_table.specs.declared.verity.Verity.{Verity}
 use Rattle.stack_rules.specs.Records.{Configuration}
 use Rattle.stack_rules.specs.Names.{named}
 use Rattle.stack_rules.specs.Descend.{by_name, read_cost}
 use Rattle.stack_rules.specs.Trees.{tree_of, block_sectors, path_sectors}
+use Rattle.stack_rules.specs.targets.Verity.{mend_cost}
 use Rattle.stack_meaning.specs.declared.fault.IoFault.{IoFault}
 use Rattle.stack_lines.specs.declared.tree.Tree.{Tree}
 use Rattle.stack_meaning.specs.Sectors.{SomeOf}
 use Rattle.stack_meaning.specs.declared.fault.Fault.{Fault}
+use Rattle.stack_meaning.specs.Beneath.{below}
 use Rattle.stack_meaning.specs.Outcomes.{Outcome, mismatch, Images}
+use Rattle.stack_meaning.specs.Spares.{BlockSources, data_spare}
+use Rattle.stack_meaning.specs.targets.Verity.{sources_over}
 use Rattle.stack_meaning.specs.Blocks.{hash_sectors, checked_span, data_block_at, block_below, verified_block, BlockMeets}
 use Rattle.stack_meaning.specs.Leaves.{steady_images, AreSteady, AreRead}
-use Rattle.stack_meaning.specs.Meaning.{said_by_name}
+use Rattle.stack_meaning.specs.Meaning.{Said, none_said, said_by_name}
 use Rattle.stack_meaning.specs.Places.{Place, Expected}
 use Rattle.stack_meaning.specs.Reading.{Gets}
 use Rattle.stack_lines.specs.Standing.{name_stands_on}
+use Rattle.stack_lines.specs.Sources.{parity_lower}
 pub use Rattle.stack_lines.specs.Sources.{HasVerity}
 
 -- ---- lines
@@ -29,6 +36,7 @@ pub record IsTreeOf (c : Configuration) (v : Verity) (tree : Tree) : Type 0 wher
   pub is : HasVerity c tree.device.0 tree.line v
   pub on_data : named c v.data ≡ Some tree.data
   pub on_hash : named c v.hash ≡ Some tree.hash
+  pub on_parity : parity_lower c v ≡ tree.parity
   pub shape_is : tree.shape ≡ tree_of v
 
 -- it has a data block of that number
@@ -59,33 +67,71 @@ checked_expected bytes_of place first n salt expected = record {
 
 -- ---- a data block
 
--- a data block of a verity line: the places of data blocks and of hash blocks, and its number
+-- a data block of a verity line: the places of its data blocks, of its hash blocks and of its parity, and its number
 pub record DataBlock : Type 1 where
   pub verity : Verity
   pub on_data : Place
   pub on_hash : Place
+  pub on_parity : Place
   pub index : ℕ
 
 -- what a name means, as a place
 abbrev pub place_named : Configuration → List ℕ → Place
 place_named c name = record { said = said_by_name c name; cost = by_name c 0 (read_cost c) name; leaves = λ i. name_stands_on c i name }
 
+-- what the parity of a line means, as a place; without parity it has no leaves
+abbrev pub parity_place : Configuration → Verity → Place
+parity_place c v = record {
+  said = below none_said (said_by_name c) (verity_target v) 2;
+  cost = option_map_or (λ p. by_name c 0 (read_cost c) p.device) v.parity 0;
+  leaves = λ i. option_map_or (λ p. name_stands_on c i p.device) v.parity false;
+}
+
 abbrev pub block_in : Configuration → Verity → ℕ → DataBlock
-block_in c v i = record { verity = v; on_data = place_named c v.data; on_hash = place_named c v.hash; index = i }
+block_in c v i = record { verity = v; on_data = place_named c v.data; on_hash = place_named c v.hash; on_parity = parity_place c v; index = i }
+
+-- the semantics of sector t of base i: of the data, hash and parity devices, in order
+abbrev pub base_said : DataBlock → ℕ → ℕ → Said
+base_said b zero = b.on_data.said
+base_said b (suc zero) = b.on_hash.said
+base_said b (suc (suc i)) = b.on_parity.said
+
+-- the sectors of the three devices over the leaves' images
+abbrev pub sources_of : DataBlock → Images → BlockSources
+sources_of b images = sources_over (base_said b) images
+
+-- the leaves beneath the three devices
+abbrev pub block_leaves : DataBlock → ℕ → Bool
+block_leaves b i = b.on_data.leaves i || (b.on_hash.leaves i || b.on_parity.leaves i)
+
+-- the most leaf sectors that are read for a spare: 0 without parity
+abbrev pub spare_cost : DataBlock → ℕ
+spare_cost b = mend_cost b.verity b.verity.parity (b.on_data.cost ∷ b.on_hash.cost ∷ b.on_parity.cost ∷ [])
 
 -- what it means over the leaves' images, where l levels are left and that digest is expected
 abbrev pub means_below : DataBlock → Images → ℕ → List ℕ → Outcome
-means_below b images l expected = block_below b.verity (λ s. (b.on_data.said s).means images) (λ s. (b.on_hash.said s).means images) b.index l expected
+means_below b images l expected = block_below b.verity (sources_of b images) b.index l expected
 
--- of itself, if that digest is expected of it
+-- of what parity restores in its place, if that digest is expected of it; a fault of an attempt in vain isn't returned
+abbrev pub spare_expected : {A : Type 0} → (A → List ℕ) → DataBlock → List ℕ → Expected A
+spare_expected bytes_of b expected = record {
+  is = λ x. IsBlockOfDigest (block_sectors b.verity) b.verity.salt expected (bytes_of x);
+  faults = λ fault. Unit {0};
+  bytes_of = bytes_of;
+  means = λ images. data_spare b.verity (sources_of b images) b.verity.parity b.index expected;
+  cost = spare_cost b;
+  leaves = block_leaves b;
+}
+
+-- of itself or its spare, if that digest is expected of it
 abbrev pub data_expected : {A : Type 0} → (A → List ℕ) → DataBlock → List ℕ → Expected A
 data_expected bytes_of b expected = record {
   is = λ x. IsBlockOfDigest (block_sectors b.verity) b.verity.salt expected (bytes_of x);
   faults = SpanMeets b.on_data (block_sectors b.verity * b.index) (block_sectors b.verity);
   bytes_of = bytes_of;
-  means = λ images. data_block_at b.verity (λ s. (b.on_data.said s).means images) b.index expected;
-  cost = block_sectors b.verity * b.on_data.cost;
-  leaves = b.on_data.leaves;
+  means = λ images. data_block_at b.verity (sources_of b images) b.index expected;
+  cost = block_sectors b.verity * b.on_data.cost + spare_cost b;
+  leaves = block_leaves b;
 }
 
 -- of its chain
@@ -94,9 +140,9 @@ chain_expected b = record {
   is = λ chain. (chain.index ≡ b.index) × IsGood (tree_of b.verity) b.verity.salt b.verity.root chain;
   faults = BlockMeets b.verity (λ s. (b.on_data.said s).meets) (λ s. (b.on_hash.said s).meets) b.index;
   bytes_of = λ chain. chain.content;
-  means = λ images. verified_block b.verity (λ s. (b.on_data.said s).means images) (λ s. (b.on_hash.said s).means images) b.index;
-  cost = block_sectors b.verity * b.on_data.cost + path_sectors b.verity * b.on_hash.cost;
-  leaves = λ i. b.on_data.leaves i || b.on_hash.leaves i;
+  means = λ images. verified_block b.verity (sources_of b images) b.index;
+  cost = block_sectors b.verity * b.on_data.cost + spare_cost b + path_sectors b.verity * b.on_hash.cost;
+  leaves = block_leaves b;
 }
 
 abbrev pub GetsChain : DataBlock → List Device → List Device → Result ChainRecord IoFault → Type 0

@@ -4,13 +4,13 @@ ghost use Rattle.dm_table.specs.Grammar.{IsStripedOfGrammar, IsTargetOfGrammar, 
 ghost use Rattle.stack_rules.specs.Names.{mapped, size};
 ghost use Rattle.stack_rules.specs.Rules.{IsLoaded};
 ghost use Rattle.stack_rules.specs.Trees.{block_sectors};
-ghost use Rattle.stack_lines.specs.Sources.{ComeFrom, HasTarget, IsPlacedAt, IsVerityPart};
+ghost use Rattle.stack_lines.specs.Sources.{ComeFrom, HasTarget, HasVerity, IsPlacedAt, IsVerityPart, parity_lower};
 ghost use Rattle.stack_lines.specs.Runs.{HasLineSectors, IsRunOfLine, IsRunAt};
 
 use crate::source::{CryptPart, Run, Source, VerityPart};
 use crate::unstriped::unstriped_run;
 use dm_table::{Base, Crypt, Line, Target, Verity};
-use stack_config::{Config, DevId};
+use stack_config::{Config, DevId, Lower};
 use stack_meaning::CryptUnits;
 
 fn linear_run<'a>(
@@ -140,6 +140,18 @@ fn block_run<'a>(config: &Config, at: (DevId, u32), part: VerityPart<'a>, count:
     }
 }
 
+/// The device of the parity of a line, if it has parity.
+fn parity_of(config: &Config, d: DevId, line: u32, verity: &Verity) -> Option<Lower>
+    requires loaded { IsLoaded config.now }
+    requires line { HasVerity config.now d.0 line verity.now }
+    ensures { result ≡ parity_lower config.now verity.now }
+{
+    match verity.parity {
+        Some(_) => Some(config.lower(d, line, 2)),
+        None => None,
+    }
+}
+
 /// Whole data blocks, or sectors of one block.
 fn verity_run<'a>(
     config: &Config,
@@ -160,6 +172,7 @@ fn verity_run<'a>(
         verity,
         data: config.lower(d, line, 0),
         hash: config.lower(d, line, 1),
+        parity: parity_of(config, d, line, verity),
         first: within,
     };
     let sectors = u64::from(verity.data_block / 512);

@@ -34,7 +34,8 @@ pub struct CryptPart<'a> {
 }
 
 /// The sectors of a `verity` line from that one on, with what a read uses of the line: its place, its arguments, and the
-/// devices of its data blocks and of its hash blocks. Lines of a device and sectors of a line count from 0.
+/// devices of its data blocks, of its hash blocks, and of its parity if it has some. Lines of a device and sectors of a
+/// line count from 0.
 #[derive(Clone, Copy)]
 pub struct VerityPart<'a> {
     pub device: DevId,
@@ -42,6 +43,7 @@ pub struct VerityPart<'a> {
     pub verity: &'a Verity,
     pub data: Lower,
     pub hash: Lower,
+    pub parity: Option<Lower>,
     pub first: u64,
 }
 

@@ -1,28 +1,33 @@
 //! What a read of a `verity` line's blocks uses.
 ghost use Rattle.std.specs.Prelude.{◌≡◌, ◌<◌, ◌≤◌, ◌+◌, ◌*◌, ℕ, length, take, drop, get_or, IfSome, IfNone};
 ghost use Rattle.tree_shape.specs.Shape.{ancestor, levels};
+ghost use Rattle.stack_rules.specs.Names.{size};
 ghost use Rattle.stack_rules.specs.Rules.{IsLoaded};
 ghost use Rattle.stack_rules.specs.Trees.{tree_of, block_sectors};
 ghost use Rattle.stack_meaning.specs.Blocks.{hash_sectors, hash_start, is_ignored};
+ghost use Rattle.stack_meaning.specs.Spares.{covered_start, parity_start};
 ghost use Rattle.stack_meaning.specs.Found.{FoundRecord, found_entry};
+ghost use Rattle.stack_lines.specs.Covered.{HasCoveredBlock, HasRound, covered_lower};
 ghost use Rattle.stack_lines.specs.Extents.{IsExtent};
 ghost use Rattle.stack_lines.specs.Sources.{IsVerityPart};
 ghost use Rattle.stack_lines.specs.Walks.{HasDataBlock, IsTreeOf};
 
 use crate::source::VerityPart;
-use dm_table::Verity;
+use dm_table::{Parity, Verity};
 use stack_config::{Config, DevId, Lower};
 use stack_meaning::Found;
 use tree_shape::{Digest, Shape};
 use verified_cache::Key;
 
-/// Where the blocks of a `verity` line lie: the devices of its data blocks and of its hash blocks, and the shape.
+/// Where the blocks of a `verity` line lie: the devices of its data blocks, of its hash blocks, and of its parity if it
+/// has some, and the shape.
 #[derive(Clone, Copy)]
 pub struct Tree {
     pub device: DevId,
     pub line: u32,
     pub data: Lower,
     pub hash: Lower,
+    pub parity: Option<Lower>,
     pub shape: Shape,
 }
 
@@ -55,6 +60,7 @@ pub fn tree_of(config: &Config, part: &VerityPart<'_>) -> Tree
             line: part.line,
             data: part.data,
             hash: part.hash,
+            parity: part.parity,
             shape,
         },
         Err(_) => unreachable!(),
@@ -104,6 +110,54 @@ pub fn data_extent(config: &Config, verity: &Verity, tree: &Tree, index: u64) ->
         first: u64::from(sectors) * index,
         sectors,
     }
+}
+
+/// Returns the extent of a block that parity covers: the data blocks, then those of the hash device from the tree on, are
+/// numbered from 0.
+pub fn covered_extent(
+    config: &Config,
+    verity: &Verity,
+    parity: &Parity,
+    tree: &Tree,
+    number: u64,
+) -> Extent
+    requires loaded { IsLoaded config.now }
+    requires block { HasCoveredBlock config.now verity.now parity.now tree.now number }
+    ensures { IsExtent config.now (covered_lower verity.now tree.now number) (covered_start verity.now number) (block_sectors verity.now) result }
+{
+    let _parity = parity;
+    if number < verity.blocks {
+        return data_extent(config, verity, tree, number);
+    }
+    let sectors = verity.data_block / 512;
+    let block = verity.start + (number - verity.blocks);
+    let first = u64::from(sectors) * block;
+    Extent {
+        lower: tree.hash,
+        first,
+        sectors,
+    }
+}
+
+/// Returns the first sector of the parity of a round on its device; rounds count from 0.
+pub fn parity_start(
+    config: &Config,
+    verity: &Verity,
+    parity: &Parity,
+    tree: &Tree,
+    round: u64,
+) -> u64
+    requires loaded { IsLoaded config.now }
+    requires round { HasRound config.now verity.now parity.now tree.now round }
+    ensures value { result ≡ parity_start verity.now parity.now round }
+    ensures inside { IfSome tree.now.parity (λ lower. result + block_sectors verity.now * parity.now.roots ≤ size config.now lower) }
+{
+    let (_config, _tree) = (config, tree);
+    let roots = u64::from(parity.roots);
+    let within = round * roots;
+    let block = parity.start + within;
+    let sectors = u64::from(verity.data_block / 512);
+    sectors * block
 }
 
 /// Returns whether the line ignores a data block with that digest, and reads it as zeros.

@@ -6,7 +6,7 @@ use Rattle.std.specs.Str.{bytes_eq}
 use Rattle.std.proofs.Math.Decide.{dec_le}
 use Rattle.dm_table.specs.declared.stack.Entry.{Entry}
 use Rattle.stack_rules.specs.declared.refusal.LoadKind.{LoadKind}
-use Rattle.stack_rules.specs.declared.refusal.LoadKind.TheVariants.{DuplicateName, TooMany, NoSuchDevice, StandsOnItself, ZeroLength, Gap, TooLarge, StripesDontDivide, UnitDoesntDivide, IvOffset, BeyondDevice, LineBeyondTree, TreeBeyondDevice, NeedsReadOnly, LowerReadOnly, TooDeep, CostTooLarge}
+use Rattle.stack_rules.specs.declared.refusal.LoadKind.TheVariants.{DuplicateName, TooMany, NoSuchDevice, StandsOnItself, ZeroLength, Gap, TooLarge, StripesDontDivide, UnitDoesntDivide, IvOffset, ParityDoesntCover, BeyondDevice, LineBeyondTree, TreeBeyondDevice, NeedsReadOnly, LowerReadOnly, TooDeep, CostTooLarge}
 use Rattle.stack_rules.specs.declared.refusal.Refusal.{Refusal}
 use Rattle.stack_rules.specs.Records.{Configuration, DeviceRecord}
 use Rattle.stack_rules.specs.Cycles.{is_on_cycle}
@@ -65,8 +65,8 @@ others-unknown c = others-flat _ (enumerate_from 1 c.devices) (λ p. others-flat
 others-lines : (c : Configuration) → AreOther (each_device c (table_rules c))
 others-lines c = others-flat _ (enumerate_from 1 c.devices) (λ p. others-flat _ (enumerate_from 1 p.1.table) (λ q.
     others-cons ZeroLength p.0 q.0 _ _ (λ h. cc) (others-cons Gap p.0 q.0 _ _ (λ h. cc) (others-cons TooLarge p.0 q.0 _ _ (λ h. cc)
-    (others-cons StripesDontDivide p.0 q.0 _ _ (λ h. cc) (others-cons UnitDoesntDivide p.0 q.0 _ _ (λ h. cc) (others-cons IvOffset p.0 q.0 _ _ (λ h. cc) (others-cons BeyondDevice p.0 q.0 _ _ (λ h. cc)
-    (others-cons LineBeyondTree p.0 q.0 _ _ (λ h. cc) (others-cons TreeBeyondDevice p.0 q.0 _ _ (λ h. cc) (others-cons NeedsReadOnly p.0 q.0 _ _ (λ h. cc) (others-one LowerReadOnly p.0 q.0 _ (λ h. cc)))))))))))))
+    (others-cons StripesDontDivide p.0 q.0 _ _ (λ h. cc) (others-cons UnitDoesntDivide p.0 q.0 _ _ (λ h. cc) (others-cons IvOffset p.0 q.0 _ _ (λ h. cc) (others-cons ParityDoesntCover p.0 q.0 _ _ (λ h. cc) (others-cons BeyondDevice p.0 q.0 _ _ (λ h. cc)
+    (others-cons LineBeyondTree p.0 q.0 _ _ (λ h. cc) (others-cons TreeBeyondDevice p.0 q.0 _ _ (λ h. cc) (others-cons NeedsReadOnly p.0 q.0 _ _ (λ h. cc) (others-one LowerReadOnly p.0 q.0 _ (λ h. cc))))))))))))))
 
 others-depths : (c : Configuration) → AreOther (depth_rules c)
 others-depths c = others-flat _ (enumerate_from 1 c.devices) (λ p. others-one TooDeep p.0 0 _ (λ h. cc))

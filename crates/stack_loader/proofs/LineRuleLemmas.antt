@@ -7,13 +7,19 @@ use Rattle.std.proofs.lemmas.List.Folds.{list_any_at, list_any_more}
 use Rattle.std.proofs.lemmas.Bool.Decides.{nat_tests}
 use Rattle.dm_table.specs.declared.table.Base.{Base}
 use Rattle.dm_table.specs.declared.table.Line.{Line}
+use Rattle.dm_table.specs.declared.table.Target.TheVariants.{Verity}
+use Rattle.dm_table.specs.declared.verity.Verity.{Verity as VerityRecord}
+use Rattle.dm_table.specs.declared.parity.Parity.{Parity}
 use Rattle.stack_rules.specs.declared.refusal.Refusal.{Refusal}
-use Rattle.stack_rules.specs.declared.refusal.LoadKind.TheVariants.{BeyondDevice, LineBeyondTree, TreeBeyondDevice, NeedsReadOnly, LowerReadOnly, StripesDontDivide, UnitDoesntDivide, IvOffset}
+use Rattle.stack_rules.specs.declared.refusal.LoadKind.TheVariants.{BeyondDevice, LineBeyondTree, TreeBeyondDevice, NeedsReadOnly, LowerReadOnly, StripesDontDivide, UnitDoesntDivide, IvOffset, ParityDoesntCover}
 use Rattle.stack_rules.specs.declared.lower.Lower.{Lower}
 use Rattle.stack_rules.specs.Records.{Configuration}
 use Rattle.stack_rules.specs.Names.{named, names, size, may_write}
 use Rattle.stack_rules.specs.Passing.{Mean}
-use Rattle.stack_rules.specs.Rules.{first, refuse, line_rules, most_sectors, is_undivided, cuts_unit, is_off_unit, is_beyond, is_uncovered, is_tree_beyond, needs_read_only, names_read_only, ends_beyond}
+use Rattle.stack_rules.specs.Rules.{first, refuse, line_rules, most_sectors, is_undivided, cuts_unit, is_off_unit, is_unprotected, is_beyond, is_uncovered, is_tree_beyond, needs_read_only, names_read_only, ends_beyond, ends_past}
+use Rattle.stack_rules.specs.Trees.{line_data_sectors, covered_sectors, parity_sectors}
+use Rattle.stack_rules.specs.targets.Verity.{parity_ranges}
+use Rattle.stack_rules.proofs.lemmas.RangeLemmas.{is_beyond-verity, parity_ranges-some}
 use Rattle.stack_rules.proofs.lemmas.NameMeaningLemmas.{device_of, mean-at, length-mean}
 
 -- the facts of one base
@@ -25,21 +31,26 @@ pub record AtBase (c : Configuration) (lowers : List Lower) (bases : List Base) 
 pub length-bases : (c : Configuration) (lowers : List Lower) (bases : List Base) → Mean c lowers (map device_of bases) → length lowers ≡ length bases
 length-bases c lowers bases means = length-mean c lowers (map device_of bases) means ∙ length-map bases device_of
 
+-- where a range from name i of a line ends
+pub ends-name : (c : Configuration) (lowers : List Lower) (ns : List (List ℕ)) (i : ℕ) (name : List ℕ) (d : Lower) (room end : ℕ) → Mean c lowers ns → i < length ns → name ≡ get_or ns i name
+    → room ≡ size c (get_or lowers i d) → ends_past c name end ≡ nat_lt room end
+ends-name c lowers ns i name d room end means many is-name is =
+    let low : i < length lowers = omega (arith, many, length-mean c lowers ns means) in
+    let lower = get_or lowers i d in
+    let named-is = mean-at c lowers ns i name lower means many is-name (get_or_default lowers i d lower low) in
+    ap (λ o. option_map_or (λ lower. nat_lt (size c lower) end) o true) named-is ∙ ap (λ n. nat_lt n end) (sym is)
+
 ends-at : (c : Configuration) (lowers : List Lower) (bases : List Base) (i : ℕ) (base : Base) (d : Lower) (sectors room end : ℕ) → AtBase c lowers bases i base
     → room ≡ size c (get_or lowers i d) → end ≡ base.offset + sectors → ends_beyond c sectors (get_or bases i base) ≡ nat_lt room end
 ends-at c lowers bases i base d sectors room end at is ends =
-    let low : i < length lowers = omega (arith, at.inside, length-bases c lowers bases at.means) in
     let many : i < length (map device_of bases) = omega (arith, at.inside, length-map bases device_of) in
-    let lower = get_or lowers i d in
     let name : base.device ≡ get_or (map device_of bases) i base.device = ap device_of at.is_base ∙ sym (get_or-map device_of bases i base base.device at.inside) in
-    let named-is = mean-at c lowers (map device_of bases) i base.device lower at.means many name (get_or_default lowers i d lower low) in
-    sym (ap (ends_beyond c sectors) at.is_base) ∙ ap (λ o. option_map_or (λ lower. nat_lt (size c lower) (base.offset + sectors)) o true) named-is
-    ∙ ap (λ n. nat_lt n (base.offset + sectors)) (sym is) ∙ ap (nat_lt room) (sym ends)
+    sym (ap (ends_beyond c sectors) at.is_base) ∙ ends-name c lowers (map device_of bases) i base.device d room (base.offset + sectors) at.means many name is ∙ ap (nat_lt room) (sym ends)
 
 lt-true : (m n : ℕ) → m < n → nat_lt m n ≡ true
 lt-true m n h = grind (arith, nat_tests)
 
-lt-false : (m n : ℕ) → n ≤ m → nat_lt m n ≡ false
+pub lt-false : (m n : ℕ) → n ≤ m → nat_lt m n ≡ false
 lt-false m n h = grind (arith, nat_tests)
 
 pub beyond-here : (c : Configuration) (lowers : List Lower) (bases : List Base) (i : ℕ) (base : Base) (d : Lower) (sectors room end : ℕ) → AtBase c lowers bases i base
@@ -64,6 +75,13 @@ read_only-lowers c (l ∷ ls) (n ∷ ns) means =
     let here : Some l ≡ named c n = cc in
     let more : map (λ (lower : Lower). Some lower) ls ≡ map (named c) ns = cc in
     rw (← here) (ap (λ b. not (may_write c l) || b) (read_only-lowers c ls ns more))
+
+-- a verity line with parity, whose data blocks and covered hash blocks end within their devices
+pub beyond-parity : (c : Configuration) (len : ℕ) (verity : VerityRecord) (parity : Parity) (last : Bool) → verity.parity ≡ Some parity → ends_past c verity.data (line_data_sectors verity) ≡ false
+    → ends_past c verity.hash (covered_sectors verity parity) ≡ false → ends_past c parity.device (parity_sectors verity parity) ≡ last → is_beyond c len (Verity verity) ≡ last
+beyond-parity c len verity parity last is on_data on_hash on_parity =
+    is_beyond-verity c len verity ∙ ap (λ b. b || list_any (λ range. ends_past c range.0 range.1) (parity_ranges verity verity.parity)) on_data
+    ∙ parity_ranges-some c verity parity (sym is) ∙ ap (λ b. b || ends_past c parity.device (parity_sectors verity parity)) on_hash ∙ on_parity
 
 -- ---- the rules on stripes and units
 
@@ -98,6 +116,7 @@ pub record IsPassedLine (c : Configuration) (before : ℕ) (line : Line) : Type 
   pub divides : is_undivided line.length line.target ≡ false
   pub units : cuts_unit line.length line.target ≡ false
   pub offset : is_off_unit line.length line.target ≡ false
+  pub protected : is_unprotected line.length line.target ≡ false
   pub inside : is_beyond c line.length line.target ≡ false
   pub covered : is_uncovered line.length line.target ≡ false
   pub tree : is_tree_beyond c line.target ≡ false
@@ -106,7 +125,7 @@ pub line-last : (c : Configuration) (writable : Bool) (d l before : ℕ) (line :
     → first (line_rules c writable d l before line)
     ≡ first (refuse NeedsReadOnly d l (writable && needs_read_only line.length line.target) ∷ refuse LowerReadOnly d l (writable && list_any (λ lower. not (may_write c lower)) lowers) ∷ [])
 line-last c writable d l before line lowers p means =
-    rw (at-zero line.length p.some, at-same line.start before p.start, lt-false most_sectors (line.start + line.length) p.low, p.divides, p.units, p.offset, p.inside, p.covered, p.tree)
+    rw (at-zero line.length p.some, at-same line.start before p.start, lt-false most_sectors (line.start + line.length) p.low, p.divides, p.units, p.offset, p.protected, p.inside, p.covered, p.tree)
     (ap (λ b. first (refuse NeedsReadOnly d l (writable && needs_read_only line.length line.target) ∷ refuse LowerReadOnly d l (writable && b) ∷ [])) (read_only-lowers c lowers (names line.target) means))
 
 -- a line that none of the first three rules refuses, and one of those on stripes and units does
@@ -116,5 +135,5 @@ pub line-parts : (c : Configuration) (writable : Bool) (d l before : ℕ) (line 
 line-parts c writable d l before line r some start low h =
     rw (at-zero line.length some, at-same line.start before start, lt-false most_sectors (line.start + line.length) low)
     (parts-some d l (is_undivided line.length line.target) (cuts_unit line.length line.target) (is_off_unit line.length line.target)
-    (refuse BeyondDevice d l (is_beyond c line.length line.target) ∷ refuse LineBeyondTree d l (is_uncovered line.length line.target) ∷ refuse TreeBeyondDevice d l (is_tree_beyond c line.target)
+    (refuse ParityDoesntCover d l (is_unprotected line.length line.target) ∷ refuse BeyondDevice d l (is_beyond c line.length line.target) ∷ refuse LineBeyondTree d l (is_uncovered line.length line.target) ∷ refuse TreeBeyondDevice d l (is_tree_beyond c line.target)
     ∷ refuse NeedsReadOnly d l (writable && needs_read_only line.length line.target) ∷ refuse LowerReadOnly d l (writable && names_read_only c line.target) ∷ []) r h)

@@ -1,6 +1,7 @@
 //! The leaves and devices that the names in each line refer to.
 ghost use Rattle.std.specs.Prelude.{◌≡◌, ◌<◌, ◌≤◌, length, slice_index_or, All, IfOk, IfErr};
 ghost use Rattle.allocation.specs.Asked.{asked};
+ghost use Rattle.dm_table.specs.declared.table.Target.TheVariants as target;
 ghost use Rattle.dm_table.specs.Grammar.{IsTargetOfGrammar, IsLineOfGrammar};
 ghost use Rattle.stack_rules.specs.Records.{Configuration, configuration};
 ghost use Rattle.stack_rules.specs.Descend.{most_devices};
@@ -12,11 +13,26 @@ ghost use Rattle.stack_rules.specs.Rules.{unknown_in, unknown_names, most_leaves
 
 use crate::index::Index;
 use allocation::{OutOfMemory, push, with_capacity};
-use dm_table::{Line, Target};
+use dm_table::{Line, Target, Verity};
 use stack_rules::{
     DeviceLowers, Leaf, LineLowers, LoadFault, LoadKind, Planned, Refusal, name_count,
 };
 use std::alloc::Global;
+
+/// Returns name `i` of a `verity` line, from 0 on.
+fn verity_name(verity: &Verity, i: usize) -> &[u8]
+    requires { i < length (names (target.Verity verity.now)) }
+    ensures { result.now ≡ slice_index_or (names (target.Verity verity.now)) i result.now }
+{
+    match i {
+        0 => verity.data.as_slice(),
+        1 => verity.hash.as_slice(),
+        _ => match &verity.parity {
+            Some(parity) => parity.device.as_slice(),
+            None => &[],
+        },
+    }
+}
 
 /// Returns name `i` of a target, from 0 on.
 fn name_at(target: &Target, i: usize) -> &[u8]
@@ -28,13 +44,7 @@ fn name_at(target: &Target, i: usize) -> &[u8]
         Target::Striped { bases, .. } => bases.as_slice()[i].device.as_slice(),
         Target::Zero | Target::Error => &[],
         Target::Crypt(crypt) => crypt.base.device.as_slice(),
-        Target::Verity(verity) => {
-            if i == 0 {
-                verity.data.as_slice()
-            } else {
-                verity.hash.as_slice()
-            }
-        }
+        Target::Verity(verity) => verity_name(verity, i),
         Target::Unstriped(unstriped) => unstriped.base.device.as_slice(),
     }
 }

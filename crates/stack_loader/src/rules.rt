@@ -11,7 +11,7 @@ ghost use Rattle.stack_rules.specs.declared.refusal.LoadKind.TheVariants as kind
 ghost use Rattle.stack_rules.specs.Rules.{first, refuse, line_rules, needs_read_only, each_device, table_rules, most_lines};
 
 use crate::leaves::MOST_SECTORS;
-use crate::ranges::{is_beyond, is_tree_beyond, is_uncovered};
+use crate::ranges::{is_beyond, is_tree_beyond, is_uncovered, is_unprotected};
 use crate::units::part_fault;
 use dm_table::Line;
 use stack_rules::{DeviceLowers, Leaf, LineLowers, LoadKind, Lower, Planned, Refusal, verity_of};
@@ -89,6 +89,9 @@ fn line_fault(
     match part_fault(line) {
         Some(kind) => return Some(kind),
         None => {}
+    }
+    if is_unprotected(line) {
+        return Some(LoadKind::ParityDoesntCover);
     }
     if is_beyond(leaves, devices, lowers, line) {
         return Some(LoadKind::BeyondDevice);

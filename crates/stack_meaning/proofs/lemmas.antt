@@ -2,6 +2,7 @@
 pub mod BaseLemmas
 pub mod BlockSizeLemmas
 pub mod ChangeLemmas
+pub mod CheckedLemmas
 pub mod CostLemmas
 pub mod EachLineLemmas
 pub mod FoundLemmas
@@ -18,6 +19,7 @@ pub mod RunLemmas
 pub mod SectorLemmas
 pub mod SizedLemmas
 pub mod SpanLemmas
+pub mod SpareLemmas
 pub mod StripesLemmas
 pub mod UnitLemmas
 pub mod UnitSizeLemmas

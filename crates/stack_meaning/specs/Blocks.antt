@@ -1,5 +1,5 @@
 -- Data blocks of a `verity` line, verified from the root hash down.
-use Rattle.std.specs.Prelude.{◌≡◌, ◌⊎◌, ℕ, zero, suc, ◌+◌, ◌*◌, ◌/◌, ◌<◌, Bool, ◌&&◌, List, Ok, Err, if◌then◌else◌}
+use Rattle.std.specs.Prelude.{◌≡◌, ◌⊎◌, ℕ, zero, suc, ◌+◌, ◌*◌, ◌/◌, ◌<◌, Bool, ◌&&◌, List, Ok, if◌then◌else◌}
 use Rattle.std.specs.Str.{bytes_eq}
 use Rattle.tree_shape.specs.Digests.{digest, digest_in}
 use Rattle.tree_shape.specs.Shape.{levels, position, slot, ancestor}
@@ -7,7 +7,9 @@ use Rattle.dm_table.specs.declared.verity.Verity.{Verity}
 use Rattle.stack_rules.specs.Trees.{tree_of, block_sectors, zero_block}
 use Rattle.stack_meaning.specs.Sectors.{SomeOf}
 use Rattle.stack_meaning.specs.declared.fault.Fault.{Fault}
-use Rattle.stack_meaning.specs.Outcomes.{Outcome, mismatch, span, then_outcome}
+use Rattle.stack_meaning.specs.Outcomes.{Outcome, mismatch, then_outcome}
+use Rattle.stack_meaning.specs.Spares.{BlockSources, data_spare, healed_outcome}
+pub use Rattle.stack_meaning.specs.Checked.{checked, checked_span}
 
 -- the number of sectors of a hash block
 abbrev pub hash_sectors : Verity → ℕ
@@ -25,35 +27,28 @@ hash_start v l i = hash_place v l (ancestor (tree_of v) (l + 1) i)
 abbrev pub next_digest : Verity → ℕ → ℕ → List ℕ → List ℕ
 next_digest v l i block = digest_in block (slot (tree_of v) (ancestor (tree_of v) l i))
 
--- the block if it has the expected digest, and otherwise the fault Mismatch
-abbrev pub checked : List ℕ → List ℕ → List ℕ → Outcome
-checked salt expected block = if bytes_eq (digest salt block) expected then Ok block else Err mismatch
-
--- n sectors from `first` on as a verified block, or the fault of the first of them that has one
-abbrev pub checked_span : (ℕ → Outcome) → ℕ → ℕ → List ℕ → List ℕ → Outcome
-checked_span at first n salt expected = then_outcome (span at first n) (checked salt expected)
-
 -- the line has `ignore_zero_blocks`, and the digest is that of a block of zeros
 abbrev pub is_ignored : Verity → List ℕ → Bool
 is_ignored v expected = v.ignore_zero_blocks && bytes_eq (digest v.salt (zero_block v)) expected
 
--- data block i, given its expected digest: zeros if the line ignores it, otherwise it must have that digest
-abbrev pub data_block_at : Verity → (ℕ → Outcome) → ℕ → List ℕ → Outcome
-data_block_at v on_data i expected =
+-- data block i, given its expected digest: zeros if the line ignores it; otherwise it, or its spare, must have that
+-- digest
+abbrev pub data_block_at : Verity → BlockSources → ℕ → List ℕ → Outcome
+data_block_at v below i expected =
     if is_ignored v expected then Ok (zero_block v)
-    else checked_span on_data (block_sectors v * i) (block_sectors v) v.salt expected
+    else healed_outcome (checked_span below.on_data (block_sectors v * i) (block_sectors v) v.salt expected) (data_spare v below v.parity i expected)
 
 -- data block i, given the number of levels left and the digest expected of the next block: each hash block from the
 -- top level down, and then the data block, must have its expected digest
-abbrev pub block_below : Verity → (ℕ → Outcome) → (ℕ → Outcome) → ℕ → ℕ → List ℕ → Outcome
-block_below v on_data on_hash i zero expected = data_block_at v on_data i expected
-block_below v on_data on_hash i (suc l) expected =
-    then_outcome (checked_span on_hash (hash_start v l i) (hash_sectors v) v.salt expected)
-    (λ block. block_below v on_data on_hash i l (next_digest v l i block))
+abbrev pub block_below : Verity → BlockSources → ℕ → ℕ → List ℕ → Outcome
+block_below v below i zero expected = data_block_at v below i expected
+block_below v below i (suc l) expected =
+    then_outcome (checked_span below.on_hash (hash_start v l i) (hash_sectors v) v.salt expected)
+    (λ block. block_below v below i l (next_digest v l i block))
 
 -- data block i; the root hash is the digest expected of the topmost block
-abbrev pub verified_block : Verity → (ℕ → Outcome) → (ℕ → Outcome) → ℕ → Outcome
-verified_block v on_data on_hash i = block_below v on_data on_hash i (levels (tree_of v)) v.root
+abbrev pub verified_block : Verity → BlockSources → ℕ → Outcome
+verified_block v below i = block_below v below i (levels (tree_of v)) v.root
 
 -- the faults possible on the path to data block i: a wrong digest, and the faults of the sectors of the data block,
 -- whether it is ignored or not, and of the hash blocks

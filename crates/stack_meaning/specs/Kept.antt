@@ -6,6 +6,7 @@ use Rattle.block_device.specs.Device.{Device}
 use Rattle.dm_table.specs.declared.verity.Verity.{Verity}
 use Rattle.dm_table.specs.declared.table.Line.{Line}
 use Rattle.dm_table.specs.declared.table.Target.{Target}
+use Rattle.dm_table.specs.declared.table.Target.TheVariants.{Verity as verity_target}
 use Rattle.stack_rules.specs.Records.{Configuration}
 use Rattle.stack_rules.specs.Lines.{IsLine}
 use Rattle.stack_rules.specs.Names.{names}
@@ -17,11 +18,12 @@ use Rattle.stack_meaning.specs.Meaning.{none_said, said_by_name}
 use Rattle.stack_meaning.specs.Beneath.{below}
 use Rattle.stack_meaning.specs.TargetMeaning.{keeps_as}
 use Rattle.stack_meaning.specs.MeaningOf.{meaning_of}
+use Rattle.stack_meaning.specs.targets.Verity.{sources_over}
 pub use Rattle.stack_meaning.specs.targets.Verity.{IsOfVerity}
 
 -- data block i of a `verity` line over these images
 abbrev pub verity_block : Configuration → Images → Verity → ℕ → Outcome
-verity_block c images v i = verified_block v (λ t. (said_by_name c v.data t).means images) (λ t. (said_by_name c v.hash t).means images) i
+verity_block c images v i = verified_block v (sources_over (below none_said (said_by_name c) (verity_target v)) images) i
 
 -- whether leaf i is below a device that a line with this target names
 abbrev pub target_leaves : Configuration → Target → ℕ → Bool

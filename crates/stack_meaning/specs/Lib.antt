@@ -3,6 +3,8 @@ pub mod Sectors
 pub mod Units
 pub mod Found
 pub mod Blocks
+pub mod Checked
+pub mod Spares
 pub mod Leaves
 pub mod Memory
 pub mod Said

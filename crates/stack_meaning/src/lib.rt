@@ -3,6 +3,7 @@
 
 mod fault;
 mod found;
+pub mod laws;
 mod units;
 
 pub use fault::{Fault, IoFault};

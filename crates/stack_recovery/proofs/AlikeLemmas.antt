@@ -8,10 +8,12 @@ use Rattle.stack_rules.specs.Names.{mapped}
 use Rattle.stack_rules.specs.Records.{Configuration}
 use Rattle.stack_rules.specs.Rules.{IsLoaded}
 use Rattle.stack_rules.specs.Trees.{block_sectors}
+use Rattle.stack_meaning.specs.Beneath.{below as lower_said}
 use Rattle.stack_meaning.specs.Blocks.{verified_block}
-use Rattle.stack_meaning.specs.Meaning.{Said, content_part, line_said, said_by_name, sector}
+use Rattle.stack_meaning.specs.Meaning.{Said, content_part, line_said, none_said, said_by_name, sector}
 use Rattle.stack_meaning.specs.declared.fault.Fault.{Fault}
 use Rattle.stack_meaning.specs.Outcomes.{Images, Outcome, then_outcome}
+use Rattle.stack_meaning.specs.targets.Verity.{sources_over}
 use Rattle.stack_engine.proofs.lemmas.BlockLemmas.{same_block}
 use Rattle.stack_meaning.proofs.lemmas.SectorLemmas.{said_at-line}
 use Rattle.stack_recovery.specs.Alike.{AreAlike, AreLostTogether}
@@ -31,7 +33,7 @@ module _ (at : List ℕ → ℕ → Said) (d l w n : ℕ) (images : Images) (fau
       let first : (w + j) / block_sectors v ≡ w / block_sectors v = same_block (block_sectors v) w j (omega (arith, few, low)) in
       let second : (w + k) / block_sectors v ≡ w / block_sectors v = same_block (block_sectors v) w k (omega (arith, few, below)) in
       let same : (w + j) / block_sectors v ≡ (w + k) / block_sectors v = first ∙ sym second in
-      let block : ℕ → Outcome = λ i. verified_block v (λ t. (at v.data t).means images) (λ t. (at v.hash t).means images) i in
+      let block : ℕ → Outcome = λ i. verified_block v (sources_over (lower_said none_said at (verity_target v)) images) i in
       fault-through (block ((w + k) / block_sectors v)) (content_part v (w + j)) (content_part v (w + k)) fault
       (subst (λ (i : ℕ). then_outcome (block i) (λ b. Ok (content_part v (w + j) b)) ≡ Err fault) same e)
   lost-together target few e = one target few e

@@ -37,17 +37,17 @@ skimmed-longest p first wanted (s ∷ more) h = (
 
 -- ---- the beginning of a run
 
-small-most : (limit : PieceLimit) (first n : ℕ) (found : Finding) → IsHad found → n ≡ 1 → first + 1 < limit.doubt → (limit_found limit first n found).most ≡ 1
-small-most limit first n (had bytes) h one low = most-small limit n (first + n) (omega (arith, one, low)) ∙ omega (arith, one)
-small-most limit first n (lost fault) h one low = absurd h
-small-most limit first n (again fault) h one low = absurd h
-small-most limit first n kept h one low = absurd h
+small-most : (no_scrape : Bool) (limit : PieceLimit) (first n : ℕ) (found : Finding) → IsHad found → n ≡ 1 → first + 1 < limit.doubt → (limit_found no_scrape limit first n found).most ≡ 1
+small-most no_scrape limit first n (had bytes) h one low = most-small limit n (first + n) (omega (arith, one, low)) ∙ omega (arith, one)
+small-most no_scrape limit first n (lost fault) h one low = absurd h
+small-most no_scrape limit first n (again fault) h one low = absurd h
+small-most no_scrape limit first n kept h one low = absurd h
 
-small-doubt : (limit : PieceLimit) (first n : ℕ) (found : Finding) → IsHad found → (limit_found limit first n found).doubt ≡ limit.doubt
-small-doubt limit first n (had bytes) h = refl
-small-doubt limit first n (lost fault) h = absurd h
-small-doubt limit first n (again fault) h = absurd h
-small-doubt limit first n kept h = absurd h
+small-doubt : (no_scrape : Bool) (limit : PieceLimit) (first n : ℕ) (found : Finding) → IsHad found → (limit_found no_scrape limit first n found).doubt ≡ limit.doubt
+small-doubt no_scrape limit first n (had bytes) h = refl
+small-doubt no_scrape limit first n (lost fault) h = absurd h
+small-doubt no_scrape limit first n (again fault) h = absurd h
+small-doubt no_scrape limit first n kept h = absurd h
 
 length-found : (n : ℕ) (found : Finding) → IsHad found → length (states_found n found) ≡ n
 length-found n (had bytes) h = length-replicate {A = SectorState} n None
@@ -56,66 +56,66 @@ length-found n (again fault) h = absurd h
 length-found n kept h = absurd h
 
 -- single sectors before the end of the doubtful ones leave a limit of one sector
-stays-small : (limit : PieceLimit) (first : ℕ) (reads : List PieceRead) → limit.most ≡ 1 → AreSingle reads → first + length reads < limit.doubt → (limit_from limit first reads).most ≡ 1
-stays-small limit first [] one h low = one
-stays-small limit first (r ∷ more) one h low =
-    stays-small (limit_after limit first r) (first + length (states_of r)) more
-    (small-most limit first r.count r.found h.0.0 h.0.1 (omega (arith, low))) h.1
-    (omega (arith, low, h.0.1, length-found r.count r.found h.0.0, small-doubt limit first r.count r.found h.0.0))
+stays-small : (no_scrape : Bool) (limit : PieceLimit) (first : ℕ) (reads : List PieceRead) → limit.most ≡ 1 → AreSingle reads → first + length reads < limit.doubt → (limit_from no_scrape limit first reads).most ≡ 1
+stays-small no_scrape limit first [] one h low = one
+stays-small no_scrape limit first (r ∷ more) one h low =
+    stays-small no_scrape (limit_after no_scrape limit first r) (first + length (states_of r)) more
+    (small-most no_scrape limit first r.count r.found h.0.0 h.0.1 (omega (arith, low))) h.1
+    (omega (arith, low, h.0.1, length-found r.count r.found h.0.0, small-doubt no_scrape limit first r.count r.found h.0.0))
 
-pub begins-small : (first : ℕ) (reads : List PieceRead) → AreSingle reads → length reads < 128 → (limit_from (limit_of_run first) first reads).most ≡ 1
-begins-small first reads h few = stays-small (limit_of_run first) first reads refl h (omega (arith, few))
+pub begins-small : (no_scrape : Bool) (first : ℕ) (reads : List PieceRead) → AreSingle reads → length reads < 128 → (limit_from no_scrape (limit_of_run first) first reads).most ≡ 1
+begins-small no_scrape first reads h few = stays-small no_scrape (limit_of_run first) first reads refl h (omega (arith, few))
 
 -- ---- growth
 
 -- one piece that is read: the limit doubles, up to 128
-grown-most : (limit : PieceLimit) (first n : ℕ) (found : Finding) → IsHad found → limit.doubt ≤ first → (b : ℕ) → b ≤ limit.most → b ≤ 64 → b + b ≤ (limit_found limit first n found).most
-grown-most limit first n (had bytes) h past b low few = omega (arith, low, few, most-grown limit n (first + n) (omega (arith, past)))
-grown-most limit first n (lost fault) h past b low few = absurd h
-grown-most limit first n (again fault) h past b low few = absurd h
-grown-most limit first n kept h past b low few = absurd h
+grown-most : (no_scrape : Bool) (limit : PieceLimit) (first n : ℕ) (found : Finding) → IsHad found → limit.doubt ≤ first → (b : ℕ) → b ≤ limit.most → b ≤ 64 → b + b ≤ (limit_found no_scrape limit first n found).most
+grown-most no_scrape limit first n (had bytes) h past b low few = omega (arith, low, few, most-grown limit n (first + n) (omega (arith, past)))
+grown-most no_scrape limit first n (lost fault) h past b low few = absurd h
+grown-most no_scrape limit first n (again fault) h past b low few = absurd h
+grown-most no_scrape limit first n kept h past b low few = absurd h
 
-grown-few : (limit : PieceLimit) (first n : ℕ) (found : Finding) → IsHad found → limit.doubt ≤ first → (limit_found limit first n found).most ≤ 128
-grown-few limit first n (had bytes) h past = omega (arith, most-grown limit n (first + n) (omega (arith, past)))
-grown-few limit first n (lost fault) h past = absurd h
-grown-few limit first n (again fault) h past = absurd h
-grown-few limit first n kept h past = absurd h
+grown-few : (no_scrape : Bool) (limit : PieceLimit) (first n : ℕ) (found : Finding) → IsHad found → limit.doubt ≤ first → (limit_found no_scrape limit first n found).most ≤ 128
+grown-few no_scrape limit first n (had bytes) h past = omega (arith, most-grown limit n (first + n) (omega (arith, past)))
+grown-few no_scrape limit first n (lost fault) h past = absurd h
+grown-few no_scrape limit first n (again fault) h past = absurd h
+grown-few no_scrape limit first n kept h past = absurd h
 
-grown-past : (limit : PieceLimit) (first n : ℕ) (found : Finding) → IsHad found → limit.doubt ≤ first → (k : ℕ) → (limit_found limit first n found).doubt ≤ first + k
-grown-past limit first n (had bytes) h past k = omega (arith, past)
-grown-past limit first n (lost fault) h past k = absurd h
-grown-past limit first n (again fault) h past k = absurd h
-grown-past limit first n kept h past k = absurd h
+grown-past : (no_scrape : Bool) (limit : PieceLimit) (first n : ℕ) (found : Finding) → IsHad found → limit.doubt ≤ first → (k : ℕ) → (limit_found no_scrape limit first n found).doubt ≤ first + k
+grown-past no_scrape limit first n (had bytes) h past k = omega (arith, past)
+grown-past no_scrape limit first n (lost fault) h past k = absurd h
+grown-past no_scrape limit first n (again fault) h past k = absurd h
+grown-past no_scrape limit first n kept h past k = absurd h
 
 -- the limit of 128 stays
-full-stays : (limit : PieceLimit) (first : ℕ) (reads : List PieceRead) → limit.most ≡ 128 → limit.doubt ≤ first → AreHad reads → (limit_from limit first reads).most ≡ 128
-full-stays limit first [] full past h = full
-full-stays limit first (r ∷ more) full past h =
-    let low = grown-most limit first r.count r.found h.0 past 64 (omega (arith, full)) (omega arith) in
-    let few = grown-few limit first r.count r.found h.0 past in
-    full-stays (limit_after limit first r) (first + length (states_of r)) more (omega (arith, low, few)) (grown-past limit first r.count r.found h.0 past (length (states_of r))) h.1
+full-stays : (no_scrape : Bool) (limit : PieceLimit) (first : ℕ) (reads : List PieceRead) → limit.most ≡ 128 → limit.doubt ≤ first → AreHad reads → (limit_from no_scrape limit first reads).most ≡ 128
+full-stays no_scrape limit first [] full past h = full
+full-stays no_scrape limit first (r ∷ more) full past h =
+    let low = grown-most no_scrape limit first r.count r.found h.0 past 64 (omega (arith, full)) (omega arith) in
+    let few = grown-few no_scrape limit first r.count r.found h.0 past in
+    full-stays no_scrape (limit_after no_scrape limit first r) (first + length (states_of r)) more (omega (arith, low, few)) (grown-past no_scrape limit first r.count r.found h.0 past (length (states_of r))) h.1
 
 -- so many pieces double a limit of at least b to 128
-grows-by : (b : ℕ) (limit : PieceLimit) (first : ℕ) (r : PieceRead) (more : List PieceRead) → IsHad r.found → limit.doubt ≤ first → b ≤ limit.most → b ≤ 64
-    → ((next : PieceLimit) (at : ℕ) → next.doubt ≤ at → b + b ≤ next.most → next.most ≤ 128 → (limit_from next at more).most ≡ 128) → (limit_from limit first (r ∷ more)).most ≡ 128
-grows-by b limit first r more h past low few rest =
-    rest (limit_after limit first r) (first + length (states_of r)) (grown-past limit first r.count r.found h past (length (states_of r)))
-    (grown-most limit first r.count r.found h past b low few) (grown-few limit first r.count r.found h past)
+grows-by : (no_scrape : Bool) (b : ℕ) (limit : PieceLimit) (first : ℕ) (r : PieceRead) (more : List PieceRead) → IsHad r.found → limit.doubt ≤ first → b ≤ limit.most → b ≤ 64
+    → ((next : PieceLimit) (at : ℕ) → next.doubt ≤ at → b + b ≤ next.most → next.most ≤ 128 → (limit_from no_scrape next at more).most ≡ 128) → (limit_from no_scrape limit first (r ∷ more)).most ≡ 128
+grows-by no_scrape b limit first r more h past low few rest =
+    rest (limit_after no_scrape limit first r) (first + length (states_of r)) (grown-past no_scrape limit first r.count r.found h past (length (states_of r)))
+    (grown-most no_scrape limit first r.count r.found h past b low few) (grown-few no_scrape limit first r.count r.found h past)
 
-pub grows-back : (limit : PieceLimit) (first : ℕ) (reads : List PieceRead) → 1 ≤ limit.most → limit.doubt ≤ first → AreHad reads → 7 ≤ length reads → (limit_from limit first reads).most ≡ 128
-grows-back limit first (a ∷ b ∷ c ∷ d ∷ e ∷ f ∷ g ∷ more) some past h many =
-    grows-by 1 limit first a (b ∷ c ∷ d ∷ e ∷ f ∷ g ∷ more) h.0 past some (omega arith)
-    (λ l1 at1 past1 low1 few1. grows-by 2 l1 at1 b (c ∷ d ∷ e ∷ f ∷ g ∷ more) h.1.0 past1 low1 (omega arith)
-    (λ l2 at2 past2 low2 few2. grows-by 4 l2 at2 c (d ∷ e ∷ f ∷ g ∷ more) h.1.1.0 past2 low2 (omega arith)
-    (λ l3 at3 past3 low3 few3. grows-by 8 l3 at3 d (e ∷ f ∷ g ∷ more) h.1.1.1.0 past3 low3 (omega arith)
-    (λ l4 at4 past4 low4 few4. grows-by 16 l4 at4 e (f ∷ g ∷ more) h.1.1.1.1.0 past4 low4 (omega arith)
-    (λ l5 at5 past5 low5 few5. grows-by 32 l5 at5 f (g ∷ more) h.1.1.1.1.1.0 past5 low5 (omega arith)
-    (λ l6 at6 past6 low6 few6. grows-by 64 l6 at6 g more h.1.1.1.1.1.1.0 past6 low6 (omega arith)
-    (λ l7 at7 past7 low7 few7. full-stays l7 at7 more (omega (arith, low7, few7)) past7 h.1.1.1.1.1.1.1)))))))
-grows-back limit first [] some past h many = absurd (omega (arith, many))
-grows-back limit first (a ∷ []) some past h many = absurd (omega (arith, many))
-grows-back limit first (a ∷ b ∷ []) some past h many = absurd (omega (arith, many))
-grows-back limit first (a ∷ b ∷ c ∷ []) some past h many = absurd (omega (arith, many))
-grows-back limit first (a ∷ b ∷ c ∷ d ∷ []) some past h many = absurd (omega (arith, many))
-grows-back limit first (a ∷ b ∷ c ∷ d ∷ e ∷ []) some past h many = absurd (omega (arith, many))
-grows-back limit first (a ∷ b ∷ c ∷ d ∷ e ∷ f ∷ []) some past h many = absurd (omega (arith, many))
+pub grows-back : (no_scrape : Bool) (limit : PieceLimit) (first : ℕ) (reads : List PieceRead) → 1 ≤ limit.most → limit.doubt ≤ first → AreHad reads → 7 ≤ length reads → (limit_from no_scrape limit first reads).most ≡ 128
+grows-back no_scrape limit first (a ∷ b ∷ c ∷ d ∷ e ∷ f ∷ g ∷ more) some past h many =
+    grows-by no_scrape 1 limit first a (b ∷ c ∷ d ∷ e ∷ f ∷ g ∷ more) h.0 past some (omega arith)
+    (λ l1 at1 past1 low1 few1. grows-by no_scrape 2 l1 at1 b (c ∷ d ∷ e ∷ f ∷ g ∷ more) h.1.0 past1 low1 (omega arith)
+    (λ l2 at2 past2 low2 few2. grows-by no_scrape 4 l2 at2 c (d ∷ e ∷ f ∷ g ∷ more) h.1.1.0 past2 low2 (omega arith)
+    (λ l3 at3 past3 low3 few3. grows-by no_scrape 8 l3 at3 d (e ∷ f ∷ g ∷ more) h.1.1.1.0 past3 low3 (omega arith)
+    (λ l4 at4 past4 low4 few4. grows-by no_scrape 16 l4 at4 e (f ∷ g ∷ more) h.1.1.1.1.0 past4 low4 (omega arith)
+    (λ l5 at5 past5 low5 few5. grows-by no_scrape 32 l5 at5 f (g ∷ more) h.1.1.1.1.1.0 past5 low5 (omega arith)
+    (λ l6 at6 past6 low6 few6. grows-by no_scrape 64 l6 at6 g more h.1.1.1.1.1.1.0 past6 low6 (omega arith)
+    (λ l7 at7 past7 low7 few7. full-stays no_scrape l7 at7 more (omega (arith, low7, few7)) past7 h.1.1.1.1.1.1.1)))))))
+grows-back no_scrape limit first [] some past h many = absurd (omega (arith, many))
+grows-back no_scrape limit first (a ∷ []) some past h many = absurd (omega (arith, many))
+grows-back no_scrape limit first (a ∷ b ∷ []) some past h many = absurd (omega (arith, many))
+grows-back no_scrape limit first (a ∷ b ∷ c ∷ []) some past h many = absurd (omega (arith, many))
+grows-back no_scrape limit first (a ∷ b ∷ c ∷ d ∷ []) some past h many = absurd (omega (arith, many))
+grows-back no_scrape limit first (a ∷ b ∷ c ∷ d ∷ e ∷ []) some past h many = absurd (omega (arith, many))
+grows-back no_scrape limit first (a ∷ b ∷ c ∷ d ∷ e ∷ f ∷ []) some past h many = absurd (omega (arith, many))

@@ -1,5 +1,5 @@
 -- The calls on the output device, while sectors are left.
-use Rattle.std.proofs.Common.{◌≡◌, ℕ, ◌-◌, false, Bool, List, [], ◌∷◌, ◌++◌, length, Option, Ok, refl, sym, ◌∙◌, subst}
+use Rattle.std.proofs.Common.{◌≡◌, ℕ, false, Bool, List, [], ◌∷◌, ◌++◌, length, Option, Ok, refl, sym, ◌∙◌, subst}
 use Rattle.std.proofs.lemmas.List.{append-nil}
 use Rattle.block_device.specs.Call.{Call, Calls, Write}
 use Rattle.block_device.proofs.lemmas.CallLemmas.{calls-last}
@@ -14,29 +14,30 @@ use Rattle.stack_recovery.specs.declared.recovery.Counts.{Counts}
 use Rattle.stack_recovery.specs.declared.tally.Tally.{Tally}
 use Rattle.stack_recovery.specs.Handing.{HandsOverPart, HandsOverTo, copy_calls}
 use Rattle.stack_recovery.specs.Losses.{StopsInPiece}
+use Rattle.stack_recovery.specs.PassPieces.{Scanned}
 use Rattle.stack_recovery.specs.Recoveries.{Sides, counted_sectors, parties}
 use Rattle.stack_recovery.specs.Surveys.{all_states}
-use Rattle.stack_recovery.proofs.UnderwayLemmas.{IsUnderway, counted-all}
+use Rattle.stack_recovery.proofs.UnderwayLemmas.{IsUnderway, counted-all, tally_counts}
 
 -- such a pass, whose writes are the calls on the output device
-pub record IsHanding {O : Type 0} (Did : O → Call → O → Type 0) (makes_map : Bool) (before : List Bool) (d : ℕ) (old new : Sides) (at : ℕ) (tally : Tally) (made : Option (List Run)) (limit : PieceLimit) (out out' : O) : Type 0 where
+pub record IsHanding {O : Type 0} (Did : O → Call → O → Type 0) (makes_map : Bool) (before : List Bool) (scan : Scanned) (old new : Sides) (at : ℕ) (tally : Tally) (made : Option (List Run)) (limit : PieceLimit) (out out' : O) : Type 0 where
   pub calls : List Call
-  pub under : IsUnderway makes_map before d old new at tally made limit calls
+  pub under : IsUnderway makes_map before scan old new at tally made limit calls
   pub did : Calls Did out calls out'
 
-module _ {O L : Type 0} (Did : O → Call → O → Type 0) (makes_map : Bool) (before : List Bool) (d : ℕ) (old now : Sides) (at : ℕ) (tally : Tally) (noted : Option (List Run)) (limit : PieceLimit) (out out' : O) (h : IsHanding Did makes_map before d old now at tally noted limit out out') (a b : L) where
+module _ {O L : Type 0} (Did : O → Call → O → Type 0) (makes_map : Bool) (before : List Bool) (scan : Scanned) (old now : Sides) (at : ℕ) (tally : Tally) (noted : Option (List Run)) (limit : PieceLimit) (out out' : O) (h : IsHanding Did makes_map before scan old now at tally noted limit out out') (a b : L) where
   -- the pass ended here
-  pub hands-over : (counts : Counts) → counts ≡ record { read = at - tally.lost; lost = tally.lost } → HandsOverTo Did before d (counted_sectors counts) (parties old.stack out a) noted (parties now.stack out' b)
+  pub hands-over : (counts : Counts) → counts ≡ tally_counts at tally → HandsOverTo Did before scan.d (counted_sectors counts) (parties old.stack out a) noted (parties now.stack out' b)
   hands-over counts is = record {
     reads = h.under.reads;
     survey = h.under.survey;
-    whole = sym h.under.here ∙ counted-all makes_map before d old now at tally noted limit h.calls h.under counts is;
+    whole = sym h.under.here ∙ counted-all makes_map before scan old now at tally noted limit h.calls h.under counts is;
     noted = h.under.noted;
     made = subst (λ (l : List Call). Calls Did out l out') h.under.written h.did;
   }
 
   -- memory ran out
-  pub hands-part : (stack : StackRecord) → HandsOverPart Did before d (parties old.stack out a) (parties stack out' b) recovery.NoMemory
+  pub hands-part : (stack : StackRecord) → HandsOverPart Did before scan.d (parties old.stack out a) (parties stack out' b) recovery.NoMemory
   hands-part stack = record {
     reads = h.under.reads;
     left = now.stack;
@@ -46,13 +47,13 @@ module _ {O L : Type 0} (Did : O → Call → O → Type 0) (makes_map : Bool) (
     ends = refl;
   }
 
-  pub hands-in-piece : (stack : StackRecord) (fault : IoFault) (m : Bool) (x y : L) (error : RecoveryFault) → StopsInPiece fault m x y error → HandsOverPart Did before d (parties old.stack out a) (parties stack out' b) error
+  pub hands-in-piece : (stack : StackRecord) (fault : IoFault) (m : Bool) (x y : L) (error : RecoveryFault) → StopsInPiece fault m x y error → HandsOverPart Did before scan.d (parties old.stack out a) (parties stack out' b) error
   hands-in-piece stack fault m x y recovery.NoMemory p = hands-part stack
   hands-in-piece stack fault m x y recovery.Output p = absurd p
 
   -- a write failed
-  pub hands-failed : (stack : StackRecord) (out'' : O) (n : ℕ) (bytes : List ℕ) → EachBytes now.stack d at n (Ok bytes) stack → Did out' (Write at bytes false) out''
-      → HandsOverPart Did before d (parties old.stack out a) (parties stack out'' b) recovery.Output
+  pub hands-failed : (stack : StackRecord) (out'' : O) (n : ℕ) (bytes : List ℕ) → EachBytes now.stack scan.d at n (Ok bytes) stack → Did out' (Write at bytes false) out''
+      → HandsOverPart Did before scan.d (parties old.stack out a) (parties stack out'' b) recovery.Output
   hands-failed stack out'' n bytes read call = record {
     reads = h.under.reads;
     left = now.stack;
@@ -60,5 +61,5 @@ module _ {O L : Type 0} (Did : O → Call → O → Type 0) (makes_map : Bool) (
     survey = h.under.survey;
     made = subst (λ (l : List Call). Calls Did out (l ++ Write (length (all_states h.under.reads)) bytes false ∷ []) out'') h.under.written
         (calls-last Did out out' out'' h.calls (Write (length (all_states h.under.reads)) bytes false) h.did (subst (λ (k : ℕ). Did out' (Write k bytes false) out'') h.under.here call));
-    ends = (n, bytes, subst (λ (k : ℕ). EachBytes now.stack d k n (Ok bytes) stack) h.under.here read, refl);
+    ends = (n, bytes, subst (λ (k : ℕ). EachBytes now.stack scan.d k n (Ok bytes) stack) h.under.here read, refl);
   }

@@ -20,10 +20,14 @@ use Rattle.stack_recovery.specs.Laws.{AreSure, MarksAreMeant, StatesAreMeant, Su
 use Rattle.rescue_map.specs.Maps.{marks}
 use Rattle.stack_recovery.specs.FirstPasses.{unread_marks}
 use Rattle.stack_recovery.specs.Skims.{IsSkimOver, Skim, is_read, marks_of, skim_marks}
+use Rattle.stack_recovery.specs.declared.lost_run.Loss.TheVariants.{Lost, Unscraped}
+use Rattle.stack_recovery.specs.PassLaws.{AreScraped, IsScraped}
+use Rattle.stack_recovery.specs.PassPieces.{ArePassPieces, Pass, Scanned}
 use Rattle.stack_recovery.specs.Recoveries.{is_had}
-use Rattle.stack_recovery.specs.Retries.{AfterPass, IsSilentPass, Steps, after_pass, no_step, one_more}
+use Rattle.stack_recovery.specs.Retries.{AfterPass, IsSilentPass, Steps, after_pass, no_step, one_more, scan_of}
 use Rattle.stack_recovery.specs.Surveys.{Finding, IsPieceSurveyed, IsSurveyOver, PieceRead, SectorState, again, all_states, had, kept, lost, states_found, states_of}
 use Rattle.stack_recovery.proofs.AheadLemmas.{marks-none}
+use Rattle.stack_recovery.proofs.PieceLemmas.{passes-scrape}
 use Rattle.stack_recovery.proofs.lemmas.LostLemmas.{span-fault}
 
 -- ---- sectors of a span
@@ -97,19 +101,20 @@ module _ (marks : List Bool) (d first : ℕ) (w : StackRecord) (known : MarksAre
   abbrev at : ℕ → Outcome
   at = sector w.config (steady_images w.leaves) (mapped d)
 
-  meant-lost : (fault : IoFault) → EachBytes w d first n (Err fault) after → AreAlike w.config d first n → fault ≢ NoMemory → meant_states (sector w.config (steady_images w.leaves) (mapped d)) first n ≡ replicate n (Some fault)
+  meant-lost : (fault : IoFault) → EachBytes w d first n (Err fault) after → AreAlike w.config d first n → fault ≢ NoMemory → meant_states (sector w.config (steady_images w.leaves) (mapped d)) first n ≡ replicate n (Some (Lost fault))
   meant-lost (Stack fault) p alike kind = meant-fault w.config (steady_images w.leaves) d first n fault alike (p.steady sure.steady).exact
   meant-lost (DeviceFailed i) p alike kind = let failed = p.any.may.1 in absurd (failed.unsure some-device (sure.never_fail (i - 1) some-device failed.inside p.any.touches.fault))
   meant-lost NoMemory p alike kind = absurd (kind refl)
 
-  pub meant-piece : (found : Finding) → IsPieceSurveyed marks d first w (record { count = n; found = found; after = after })
+  pub meant-piece : (found : Finding) → IsScraped found → IsPieceSurveyed marks d first w (record { count = n; found = found; after = after })
       → states_found n found ≡ meant_states (sector w.config (steady_images w.leaves) (mapped d)) first (length (states_found n found))
-  meant-piece (had bytes) p =
+  meant-piece (had bytes) scraped p =
       sym (ap (meant_states at first) (length-replicate {A = SectorState} n None) ∙ meant-bytes at first n bytes (p.answered.steady sure.steady).exact)
-  meant-piece (lost fault) p =
-      sym (ap (meant_states at first) (length-replicate {A = SectorState} n (Some fault)) ∙ meant-lost fault p.answered p.may.0 p.may.1)
-  meant-piece (again fault) p = refl
-  meant-piece kept p = sym (ap (meant_states at first) (length-replicate {A = SectorState} n None) ∙ meant-each at first n None (λ k low. known (first + k) (p.marked k low)))
+  meant-piece (lost (Unscraped fault)) scraped p = absurd scraped
+  meant-piece (lost (Lost fault)) scraped p =
+      sym (ap (meant_states at first) (length-replicate {A = SectorState} n (Some (Lost fault))) ∙ meant-lost fault p.answered p.may.0 p.may.1)
+  meant-piece (again fault) scraped p = refl
+  meant-piece kept scraped p = sym (ap (meant_states at first) (length-replicate {A = SectorState} n None) ∙ meant-each at first n None (λ k low. known (first + k) (p.marked k low)))
 
 -- ---- what a read leaves
 
@@ -153,14 +158,14 @@ left-states d w after first n p =
 -- ---- a scan
 
 pub surveys-meant : SurveysAreMeant
-surveys-meant marks d first w [] w' s known sure = refl
-surveys-meant marks d first w (r ∷ more) w' s known sure =
+surveys-meant marks d first w [] w' s scraped known sure = refl
+surveys-meant marks d first w (r ∷ more) w' s scraped known sure =
     let n : ℕ = length (states_of r) in
     let m : ℕ = length (all_states more) in
     let left : IsLeft d w r.after = piece-left marks d first w r.count r.found r.after s.0 sure in
     let at : ℕ → Outcome = sector w.config (steady_images w.leaves) (mapped d) in
-    let head : states_of r ≡ meant_states at first n = meant-piece marks d first w known sure r.count r.after r.found s.0 in
-    let rest = surveys-meant marks d (first + n) r.after more w' s.1 (λ k is. left-state d w r.after k left ∙ known k is) left.sure in
+    let head : states_of r ≡ meant_states at first n = meant-piece marks d first w known sure r.count r.after r.found scraped.0 s.0 in
+    let rest = surveys-meant marks d (first + n) r.after more w' s.1 scraped.1 (λ k is. left-state d w r.after k left ∙ known k is) left.sure in
     let tail : all_states more ≡ meant_states at (first + n) m = rest ∙ left-states d w r.after (first + n) m left in
     ap (λ (l : List SectorState). l ++ all_states more) head ∙ ap (λ (l : List SectorState). meant_states at first n ++ l) tail
     ∙ sym (ap (meant_states at first) (length-append (states_of r) (all_states more)) ∙ meant-add at first n m)
@@ -238,31 +243,35 @@ meant-marked at first zero k e = absurd (false≢true e)
 meant-marked at first (suc n) zero e = let here : first + 0 ≡ first = omega arith in ap (λ (t : ℕ). meant_state (at t)) here ∙ read-state (meant_state (at first)) e
 meant-marked at first (suc n) (suc k) e = let step : first + suc k ≡ suc first + k = omega arith in ap (λ (t : ℕ). meant_state (at t)) step ∙ meant-marked at (suc first) n k e
 
+pass-scraped : (no_scrape : Bool) (p : Pass) (reads : List PieceRead) → no_scrape ≡ false → ArePassPieces no_scrape p reads → AreScraped reads
+pass-scraped no_scrape p reads scrapes pieces = passes-scrape p reads (subst (λ (b : Bool). ArePassPieces b p reads) scrapes pieces)
+
 -- what a pass leaves, and that the sectors that its map marks mean bytes
-silent-known : (d : ℕ) (old new : AfterPass Device) → IsSilentPass d old new → MarksAreMeant (marks old.map) d old.stack → AreSure (λ i. stands_on old.stack.config i (mapped d)) old.stack.leaves
-    → IsLeft d old.stack new.stack × MarksAreMeant (marks new.map) d new.stack
-silent-known d old new p known sure =
+silent-known : (scan : Scanned) (old new : AfterPass Device) → scan.no_scrape ≡ false → IsSilentPass scan old new → MarksAreMeant (marks old.map) scan.d old.stack → AreSure (λ i. stands_on old.stack.config i (mapped scan.d)) old.stack.leaves
+    → IsLeft scan.d old.stack new.stack × MarksAreMeant (marks new.map) scan.d new.stack
+silent-known scan old new scrapes p known sure =
+    let d : ℕ = scan.d in
     let over = p.3 in
     let n : ℕ = length (all_states over.reads) in
     let at : ℕ → Outcome = sector old.stack.config (steady_images old.stack.leaves) (mapped d) in
     let left : IsLeft d old.stack new.stack = survey-left (marks old.map) d 0 old.stack over.reads new.stack over.survey sure in
-    let meant : all_states over.reads ≡ meant_states at 0 n = surveys-meant (marks old.map) d 0 old.stack over.reads new.stack over.survey known sure in (
+    let meant : all_states over.reads ≡ meant_states at 0 n = surveys-meant (marks old.map) d 0 old.stack over.reads new.stack over.survey (pass-scraped scan.no_scrape _ over.reads scrapes over.pieces) known sure in (
       left,
       λ k is.
           let here : 0 + k ≡ k = omega arith in
           left-state d old.stack new.stack k left ∙ ap (λ (t : ℕ). meant_state (at t)) (sym here) ∙ meant-marked at 0 n k (sym (ap (λ (l : List Bool). get_or l k false) (over.noted ∙ ap (map is_had) meant)) ∙ is),
     )
 
-steps-known : (d : ℕ) (first : AfterPass Device) → MarksAreMeant (marks first.map) d first.stack → AreSure (λ i. stands_on first.stack.config i (mapped d)) first.stack.leaves
-    → {n : ℕ} {last : AfterPass Device} → Steps (λ (k : ℕ). IsSilentPass d) first n last → IsLeft d first.stack last.stack × MarksAreMeant (marks last.map) d last.stack
-steps-known d first known sure no_step = (same-left d first.stack first.stack refl sure, known)
-steps-known d first known sure (one_more {n} {now} {next} before step) =
-    let so_far = steps-known d first known sure before in
-    let here = silent-known d now next step so_far.1 so_far.0.sure in
-    (then-left d first.stack now.stack next.stack so_far.0 here.0, here.1)
+steps-known : (scan : Scanned) (first : AfterPass Device) → scan.no_scrape ≡ false → MarksAreMeant (marks first.map) scan.d first.stack → AreSure (λ i. stands_on first.stack.config i (mapped scan.d)) first.stack.leaves
+    → {n : ℕ} {last : AfterPass Device} → Steps (λ (k : ℕ). IsSilentPass scan) first n last → IsLeft scan.d first.stack last.stack × MarksAreMeant (marks last.map) scan.d last.stack
+steps-known scan first scrapes known sure no_step = (same-left scan.d first.stack first.stack refl sure, known)
+steps-known scan first scrapes known sure (one_more {n} {now} {next} before step) =
+    let so_far = steps-known scan first scrapes known sure before in
+    let here = silent-known scan now next scrapes step so_far.1 so_far.0.sure in
+    (then-left scan.d first.stack now.stack next.stack so_far.0 here.0, here.1)
 
 pub states-meant : StatesAreMeant
-states-meant t old counts new r sure =
+states-meant t old counts new r scrapes sure =
     let d : ℕ = t.d in
     let n : ℕ = length (all_states r.rescues.reads) in
     let p = skims-known (unread_marks old.stack.config d) d 0 old.stack r.skims.skims r.between.stack (unmarked (size old.stack.config (mapped d))) r.skims.survey sure in
@@ -270,6 +279,6 @@ states-meant t old counts new r sure =
     λ k is. let here : k ≡ 0 + k = omega arith in
     left-state d old.stack r.between.stack k p.0 ∙ ap (λ (t : ℕ). meant_state (sector old.stack.config (steady_images old.stack.leaves) (mapped d) t)) here
     ∙ p.1 k (sym (ap (λ (l : List Bool). get_or l k false) r.skims.noted) ∙ is) in
-    let q = steps-known d (after_pass r.between.stack r.between.out r.map) known p.0.sure r.retries.steps in
-    surveys-meant (marks r.left.map) d 0 r.left.stack r.rescues.reads new.stack r.rescues.survey q.1 q.0.sure
+    let q = steps-known (scan_of t) (after_pass r.between.stack r.between.out r.map) scrapes known p.0.sure r.retries.steps in
+    surveys-meant (marks r.left.map) d 0 r.left.stack r.rescues.reads new.stack r.rescues.survey (pass-scraped t.no_scrape _ r.rescues.reads scrapes r.rescues.pieces) q.1 q.0.sure
     ∙ left-states d old.stack r.left.stack 0 n (then-left d old.stack r.between.stack r.left.stack p.0 q.0)

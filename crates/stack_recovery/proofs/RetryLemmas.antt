@@ -11,8 +11,9 @@ use Rattle.rescue_map.specs.Maps.{marks}
 use Rattle.stack_recovery.specs.Handing.{HandsOver, HandsOverPart, HandsOverTo}
 use Rattle.stack_recovery.specs.declared.fault.RecoveryFault.{RecoveryFault}
 use Rattle.stack_recovery.specs.declared.recovery.Counts.{Counts}
+use Rattle.stack_recovery.specs.PassPieces.{Scanned}
 use Rattle.stack_recovery.specs.Recoveries.{GoesOver, GoesOverTo, GoesOverUntil, Parties, Sides, counted_sectors, parties}
-use Rattle.stack_recovery.specs.Retries.{AfterPass, IsEnough, IsSilentHanding, IsSilentPass, ReadsAgain, Retried, Steps, after_pass, no_step, one_more}
+use Rattle.stack_recovery.specs.Retries.{AfterPass, IsEnough, IsSilentHanding, IsSilentPass, ReadsAgain, Retried, Steps, after_pass, no_step, one_more, scan_of}
 use Rattle.stack_recovery.specs.Surveys.{IsSurveyOver, PieceRead, all_states, states_of}
 use Rattle.stack_recovery.proofs.AheadLemmas.{length-noted}
 use Rattle.stack_recovery.proofs.CopyLemmas.{same-device}
@@ -29,36 +30,36 @@ pub record AreKept (d : ℕ) (old new : AfterPass Device) : Type 0 where
   pub same : IsSameDevice old.out new.out
   pub sectors : length (marks new.map) ≡ size new.stack.config (mapped d)
 
-silent-kept : (d : ℕ) (old new : AfterPass Device) → IsSilentPass d old new → AreKept d old new
-silent-kept d old new p =
+silent-kept : (scan : Scanned) (old new : AfterPass Device) → IsSilentPass scan old new → AreKept scan.d old new
+silent-kept scan old new p =
     let over = p.3 in
-    let config : new.stack.config ≡ old.stack.config = survey-config (marks old.map) d 0 old.stack over.reads new.stack over.survey in
+    let config : new.stack.config ≡ old.stack.config = survey-config (marks old.map) scan.d 0 old.stack over.reads new.stack over.survey in
     record {
       config = config;
       same = over.copied.same;
-      sectors = length-noted new.map (all_states over.reads) over.noted ∙ over.whole ∙ ap (λ (c : Configuration). size c (mapped d)) (sym config);
+      sectors = length-noted new.map (all_states over.reads) over.noted ∙ over.whole ∙ ap (λ (c : Configuration). size c (mapped scan.d)) (sym config);
     }
 
 none-kept : (d : ℕ) (first : AfterPass Device) → length (marks first.map) ≡ size first.stack.config (mapped d) → AreKept d first first
 none-kept d first fits = record { config = refl; same = record { size = refl; may_write = refl; steady = refl; never_fails = λ h. h }; sectors = fits }
 
-pub steps-kept : (d : ℕ) (first : AfterPass Device) → length (marks first.map) ≡ size first.stack.config (mapped d) → {n : ℕ} {last : AfterPass Device} → Steps (λ (k : ℕ). IsSilentPass d) first n last → AreKept d first last
-steps-kept d first fits no_step = none-kept d first fits
-steps-kept d first fits (one_more {n} {now} {next} before step) =
-    let so_far = steps-kept d first fits before in
-    let here = silent-kept d now next step in
+pub steps-kept : (scan : Scanned) (first : AfterPass Device) → length (marks first.map) ≡ size first.stack.config (mapped scan.d) → {n : ℕ} {last : AfterPass Device} → Steps (λ (k : ℕ). IsSilentPass scan) first n last → AreKept scan.d first last
+steps-kept scan first fits no_step = none-kept scan.d first fits
+steps-kept scan first fits (one_more {n} {now} {next} before step) =
+    let so_far = steps-kept scan first fits before in
+    let here = silent-kept scan now next step in
     record { config = here.config ∙ so_far.config; same = same-device so_far.same here.same; sectors = here.sectors }
 
 pub again-kept : (t : Retried) (old new : AfterPass Device) → length (marks old.map) ≡ size old.stack.config (mapped t.d) → ReadsAgain t old new → AreKept t.d old new
-again-kept t old new fits p = steps-kept t.d old fits p.steps
+again-kept t old new fits p = steps-kept (scan_of t) old fits p.steps
 
 -- ---- a pass without a deadline
 
-pub counted-whole : (before : List Bool) (d : ℕ) (old : Sides) (counts : Counts) (made : Option (List Run)) (new : Sides) → GoesOverUntil None before d old counts made new → counted_sectors counts ≡ size old.stack.config (mapped d)
-counted-whole before d old counts made new p = ends-whole (counted_sectors counts) (size old.stack.config (mapped d)) p.ends
+pub counted-whole : (before : List Bool) (scan : Scanned) (old : Sides) (counts : Counts) (made : Option (List Run)) (new : Sides) → GoesOverUntil None before scan old counts made new → counted_sectors counts ≡ size old.stack.config (mapped scan.d)
+counted-whole before scan old counts made new p = ends-whole (counted_sectors counts) (size old.stack.config (mapped scan.d)) p.ends
 
-pub goes-whole : (before : List Bool) (d : ℕ) (old : Sides) (counts : Counts) (made : Option (List Run)) (new : Sides) → GoesOverUntil None before d old counts made new → GoesOver before d old counts made new
-goes-whole before d old counts made new p = subst (λ (n : ℕ). GoesOverTo before d n old counts made new) (counted-whole before d old counts made new p) p.goes
+pub goes-whole : (before : List Bool) (scan : Scanned) (old : Sides) (counts : Counts) (made : Option (List Run)) (new : Sides) → GoesOverUntil None before scan old counts made new → GoesOver before scan old counts made new
+goes-whole before scan old counts made new p = subst (λ (n : ℕ). GoesOverTo before scan n old counts made new) (counted-whole before scan old counts made new p) p.goes
 
 pub hands-whole : {O L : Type 0} (Did : O → Call → O → Type 0) (before : List Bool) (d n : ℕ) (old : Parties O L) (made : Option (List Run)) (new : Parties O L) → HandsOverTo Did before d n old made new → n ≡ size old.stack.config (mapped d) → HandsOver Did before d old made new
 hands-whole Did before d n old made new p whole = subst (λ (k : ℕ). HandsOverTo Did before d k old made new) whole p

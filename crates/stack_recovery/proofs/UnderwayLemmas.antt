@@ -1,5 +1,5 @@
 -- A device that is scanned, while sectors are left.
-use Rattle.std.proofs.Common.{◌≡◌, ◌≢◌, ◌⊎◌, ℕ, ◌+◌, ◌-◌, ◌≤◌, ◌^◌, Bool, true, false, IsTrue, List, [], ◌∷◌, ◌++◌, length, replicate, Option, Some, None, is_some, Ok, Err, inl, inr, refl, sym, ap, ◌∙◌, subst, arith}
+use Rattle.std.proofs.Common.{◌≡◌, ◌⊎◌, ℕ, ◌+◌, ◌-◌, ◌≤◌, ◌^◌, Bool, true, false, IsTrue, List, [], ◌∷◌, ◌++◌, length, replicate, Option, Some, None, is_some, Ok, Err, inl, inr, refl, sym, ap, ap₂, ◌∙◌, subst, arith}
 use Rattle.std.proofs.lemmas.List.{append-nil, length-append, length-replicate}
 use Rattle.block_device.specs.Call.{Call, Write}
 use Rattle.block_device.specs.Device.{Device, HasFailed, IsWritten, sectors_of, spliced}
@@ -15,54 +15,66 @@ use Rattle.stack_recovery.specs.declared.fault.RecoveryFault.{RecoveryFault}
 use Rattle.stack_recovery.specs.declared.fault.RecoveryFault.TheVariants as recovery
 use Rattle.runs.specs.Runs.{run}
 use Rattle.runs.specs.Tallies.{closed_by, listed, opened_by}
-use Rattle.stack_recovery.specs.LostRuns.{LostRun, is_same_fault, lost_in}
+use Rattle.stack_recovery.specs.LostRuns.{LostRun, is_same_loss, lost_count, lost_in, untried_count, untried_in}
 use Rattle.stack_recovery.specs.declared.recovery.Counts.{Counts}
+use Rattle.stack_recovery.specs.declared.lost_run.Loss.{Loss}
 use Rattle.stack_recovery.specs.declared.piece_limit.PieceLimit.{PieceLimit}
 use Rattle.stack_recovery.specs.declared.tally.Tally.{Tally}
-use Rattle.stack_recovery.specs.Alike.{AreAlike}
 use Rattle.stack_recovery.specs.Copies.{IsCopied}
 use Rattle.stack_recovery.specs.Deadlines.{EndsAt}
 use Rattle.stack_recovery.specs.Handing.{calls_found, copy_calls}
 use Rattle.stack_recovery.specs.Listings.{Listed, Tells}
 use Rattle.stack_recovery.specs.Losses.{StopsInPiece}
-use Rattle.stack_recovery.specs.PassPieces.{ArePassPieces, IsNextPiece, IsPieceFound, limit_after, limit_from, pass_over}
+use Rattle.stack_recovery.specs.PassPieces.{ArePassPieces, IsLossFound, IsNextPiece, IsPieceFound, IsReadAgain, Scanned, limit_after, limit_from, pass_over}
 use Rattle.stack_recovery.specs.PieceLimits.{limit_after_bytes, limit_after_loss, limit_of_run, limit_up_to}
 use Rattle.stack_recovery.specs.Recoveries.{EndsEarly, FailsOutput, FindsNoMemory, GoesOverUntil, IsBegunOver, AreMarksNoted, IsMapRefused, NotesMore, RunsShort, Sides, counted_sectors, sides}
-use Rattle.stack_recovery.specs.Surveys.{AreMarked, IsPieceSurveyed, IsSurveyOver, PieceRead, SectorState, again, all_states, had, kept, lost, states_of}
+use Rattle.stack_recovery.specs.Surveys.{AreMarked, IsPieceSurveyed, IsSurveyOver, MayLose, PieceRead, SectorState, again, all_states, fault_of, had, kept, lost, states_of}
 use Rattle.stack_recovery.specs.Texts.{lost_text}
 use Rattle.stack_recovery.proofs.AheadLemmas.{length-noted, noted-more}
 use Rattle.stack_recovery.proofs.CopyLemmas.{copied-had, copied-lost, copied-none}
 use Rattle.runs.proofs.lemmas.RunLemmas.{IsTallied, tallied-all, tallied-had, tallied-lost, tallied-none}
-use Rattle.stack_recovery.proofs.LostRunLemmas.{is_same-equality, lost_in-append, lost_in-had, lost_in-lost, lost_in-most}
+use Rattle.stack_recovery.proofs.LostRunLemmas.{is_same-equality, lost_in-append, lost_in-had, lost_in-lost, lost_in-most, untried_in-append, untried_in-had, untried_in-lost}
 use Rattle.stack_recovery.proofs.PieceLemmas.{calls-push, limit-push, pieces-push}
 use Rattle.stack_recovery.proofs.SurveyLemmas.{states-push, survey-push}
 use Rattle.stack_recovery.proofs.WritingLemmas.{runs-then, tells_nothing}
 
 -- The sectors before that one were had or are lost, and of their runs all but the last were printed. The next piece has that
 -- limit, and those calls are the writes of the pieces.
-pub record IsUnderway (makes_map : Bool) (before : List Bool) (d : ℕ) (old new : Sides) (at : ℕ) (tally : Tally) (made : Option (List Run)) (limit : PieceLimit) (calls : List Call) : Type 0 where
+pub record IsUnderway (makes_map : Bool) (before : List Bool) (scan : Scanned) (old new : Sides) (at : ℕ) (tally : Tally) (made : Option (List Run)) (limit : PieceLimit) (calls : List Call) : Type 0 where
   pub reads : List PieceRead
   pub closed : List LostRun
-  pub survey : IsSurveyOver before d 0 old.stack reads new.stack
+  pub survey : IsSurveyOver before scan.d 0 old.stack reads new.stack
   pub here : at ≡ length (all_states reads)
-  pub tallied : IsTallied is_same_fault (all_states reads) closed tally.last
+  pub tallied : IsTallied is_same_loss (all_states reads) closed tally.last
   pub lost : tally.lost ≡ lost_in (all_states reads)
+  pub untried : tally.untried ≡ untried_in (all_states reads)
   pub copied : IsCopied reads old.out new.out
   pub printed : Tells old.printed new.printed (lost_text closed)
   pub noted : AreMarksNoted made (all_states reads)
-  pub pieces : ArePassPieces (pass_over old.stack.config d before makes_map) reads
-  pub limited : limit ≡ limit_from (limit_of_run 0) 0 reads
+  pub pieces : ArePassPieces scan.no_scrape (pass_over old.stack.config scan.d before makes_map) reads
+  pub limited : limit ≡ limit_from scan.no_scrape (limit_of_run 0) 0 reads
   pub written : calls ≡ copy_calls 0 reads
 
-pub underway-none : (makes_map : Bool) (before : List Bool) (d : ℕ) (old : Sides) (noted : Option (List Run)) (limit : PieceLimit) → AreMarksNoted noted [] → limit ≡ limit_of_run 0
-    → IsUnderway makes_map before d old old 0 (record { last = None; lost = 0 }) noted limit []
-underway-none makes_map before d old noted limit p first = record {
+-- the counts of a tally, of so many sectors
+abbrev pub tally_counts : ℕ → Tally → Counts
+tally_counts at tally = record { read = at - (tally.lost + tally.untried); lost = tally.lost; untried = tally.untried }
+
+-- a tally whose run was closed
+pub closed-tally : (old new : Tally) → new.last ≡ None → new.lost ≡ old.lost → new.untried ≡ old.untried → new ≡ record { last = None; lost = old.lost; untried = old.untried }
+closed-tally old new closed same_lost same_untried =
+    ap₂ {C = Tally} (λ (l : Option LostRun) (m : ℕ). record { last = l; lost = m; untried = new.untried }) closed same_lost
+    ∙ ap (λ (t : ℕ). record { last = None; lost = old.lost; untried = t }) same_untried
+
+pub underway-none : (makes_map : Bool) (before : List Bool) (scan : Scanned) (old : Sides) (noted : Option (List Run)) (limit : PieceLimit) → AreMarksNoted noted [] → limit ≡ limit_of_run 0
+    → IsUnderway makes_map before scan old old 0 (record { last = None; lost = 0; untried = 0 }) noted limit []
+underway-none makes_map before scan old noted limit p first = record {
   reads = [];
   closed = [];
   survey = refl;
   here = refl;
-  tallied = tallied-none is_same_fault is_same-equality;
+  tallied = tallied-none is_same_loss is_same-equality;
   lost = refl;
+  untried = refl;
   copied = copied-none old.out;
   printed = tells_nothing old.printed;
   noted = p;
@@ -71,9 +83,9 @@ underway-none makes_map before d old noted limit p first = record {
   written = refl;
 }
 
-module _ (makes_map : Bool) (before : List Bool) (d : ℕ) (old now : Sides) (at : ℕ) (tally : Tally) (noted : Option (List Run)) (limit : PieceLimit) (calls : List Call) (u : IsUnderway makes_map before d old now at tally noted limit calls) where
+module _ (makes_map : Bool) (before : List Bool) (scan : Scanned) (old now : Sides) (at : ℕ) (tally : Tally) (noted : Option (List Run)) (limit : PieceLimit) (calls : List Call) (u : IsUnderway makes_map before scan old now at tally noted limit calls) where
   -- its runs are the first of those of the sectors so far
-  pub begun : (stack : StackRecord) (out : Device) → IsBegunOver makes_map before d old (sides stack out now.printed)
+  pub begun : (stack : StackRecord) (out : Device) → IsBegunOver makes_map before scan old (sides stack out now.printed)
   begun stack out = record {
     reads = u.reads;
     left = now.stack;
@@ -81,75 +93,75 @@ module _ (makes_map : Bool) (before : List Bool) (d : ℕ) (old now : Sides) (at
     more = listed tally.last;
     survey = u.survey;
     pieces = u.pieces;
-    first = tallied-all is_same_fault is_same-equality (all_states u.reads) u.closed tally.last u.tallied;
+    first = tallied-all is_same_loss is_same-equality (all_states u.reads) u.closed tally.last u.tallied;
     printed = u.printed;
   }
 
   -- memory ran out
-  pub runs-short : (stack : StackRecord) → now.out.failures ≡ old.out.failures → FindsNoMemory d at now.stack stack ⊎ IsMapRefused makes_map
-      → RunsShort makes_map before d old (sides stack now.out now.printed)
+  pub runs-short : (stack : StackRecord) → now.out.failures ≡ old.out.failures → FindsNoMemory scan.d at now.stack stack ⊎ IsMapRefused makes_map
+      → RunsShort makes_map before scan old (sides stack now.out now.printed)
   unfolding begun
   runs-short stack unfailed refused = record {
     begun = begun stack now.out;
     copied = u.copied;
     unfailed = unfailed;
-    refused = subst (λ (k : ℕ). FindsNoMemory d k now.stack stack ⊎ IsMapRefused makes_map) u.here refused;
+    refused = subst (λ (k : ℕ). FindsNoMemory scan.d k now.stack stack ⊎ IsMapRefused makes_map) u.here refused;
   }
 
   -- a write of the output device failed
-  pub fails-output : (n : ℕ) (bytes : List ℕ) (stack : StackRecord) (out : Device) → EachBytes now.stack d at n (Ok bytes) stack → IsWritten now.out at n false out → HasFailed old.out out → (IsTrue old.out.never_fails → ⊥)
-      → FailsOutput makes_map before d old (sides stack out now.printed)
+  pub fails-output : (n : ℕ) (bytes : List ℕ) (stack : StackRecord) (out : Device) → EachBytes now.stack scan.d at n (Ok bytes) stack → IsWritten now.out at n false out → HasFailed old.out out → (IsTrue old.out.never_fails → ⊥)
+      → FailsOutput makes_map before scan old (sides stack out now.printed)
   unfolding begun
   fails-output n bytes stack out read writing failed sure = record {
     begun = begun stack out;
     out = now.out;
     n = n;
     bytes = bytes;
-    read = subst (λ (k : ℕ). EachBytes now.stack d k n (Ok bytes) stack) u.here read;
+    read = subst (λ (k : ℕ). EachBytes now.stack scan.d k n (Ok bytes) stack) u.here read;
     copied = u.copied;
     writing = subst (λ (k : ℕ). IsWritten now.out k n false out) u.here writing;
     failed = failed;
     sure = sure;
   }
 
-  memory-read : (stack : StackRecord) (fault : IoFault) → is_some noted ≡ makes_map → (fault ≡ NoMemory → FindsNoMemory d at now.stack stack)
-      → (fault ≡ NoMemory) ⊎ IsMapRefused (is_some noted) → FindsNoMemory d at now.stack stack ⊎ IsMapRefused makes_map
+  memory-read : (stack : StackRecord) (fault : IoFault) → is_some noted ≡ makes_map → (fault ≡ NoMemory → FindsNoMemory scan.d at now.stack stack)
+      → (fault ≡ NoMemory) ⊎ IsMapRefused (is_some noted) → FindsNoMemory scan.d at now.stack stack ⊎ IsMapRefused makes_map
   memory-read stack fault same read (inl is) = inl (read is)
   memory-read stack fault same read (inr map) = inr (sym same ∙ map.0, map.1)
 
   -- it ended in a piece that wasn't read
   pub ends-in-piece : {L : Type 0} (told : L → Listed) (stack : StackRecord) (fault : IoFault) (a b : L) (error : RecoveryFault) → now.printed ≡ told a → now.out.failures ≡ old.out.failures → is_some noted ≡ makes_map
-      → (fault ≡ NoMemory → FindsNoMemory d at now.stack stack) → StopsInPiece fault (is_some noted) a b error → EndsEarly makes_map before d old (sides stack now.out (told b)) error
+      → (fault ≡ NoMemory → FindsNoMemory scan.d at now.stack stack) → StopsInPiece fault (is_some noted) a b error → EndsEarly makes_map before scan old (sides stack now.out (told b)) error
   ends-in-piece told stack fault a b recovery.NoMemory printed unfailed same read p =
-      subst (λ (t : Listed). RunsShort makes_map before d old (sides stack now.out t)) (printed ∙ ap told (sym p.1)) (runs-short stack unfailed (memory-read stack fault same read p.0))
+      subst (λ (t : Listed). RunsShort makes_map before scan old (sides stack now.out t)) (printed ∙ ap told (sym p.1)) (runs-short stack unfailed (memory-read stack fault same read p.0))
   ends-in-piece told stack fault a b recovery.Output printed unfailed same read p = absurd p
 
-  pub few : tally.lost ≤ at
-  few = omega (arith, u.here, u.lost, lost_in-most (all_states u.reads))
+  pub few : tally.lost + tally.untried ≤ at
+  few = omega (arith, u.here, u.lost, u.untried, lost_in-most (all_states u.reads))
 
   -- there is room for more sectors in the map
   pub note-room : (n : ℕ) → at + n ≤ 2 ^ 54 → (runs : List Run) → noted ≡ Some runs → length (marks runs) + n ≤ 2 ^ 54
   note-room n room runs e =
       omega (arith, room, u.here, length-noted runs (all_states u.reads) (subst (λ (m : Option (List Run)). AreMarksNoted m (all_states u.reads)) e u.noted))
 
-  next-survey : (r : PieceRead) → IsPieceSurveyed before d at now.stack r → IsSurveyOver before d 0 old.stack (u.reads ++ r ∷ []) r.after
+  next-survey : (r : PieceRead) → IsPieceSurveyed before scan.d at now.stack r → IsSurveyOver before scan.d 0 old.stack (u.reads ++ r ∷ []) r.after
   next-survey r p =
       let here : at ≡ 0 + length (all_states u.reads) = omega (arith, u.here) in
-      survey-push before d 0 old.stack u.reads now.stack r u.survey (subst (λ (k : ℕ). IsPieceSurveyed before d k now.stack r) here p)
+      survey-push before scan.d 0 old.stack u.reads now.stack r u.survey (subst (λ (k : ℕ). IsPieceSurveyed before scan.d k now.stack r) here p)
 
-  next-pieces : (r : PieceRead) → IsPieceFound (pass_over old.stack.config d before makes_map) at limit.most r.count r.found → ArePassPieces (pass_over old.stack.config d before makes_map) (u.reads ++ r ∷ [])
+  next-pieces : (r : PieceRead) → IsPieceFound scan.no_scrape (pass_over old.stack.config scan.d before makes_map) at limit r.count r.found → ArePassPieces scan.no_scrape (pass_over old.stack.config scan.d before makes_map) (u.reads ++ r ∷ [])
   next-pieces r h =
       let here : at ≡ 0 + length (all_states u.reads) = omega (arith, u.here) in
-      pieces-push (pass_over old.stack.config d before makes_map) 0 (limit_of_run 0) u.reads r u.pieces
-      (subst (λ (l : PieceLimit). IsPieceFound (pass_over old.stack.config d before makes_map) (0 + length (all_states u.reads)) l.most r.count r.found) u.limited
-      (subst (λ (k : ℕ). IsPieceFound (pass_over old.stack.config d before makes_map) k limit.most r.count r.found) here h))
+      pieces-push scan.no_scrape (pass_over old.stack.config scan.d before makes_map) 0 (limit_of_run 0) u.reads r u.pieces
+      (subst (λ (l : PieceLimit). IsPieceFound scan.no_scrape (pass_over old.stack.config scan.d before makes_map) (0 + length (all_states u.reads)) l r.count r.found) u.limited
+      (subst (λ (k : ℕ). IsPieceFound scan.no_scrape (pass_over old.stack.config scan.d before makes_map) k limit r.count r.found) here h))
 
-  next-limit : (r : PieceRead) → limit_after limit at r ≡ limit_from (limit_of_run 0) 0 (u.reads ++ r ∷ [])
+  next-limit : (r : PieceRead) → limit_after scan.no_scrape limit at r ≡ limit_from scan.no_scrape (limit_of_run 0) 0 (u.reads ++ r ∷ [])
   next-limit r =
       let here : at ≡ 0 + length (all_states u.reads) = omega (arith, u.here) in
-      ap (λ (l : PieceLimit). limit_after l at r) u.limited
-      ∙ ap (λ (k : ℕ). limit_after (limit_from (limit_of_run 0) 0 u.reads) k r) here
-      ∙ sym (limit-push (limit_of_run 0) 0 u.reads r)
+      ap (λ (l : PieceLimit). limit_after scan.no_scrape l at r) u.limited
+      ∙ ap (λ (k : ℕ). limit_after scan.no_scrape (limit_from scan.no_scrape (limit_of_run 0) 0 u.reads) k r) here
+      ∙ sym (limit-push scan.no_scrape (limit_of_run 0) 0 u.reads r)
 
   next-calls : (r : PieceRead) → calls ++ calls_found at r.found ≡ copy_calls 0 (u.reads ++ r ∷ [])
   next-calls r =
@@ -159,20 +171,21 @@ module _ (makes_map : Bool) (before : List Bool) (d : ℕ) (old now : Sides) (at
       ∙ sym (calls-push 0 u.reads r)
 
   -- a piece that was had, written, and told
-  pub underway-had : (n : ℕ) (bytes : List ℕ) (stack : StackRecord) (k : ℕ) (ok : Bool) (out : Device) (printed : Listed) (next : Tally) (more : Option (List Run)) (after : PieceLimit) → IsNextPiece (pass_over old.stack.config d before makes_map) at limit.most n → after ≡ limit_after_bytes limit n (at + n)
-      → 1 ≤ n → EachBytes now.stack d at n (Ok bytes) stack → AreMarked before at n false → NotesMore noted more (replicate n true) → k ≡ n
+  pub underway-had : (n : ℕ) (bytes : List ℕ) (stack : StackRecord) (k : ℕ) (ok : Bool) (out : Device) (printed : Listed) (next : Tally) (more : Option (List Run)) (after : PieceLimit) → IsNextPiece (pass_over old.stack.config scan.d before makes_map) at limit.most n → after ≡ limit_after_bytes limit n (at + n)
+      → 1 ≤ n → EachBytes now.stack scan.d at n (Ok bytes) stack → AreMarked before at n false → NotesMore noted more (replicate n true) → k ≡ n
       → IsWritten now.out at k ok out → (IsTrue now.out.steady → out.image ≡ spliced now.out.image at (sectors_of k bytes))
-      → Tells now.printed printed (lost_text (listed tally.last)) → next ≡ record { last = None; lost = tally.lost } → IsUnderway makes_map before d old (sides stack out printed) (at + n) next more after (calls ++ Write at bytes true ∷ [])
+      → Tells now.printed printed (lost_text (listed tally.last)) → next ≡ record { last = None; lost = tally.lost; untried = tally.untried } → IsUnderway makes_map before scan old (sides stack out printed) (at + n) next more after (calls ++ Write at bytes true ∷ [])
   underway-had n bytes stack k ok out printed next more after piece grown some p marked noting count w image told is =
       let r : PieceRead = record { count = n; found = had bytes; after = stack } in
       let states : all_states (u.reads ++ r ∷ []) ≡ all_states u.reads ++ replicate n None = states-push u.reads r in
-      subst (λ (t : Tally). IsUnderway makes_map before d old (sides stack out printed) (at + n) t more after (calls ++ Write at bytes true ∷ [])) (sym is) (record {
+      subst (λ (t : Tally). IsUnderway makes_map before scan old (sides stack out printed) (at + n) t more after (calls ++ Write at bytes true ∷ [])) (sym is) (record {
         reads = u.reads ++ r ∷ [];
         closed = u.closed ++ listed tally.last;
         survey = next-survey r (record { answered = p; may = tt; marked = marked });
         here = omega (arith, u.here, ap length states, length-append (all_states u.reads) (states_of r), length-replicate {A = SectorState} n None);
-        tallied = rw states (tallied-had is_same_fault is_same-equality (all_states u.reads) u.closed tally.last n some u.tallied);
+        tallied = rw states (tallied-had is_same_loss is_same-equality (all_states u.reads) u.closed tally.last n some u.tallied);
         lost = u.lost ∙ sym (ap lost_in states ∙ lost_in-append (all_states u.reads) (states_of r) ∙ ap (λ (m : ℕ). lost_in (all_states u.reads) + m) (lost_in-had n) ∙ omega arith);
+        untried = u.untried ∙ sym (ap untried_in states ∙ untried_in-append (all_states u.reads) (states_of r) ∙ ap (λ (m : ℕ). untried_in (all_states u.reads) + m) (untried_in-had n) ∙ omega arith);
         copied = copied-had u.reads n at k bytes stack ok old.out now.out out u.here count u.copied w image;
         printed = runs-then old.printed now.printed printed u.closed (listed tally.last) u.printed told;
         noted = rw states (noted-more noted more (all_states u.reads) n None u.noted noting);
@@ -183,17 +196,18 @@ module _ (makes_map : Bool) (before : List Bool) (d : ℕ) (old now : Sides) (at
 
   -- sectors that were had before
   pub underway-kept : (n : ℕ) (printed : Listed) (next : Tally) (more : Option (List Run)) (after : PieceLimit) → after ≡ limit_of_run (at + n) → 1 ≤ n → AreMarked before at n true → NotesMore noted more (replicate n true)
-      → Tells now.printed printed (lost_text (listed tally.last)) → next ≡ record { last = None; lost = tally.lost } → IsUnderway makes_map before d old (sides now.stack now.out printed) (at + n) next more after calls
+      → Tells now.printed printed (lost_text (listed tally.last)) → next ≡ record { last = None; lost = tally.lost; untried = tally.untried } → IsUnderway makes_map before scan old (sides now.stack now.out printed) (at + n) next more after calls
   underway-kept n printed next more after begins some marked noting told is =
       let r : PieceRead = record { count = n; found = kept; after = now.stack } in
       let states : all_states (u.reads ++ r ∷ []) ≡ all_states u.reads ++ replicate n None = states-push u.reads r in
-      subst (λ (t : Tally). IsUnderway makes_map before d old (sides now.stack now.out printed) (at + n) t more after calls) (sym is) (record {
+      subst (λ (t : Tally). IsUnderway makes_map before scan old (sides now.stack now.out printed) (at + n) t more after calls) (sym is) (record {
         reads = u.reads ++ r ∷ [];
         closed = u.closed ++ listed tally.last;
         survey = next-survey r (record { answered = refl; may = some; marked = marked });
         here = omega (arith, u.here, ap length states, length-append (all_states u.reads) (states_of r), length-replicate {A = SectorState} n None);
-        tallied = rw states (tallied-had is_same_fault is_same-equality (all_states u.reads) u.closed tally.last n some u.tallied);
+        tallied = rw states (tallied-had is_same_loss is_same-equality (all_states u.reads) u.closed tally.last n some u.tallied);
         lost = u.lost ∙ sym (ap lost_in states ∙ lost_in-append (all_states u.reads) (states_of r) ∙ ap (λ (m : ℕ). lost_in (all_states u.reads) + m) (lost_in-had n) ∙ omega arith);
+        untried = u.untried ∙ sym (ap untried_in states ∙ untried_in-append (all_states u.reads) (states_of r) ∙ ap (λ (m : ℕ). untried_in (all_states u.reads) + m) (untried_in-had n) ∙ omega arith);
         copied = copied-lost u.reads r old.out now.out (λ first m image. refl) u.copied;
         printed = runs-then old.printed now.printed printed u.closed (listed tally.last) u.printed told;
         noted = rw states (noted-more noted more (all_states u.reads) n None u.noted noting);
@@ -203,31 +217,32 @@ module _ (makes_map : Bool) (before : List Bool) (d : ℕ) (old now : Sides) (at
       })
 
   -- a piece that is lost, and told
-  pub underway-lost : (n : ℕ) (fault : IoFault) (stack : StackRecord) (printed : Listed) (next : Tally) (more : Option (List Run)) (after : PieceLimit) → IsNextPiece (pass_over old.stack.config d before makes_map) at limit.most n → after ≡ limit_after_loss limit
-      → 1 ≤ n → EachBytes now.stack d at n (Err fault) stack → AreMarked before at n false → NotesMore noted more (replicate n false) → AreAlike now.stack.config d at n → fault ≢ NoMemory
-      → Tells now.printed printed (lost_text (closed_by is_same_fault tally.last (run at n fault))) → next ≡ record { last = Some (opened_by is_same_fault tally.last (run at n fault)); lost = tally.lost + n }
-      → IsUnderway makes_map before d old (sides stack now.out printed) (at + n) next more after calls
-  underway-lost n fault stack printed next more after piece grown some p marked noting alike kind told is =
-      let r : PieceRead = record { count = n; found = lost fault; after = stack } in
-      let states : all_states (u.reads ++ r ∷ []) ≡ all_states u.reads ++ replicate n (Some fault) = states-push u.reads r in
-      subst (λ (t : Tally). IsUnderway makes_map before d old (sides stack now.out printed) (at + n) t more after calls) (sym is) (record {
+  pub underway-lost : (n : ℕ) (loss : Loss) (stack : StackRecord) (printed : Listed) (next : Tally) (more : Option (List Run)) (after : PieceLimit) → IsNextPiece (pass_over old.stack.config scan.d before makes_map) at limit.most n → IsLossFound scan.no_scrape limit at n loss → after ≡ limit_after_loss scan.no_scrape limit (at + n)
+      → 1 ≤ n → EachBytes now.stack scan.d at n (Err (fault_of loss)) stack → AreMarked before at n false → NotesMore noted more (replicate n false) → MayLose now.stack.config scan.d at n loss
+      → Tells now.printed printed (lost_text (closed_by is_same_loss tally.last (run at n loss))) → next ≡ record { last = Some (opened_by is_same_loss tally.last (run at n loss)); lost = tally.lost + lost_count loss n; untried = tally.untried + untried_count loss n }
+      → IsUnderway makes_map before scan old (sides stack now.out printed) (at + n) next more after calls
+  underway-lost n loss stack printed next more after piece found grown some p marked noting may told is =
+      let r : PieceRead = record { count = n; found = lost loss; after = stack } in
+      let states : all_states (u.reads ++ r ∷ []) ≡ all_states u.reads ++ replicate n (Some loss) = states-push u.reads r in
+      subst (λ (t : Tally). IsUnderway makes_map before scan old (sides stack now.out printed) (at + n) t more after calls) (sym is) (record {
         reads = u.reads ++ r ∷ [];
-        closed = u.closed ++ closed_by is_same_fault tally.last (run at n fault);
-        survey = next-survey r (record { answered = p; may = (alike, kind); marked = marked });
-        here = omega (arith, u.here, ap length states, length-append (all_states u.reads) (states_of r), length-replicate {A = SectorState} n (Some fault));
-        tallied = rw states (tallied-lost is_same_fault is_same-equality (all_states u.reads) u.closed tally.last at n fault u.here some u.tallied);
-        lost = ap (λ (m : ℕ). m + n) u.lost ∙ sym (ap lost_in states ∙ lost_in-append (all_states u.reads) (states_of r) ∙ ap (λ (m : ℕ). lost_in (all_states u.reads) + m) (lost_in-lost n fault));
+        closed = u.closed ++ closed_by is_same_loss tally.last (run at n loss);
+        survey = next-survey r (record { answered = p; may = may; marked = marked });
+        here = omega (arith, u.here, ap length states, length-append (all_states u.reads) (states_of r), length-replicate {A = SectorState} n (Some loss));
+        tallied = rw states (tallied-lost is_same_loss is_same-equality (all_states u.reads) u.closed tally.last at n loss u.here some u.tallied);
+        lost = ap (λ (m : ℕ). m + lost_count loss n) u.lost ∙ sym (ap lost_in states ∙ lost_in-append (all_states u.reads) (states_of r) ∙ ap (λ (m : ℕ). lost_in (all_states u.reads) + m) (lost_in-lost n loss));
+        untried = ap (λ (m : ℕ). m + untried_count loss n) u.untried ∙ sym (ap untried_in states ∙ untried_in-append (all_states u.reads) (states_of r) ∙ ap (λ (m : ℕ). untried_in (all_states u.reads) + m) (untried_in-lost n loss));
         copied = copied-lost u.reads r old.out now.out (λ first m image. refl) u.copied;
-        printed = runs-then old.printed now.printed printed u.closed (closed_by is_same_fault tally.last (run at n fault)) u.printed told;
-        noted = rw states (noted-more noted more (all_states u.reads) n (Some fault) u.noted noting);
-        pieces = next-pieces r piece;
+        printed = runs-then old.printed now.printed printed u.closed (closed_by is_same_loss tally.last (run at n loss)) u.printed told;
+        noted = rw states (noted-more noted more (all_states u.reads) n (Some loss) u.noted noting);
+        pieces = next-pieces r (piece, found);
         limited = grown ∙ next-limit r;
         written = sym (append-nil calls) ∙ next-calls r;
       })
 
   -- a piece that is read again
-  pub underway-again : (n : ℕ) (fault : IoFault) (stack : StackRecord) (after : PieceLimit) → IsNextPiece (pass_over old.stack.config d before makes_map) at limit.most n → (2 ≤ n) × (n ≤ limit.most) → after ≡ limit_up_to (at + n)
-      → EachBytes now.stack d at n (Err fault) stack → AreMarked before at n false → IsUnderway makes_map before d old (sides stack now.out now.printed) at tally noted after calls
+  pub underway-again : (n : ℕ) (fault : IoFault) (stack : StackRecord) (after : PieceLimit) → IsNextPiece (pass_over old.stack.config scan.d before makes_map) at limit.most n → IsReadAgain scan.no_scrape limit at n → after ≡ limit_up_to (at + n)
+      → EachBytes now.stack scan.d at n (Err fault) stack → AreMarked before at n false → IsUnderway makes_map before scan old (sides stack now.out now.printed) at tally noted after calls
   underway-again n fault stack after piece small grown p marked =
       let r : PieceRead = record { count = n; found = again fault; after = stack } in
       let states : all_states (u.reads ++ r ∷ []) ≡ all_states u.reads = states-push u.reads r ∙ append-nil (all_states u.reads) in
@@ -238,6 +253,7 @@ module _ (makes_map : Bool) (before : List Bool) (d : ℕ) (old now : Sides) (at
         here = u.here ∙ sym (ap length states);
         tallied = rw states u.tallied;
         lost = u.lost ∙ sym (ap lost_in states);
+        untried = u.untried ∙ sym (ap untried_in states);
         copied = copied-lost u.reads r old.out now.out (λ first m image. refl) u.copied;
         printed = u.printed;
         noted = rw states u.noted;
@@ -247,23 +263,24 @@ module _ (makes_map : Bool) (before : List Bool) (d : ℕ) (old now : Sides) (at
       }
 
   -- the sectors so far are those that are counted
-  pub counted-all : (counts : Counts) → counts ≡ record { read = at - tally.lost; lost = tally.lost } → at ≡ counted_sectors counts
-  counted-all counts is = let sum : at ≡ at - tally.lost + tally.lost = omega (arith, few) in sum ∙ sym (ap counted_sectors is)
+  pub counted-all : (counts : Counts) → counts ≡ tally_counts at tally → at ≡ counted_sectors counts
+  counted-all counts is = let sum : at ≡ at - (tally.lost + tally.untried) + (tally.lost + tally.untried) = omega (arith, few) in sum ∙ sym (ap counted_sectors is)
 
   -- the pass ended here
-  pub underway-until : (deadline : Option Deadline) (printed : Listed) (sectors : ℕ) (counts : Counts) → EndsAt deadline at sectors → sectors ≡ size old.stack.config (mapped d) → Tells now.printed printed (lost_text (listed tally.last))
-      → counts ≡ record { read = at - tally.lost; lost = tally.lost } → now.out.failures ≡ old.out.failures → is_some noted ≡ makes_map → GoesOverUntil deadline before d old counts noted (sides now.stack now.out printed)
+  pub underway-until : (deadline : Option Deadline) (printed : Listed) (sectors : ℕ) (counts : Counts) → EndsAt deadline at sectors → sectors ≡ size old.stack.config (mapped scan.d) → Tells now.printed printed (lost_text (listed tally.last))
+      → counts ≡ tally_counts at tally → now.out.failures ≡ old.out.failures → is_some noted ≡ makes_map → GoesOverUntil deadline before scan old counts noted (sides now.stack now.out printed)
   underway-until deadline printed sectors counts ends all told is unfailed same = record {
     goes = record {
       reads = u.reads;
       survey = u.survey;
       whole = sym u.here ∙ counted-all counts is;
-      pieces = subst (λ (m : Bool). ArePassPieces (pass_over old.stack.config d before m) u.reads) (sym same) u.pieces;
+      pieces = subst (λ (m : Bool). ArePassPieces scan.no_scrape (pass_over old.stack.config scan.d before m) u.reads) (sym same) u.pieces;
       copied = u.copied;
       unfailed = unfailed;
-      printed = rw (tallied-all is_same_fault is_same-equality (all_states u.reads) u.closed tally.last u.tallied) (runs-then old.printed now.printed printed u.closed (listed tally.last) u.printed told);
-      counted = is ∙ ap (λ (m : ℕ). record { read = m - tally.lost; lost = tally.lost }) u.here ∙ ap (λ (m : ℕ). record { read = length (all_states u.reads) - m; lost = m }) u.lost;
+      printed = rw (tallied-all is_same_loss is_same-equality (all_states u.reads) u.closed tally.last u.tallied) (runs-then old.printed now.printed printed u.closed (listed tally.last) u.printed told);
+      counted = is ∙ ap (λ (m : ℕ). tally_counts m tally) u.here
+          ∙ ap₂ (λ (l t : ℕ). record { read = length (all_states u.reads) - (l + t); lost = l; untried = t }) u.lost u.untried;
       noted = u.noted;
     };
-    ends = subst (λ (n : ℕ). EndsAt deadline n (size old.stack.config (mapped d))) (counted-all counts is) (subst (λ (n : ℕ). EndsAt deadline at n) all ends);
+    ends = subst (λ (n : ℕ). EndsAt deadline n (size old.stack.config (mapped scan.d))) (counted-all counts is) (subst (λ (n : ℕ). EndsAt deadline at n) all ends);
   }

@@ -18,8 +18,10 @@ use Rattle.stack_meaning.specs.declared.fault.Fault.{Fault}
 use Rattle.stack_meaning.specs.Outcomes.{Images, Outcome}
 use Rattle.stack_engine.specs.Stacks.{StackRecord}
 use Rattle.runs.specs.Runs.{runs_of}
-use Rattle.stack_recovery.specs.LostRuns.{LostRun, is_same_fault}
+use Rattle.stack_recovery.specs.declared.lost_run.Loss.TheVariants.{Lost}
+use Rattle.stack_recovery.specs.LostRuns.{LostRun, is_same_loss}
 use Rattle.stack_recovery.specs.declared.recovery.Counts.{Counts}
+use Rattle.stack_recovery.specs.PassLaws.{AreScraped}
 use Rattle.stack_recovery.specs.Recoveries.{Sides}
 use Rattle.stack_recovery.specs.Retries.{Retried}
 use Rattle.stack_recovery.specs.Surveys.{IsSurveyOver, PieceRead, SectorState, all_states}
@@ -35,7 +37,7 @@ pub record AreSure (these : ℕ → Bool) (leaves : List Device) : Type 0 where
 -- the state of a sector that means this
 abbrev pub meant_state : Outcome → SectorState
 meant_state (Ok bytes) = None
-meant_state (Err fault) = Some (Stack fault)
+meant_state (Err fault) = Some (Lost (Stack fault))
 
 -- the states of n sectors from the first on; `at` gives what each means
 abbrev pub meant_states : (ℕ → Outcome) → ℕ → ℕ → List SectorState
@@ -46,15 +48,15 @@ meant_states at first (suc n) = meant_state (at first) ∷ meant_states at (suc 
 abbrev pub MarksAreMeant : List Bool → ℕ → StackRecord → Type 0
 MarksAreMeant marks d w = (k : ℕ) → slice_index_or marks k false ≡ true → meant_state (sector w.config (steady_images w.leaves) (mapped d) k) ≡ None
 
--- If the backing devices are such, a sector is lost exactly if it means a fault, and by that fault: in a scan, if the sectors that
--- were read before mean bytes
+-- If the backing devices are such, a sector is lost exactly if it means a fault, and by that fault: in a scan that leaves none
+-- unscraped, if the sectors that were read before mean bytes
 abbrev pub SurveysAreMeant : Type 0
-SurveysAreMeant = (marks : List Bool) (d first : ℕ) (w : StackRecord) (reads : List PieceRead) (w' : StackRecord) → IsSurveyOver marks d first w reads w' → MarksAreMeant marks d w → AreSure (λ i. stands_on w.config i (mapped d)) w.leaves
+SurveysAreMeant = (marks : List Bool) (d first : ℕ) (w : StackRecord) (reads : List PieceRead) (w' : StackRecord) → IsSurveyOver marks d first w reads w' → AreScraped reads → MarksAreMeant marks d w → AreSure (λ i. stands_on w.config i (mapped d)) w.leaves
     → all_states reads ≡ meant_states (sector w.config (steady_images w.leaves) (mapped d)) first (length (all_states reads))
 
--- and in a recovery in passes
+-- and in a recovery in passes that scrape
 abbrev pub StatesAreMeant : Type 0
-StatesAreMeant = (t : Retried) (old : Sides) (counts : Counts) (new : Sides) (r : Recovers t old counts new) → AreSure (λ i. stands_on old.stack.config i (mapped t.d)) old.stack.leaves
+StatesAreMeant = (t : Retried) (old : Sides) (counts : Counts) (new : Sides) (r : Recovers t old counts new) → t.no_scrape ≡ false → AreSure (λ i. stands_on old.stack.config i (mapped t.d)) old.stack.leaves
     → all_states r.rescues.reads ≡ meant_states (sector old.stack.config (steady_images old.stack.leaves) (mapped t.d)) 0 (length (all_states r.rescues.reads))
 
 -- ---- runs
@@ -68,7 +70,7 @@ pub record IsLongestRun (states : List SectorState) (r : LostRun) : Type 0 where
 
 -- each run is as long as possible
 abbrev pub RunsAreLongest : Type 0
-RunsAreLongest = (states : List SectorState) → All (IsLongestRun states) (runs_of is_same_fault 0 states)
+RunsAreLongest = (states : List SectorState) → All (IsLongestRun states) (runs_of is_same_loss 0 states)
 
 -- ---- verity lines
 

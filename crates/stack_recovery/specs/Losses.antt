@@ -1,16 +1,22 @@
 -- A piece whose read failed: its sectors are lost, or they are read again.
-use Rattle.std.specs.Prelude.{◌≡◌, ◌⊎◌, ℕ, ◌+◌, Bool, true, false, List, replicate, Option, Some}
+use Rattle.std.specs.Prelude.{◌≡◌, ◌⊎◌, ℕ, ◌+◌, Bool, true, false, List, replicate, Option, Some, if◌then◌else◌}
 use Rattle.stack_meaning.specs.declared.fault.IoFault.{IoFault}
 use Rattle.stack_meaning.specs.declared.fault.IoFault.TheVariants as io
 use Rattle.rescue_map.specs.declared.map.Run.{Run}
 use Rattle.stack_recovery.specs.declared.fault.RecoveryFault.{RecoveryFault}
 use Rattle.stack_recovery.specs.declared.fault.RecoveryFault.TheVariants.{NoMemory, Output}
 use Rattle.runs.specs.Tallies.{closed_by, opened_by}
-use Rattle.stack_recovery.specs.LostRuns.{LostRun, is_same_fault}
+use Rattle.stack_recovery.specs.declared.lost_run.Loss.{Loss}
+use Rattle.stack_recovery.specs.declared.lost_run.Loss.TheVariants.{Lost, Unscraped}
+use Rattle.stack_recovery.specs.LostRuns.{LostRun, is_same_loss, lost_count, untried_count}
 use Rattle.stack_recovery.specs.declared.tally.Tally.{Tally}
 use Rattle.stack_recovery.specs.Listings.{Listed, Tells}
 use Rattle.stack_recovery.specs.Recoveries.{IsMapRefused, NotesMore}
 use Rattle.stack_recovery.specs.Texts.{lost_text}
+
+-- the loss of a piece whose sectors are lost together, or aren't
+abbrev pub loss_by : Bool → IoFault → Loss
+loss_by alike fault = if alike then Lost fault else Unscraped fault
 
 -- what is recorded in the map
 abbrev pub NotesLost : ℕ → Option (List Run) → Option (List Run) → Bool → Type 0
@@ -19,12 +25,12 @@ NotesLost count old new false = new ≡ old
 
 -- what is counted
 abbrev pub TalliesLost : LostRun → Tally → Tally → Bool → Type 0
-TalliesLost run old new true = new ≡ record { last = Some (opened_by is_same_fault old.last run); lost = old.lost + run.count }
+TalliesLost run old new true = new ≡ record { last = Some (opened_by is_same_loss old.last run); lost = old.lost + lost_count run.kind run.count; untried = old.untried + untried_count run.kind run.count }
 TalliesLost run old new false = new ≡ old
 
 -- what is reported: the run that doesn't grow further
 abbrev pub ListsLost : {L : Type 0} → (L → Listed) → LostRun → Tally → L → L → Bool → Type 0
-ListsLost told run tally old new true = Tells (told old) (told new) (lost_text (closed_by is_same_fault tally.last run))
+ListsLost told run tally old new true = Tells (told old) (told new) (lost_text (closed_by is_same_loss tally.last run))
 ListsLost told run tally old new false = new ≡ old
 
 -- why the recovery ends there: the read ran out of memory, or memory for the map was refused

@@ -1,10 +1,12 @@
 -- Laws of the pieces of a pass.
-use Rattle.std.specs.Prelude.{◌≡◌, ℕ, ◌+◌, ◌≤◌, ◌<◌, List, [], ◌∷◌, length}
+use Rattle.std.specs.Prelude.{◌≡◌, ℕ, ◌+◌, ◌≤◌, ◌<◌, Bool, false, List, [], ◌∷◌, length}
+use Rattle.stack_recovery.specs.declared.lost_run.Loss.{Loss}
+use Rattle.stack_recovery.specs.declared.lost_run.Loss.TheVariants.{Lost, Unscraped}
 use Rattle.stack_recovery.specs.declared.piece_limit.PieceLimit.{PieceLimit}
-use Rattle.stack_recovery.specs.PassPieces.{IsNextPiece, Pass, limit_from}
+use Rattle.stack_recovery.specs.PassPieces.{ArePassPieces, IsNextPiece, Pass, limit_from}
 use Rattle.stack_recovery.specs.PieceLimits.{limit_of_run}
 use Rattle.stack_recovery.specs.Skims.{AreSkims, Skim, marks_of}
-use Rattle.stack_recovery.specs.Surveys.{Finding, PieceRead, had, kept}
+use Rattle.stack_recovery.specs.Surveys.{Finding, PieceRead, again, had, kept, lost}
 
 -- a piece that is read is the one of at most 128 sectors; sectors that were read before are in none
 abbrev pub IsLongestPiece : Pass → ℕ → ℕ → Finding → Type 0
@@ -35,8 +37,8 @@ pieces_to_grow = 7
 
 -- After so many pieces after the end of the last failed one, and as long as reads don't fail, the limit is 128 sectors.
 abbrev pub LimitsGrowBack : Type 0
-LimitsGrowBack = (limit : PieceLimit) (first : ℕ) (reads : List PieceRead) → 1 ≤ limit.most → limit.doubt ≤ first → AreHad reads → pieces_to_grow ≤ length reads
-    → (limit_from limit first reads).most ≡ 128
+LimitsGrowBack = (no_scrape : Bool) (limit : PieceLimit) (first : ℕ) (reads : List PieceRead) → 1 ≤ limit.most → limit.doubt ≤ first → AreHad reads → pieces_to_grow ≤ length reads
+    → (limit_from no_scrape limit first reads).most ≡ 128
 
 -- the piece is one sector, and was read
 abbrev pub IsSingle : PieceRead → Type 0
@@ -48,4 +50,25 @@ AreSingle (r ∷ more) = IsSingle r × AreSingle more
 
 -- In the second pass a run begins with single sectors: fewer than 128 that are read leave the limit at one sector.
 abbrev pub RunsBeginWithSingleSectors : Type 0
-RunsBeginWithSingleSectors = (first : ℕ) (reads : List PieceRead) → AreSingle reads → length reads < 128 → (limit_from (limit_of_run first) first reads).most ≡ 1
+RunsBeginWithSingleSectors = (no_scrape : Bool) (first : ℕ) (reads : List PieceRead) → AreSingle reads → length reads < 128 → (limit_from no_scrape (limit_of_run first) first reads).most ≡ 1
+
+-- ---- without scraping
+
+-- the sectors of a piece aren't unscraped
+abbrev pub IsLossScraped : Loss → Type 0
+IsLossScraped (Lost fault) = Unit {0}
+IsLossScraped (Unscraped fault) = ⊥
+
+abbrev pub IsScraped : Finding → Type 0
+IsScraped (had bytes) = Unit {0}
+IsScraped (lost loss) = IsLossScraped loss
+IsScraped (again fault) = Unit {0}
+IsScraped kept = Unit {0}
+
+abbrev pub AreScraped : List PieceRead → Type 0
+AreScraped [] = Unit {0}
+AreScraped (r ∷ more) = IsScraped r.found × AreScraped more
+
+-- A pass that scrapes leaves no sector unscraped.
+abbrev pub PassesScrape : Type 0
+PassesScrape = (p : Pass) (reads : List PieceRead) → ArePassPieces false p reads → AreScraped reads

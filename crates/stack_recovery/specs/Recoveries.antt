@@ -15,15 +15,19 @@ use Rattle.stack_recovery.specs.declared.deadline.DevicePass.{DevicePass}
 use Rattle.stack_recovery.specs.declared.fault.RecoveryFault.{RecoveryFault}
 use Rattle.stack_recovery.specs.declared.fault.RecoveryFault.TheVariants.{NoMemory, Output}
 use Rattle.runs.specs.Runs.{runs_of}
-use Rattle.stack_recovery.specs.LostRuns.{LostRun, is_same_fault, lost_in}
+use Rattle.stack_recovery.specs.LostRuns.{LostRun, is_same_loss, lost_in, untried_in}
 use Rattle.stack_recovery.specs.declared.recovery.Counts.{Counts}
 use Rattle.stack_recovery.specs.declared.rescued.Rescued.{Rescued}
 use Rattle.stack_recovery.specs.Copies.{IsCopied}
 use Rattle.stack_recovery.specs.Deadlines.{EndsAt}
 use Rattle.stack_recovery.specs.Listings.{Listed, Tells}
-use Rattle.stack_recovery.specs.PassPieces.{ArePassPieces, pass_over}
+use Rattle.stack_recovery.specs.PassPieces.{ArePassPieces, Scanned, pass_over, scanned}
 use Rattle.stack_recovery.specs.Surveys.{IsSurveyOver, PieceRead, SectorState, all_states}
 use Rattle.stack_recovery.specs.Texts.{lost_text}
+
+-- the device of a pass, and whether it doesn't scrape
+abbrev pub scanned_by : DevicePass → Scanned
+scanned_by pass = scanned pass.device.0 pass.no_scrape
 
 -- the stack, the output device, and what was printed
 pub record Sides : Type 0 where
@@ -35,14 +39,14 @@ abbrev pub sides : StackRecord → Device → Listed → Sides
 sides stack out printed = record { stack = stack; out = out; printed = printed }
 
 -- the first pieces of the device were read, and the first of their lost runs printed
-pub record IsBegunOver (makes_map : Bool) (marks : List Bool) (d : ℕ) (old new : Sides) : Type 0 where
+pub record IsBegunOver (makes_map : Bool) (marks : List Bool) (scan : Scanned) (old new : Sides) : Type 0 where
   pub reads : List PieceRead
   pub left : StackRecord
   pub runs : List LostRun
   pub more : List LostRun
-  pub survey : IsSurveyOver marks d 0 old.stack reads left
-  pub pieces : ArePassPieces (pass_over old.stack.config d marks makes_map) reads
-  pub first : runs_of is_same_fault 0 (all_states reads) ≡ runs ++ more
+  pub survey : IsSurveyOver marks scan.d 0 old.stack reads left
+  pub pieces : ArePassPieces scan.no_scrape (pass_over old.stack.config scan.d marks makes_map) reads
+  pub first : runs_of is_same_loss 0 (all_states reads) ≡ runs ++ more
   pub printed : Tells old.printed new.printed (lost_text runs)
 
 -- a read of some sectors from that one on ran out of memory; a `verity` line is below them, as only its reads allocate
@@ -56,32 +60,32 @@ abbrev pub IsMapRefused : Bool → Type 0
 IsMapRefused makes_map = (makes_map ≡ true) × IsOutOfMemory 1
 
 -- Memory ran out for a read or for the map. The sectors read so far are copied, and the output device didn't fail.
-pub record RunsShort (makes_map : Bool) (marks : List Bool) (d : ℕ) (old new : Sides) : Type 0 where
-  pub begun : IsBegunOver makes_map marks d old new
+pub record RunsShort (makes_map : Bool) (marks : List Bool) (scan : Scanned) (old new : Sides) : Type 0 where
+  pub begun : IsBegunOver makes_map marks scan old new
   pub copied : IsCopied begun.reads old.out new.out
   pub unfailed : new.out.failures ≡ old.out.failures
-  pub refused : FindsNoMemory d (length (all_states begun.reads)) begun.left new.stack ⊎ IsMapRefused makes_map
+  pub refused : FindsNoMemory scan.d (length (all_states begun.reads)) begun.left new.stack ⊎ IsMapRefused makes_map
 
 -- A write of the output device failed. The sectors read before are copied. Of a steady device no sector differs from that but
 -- those of the piece that was being written, which was read from where the last one ends.
-pub record FailsOutput (makes_map : Bool) (marks : List Bool) (d : ℕ) (old new : Sides) : Type 0 where
-  pub begun : IsBegunOver makes_map marks d old new
+pub record FailsOutput (makes_map : Bool) (marks : List Bool) (scan : Scanned) (old new : Sides) : Type 0 where
+  pub begun : IsBegunOver makes_map marks scan old new
   pub out : Device
   pub n : ℕ
   pub bytes : List ℕ
-  pub read : EachBytes begun.left d (length (all_states begun.reads)) n (Ok bytes) new.stack
+  pub read : EachBytes begun.left scan.d (length (all_states begun.reads)) n (Ok bytes) new.stack
   pub copied : IsCopied begun.reads old.out out
   pub writing : IsWritten out (length (all_states begun.reads)) n false new.out
   pub failed : HasFailed old.out new.out
   pub sure : IsTrue old.out.never_fails → ⊥
 
 -- why the recovery ended early; a line that can't be written is no cause
-abbrev pub EndsEarly : Bool → List Bool → ℕ → Sides → Sides → RecoveryFault → Type 0
-EndsEarly makes_map marks d old new NoMemory = RunsShort makes_map marks d old new
-EndsEarly makes_map marks d old new Output = FailsOutput makes_map marks d old new
+abbrev pub EndsEarly : Bool → List Bool → Scanned → Sides → Sides → RecoveryFault → Type 0
+EndsEarly makes_map marks scan old new NoMemory = RunsShort makes_map marks scan old new
+EndsEarly makes_map marks scan old new Output = FailsOutput makes_map marks scan old new
 
-abbrev pub IsRescueEnd : List Bool → ℕ → Sides → Sides → RecoveryFault → Type 0
-IsRescueEnd marks d old new fault = EndsEarly true marks d old new fault
+abbrev pub IsRescueEnd : List Bool → Scanned → Sides → Sides → RecoveryFault → Type 0
+IsRescueEnd marks scan old new fault = EndsEarly true marks scan old new fault
 
 -- ---- in terms of the arguments of a call
 
@@ -110,51 +114,55 @@ abbrev pub AreMarksNoted : Option (List Run) → List SectorState → Type 0
 AreMarksNoted None states = Unit {0}
 AreMarksNoted (Some runs) states = marks runs ≡ map is_had states
 
+-- how many of the sectors were read, how many are lost, and how many are unscraped
+abbrev pub counts_in : List SectorState → Counts
+counts_in states = record { read = length states - (lost_in states + untried_in states); lost = lost_in states; untried = untried_in states }
+
 -- Each sector of device d before `end` was read, now or before, or is lost. The sectors that were read now were copied, a line was
 -- printed for each longest lost run, the counts are right, and a map is made of these sectors.
-pub record GoesOverTo (before : List Bool) (d end : ℕ) (old : Sides) (counts : Counts) (made : Option (List Run)) (new : Sides) : Type 0 where
+pub record GoesOverTo (before : List Bool) (scan : Scanned) (end : ℕ) (old : Sides) (counts : Counts) (made : Option (List Run)) (new : Sides) : Type 0 where
   pub reads : List PieceRead
-  pub survey : IsSurveyOver before d 0 old.stack reads new.stack
+  pub survey : IsSurveyOver before scan.d 0 old.stack reads new.stack
   pub whole : length (all_states reads) ≡ end
-  pub pieces : ArePassPieces (pass_over old.stack.config d before (is_some made)) reads
+  pub pieces : ArePassPieces scan.no_scrape (pass_over old.stack.config scan.d before (is_some made)) reads
   pub copied : IsCopied reads old.out new.out
   pub unfailed : new.out.failures ≡ old.out.failures
-  pub printed : Tells old.printed new.printed (lost_text (runs_of is_same_fault 0 (all_states reads)))
-  pub counted : counts ≡ record { read = length (all_states reads) - lost_in (all_states reads); lost = lost_in (all_states reads) }
+  pub printed : Tells old.printed new.printed (lost_text (runs_of is_same_loss 0 (all_states reads)))
+  pub counted : counts ≡ counts_in (all_states reads)
   pub noted : AreMarksNoted made (all_states reads)
 
 -- such a pass over all sectors
-abbrev pub GoesOver : List Bool → ℕ → Sides → Counts → Option (List Run) → Sides → Type 0
-GoesOver before d old counts made new = GoesOverTo before d (size old.stack.config (mapped d)) old counts made new
+abbrev pub GoesOver : List Bool → Scanned → Sides → Counts → Option (List Run) → Sides → Type 0
+GoesOver before scan old counts made new = GoesOverTo before scan (size old.stack.config (mapped scan.d)) old counts made new
 
 -- how many sectors are counted
 abbrev pub counted_sectors : Counts → ℕ
-counted_sectors counts = counts.read + counts.lost
+counted_sectors counts = counts.read + (counts.lost + counts.untried)
 
 -- such a pass over the sectors that are counted, which ended there
-pub record GoesOverUntil (deadline : Option Deadline) (before : List Bool) (d : ℕ) (old : Sides) (counts : Counts) (made : Option (List Run)) (new : Sides) : Type 0 where
-  pub goes : GoesOverTo before d (counted_sectors counts) old counts made new
-  pub ends : EndsAt deadline (counted_sectors counts) (size old.stack.config (mapped d))
+pub record GoesOverUntil (deadline : Option Deadline) (before : List Bool) (scan : Scanned) (old : Sides) (counts : Counts) (made : Option (List Run)) (new : Sides) : Type 0 where
+  pub goes : GoesOverTo before scan (counted_sectors counts) old counts made new
+  pub ends : EndsAt deadline (counted_sectors counts) (size old.stack.config (mapped scan.d))
 
 -- the result has that map
-abbrev pub Rescues : List Bool → ℕ → Sides → Rescued → Sides → Type 0
-Rescues before d old rescued new = GoesOver before d old rescued.counts (Some rescued.map) new
+abbrev pub Rescues : List Bool → Scanned → Sides → Rescued → Sides → Type 0
+Rescues before scan old rescued new = GoesOver before scan old rescued.counts (Some rescued.map) new
 
-abbrev pub RescuesUntil : Option Deadline → List Bool → ℕ → Sides → Rescued → Sides → Type 0
-RescuesUntil deadline before d old rescued new = GoesOverUntil deadline before d old rescued.counts (Some rescued.map) new
+abbrev pub RescuesUntil : Option Deadline → List Bool → Scanned → Sides → Rescued → Sides → Type 0
+RescuesUntil deadline before scan old rescued new = GoesOverUntil deadline before scan old rescued.counts (Some rescued.map) new
 
 -- such a recovery, by the arguments before and after the call
 abbrev pub GoesOverBy : {O L : Type 0} → (O → Device) → (L → Listed) → DevicePass → List Bool → Parties O L → Option (List Run) → Parties O L → Counts → Type 0
-GoesOverBy state told pass before old made new counts = GoesOverUntil pass.deadline before pass.device.0 (seen_sides state told old) counts made (seen_sides state told new)
+GoesOverBy state told pass before old made new counts = GoesOverUntil pass.deadline before (scanned_by pass) (seen_sides state told old) counts made (seen_sides state told new)
 
 abbrev pub EndsEarlyBy : {O L : Type 0} → (O → Device) → (L → Listed) → Bool → DevicePass → List Bool → Parties O L → Parties O L → RecoveryFault → Type 0
-EndsEarlyBy state told makes_map pass before old new fault = EndsEarly makes_map before pass.device.0 (seen_sides state told old) (seen_sides state told new) fault
+EndsEarlyBy state told makes_map pass before old new fault = EndsEarly makes_map before (scanned_by pass) (seen_sides state told old) (seen_sides state told new) fault
 
 abbrev pub RescuesBy : {O L : Type 0} → (O → Device) → (L → Listed) → DevicePass → List Bool → Parties O L → Parties O L → Rescued → Type 0
-RescuesBy state told pass before old new rescued = RescuesUntil pass.deadline before pass.device.0 (seen_sides state told old) rescued (seen_sides state told new)
+RescuesBy state told pass before old new rescued = RescuesUntil pass.deadline before (scanned_by pass) (seen_sides state told old) rescued (seen_sides state told new)
 
-abbrev pub EndsRescue : {O L : Type 0} → (O → Device) → (L → Listed) → List Bool → ℕ → Parties O L → Parties O L → RecoveryFault → Type 0
-EndsRescue state told before d old new fault = IsRescueEnd before d (seen_sides state told old) (seen_sides state told new) fault
+abbrev pub EndsRescue : {O L : Type 0} → (O → Device) → (L → Listed) → DevicePass → List Bool → Parties O L → Parties O L → RecoveryFault → Type 0
+EndsRescue state told pass before old new fault = IsRescueEnd before (scanned_by pass) (seen_sides state told old) (seen_sides state told new) fault
 
 -- these sectors were recorded after the earlier ones
 abbrev pub NotesMore : Option (List Run) → Option (List Run) → List Bool → Type 0

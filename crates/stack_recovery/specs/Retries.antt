@@ -1,5 +1,5 @@
 -- The passes after the first one. Each reads what the pass before it left, and only the last one reports the lost sectors.
-use Rattle.std.specs.Prelude.{◌≡◌, ◌⊎◌, ℕ, suc, ◌≤◌, ◌<◌, true, List, Some}
+use Rattle.std.specs.Prelude.{◌≡◌, ◌⊎◌, ℕ, suc, ◌≤◌, ◌<◌, Bool, true, List, Some}
 use Rattle.std.specs.List.{list_all}
 use Rattle.block_device.specs.Call.{Call}
 use Rattle.block_device.specs.Device.{Device}
@@ -11,18 +11,24 @@ use Rattle.stack_recovery.specs.declared.recovery.Counts.{Counts}
 use Rattle.stack_recovery.specs.declared.recovery.RecoveryPlan.{RecoveryPlan}
 use Rattle.stack_recovery.specs.Handing.{HandsOver, HandsOverPart}
 use Rattle.stack_recovery.specs.Listings.{Listed}
+use Rattle.stack_recovery.specs.PassPieces.{Scanned, scanned}
 use Rattle.stack_recovery.specs.Recoveries.{GoesOver, IsRescueEnd, Sides, parties, sides}
 
--- a mapped device, and how many times its lost sectors are read again
+-- a mapped device, how many times its lost sectors are read again, and whether failed pieces aren't searched sector by sector
 pub record Retried : Type 0 where
   pub d : ℕ
   pub retries : ℕ
+  pub no_scrape : Bool
 
-abbrev pub retried : ℕ → ℕ → Retried
-retried d retries = record { d = d; retries = retries }
+abbrev pub retried : ℕ → ℕ → Bool → Retried
+retried d retries no_scrape = record { d = d; retries = retries; no_scrape = no_scrape }
 
 abbrev pub retried_by : RecoveryPlan → Retried
-retried_by plan = retried plan.device.0 plan.retries
+retried_by plan = retried plan.device.0 plan.retries plan.no_scrape
+
+-- the device of its passes after the first one
+abbrev pub scan_of : Retried → Scanned
+scan_of t = scanned t.d t.no_scrape
 
 -- ---- passes one after another
 
@@ -56,23 +62,23 @@ abbrev pub seen_after : {O : Type 0} → (O → Device) → AfterPass O → Afte
 seen_after state l = after_pass l.stack (state l.out) l.map
 
 -- the pass reported to nobody
-abbrev pub IsSilentPass : ℕ → AfterPass Device → AfterPass Device → Type 0
-IsSilentPass d old new = (before : Listed) × (after : Listed) × (counts : Counts) × GoesOver (marks old.map) d (sides old.stack old.out before) counts (Some new.map) (sides new.stack new.out after)
+abbrev pub IsSilentPass : Scanned → AfterPass Device → AfterPass Device → Type 0
+IsSilentPass scan old new = (before : Listed) × (after : Listed) × (counts : Counts) × GoesOver (marks old.map) scan (sides old.stack old.out before) counts (Some new.map) (sides new.stack new.out after)
 
 -- the pass ended early
-abbrev pub IsSilentPassEnd : ℕ → AfterPass Device → StackRecord → Device → RecoveryFault → Type 0
-IsSilentPassEnd d old stack out fault = (before : Listed) × (after : Listed) × IsRescueEnd (marks old.map) d (sides old.stack old.out before) (sides stack out after) fault
+abbrev pub IsSilentPassEnd : Scanned → AfterPass Device → StackRecord → Device → RecoveryFault → Type 0
+IsSilentPassEnd scan old stack out fault = (before : Listed) × (after : Listed) × IsRescueEnd (marks old.map) scan (sides old.stack old.out before) (sides stack out after) fault
 
 -- the passes before the last one, and a pass that ended early among them
 abbrev pub ReadsAgain : Retried → AfterPass Device → AfterPass Device → Type 0
-ReadsAgain t old new = Retries (λ (n : ℕ). IsSilentPass t.d) (λ (l : AfterPass Device). l.map) t.retries old new
+ReadsAgain t old new = Retries (λ (n : ℕ). IsSilentPass (scan_of t)) (λ (l : AfterPass Device). l.map) t.retries old new
 
 pub record EndsReadingAgain (t : Retried) (old : AfterPass Device) (stack : StackRecord) (out : Device) (fault : RecoveryFault) : Type 0 where
   pub left : AfterPass Device
   pub passes : ℕ
-  pub steps : Steps (λ (n : ℕ). IsSilentPass t.d) old passes left
+  pub steps : Steps (λ (n : ℕ). IsSilentPass (scan_of t)) old passes left
   pub few : passes < t.retries
-  pub ends : IsSilentPassEnd t.d left stack out fault
+  pub ends : IsSilentPassEnd (scan_of t) left stack out fault
 
 -- ---- the calls on the output device
 

@@ -6,9 +6,9 @@ use Rattle.stack_recovery.specs.Surveys.{Finding, again, had, kept, lost}
 abbrev pub least_skip : ℕ
 least_skip = 128
 
--- the most sectors that are skipped at once: a 128th of the device, but at least 64 KiB and at most 1 GiB
+-- the most sectors that are skipped at once: a hundredth of the device, in multiples of 64 KiB, but at least 64 KiB and at most 1 GiB
 unfoldable pub most_skip : ℕ → ℕ
-most_skip sectors = min (max (sectors / 128) 128) 2097152
+most_skip sectors = min (max (sectors / 100 / 128 * 128) 128) 2097152
 
 -- twice as many after a failed read
 abbrev pub longer_skip : ℕ → ℕ → ℕ

@@ -6,14 +6,21 @@ use Rattle.stack_meaning.specs.declared.fault.IoFault.{IoFault}
 use Rattle.stack_meaning.specs.declared.fault.IoFault.TheVariants.{NoMemory}
 use Rattle.stack_engine.specs.Bytes.{EachBytes}
 use Rattle.stack_engine.specs.Stacks.{StackRecord}
+use Rattle.stack_recovery.specs.declared.lost_run.Loss.{Loss}
+use Rattle.stack_recovery.specs.declared.lost_run.Loss.TheVariants.{Lost, Unscraped}
 use Rattle.stack_recovery.specs.Alike.{AreAlike}
+
+-- the fault of a loss
+abbrev pub fault_of : Loss → IoFault
+fault_of (Lost fault) = fault
+fault_of (Unscraped fault) = fault
 
 -- the result for a piece
 pub data Finding : Type 0 where
   -- its sectors were read, with these bytes
   had : List ℕ → Finding
-  -- its sectors are lost by this fault
-  lost : IoFault → Finding
+  -- its sectors are lost, or given up
+  lost : Loss → Finding
   -- its read ended in this fault, and its sectors are read again in smaller pieces
   again : IoFault → Finding
   -- its sectors were read before, and aren't read again
@@ -28,14 +35,19 @@ pub record PieceRead : Type 0 where
 -- the stack's answer, and its state afterwards
 abbrev pub AnswersFinding : StackRecord → ℕ → ℕ → ℕ → Finding → StackRecord → Type 0
 AnswersFinding w d first n (had bytes) w' = EachBytes w d first n (Ok bytes) w'
-AnswersFinding w d first n (lost fault) w' = EachBytes w d first n (Err fault) w'
+AnswersFinding w d first n (lost loss) w' = EachBytes w d first n (Err (fault_of loss)) w'
 AnswersFinding w d first n (again fault) w' = EachBytes w d first n (Err fault) w'
 AnswersFinding w d first n kept w' = w' ≡ w
 
--- Sectors are lost only by a read of one sector, or of sectors that are lost together. Running out of memory is no loss.
+-- Sectors are lost only by a read of one sector, or of sectors that are lost together; others are unscraped. Running out of memory
+-- is no loss.
+abbrev pub MayLose : Configuration → ℕ → ℕ → ℕ → Loss → Type 0
+MayLose c d first n (Lost fault) = AreAlike c d first n × (fault ≢ NoMemory)
+MayLose c d first n (Unscraped fault) = fault ≢ NoMemory
+
 abbrev pub MayFind : Configuration → ℕ → ℕ → ℕ → Finding → Type 0
 MayFind c d first n (had bytes) = Unit {0}
-MayFind c d first n (lost fault) = AreAlike c d first n × (fault ≢ NoMemory)
+MayFind c d first n (lost loss) = MayLose c d first n loss
 MayFind c d first n (again fault) = Unit {0}
 MayFind c d first n kept = 1 ≤ n
 
@@ -54,13 +66,13 @@ pub record IsPieceSurveyed (marks : List Bool) (d first : ℕ) (w : StackRecord)
   pub may : MayFind w.config d first r.count r.found
   pub marked : AreMarked marks first r.count (mark_of r.found)
 
--- the state of a sector: read, or lost by that fault
+-- the state of a sector: read, or lost so
 abbrev pub SectorState : Type 0
-SectorState = Option IoFault
+SectorState = Option Loss
 
 abbrev pub states_found : ℕ → Finding → List SectorState
 states_found n (had bytes) = replicate n None
-states_found n (lost fault) = replicate n (Some fault)
+states_found n (lost loss) = replicate n (Some loss)
 states_found n (again fault) = []
 states_found n kept = replicate n None
 

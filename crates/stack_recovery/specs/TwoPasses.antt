@@ -11,7 +11,7 @@ use Rattle.stack_recovery.specs.FirstPasses.{EndsSkim, HandsSkims, HandsSkimsPar
 use Rattle.stack_recovery.specs.Handing.{HandsOver, HandsOverPart}
 use Rattle.stack_recovery.specs.Listings.{Listed}
 use Rattle.stack_recovery.specs.Recoveries.{IsRescueEnd, Parties, Rescues, Sides, parties, seen_sides, sides}
-use Rattle.stack_recovery.specs.Retries.{AfterPass, EndsReadingAgain, HandsAgain, HandsAgainPart, ReadsAgain, Retried, after_pass}
+use Rattle.stack_recovery.specs.Retries.{AfterPass, EndsReadingAgain, HandsAgain, HandsAgainPart, ReadsAgain, Retried, after_pass, scan_of}
 
 -- the stack and the output device
 abbrev pub transfer_of : Sides → Transfer Device
@@ -26,14 +26,14 @@ pub record Recovers (t : Retried) (old : Sides) (counts : Counts) (new : Sides) 
   pub rescued : Rescued
   pub skims : Skims false (unread_marks old.stack.config t.d) t.d (transfer_of old) map between
   pub retries : ReadsAgain t (after_pass between.stack between.out map) left
-  pub rescues : Rescues (marks left.map) t.d (sides left.stack left.out old.printed) rescued new
+  pub rescues : Rescues (marks left.map) (scan_of t) (sides left.stack left.out old.printed) rescued new
   pub counted : counts ≡ rescued.counts
 
 -- a pass after the first one ended early: one that reports nothing, or the last one
 abbrev pub IsLaterEnd : Retried → AfterPass Device → Sides → Sides → RecoveryFault → Type 0
 IsLaterEnd t first old new fault =
     (EndsReadingAgain t first new.stack new.out fault × (new.printed ≡ old.printed))
-    ⊎ ((left : AfterPass Device) × ReadsAgain t first left × IsRescueEnd (marks left.map) t.d (sides left.stack left.out old.printed) new fault)
+    ⊎ ((left : AfterPass Device) × ReadsAgain t first left × IsRescueEnd (marks left.map) (scan_of t) (sides left.stack left.out old.printed) new fault)
 
 pub record IsLaterPassEnd (t : Retried) (old new : Sides) (fault : RecoveryFault) : Type 0 where
   pub between : Transfer Device

@@ -12,10 +12,12 @@ pub struct Deadline {
     pub seconds: u64,
 }
 
-/// A pass over a mapped device: to its last sector, or up to a deadline.
+/// A pass over a mapped device: to its last sector, or up to a deadline. With `no_scrape` it doesn't search a failed piece
+/// sector by sector after its first lost sector; the first pass never does.
 #[derive(Clone, Copy)]
 pub struct DevicePass {
     pub device: DevId,
+    pub no_scrape: bool,
     pub deadline: Option<Deadline>,
 }
 

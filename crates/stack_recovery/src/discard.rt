@@ -43,6 +43,7 @@ impl BlockDev for Discard {
       reads = capped f.reads;
       writes = capped f.writes;
       failures = 0;
+      lacked_space = false;
     } };
 
     ghost gives = { λ f first bytes. Unit {0} };
@@ -82,6 +83,10 @@ impl BlockDev for Discard {
 
     fn failures(&self) -> u64 {
         0
+    }
+
+    fn lacked_space(&self) -> bool {
+        false
     }
 }
 

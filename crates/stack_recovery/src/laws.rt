@@ -1,13 +1,14 @@
 //! Laws of recoveries: each function's contract states the law, and a call of the function provides it.
 ghost use Rattle.stack_recovery.specs.Laws.{LostBlocksAreLost, RunsAreLongest, StatesAreMeant, SurveysAreMeant};
-ghost use Rattle.stack_recovery.specs.PassLaws.{LimitsGrowBack, RunsBeginWithSingleSectors, SkimmedPiecesAreLongest};
+ghost use Rattle.stack_recovery.specs.PassLaws.{LimitsGrowBack, PassesScrape, RunsBeginWithSingleSectors, SkimmedPiecesAreLongest};
 
-/// If the backing devices are steady and never fail, a recovery loses a sector exactly if it means a fault, and by that fault.
+/// If the backing devices are steady and never fail, a recovery that scrapes loses a sector exactly if it means a fault, and by that fault.
 pub fn states_are_meant()
     ensures { StatesAreMeant }
 {}
 
-/// If the devices are steady and never fail and a map marks sectors that mean bytes, `rescue` by it loses those that mean a fault.
+/// If the devices are steady and never fail and a map marks sectors that mean bytes, `rescue` by it loses those that mean a fault,
+/// if it leaves none unscraped.
 pub fn rescues_are_meant()
     ensures { SurveysAreMeant }
 {}
@@ -36,4 +37,9 @@ pub fn runs_begin_with_single_sectors()
 /// After a failed read, seven pieces that are read after its end bring the limit back to 128 sectors.
 pub fn limits_grow_back()
     ensures { LimitsGrowBack }
+{}
+
+/// A pass without `no_scrape` leaves no sector unscraped.
+pub fn passes_scrape()
+    ensures { PassesScrape }
 {}

@@ -21,7 +21,7 @@ pub use deadline::{Deadline, DevicePass};
 pub use discard::Discard;
 pub use fault::RecoveryFault;
 pub use listing::{KeptRuns, Listing, NoListing};
-pub use lost_run::{LostRun, is_same};
+pub use lost_run::{Loss, LostRun, is_same};
 pub use piece::{Piece, piece_at};
 pub use piece_limit::PieceLimit;
 pub use recovery::{Counts, RecoveryPlan, recover, recover_with};

@@ -1,8 +1,10 @@
 //! A run of sectors that are lost by one fault.
-ghost use Rattle.std.specs.Prelude.{◌≡◌};
+ghost use Rattle.std.specs.Prelude.{◌≡◌, ◌≤◌};
 ghost use Rattle.program_io.specs.Counted.{Writes};
-ghost use Rattle.stack_recovery.specs.LostRuns.{is_same_fault};
-ghost use Rattle.stack_recovery.specs.Texts.{lost_run_text};
+ghost use Rattle.stack_recovery.specs.Losses.{loss_by};
+ghost use Rattle.stack_recovery.specs.LostRuns.{is_same_fault, is_same_loss, lost_count, untried_count};
+ghost use Rattle.stack_recovery.specs.Surveys.{fault_of};
+ghost use Rattle.stack_recovery.specs.Texts.{loss_word, lost_run_text};
 
 use io_fault_text::say_io_words;
 use program_io::{Counted, WriteFault};
@@ -10,8 +12,17 @@ use runs::Run;
 use stack_engine::{Fault, IoFault};
 use std::io::Write;
 
-/// A run of sectors, counted from 0, and the fault that a read of each returns.
-pub type LostRun = Run<IoFault>;
+/// Why sectors weren't recovered, and the fault that the read returned.
+#[derive(Clone, Copy, Debug, PartialEq, Eq)]
+pub enum Loss {
+    /// A read of each sector returns the fault.
+    Lost(IoFault),
+    /// A read of several sectors at once returned the fault. They weren't read one by one, and some may be readable.
+    Unscraped(IoFault),
+}
+
+/// A run of sectors, counted from 0, and why they weren't recovered.
+pub type LostRun = Run<Loss>;
 
 /// Returns whether two faults are the same; device faults must be of the same backing device.
 pub fn is_same(a: IoFault, b: IoFault) -> bool
@@ -26,12 +37,77 @@ pub fn is_same(a: IoFault, b: IoFault) -> bool
     }
 }
 
-/// `lost FIRST COUNT FAULT`
+/// Returns whether two losses are the same: of the same kind, by the same fault.
+pub(crate) fn is_same_loss(a: Loss, b: Loss) -> bool
+    ensures { result ≡ is_same_loss a b }
+{
+    match (a, b) {
+        (Loss::Lost(x), Loss::Lost(y)) => is_same(x, y),
+        (Loss::Unscraped(x), Loss::Unscraped(y)) => is_same(x, y),
+        _ => false,
+    }
+}
+
+/// Returns the fault of a loss.
+pub(crate) fn fault_of(loss: Loss) -> IoFault
+    ensures { result ≡ fault_of loss }
+{
+    match loss {
+        Loss::Lost(fault) => fault,
+        Loss::Unscraped(fault) => fault,
+    }
+}
+
+/// Returns the loss of a piece whose read failed: `alike`, if its sectors are lost together.
+pub(crate) fn loss_by(alike: bool, fault: IoFault) -> Loss
+    ensures { result ≡ loss_by alike fault }
+{
+    if alike {
+        Loss::Lost(fault)
+    } else {
+        Loss::Unscraped(fault)
+    }
+}
+
+/// Returns how many of `count` sectors are lost if their loss is this one.
+pub(crate) fn lost_count(loss: Loss, count: u64) -> u64
+    ensures value { result ≡ lost_count loss count }
+    ensures few { result ≤ count }
+{
+    match loss {
+        Loss::Lost(_) => count,
+        Loss::Unscraped(_) => 0,
+    }
+}
+
+/// Returns how many of them are unscraped.
+pub(crate) fn untried_count(loss: Loss, count: u64) -> u64
+    ensures value { result ≡ untried_count loss count }
+    ensures few { result ≤ count }
+{
+    match loss {
+        Loss::Lost(_) => 0,
+        Loss::Unscraped(_) => count,
+    }
+}
+
+fn loss_word(loss: Loss) -> &'static str
+    ensures { result.now ≡ loss_word loss }
+{
+    match loss {
+        Loss::Lost(_) => "lost",
+        Loss::Unscraped(_) => "unscraped",
+    }
+}
+
+/// `lost FIRST COUNT FAULT`, or `unscraped FIRST COUNT FAULT`
 #[tactic(auto, unfolding(crate::specs::Texts::lost_run_text))]
 pub(crate) fn say_run<W: Write>(writer: &mut Counted<W>, run: LostRun) -> Result<(), WriteFault>
     ensures { Writes W.contents writer.old writer.new (lost_run_text run) result }
 {
     let Run { first, count, kind } = run;
-    writer.print(format_args!("lost {first} {count} "))?;
-    say_io_words(writer, kind)
+    let word = loss_word(kind);
+    let fault = fault_of(kind);
+    writer.print(format_args!("{word} {first} {count} "))?;
+    say_io_words(writer, fault)
 }

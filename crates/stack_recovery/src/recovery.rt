@@ -7,7 +7,7 @@ ghost use Rattle.rescue_map.specs.Maps.{marks};
 ghost use Rattle.rescue_map.specs.Aheads.{marks_ahead};
 ghost use Rattle.stack_recovery.specs.Handing.{HandsOverPart, HandsOverUntil};
 ghost use Rattle.stack_recovery.specs.LeafReads.{CopiesAll, CopiesOver};
-ghost use Rattle.stack_recovery.specs.Losses.{ListsLost, NotesLost, StopsInPiece, TalliesLost};
+ghost use Rattle.stack_recovery.specs.Losses.{ListsLost, NotesLost, StopsInPiece, TalliesLost, loss_by};
 ghost use Rattle.stack_recovery.specs.Recoveries.{EndsEarlyBy, GoesOverBy, AreMarksNoted, counted_sectors, parties};
 ghost use Rattle.stack_recovery.specs.Retries.{retried, retried_by};
 ghost use Rattle.stack_recovery.specs.TwoPasses.{EndsRecovery, HandsPasses, HandsPassesPart, RecoversBy};
@@ -17,10 +17,10 @@ ghost use Rattle.runs.specs.Tallies.{EndsAt};
 use crate::deadline::{DevicePass, pass_end};
 use crate::fault::RecoveryFault;
 use crate::listing::Listing;
-use crate::lost_run::{LostRun, is_same};
+use crate::lost_run::{LostRun, is_same, loss_by};
 use crate::notes::note;
 use crate::piece::{Piece, piece_at};
-use crate::piece_limit::PieceLimit;
+use crate::piece_limit::{PieceLimit, is_given_up};
 use crate::rescued::rescue;
 use crate::retries::read_again;
 use crate::skimming::skim_ahead;
@@ -32,18 +32,21 @@ use stack_config::DevId;
 use stack_engine::{IoFault, Stack};
 use std::alloc::Global;
 
-/// How many sectors were read, and how many are lost.
+/// How many sectors were read, how many are lost, and how many are unscraped, of which no other read was tried.
 #[derive(Clone, Copy, Debug, PartialEq, Eq)]
 pub struct Counts {
     pub read: u64,
     pub lost: u64,
+    pub untried: u64,
 }
 
-/// A mapped device to be recovered, and how many times its lost sectors are read again.
+/// A mapped device to be recovered, how many times its lost sectors are read again, and whether a failed piece isn't searched
+/// sector by sector after its first lost sector.
 #[derive(Clone, Copy, Debug, PartialEq, Eq)]
 pub struct RecoveryPlan {
     pub device: DevId,
     pub retries: u64,
+    pub no_scrape: bool,
 }
 
 /// The size of the longest piece in bytes.
@@ -70,21 +73,25 @@ pub fn recover<D: BlockDev, O: BlockDev, L: Listing>(
     requires device { d.0 < length stack.old.config.devices }
     requires room { size stack.old.config (mapped d.0) ≤ (O.state out.old).size }
     requires allowed { IsTrue (O.state out.old).may_write }
-    ensures ok { IfOk result (RecoversBy O.state L.told (retried d.0 0) (parties stack.old out.old listing.old) (parties stack.new out.new listing.new)) }
-    ensures err { IfErr result (EndsRecovery O.state L.told (retried d.0 0) (parties stack.old out.old listing.old) (parties stack.new out.new listing.new)) }
-    ensures handed { OnOk result (HandsPasses (DeviceDoes O.state O.does) (retried d.0 0) (parties stack.old out.old listing.old) (parties stack.new out.new listing.new)) }
-    ensures stopped { IfErr result (HandsPassesPart (DeviceDoes O.state O.does) (retried d.0 0) (parties stack.old out.old listing.old) (parties stack.new out.new listing.new)) }
+    ensures ok { IfOk result (RecoversBy O.state L.told (retried d.0 0 false) (parties stack.old out.old listing.old) (parties stack.new out.new listing.new)) }
+    ensures err { IfErr result (EndsRecovery O.state L.told (retried d.0 0 false) (parties stack.old out.old listing.old) (parties stack.new out.new listing.new)) }
+    ensures handed { OnOk result (HandsPasses (DeviceDoes O.state O.does) (retried d.0 0 false) (parties stack.old out.old listing.old) (parties stack.new out.new listing.new)) }
+    ensures stopped { IfErr result (HandsPassesPart (DeviceDoes O.state O.does) (retried d.0 0 false) (parties stack.old out.old listing.old) (parties stack.new out.new listing.new)) }
     ensures called { CopiesAll D.state D.does (DeviceDoes O.state O.does) d.0 stack.old out.old stack.new out.new result }
 {
     let plan = RecoveryPlan {
         device: d,
         retries: 0,
+        no_scrape: false,
     };
     recover_with(alloc, stack, plan, out, listing, &mut NoProgress)
 }
 
 /// Recovers a device as `recover` does, and reports progress. After the second pass, sectors that are lost are read again, at most
 /// `retries` times, and only the last pass reports lost sectors.
+///
+/// With `no_scrape` a failed piece is read by single sectors only up to its first lost sector. The rest of it is read at once. If
+/// that read fails, the rest is reported as a loss `Unscraped`.
 ///
 /// # Errors
 ///
@@ -108,8 +115,10 @@ pub fn recover_with<D: BlockDev, O: BlockDev, L: Listing, P: Progress>(
     ensures called { CopiesAll D.state D.does (DeviceDoes O.state O.does) plan.device.0 stack.old out.old stack.new out.new result }
 {
     let d = plan.device;
+    let no_scrape = plan.no_scrape;
     let first = DevicePass {
         device: d,
+        no_scrape: false,
         deadline: None,
     };
     let ahead = Ahead::unread(stack.config().sectors(d));
@@ -117,6 +126,7 @@ pub fn recover_with<D: BlockDev, O: BlockDev, L: Listing, P: Progress>(
     let left = read_again(alloc, stack, plan, out, map, progress)?;
     let last = DevicePass {
         device: d,
+        no_scrape,
         deadline: None,
     };
     let rescued = rescue(alloc, stack, last, out, &left, listing, progress)?;
@@ -216,10 +226,13 @@ fn go_over_by<D: BlockDev, O: BlockDev, L: Listing, P: Progress>(
                     piece_limit = piece_limit.after_bytes(piece.count, at);
                 }
                 Err(fault) => {
-                    if lose_piece(noted, &mut tally, listing, at, piece, fault)? {
+                    let end = at + count;
+                    let given_up = is_given_up(piece.alike, pass.no_scrape, piece_limit.doubt, end);
+                    let failed = FailedPiece { piece, given_up };
+                    if lose_piece(noted, &mut tally, listing, at, failed, fault)? {
                         ahead.pass(count);
                         at += count;
-                        piece_limit = piece_limit.after_loss();
+                        piece_limit = piece_limit.after_loss(pass.no_scrape, at);
                     } else {
                         piece_limit = PieceLimit::up_to(at + count);
                     }
@@ -230,39 +243,46 @@ fn go_over_by<D: BlockDev, O: BlockDev, L: Listing, P: Progress>(
     Ok(tally.finish(listing, at))
 }
 
-// Handles a piece whose read failed: returns whether its sectors are lost. If not, they are read again one by one.
+/// A piece whose read failed, and whether its sectors aren't read again.
+#[derive(Clone, Copy)]
+struct FailedPiece {
+    piece: Piece,
+    given_up: bool,
+}
+
+// Handles a piece whose read failed: returns whether its sectors are given up. If not, they are read again one by one.
 fn lose_piece<L: Listing>(
     noted: &mut Option<Map>,
     tally: &mut Tally,
     listing: &mut L,
     at: u64,
-    piece: Piece,
+    failed: FailedPiece,
     fault: IoFault,
 ) -> Result<bool, RecoveryFault>
-    requires some { 1 ≤ piece.count }
-    requires marks { ForSome noted.old (λ map. length (marks map) + piece.count ≤ 2 ^ 54) }
+    requires some { 1 ≤ failed.piece.count }
+    requires marks { ForSome noted.old (λ map. length (marks map) + failed.piece.count ≤ 2 ^ 54) }
     requires ends { EndsAt tally.old.last at }
-    requires few { tally.old.lost ≤ at }
-    requires room { at + piece.count < 2 ^ 64 }
-    ensures alike { IfOk result (λ lost. lost ≡ piece.alike) }
+    requires few { tally.old.lost + tally.old.untried ≤ at }
+    requires room { at + failed.piece.count < 2 ^ 64 }
+    ensures given_up { IfOk result (λ lost. lost ≡ failed.given_up) }
     ensures kind { OnOk result (fault ≢ IoFault.NoMemory) }
-    ensures noted { IfOk result (NotesLost piece.count noted.old noted.new) }
-    ensures tallied { IfOk result (TalliesLost (run at piece.count fault) tally.old tally.new) }
-    ensures told { IfOk result (ListsLost L.told (run at piece.count fault) tally.old listing.old listing.new) }
+    ensures noted { IfOk result (NotesLost failed.piece.count noted.old noted.new) }
+    ensures tallied { IfOk result (TalliesLost (run at failed.piece.count (loss_by failed.piece.alike fault)) tally.old tally.new) }
+    ensures told { IfOk result (ListsLost L.told (run at failed.piece.count (loss_by failed.piece.alike fault)) tally.old listing.old listing.new) }
     ensures err { IfErr result (StopsInPiece fault (is_some noted.old) listing.old listing.new) }
 {
     if is_same(fault, IoFault::NoMemory) {
         return Err(RecoveryFault::NoMemory);
     }
-    if !piece.alike {
+    if !failed.given_up {
         return Ok(false);
     }
-    let count = u64::from(piece.count);
+    let count = u64::from(failed.piece.count);
     note(noted, count, false)?;
     let run = LostRun {
         first: at,
         count,
-        kind: fault,
+        kind: loss_by(failed.piece.alike, fault),
     };
     tally.lose(listing, run);
     Ok(true)

@@ -25,7 +25,8 @@ pub struct Rescued {
 }
 
 /// Recovers a device as the last pass of `recover` does, but neither reads nor writes the sectors that the map marks as read
-/// before. At its deadline the pass ends. The counts and the map are then of the sectors up to there.
+/// before. At its deadline the pass ends. The counts and the map are then of the sectors up to there. With `no_scrape` a failed
+/// piece is searched as in `recover_with`.
 ///
 /// # Errors
 ///
@@ -45,7 +46,7 @@ pub fn rescue<D: BlockDev, O: BlockDev, L: Listing, P: Progress>(
     requires room { size stack.old.config (mapped pass.device.0) ≤ (O.state out.old).size }
     requires allowed { IsTrue (O.state out.old).may_write }
     ensures ok { IfOk result (RescuesBy O.state L.told pass (marks map.now) (parties stack.old out.old listing.old) (parties stack.new out.new listing.new)) }
-    ensures err { IfErr result (EndsRescue O.state L.told (marks map.now) pass.device.0 (parties stack.old out.old listing.old) (parties stack.new out.new listing.new)) }
+    ensures err { IfErr result (EndsRescue O.state L.told pass (marks map.now) (parties stack.old out.old listing.old) (parties stack.new out.new listing.new)) }
     ensures handed { IfOk result (RescueHands (DeviceDoes O.state O.does) (marks map.now) pass.device.0 (parties stack.old out.old listing.old) (parties stack.new out.new listing.new)) }
     ensures stopped { IfErr result (HandsOverPart (DeviceDoes O.state O.does) (marks map.now) pass.device.0 (parties stack.old out.old listing.old) (parties stack.new out.new listing.new)) }
     ensures called { CopiesOver D.state D.does (DeviceDoes O.state O.does) (marks map.now) pass.device.0 stack.old out.old stack.new out.new result (λ rescued. counted_sectors rescued.counts) }

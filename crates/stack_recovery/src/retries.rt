@@ -48,6 +48,7 @@ pub(crate) fn read_again<D: BlockDev, O: BlockDev, P: Progress>(
     'passes: while passes < plan.retries && !is_had(&left) {
         let pass = DevicePass {
             device: plan.device,
+            no_scrape: plan.no_scrape,
             deadline: None,
         };
         let rescued = rescue(alloc, stack, pass, out, &left, &mut NoListing, progress)?;

@@ -27,7 +27,7 @@ use std::alloc::Global;
 /// call.
 ///
 /// After a failed read the pass skips ahead, so that a device that is about to fail is first read where it can be: 128 sectors
-/// after the piece, and twice as many after each further failed read, up to a 128th of the device, but at least 128 sectors and
+/// after the piece, and twice as many after each further failed read, up to a hundredth of the device, but at least 128 sectors and
 /// at most 1 GiB. After a piece that can be read it begins with 128 sectors again. A skip ends before the next sector that was
 /// read before. Nothing is lost by this pass: `rescue` reads what it left.
 ///

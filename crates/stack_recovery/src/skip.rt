@@ -8,13 +8,15 @@ pub(crate) const LEAST_SKIP: u64 = 128;
 /// The longest skip of any device, 1 GiB.
 const MOST_SKIP: u64 = 2_097_152;
 
-/// Returns the most sectors that are skipped at once on a device of so many.
+/// Returns the most sectors that are skipped at once on a device of so many: a hundredth of them, in multiples of 64 KiB, but at most 1 GiB.
 #[tactic(auto, unfolding(crate::specs::Skips::most_skip))]
 pub(crate) fn most_skip(sectors: u64) -> u64
     ensures value { result ≡ most_skip sectors }
     ensures few { result ≤ 2 ^ 21 }
 {
-    (sectors / 128).max(LEAST_SKIP).min(MOST_SKIP)
+    (sectors / 100 / LEAST_SKIP * LEAST_SKIP)
+        .max(LEAST_SKIP)
+        .min(MOST_SKIP)
 }
 
 /// Returns how many sectors are skipped after the next failed read, if `skip` were after this one.

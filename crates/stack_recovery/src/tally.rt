@@ -2,28 +2,29 @@
 ghost use Rattle.std.specs.Prelude.{◌≡◌, ◌+◌, ◌-◌, ◌<◌, ◌≤◌, ◌^◌, None, Some};
 ghost use Rattle.stack_recovery.specs.Listings.{Tells};
 ghost use Rattle.runs.specs.Tallies.{EndsAt, closed_by, joined_run, listed, opened_by};
-ghost use Rattle.stack_recovery.specs.LostRuns.{is_same_fault};
+ghost use Rattle.stack_recovery.specs.LostRuns.{is_same_loss, lost_count, untried_count};
 ghost use Rattle.stack_recovery.specs.Texts.{lost_text};
 
 use crate::listing::Listing;
-use crate::lost_run::{LostRun, is_same};
+use crate::lost_run::{LostRun, is_same_loss, lost_count, untried_count};
 use crate::recovery::Counts;
 
-/// The open run, which may still grow, and how many sectors are lost.
+/// The open run, which may still grow, and how many sectors are lost and unscraped.
 #[derive(Clone, Copy)]
 pub(crate) struct Tally {
     pub(crate) last: Option<LostRun>,
     pub(crate) lost: u64,
+    pub(crate) untried: u64,
 }
 
-/// Joins two adjacent runs into one if they are lost by the same fault.
+/// Joins two adjacent runs into one if their losses are the same.
 fn joined(last: Option<LostRun>, run: LostRun) -> Option<LostRun>
     requires ends { EndsAt last run.first }
     requires room { run.first + run.count < 2 ^ 64 }
-    ensures { result ≡ joined_run is_same_fault last run }
+    ensures { result ≡ joined_run is_same_loss last run }
 {
     let last = last?;
-    if is_same(last.kind, run.kind) {
+    if is_same_loss(last.kind, run.kind) {
         Some(last.longer(run.count))
     } else {
         None
@@ -32,11 +33,12 @@ fn joined(last: Option<LostRun>, run: LostRun) -> Option<LostRun>
 
 impl Tally {
     pub(crate) fn new() -> Tally
-        ensures { result ≡ record { last = None; lost = 0 } }
+        ensures { result ≡ record { last = None; lost = 0; untried = 0 } }
     {
         Tally {
             last: None,
             lost: 0,
+            untried: 0,
         }
     }
 
@@ -45,7 +47,7 @@ impl Tally {
     pub(crate) fn close<L: Listing>(&mut self, listing: &mut L)
         ensures text { Tells (L.told listing.old) (L.told listing.new) (lost_text (listed self.old.last)) }
         ensures last { self.new.last ≡ None }
-        ensures lost { self.new.lost ≡ self.old.lost }
+        ensures lost { (self.new.lost ≡ self.old.lost) × (self.new.untried ≡ self.old.untried) }
     {
         if let Some(run) = self.last {
             listing.tell(run);
@@ -57,11 +59,12 @@ impl Tally {
     #[tactic(auto, using(crate::proofs::WritingLemmas::tells_nothing))]
     pub(crate) fn lose<L: Listing>(&mut self, listing: &mut L, run: LostRun)
         requires ends { EndsAt self.old.last run.first }
-        requires lost { self.old.lost ≤ run.first }
+        requires lost { self.old.lost + self.old.untried ≤ run.first }
         requires room { run.first + run.count < 2 ^ 64 }
-        ensures text { Tells (L.told listing.old) (L.told listing.new) (lost_text (closed_by is_same_fault self.old.last run)) }
-        ensures last { self.new.last ≡ Some (opened_by is_same_fault self.old.last run) }
-        ensures lost { self.new.lost ≡ self.old.lost + run.count }
+        ensures text { Tells (L.told listing.old) (L.told listing.new) (lost_text (closed_by is_same_loss self.old.last run)) }
+        ensures last { self.new.last ≡ Some (opened_by is_same_loss self.old.last run) }
+        ensures lost { self.new.lost ≡ self.old.lost + lost_count run.kind run.count }
+        ensures untried { self.new.untried ≡ self.old.untried + untried_count run.kind run.count }
     {
         match joined(self.last, run) {
             Some(both) => self.last = Some(both),
@@ -70,19 +73,21 @@ impl Tally {
                 self.last = Some(run);
             }
         }
-        self.lost += run.count;
+        self.lost += lost_count(run.kind, run.count);
+        self.untried += untried_count(run.kind, run.count);
     }
 
     /// Reports the open run, and returns the counts of the `sectors` sectors so far.
     pub(crate) fn finish<L: Listing>(&mut self, listing: &mut L, sectors: u64) -> Counts
-        requires { self.old.lost ≤ sectors }
+        requires { self.old.lost + self.old.untried ≤ sectors }
         ensures text { Tells (L.told listing.old) (L.told listing.new) (lost_text (listed self.old.last)) }
-        ensures value { result ≡ record { read = sectors - self.old.lost; lost = self.old.lost } }
+        ensures value { result ≡ record { read = sectors - (self.old.lost + self.old.untried); lost = self.old.lost; untried = self.old.untried } }
     {
         self.close(listing);
         Counts {
-            read: sectors - self.lost,
+            read: sectors - (self.lost + self.untried),
             lost: self.lost,
+            untried: self.untried,
         }
     }
 }

@@ -39,6 +39,7 @@ load_number kinds.TooDeep = 14
 load_number kinds.CostTooLarge = 15
 load_number kinds.UnitDoesntDivide = 16
 load_number kinds.IvOffset = 17
+load_number kinds.ParityDoesntCover = 61
 
 abbrev pub load_name : LoadKind → List ℕ
 load_name kinds.DuplicateName = codes "DuplicateName"
@@ -58,6 +59,7 @@ load_name kinds.TooDeep = codes "TooDeep"
 load_name kinds.CostTooLarge = codes "CostTooLarge"
 load_name kinds.UnitDoesntDivide = codes "UnitDoesntDivide"
 load_name kinds.IvOffset = codes "IvOffset"
+load_name kinds.ParityDoesntCover = codes "ParityDoesntCover"
 
 abbrev pub removal_number : RemoveFault → ℕ
 removal_number removals.NoSuchDevice = 1

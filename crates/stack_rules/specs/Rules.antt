@@ -10,7 +10,7 @@ use Rattle.dm_table.specs.declared.table.Target.{Target}
 use Rattle.dm_table.specs.Grammar.{IsTableOfGrammar}
 use Rattle.dm_table.specs.Names.{is_mapped_name, is_name_of, is_leaf_byte, mapper}
 use Rattle.stack_rules.specs.declared.refusal.LoadKind.{LoadKind}
-use Rattle.stack_rules.specs.declared.refusal.LoadKind.TheVariants.{DuplicateName, TooMany, NoSuchDevice, StandsOnItself, ZeroLength, Gap, TooLarge, StripesDontDivide, BeyondDevice, LineBeyondTree, TreeBeyondDevice, NeedsReadOnly, LowerReadOnly, TooDeep, CostTooLarge, UnitDoesntDivide, IvOffset}
+use Rattle.stack_rules.specs.declared.refusal.LoadKind.TheVariants.{DuplicateName, TooMany, NoSuchDevice, StandsOnItself, ZeroLength, Gap, TooLarge, StripesDontDivide, BeyondDevice, LineBeyondTree, TreeBeyondDevice, NeedsReadOnly, LowerReadOnly, TooDeep, CostTooLarge, UnitDoesntDivide, IvOffset, ParityDoesntCover}
 use Rattle.stack_rules.specs.declared.refusal.Refusal.{Refusal}
 use Rattle.stack_rules.specs.Records.{Configuration, DeviceRecord, LeafRecord}
 use Rattle.stack_rules.specs.Names.{mapped, named, names, table_sectors, size, may_write, device_named}
@@ -62,7 +62,8 @@ most_depth = 8
 abbrev pub ends_past : Configuration → List ℕ → ℕ → Bool
 ends_past c name end = option_map_or (λ lower. nat_lt (size c lower) end) (named c name) true
 
--- the ranges that a line of `len` sectors maps: its sectors, the share of each stripe, or all data blocks
+-- the ranges that a line of `len` sectors maps: its sectors, the share of each stripe, or all data blocks; with parity
+-- also the covered hash blocks and the parity
 abbrev pub ranges : ℕ → Target → List (List ℕ × ℕ)
 ranges len target = (rules_of target).ranges len
 
@@ -90,6 +91,10 @@ cuts_unit len target = refuses UnitDoesntDivide len target
 abbrev pub is_off_unit : ℕ → Target → Bool
 is_off_unit len target = refuses IvOffset len target
 
+-- the parity doesn't cover all data and hash blocks
+abbrev pub is_unprotected : ℕ → Target → Bool
+is_unprotected len target = refuses ParityDoesntCover len target
+
 -- the line is longer than its data blocks
 abbrev pub is_uncovered : ℕ → Target → Bool
 is_uncovered len target = refuses LineBeyondTree len target
@@ -115,6 +120,7 @@ line_faults c writable before line =
     ∷ (StripesDontDivide, is_undivided line.length line.target)
     ∷ (UnitDoesntDivide, cuts_unit line.length line.target)
     ∷ (IvOffset, is_off_unit line.length line.target)
+    ∷ (ParityDoesntCover, is_unprotected line.length line.target)
     ∷ (BeyondDevice, is_beyond c line.length line.target)
     ∷ (LineBeyondTree, is_uncovered line.length line.target)
     ∷ (TreeBeyondDevice, is_tree_beyond c line.target)

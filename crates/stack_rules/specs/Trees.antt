@@ -1,9 +1,11 @@
--- The data blocks of a `verity` line, and the hash tree over them.
-use Rattle.std.specs.Prelude.{ℕ, ◌*◌, ◌/◌, List, replicate, Option, Some, None}
+-- The data blocks of a `verity` line, the hash tree over them, and the parity of both.
+use Rattle.std.specs.Prelude.{ℕ, ◌+◌, ◌-◌, ◌*◌, ◌/◌, List, replicate, Option, Some, None}
+use Rattle.std.specs.Int.{div_ceil}
 use Rattle.tree_shape.specs.Shape.{ShapeRecord, shape_with, blocks_sectors, levels, area_end}
 use Rattle.dm_table.specs.declared.table.Target.{Target}
 use Rattle.dm_table.specs.declared.table.Target.TheVariants.{Verity as verity_target}
 use Rattle.dm_table.specs.declared.verity.Verity.{Verity}
+use Rattle.dm_table.specs.declared.parity.Parity.{Parity}
 
 -- the shape of the tree that the arguments describe
 abbrev pub tree_of : Verity → ShapeRecord
@@ -26,6 +28,21 @@ path_sectors verity = levels (tree_of verity) * (verity.hash_block / 512)
 -- a data block of zeros
 abbrev pub zero_block : Verity → List ℕ
 zero_block verity = replicate verity.data_block 0
+
+-- the number of rounds; a round has one block at each position of the message
+abbrev pub round_count : Parity → ℕ
+round_count parity = div_ceil parity.blocks (255 - parity.roots)
+
+-- the sectors of the hash device up to the end of the covered blocks, and of the parity device up to that of the parity
+abbrev pub covered_sectors : Verity → Parity → ℕ
+covered_sectors verity parity = (verity.start + (parity.blocks - verity.blocks)) * block_sectors verity
+
+abbrev pub parity_sectors : Verity → Parity → ℕ
+parity_sectors verity parity = (parity.start + round_count parity * parity.roots) * block_sectors verity
+
+-- the most sectors read to restore a block: the other blocks of its round and their parity
+abbrev pub mend_sectors : Verity → ℕ
+mend_sectors verity = 254 * block_sectors verity
 
 -- the arguments of a `verity` line
 abbrev pub verity_of : Target → Option Verity

@@ -16,7 +16,10 @@ pub fn name_count(target: &Target) -> usize
         Target::Zero => 0,
         Target::Error => 0,
         Target::Crypt(_) => 1,
-        Target::Verity(_) => 2,
+        Target::Verity(verity) => match &verity.parity {
+            Some(_) => 3,
+            None => 2,
+        },
         Target::Unstriped(_) => 1,
     }
 }

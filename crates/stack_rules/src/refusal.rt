@@ -46,7 +46,7 @@ impl ConfigFault {
     }
 }
 
-/// The rule that refuses a load, in the order of the checks except for the last two.
+/// The rule that refuses a load, in the order of the checks except for the last three.
 #[derive(Clone, Copy, Debug, PartialEq, Eq, Error)]
 #[error("{}", self.name())]
 pub enum LoadKind {
@@ -68,7 +68,7 @@ pub enum LoadKind {
     /// isn't a multiple of the chunk size.
     StripesDontDivide = 8,
     /// A mapped range ends after the named device: the range of a line, the share of a stripe, or all data blocks of
-    /// a `verity` line.
+    /// a `verity` line. If the line has parity, also the covered hash blocks, and the parity.
     BeyondDevice = 9,
     /// A `verity` line is longer than its data blocks.
     LineBeyondTree = 10,
@@ -88,13 +88,16 @@ pub enum LoadKind {
     /// The `iv_offset` of a `crypt` line isn't a multiple of the sectors of its encryption unit. Checked after
     /// `UnitDoesntDivide`.
     IvOffset = 17,
+    /// The parity of a `verity` line doesn't cover all data and hash blocks, or data and hash blocks differ in size. Checked
+    /// after `IvOffset`.
+    ParityDoesntCover = 61,
 }
 
 impl LoadKind {
     ghost use Rattle.std.specs.Prelude.{◌≡◌};
     ghost use Rattle.stack_rules.specs.FaultKinds.{load_number, load_name};
 
-    /// Returns the number that is printed, 1 to 17.
+    /// Returns the number that is printed: 1 to 17, or 61.
     pub fn number(self) -> u8
         ensures { result ≡ load_number self }
     {
@@ -123,6 +126,7 @@ impl LoadKind {
             LoadKind::CostTooLarge => "CostTooLarge",
             LoadKind::UnitDoesntDivide => "UnitDoesntDivide",
             LoadKind::IvOffset => "IvOffset",
+            LoadKind::ParityDoesntCover => "ParityDoesntCover",
         }
     }
 }

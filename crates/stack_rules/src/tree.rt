@@ -18,14 +18,14 @@ pub fn verity_of(target: &Target) -> Option<&Verity>
 
 /// The number of levels of a tree, and of its hash blocks.
 #[derive(Clone, Copy)]
-struct TreeSize {
+pub(crate) struct TreeSize {
     levels: u64,
-    blocks: u64,
+    pub(crate) blocks: u64,
 }
 
 // A `Shape` has at most 2^54 sectors, but a line is checked before the devices that it names, so its tree may be
 // larger. This function counts levels and blocks without a `Shape`.
-fn tree_size(verity: &Verity) -> TreeSize
+pub(crate) fn tree_size(verity: &Verity) -> TreeSize
     requires { IsVerityOfGrammar verity.now }
     ensures levels { result.levels ≡ levels (tree_of verity.now) }
     ensures blocks { result.blocks ≡ area_blocks (tree_of verity.now) }

@@ -50,7 +50,7 @@ crypt-grammar (name ∷ digits ∷ iv ∷ device ∷ offset ∷ params) crypt e 
     let key = bind_ok (key_at digits) _ crypt known.2 in
     let first = bind_ok (number_at iv) _ crypt key.2 in
     let base = bind_ok (base_at device offset) _ crypt first.2 in
-    let options = bind_ok (options_at crypt_options params) _ crypt base.2 in
+    let options = bind_ok (options_at crypt_options [] params) _ crypt base.2 in
     let bytes = key_at-grammar digits key.0 key.1 in
     subst IsCryptOfGrammar (ok_same _ crypt options.2) (record {
       key_size = bytes.0;

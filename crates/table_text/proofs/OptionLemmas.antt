@@ -1,15 +1,16 @@
 -- Options: one more that is known and new, and the first that is not.
-use Rattle.std.proofs.Common.{◌≡◌, ℕ, Bool, true, false, not, ◌&&◌, ◌||◌, eqb, List, [], ◌∷◌, ◌++◌, length, map, Ok, Err, refl, ap, sym, subst, ◌∙◌, inl, inr, arith}
+use Rattle.std.proofs.Common.{◌≡◌, ℕ, Bool, true, false, not, ◌&&◌, ◌||◌, eqb, List, [], ◌∷◌, ◌++◌, length, drop, map, Bor, Option, Some, None, ok_or, Ok, Err, refl, ap, sym, subst, ◌∙◌, inl, inr, arith}
+use Rattle.std.specs.Prelude.{if◌then◌else◌, MatchOption, MatchResult}
 use Rattle.std.specs.List.{list_any}
 use Rattle.std.specs.Str.{bytes_eq}
-use Rattle.std.proofs.lemmas.Bool.{cases_Bool, cond-false, and_parts, and_from, eqb-true, ne_eqb}
+use Rattle.std.proofs.lemmas.Bool.{cases_Bool, cond-false, cond-true, and_parts, and_from, eqb-true, ne_eqb}
 use Rattle.std.proofs.lemmas.List.Folds.{list_any-append}
 use Rattle.std.proofs.lemmas.Slice.Eq.{bytes_eq-Decides}
 use Rattle.dm_table.specs.declared.fault.TextKind.TheVariants as kinds
 use Rattle.dm_table.specs.Words.{Word}
 use Rattle.dm_table.specs.Reading.{◌>>=◌}
 use Rattle.dm_table.specs.Arguments.{number_at}
-use Rattle.dm_table.specs.Options.{is_one_of, option_name, has_name_of, are_options, known_at, counted_at, options_at, AreOptionsOfGrammar}
+use Rattle.dm_table.specs.Options.{after_option, is_one_of, option_name, option_names, has_name_of, are_options, known_at, counted_at, options_at, value_of, AreOptionsOfGrammar}
 use Rattle.table_text.proofs.ReadValueLemmas.{bind_ok, ok_same, chosen, number_at-fits}
 
 pub list_any-map : {X Y : Type 0} (p : Y → Bool) (f : X → Y) (xs : List X) → list_any p (map f xs) ≡ list_any (λ x. p (f x)) xs
@@ -87,18 +88,74 @@ options-push known (b ∷ before) word all e =
     neither false t h = (refl, none h)
 
 -- options that are counted
-pub options-count : (known : List Word) (count : Word) (words : List Word) (n : ℕ) → number_at count ≡ Ok n → (length words ≡ n → ⊥) → options_at known (count ∷ words) ≡ Err kinds.ArgCount
+pub options-count : (known valued : List Word) (count : Word) (words : List Word) (n : ℕ) → number_at count ≡ Ok n → (length words ≡ n → ⊥) → options_at known valued (count ∷ words) ≡ Err kinds.ArgCount
 unfolding options_at
-options-count known count words n e ne = ap (λ r. r >>= (λ n. counted_at known n words)) e ∙ cond-false _ _ _ (ne_eqb (length words) n ne)
+options-count known valued count words n e ne = ap (λ r. r >>= (λ n. counted_at known valued n words)) e ∙ cond-false _ _ _ (ne_eqb (length words) n ne)
+
+-- options without values
+pub names-plain : (words : List Word) → option_names [] false words ≡ words
+unfolding option_names
+names-plain [] = refl
+names-plain (word ∷ more) = ap (λ rest. word ∷ rest) (names-plain more)
+
+-- a value is no option
+names-drop : (valued : List Word) (is_value : Bool) (more : List Word) → option_names valued is_value more ≡ option_names valued false (if is_value then drop 1 more else more)
+unfolding option_names
+names-drop valued true [] = refl
+names-drop valued true (value ∷ more) = refl
+names-drop valued false more = refl
+
+pub names-after : (valued : List Word) (word : Word) (more : List Word) → option_names valued false (word ∷ more) ≡ word ∷ option_names valued false (after_option valued word more)
+unfolding option_names
+names-after valued word more = ap (λ rest. word ∷ rest) (names-drop valued (is_one_of word valued) more)
+
+value-drop : (valued : List Word) (name : Word) (is_value : Bool) (more : List Word) → value_of valued name is_value more ≡ value_of valued name false (if is_value then drop 1 more else more)
+unfolding value_of
+value-drop valued name true [] = refl
+value-drop valued name true (value ∷ more) = refl
+value-drop valued name false more = refl
+
+-- the option that is sought, and another one
+pub value-none : (valued : List Word) (name word : Word) → bytes_eq word name ≡ true → value_of valued name false (word ∷ []) ≡ Err kinds.Option
+unfolding value_of
+value-none valued name word e = cond-true _ _ _ e
+
+pub value-here : (valued : List Word) (name word value : Word) (more : List Word) → bytes_eq word name ≡ true → value_of valued name false (word ∷ value ∷ more) ≡ Ok value
+unfolding value_of
+value-here valued name word value more e = cond-true _ _ _ e
+
+pub value-after : (valued : List Word) (name word : Word) (more : List Word) → bytes_eq word name ≡ false → value_of valued name false (word ∷ more) ≡ value_of valued name false (after_option valued word more)
+unfolding value_of
+value-after valued name word more e = cond-false _ _ _ e ∙ value-drop valued name (is_one_of word valued) more
 
 -- what was read keeps to the grammar's limits
-pub options-grammar : (known arguments options : List Word) → options_at known arguments ≡ Ok options → AreOptionsOfGrammar known options
+pub options-grammar : (known arguments options : List Word) → options_at known [] arguments ≡ Ok options → AreOptionsOfGrammar known options
 unfolding options_at known_at
 options-grammar known [] options e = subst (AreOptionsOfGrammar known) (ok_same [] options e) (record { each = refl; count = omega arith })
 options-grammar known (count ∷ words) options e =
-    let n = bind_ok (number_at count) (λ n. counted_at known n words) options e in
-    let counted = chosen (eqb (length words) n.0) (known_at known words) kinds.ArgCount options n.2 in
-    let all = chosen (are_options known words) (Ok words) kinds.Option options counted.1 in
+    let n = bind_ok (number_at count) (λ n. counted_at known [] n words) options e in
+    let counted = chosen (eqb (length words) n.0) (known_at known (option_names [] false words)) kinds.ArgCount options n.2 in
+    let all = chosen (are_options known words) (Ok words) kinds.Option options (sym (ap (known_at known) (names-plain words)) ∙ counted.1) in
     let fits = number_at-fits count n.0 n.1 in
     let same = eqb-true (length words) n.0 counted.0 in
     subst (AreOptionsOfGrammar known) (ok_same words options all.1) (record { each = all.0; count = omega (arith, fits, same) })
+
+-- the words after the first one
+pub next-drop : (old new : List Word) (first : Option (Bor Word)) → MatchOption first ((old ≡ []) × (new ≡ [])) (λ word. old ≡ word.now ∷ new) → drop 1 old ≡ new
+next-drop old new None is = rw (is.0, is.1) refl
+next-drop old new (Some word) is = rw is refl
+
+-- the value is removed, if there is one
+pub value-removed : (valued : List Word) (word : Word) (old new : List Word) (first : Option (Bor Word)) → is_one_of word valued ≡ true
+    → MatchOption first ((old ≡ []) × (new ≡ [])) (λ value. old ≡ value.now ∷ new) → new ≡ after_option valued word old
+value-removed valued word old new first one is = sym (cond-true _ _ _ one ∙ next-drop old new first is)
+
+pub value-left : (valued : List Word) (word : Word) (old : List Word) → is_one_of word valued ≡ false → old ≡ after_option valued word old
+value-left valued word old none = sym (cond-false _ _ _ none)
+
+-- the word after the option
+pub value-first : (valued : List Word) (name word : Word) (old new : List Word) (first : Option (Bor Word)) → bytes_eq word name ≡ true
+    → MatchOption first ((old ≡ []) × (new ≡ [])) (λ value. old ≡ value.now ∷ new)
+    → MatchResult (ok_or first kinds.Option) (λ value. value_of valued name false (word ∷ old) ≡ Ok value.now) (λ kind. value_of valued name false (word ∷ old) ≡ Err kind)
+value-first valued name word old new None same is = ap (λ ws. value_of valued name false (word ∷ ws)) is.0 ∙ value-none valued name word same
+value-first valued name word old new (Some value) same is = ap (λ ws. value_of valued name false (word ∷ ws)) is ∙ value-here valued name word value.now new same

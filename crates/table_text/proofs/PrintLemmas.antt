@@ -1,5 +1,5 @@
 -- Printed words, lines and tables.
-use Rattle.std.proofs.Common.{◌≡◌, ◌≤◌, ◌<◌, ◌+◌, ℕ, zero, suc, List, [], ◌∷◌, ◌++◌, flat_map, length, get_or, Result, Ok, Err, IsErrAnd, refl, ap, sym, ◌∙◌, append_assoc, append-nil, length-append, arith}
+use Rattle.std.proofs.Common.{◌≡◌, ◌≤◌, ◌<◌, ◌+◌, ℕ, zero, suc, List, [], ◌∷◌, ◌++◌, flat_map, length, decimal, get_or, Result, Ok, Err, IsErrAnd, refl, ap, sym, ◌∙◌, append_assoc, append-nil, length-append, arith}
 use Rattle.std.specs.Prelude.{IfErr, OnErr}
 use Rattle.std.specs.List.{join_with_byte}
 use Rattle.dm_table.specs.Words.{Word}
@@ -7,6 +7,7 @@ use Rattle.allocation.specs.Asked.{asked}
 use Rattle.allocation.specs.Refusal.{IsOutOfMemory}
 use Rattle.allocation.specs.declared.out_of_memory.OutOfMemory.{OutOfMemory}
 use Rattle.dm_table.specs.declared.table.Base.{Base}
+use Rattle.table_text.specs.ArgumentWords.{options_words}
 use Rattle.table_text.specs.Print.{base_words, printed_length, spaced_word}
 
 -- words joined by one space are the first, and each other after a space
@@ -30,6 +31,11 @@ pub then_words : (before between after : List ℕ) (words more : List Word) → 
 then_words before between after words more first rest =
     rest ∙ ap (λ t. t ++ flat_map spaced_word more) first ∙ append_assoc before (flat_map spaced_word words) (flat_map spaced_word more)
     ∙ ap (λ t. before ++ t) (sym (spaced-append words more))
+
+-- some options behind their number
+pub counted-words : (words : List Word) → (length words ≡ 0 → ⊥) → options_words words ≡ decimal (length words) ∷ words
+counted-words [] some = absurd (some refl)
+counted-words (word ∷ more) some = refl
 
 -- the exit of a `?` with the error of an allocation
 pub exit_memory : {A : Type 0} (r : Result A OutOfMemory) (n : ℕ) (e : OutOfMemory) → IsErrAnd r (λ x. x ≡ e) → asked e ≤ n → IfErr r (λ x. asked x ≤ n)

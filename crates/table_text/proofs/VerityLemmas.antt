@@ -1,5 +1,5 @@
 -- The arguments of a `verity` line: too few, and within the grammar's limits.
-use Rattle.std.proofs.Common.{◌≡◌, ℕ, ◌/◌, ◌<◌, ◌≤◌, ◌&&◌, Bool, true, false, leb, List, [], ◌∷◌, length, Ok, Err, ok_or, Option, Some, None, codes, refl, ap, sym, subst, ◌∙◌, inl, inr, arith}
+use Rattle.std.proofs.Common.{◌≡◌, ℕ, ◌/◌, ◌<◌, ◌≤◌, ◌&&◌, Bool, true, false, leb, List, [], ◌∷◌, length, drop, Ok, Err, ok_or, Option, Some, None, codes, refl, ap, sym, subst, ◌∙◌, inl, inr, arith}
 use Rattle.std.specs.Prelude.{◌⊎◌, ◌↔◌, IsSome, IfSome}
 use Rattle.std.specs.Str.{bytes_eq}
 use Rattle.std.proofs.lemmas.Bool.{cases_Bool, cond-true, cond-false, and_parts, leb-true}
@@ -10,8 +10,11 @@ use Rattle.dm_table.specs.declared.fault.TextKind.TheVariants as kinds
 use Rattle.dm_table.specs.Words.{Word}
 use Rattle.dm_table.specs.Names.{is_device, most_name}
 use Rattle.dm_table.specs.Numbers.{number}
+use Rattle.dm_table.specs.Reading.{Read, ◌>>=◌}
 use Rattle.dm_table.specs.Arguments.{device_at, number_at, bytes_at}
 use Rattle.dm_table.specs.Options.{options_at}
+use Rattle.dm_table.specs.declared.parity.Parity.{Parity}
+use Rattle.dm_table.specs.Parity.{fec_at, fec_blocks, fec_roots, fec_start, has_parity, parity_at, parity_options, parity_value, roots_at, use_fec_from_device, IsParityOfGrammar}
 use Rattle.dm_table.specs.Verity.{version_at, block_size_at, algorithm_at, corruption_at, digest_at, known_verity_options, salt_at, verity_at}
 use Rattle.dm_table.specs.Grammar.{IsVerityOfGrammar}
 use Rattle.dm_table.proofs.lemmas.NameLengthLemmas.{device-length}
@@ -67,6 +70,53 @@ salt_at-grammar word salt e = elim (cases_Bool (bytes_eq word (codes "-"))) [
       (omega (arith, most, size), bytes.1)
 ]
 
+roots_at-grammar : (word : Word) (n : ℕ) → roots_at word ≡ Ok n → (2 ≤ n) × (n ≤ 24)
+roots_at-grammar word n e =
+    let read = bind_ok (number_at word) _ n e in
+    let within = chosen (leb 2 read.0 && leb read.0 24) (Ok read.0) kinds.Option n read.2 in
+    let parts = and_parts (leb 2 read.0) _ within.0 in
+    subst (λ k. (2 ≤ k) × (k ≤ 24)) (ok_same read.0 n within.1) (leb-true 2 read.0 parts.0, leb-true read.0 24 parts.1)
+
+fec-grammar : (words : List Word) (parity : Parity) → fec_at words ≡ Ok parity → IsParityOfGrammar parity
+unfolding fec_at
+fec-grammar words parity e =
+    let name = bind_ok (parity_value use_fec_from_device words) _ parity e in
+    let device = bind_ok (device_at name.0) _ parity name.2 in
+    let count = bind_ok (parity_value fec_roots words) _ parity device.2 in
+    let roots = bind_ok (roots_at count.0) _ parity count.2 in
+    let covered = bind_ok (parity_value fec_blocks words) _ parity roots.2 in
+    let blocks = bind_ok (number_at covered.0) _ parity covered.2 in
+    let begin = bind_ok (parity_value fec_start words) _ parity blocks.2 in
+    let start = bind_ok (number_at begin.0) _ parity begin.2 in
+    let within = roots_at-grammar count.0 roots.0 roots.1 in
+    subst IsParityOfGrammar (ok_same _ parity start.2) (record {
+      device = device_at-grammar name.0 device.0 device.1;
+      some_roots = within.0;
+      most_roots = within.1;
+      blocks = number_at-fits covered.0 blocks.0 blocks.1;
+      start = number_at-fits begin.0 start.0 start.1;
+    })
+
+-- parity, or none
+pub parity-none : (options words : List Word) → has_parity options ≡ false → parity_at options words ≡ Ok None
+unfolding parity_at
+parity-none options words none = cond-false _ _ _ none
+
+pub parity-some : (options words : List Word) (read : Read Parity) → has_parity options ≡ true → fec_at words ≡ read → parity_at options words ≡ (read >>= (λ parity. Ok (Some parity)))
+unfolding parity_at
+parity-some options words read some e = cond-true _ _ _ some ∙ ap (λ r. r >>= (λ parity. Ok (Some parity))) e
+
+parity-grammar : (options words : List Word) (parity : Option Parity) → parity_at options words ≡ Ok parity → IfSome parity IsParityOfGrammar
+unfolding parity_at
+parity-grammar options words None e = tt
+parity-grammar options words (Some parity) e = elim (cases_Bool (has_parity options)) [
+  | inl has ↦
+      let read = bind_ok (fec_at words) _ (Some parity) (sym (cond-true (has_parity options) _ _ has) ∙ e) in
+      let same : read.0 ≡ parity = let h = read.2 in cc in
+      fec-grammar words parity (read.1 ∙ ap Ok same)
+  | inr none ↦ let h = sym (cond-false (has_parity options) _ _ none) ∙ e in cc
+]
+
 -- what was read keeps to the grammar's limits
 pub verity-grammar : (words : List Word) (verity : Verity) → verity_at words ≡ Ok verity → IsVerityOfGrammar verity
 unfolding verity_at
@@ -91,11 +141,12 @@ verity-grammar (version ∷ dev ∷ hash_dev ∷ data_size ∷ hash_size ∷ cou
     let known = bind_ok (algorithm_at algorithm) _ verity start.2 in
     let root = bind_ok (digest_at digest) _ verity known.2 in
     let salt = bind_ok (salt_at digits) _ verity root.2 in
-    let options = bind_ok (options_at known_verity_options params) _ verity salt.2 in
+    let options = bind_ok (options_at known_verity_options parity_options params) _ verity salt.2 in
     let corruption = bind_ok (corruption_at options.0) _ verity options.2 in
+    let parity = bind_ok (parity_at options.0 (drop 1 params)) _ verity corruption.2 in
     let root_bytes = bytes_at-grammar 32 kinds.Digest digest root.0 root.1 in
     let salt_bytes = salt_at-grammar digits salt.0 salt.1 in
-    subst IsVerityOfGrammar (ok_same _ verity corruption.2) (record {
+    subst IsVerityOfGrammar (ok_same _ verity parity.2) (record {
       devices = record { below = device_at-grammar dev below.0 below.1; hash = device_at-grammar hash_dev hash.0 hash.1 };
       places = record {
         data_block = block_size_at-grammar data_size data_block.0 data_block.1;
@@ -107,6 +158,7 @@ verity-grammar (version ∷ dev ∷ hash_dev ∷ data_size ∷ hash_size ∷ cou
       root_bytes = root_bytes.1;
       salt_size = salt_bytes.0;
       salt_bytes = salt_bytes.1;
+      parity = parity-grammar options.0 (drop 1 params) parity.0 parity.1;
     })
 
 pub salt_at-size : (word : Word) → bytes_eq word (codes "-") ≡ false → (length word < 2) ⊎ ((2 ≤ length word) × (512 < length word)) → salt_at word ≡ Err kinds.Salt

@@ -47,6 +47,7 @@ pub(crate) fn read_crypt(alloc: Global, mut arguments: Words<'_>) -> Result<Cryp
             "sector_size:4096",
             "iv_large_sectors",
         ],
+        &[],
     )?;
     Ok(Crypt {
         key,

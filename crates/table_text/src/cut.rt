@@ -102,6 +102,13 @@ impl<'a> Words<'a> {
         Words { rest: text }
     }
 
+    /// Returns the same words, to be read a second time.
+    pub(crate) fn again(&self) -> Words<'a>
+        ensures { result ≡ self.now }
+    {
+        Words { rest: self.rest }
+    }
+
     /// Removes and returns the first word, or returns `None` if no words remain.
     pub fn next_word(&mut self) -> Option<&'a [u8]>
         ensures { MatchOption result
@@ -140,7 +147,7 @@ impl<'a> Words<'a> {
             (λ _. self.now ≡ [])
             (λ kind. (kind ≡ kinds.ArgCount) × IsCons self.now) }
     {
-        let mut words = Words { rest: self.rest };
+        let mut words = self.again();
         match words.next_word() {
             None => Ok(()),
             Some(_) => Err(TextKind::ArgCount),
@@ -151,7 +158,7 @@ impl<'a> Words<'a> {
     pub(crate) fn are(&self, count: usize) -> bool
         ensures { IsTrue result ↔ (length self.now ≡ count) }
     {
-        let mut words = Words { rest: self.rest };
+        let mut words = self.again();
         for _ in 0..count {
             if words.next_word().is_none() {
                 return false;

@@ -8,6 +8,7 @@ mod line;
 mod line_fault;
 mod numbers;
 mod option_words;
+mod parity_arguments;
 mod print;
 mod print_crypt;
 mod print_digits;

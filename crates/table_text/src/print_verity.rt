@@ -1,14 +1,15 @@
 //! Printing the arguments of a `verity` line.
-ghost use Rattle.std.specs.Prelude.{◌≡◌, ◌≤◌, ◌+◌, ◌∷◌, ◌++◌, IfErr, OnOk, codes, length};
+ghost use Rattle.std.specs.Prelude.{◌≡◌, ◌≤◌, ◌+◌, ◌∷◌, ◌++◌, IfErr, OnOk, Some, codes, length};
 ghost use Rattle.allocation.specs.Asked.{asked};
 ghost use Rattle.table_text.specs.ArgumentWords.{options_words, salt_word, verity_words};
+ghost use Rattle.dm_table.specs.Parity.{parity_words};
 ghost use Rattle.dm_table.specs.Verity.{corruption_words, verity_options, word_if};
 ghost use Rattle.table_text.specs.Print.{PrintsWords, printed_length};
 
 use crate::print::{push_spaced, push_spaced_number};
 use crate::print_digits::push_digits;
 use allocation::OutOfMemory;
-use dm_table::{CorruptionMode, Verity};
+use dm_table::{CorruptionMode, Parity, Verity};
 
 /// Prints the type and arguments of a `verity` line.
 pub(crate) fn print_verity(text: &mut Vec<u8>, verity: &Verity) -> Result<(), OutOfMemory>
@@ -42,7 +43,7 @@ fn print_salt(text: &mut Vec<u8>, salt: &[u8]) -> Result<(), OutOfMemory>
     }
 }
 
-// Appends the number of options and the options, or nothing if the line has none.
+// Appends the number of words and the options with their values, or nothing if the line has none.
 fn print_options(text: &mut Vec<u8>, verity: &Verity) -> Result<(), OutOfMemory>
     ensures ok { OnOk result (PrintsWords text.old (options_words (verity_options verity.now)) text.new) }
     ensures err { IfErr result (λ e. asked e ≤ printed_length (options_words (verity_options verity.now))) }
@@ -55,9 +56,11 @@ fn print_options(text: &mut Vec<u8>, verity: &Verity) -> Result<(), OutOfMemory>
     print_corruption(text, verity.corruption)?;
     print_if(text, verity.ignore_zero_blocks, b"ignore_zero_blocks")?;
     print_if(text, verity.in_tasklet, b"try_verify_in_tasklet")?;
+    print_parity(text, &verity.parity)?;
     Ok(())
 }
 
+// Returns the number of words: the options and their values.
 fn option_count(verity: &Verity) -> u64
     ensures { result ≡ length (verity_options verity.now) }
 {
@@ -66,7 +69,11 @@ fn option_count(verity: &Verity) -> u64
         CorruptionMode::Restart => 1,
         CorruptionMode::Panic => 1,
     };
-    corruption + u64::from(verity.ignore_zero_blocks) + u64::from(verity.in_tasklet)
+    let parity = match &verity.parity {
+        Some(_) => 8,
+        None => 0,
+    };
+    corruption + u64::from(verity.ignore_zero_blocks) + u64::from(verity.in_tasklet) + parity
 }
 
 fn print_corruption(text: &mut Vec<u8>, mode: CorruptionMode) -> Result<(), OutOfMemory>
@@ -89,4 +96,29 @@ fn print_if(text: &mut Vec<u8>, is_set: bool, word: &[u8]) -> Result<(), OutOfMe
     } else {
         Ok(())
     }
+}
+
+fn print_parity(text: &mut Vec<u8>, parity: &Option<Parity>) -> Result<(), OutOfMemory>
+    ensures ok { OnOk result (PrintsWords text.old (parity_words parity.now) text.new) }
+    ensures err { IfErr result (λ e. asked e ≤ printed_length (parity_words parity.now)) }
+{
+    match parity {
+        Some(parity) => print_fec(text, parity),
+        None => Ok(()),
+    }
+}
+
+fn print_fec(text: &mut Vec<u8>, parity: &Parity) -> Result<(), OutOfMemory>
+    ensures ok { OnOk result (PrintsWords text.old (parity_words (Some parity.now)) text.new) }
+    ensures err { IfErr result (λ e. asked e ≤ printed_length (parity_words (Some parity.now))) }
+{
+    push_spaced(text, b"use_fec_from_device")?;
+    push_spaced(text, parity.device.as_slice())?;
+    push_spaced(text, b"fec_blocks")?;
+    push_spaced_number(text, parity.blocks)?;
+    push_spaced(text, b"fec_start")?;
+    push_spaced_number(text, parity.start)?;
+    push_spaced(text, b"fec_roots")?;
+    push_spaced_number(text, u64::from(parity.roots))?;
+    Ok(())
 }

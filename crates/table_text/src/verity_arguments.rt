@@ -3,13 +3,16 @@ ghost use Rattle.std.specs.Prelude.{◌≡◌, ◌/◌, ◌<◌, ◌≤◌, ◌�
 ghost use Rattle.dm_table.specs.declared.fault.TextKind.TheVariants as kinds;
 ghost use Rattle.table_text.specs.Reading.{IsReading};
 ghost use Rattle.dm_table.specs.Arguments.{bytes_at, device_at};
-ghost use Rattle.dm_table.specs.Verity.{algorithm_at, block_size_at, corruption_at, digest_at, salt_at, verity_at, version_at};
+ghost use Rattle.dm_table.specs.Options.{options_at};
+ghost use Rattle.dm_table.specs.Parity.{parity_options};
+ghost use Rattle.dm_table.specs.Verity.{algorithm_at, block_size_at, corruption_at, digest_at, known_verity_options, salt_at, verity_at, version_at};
 
 use crate::cut::Words;
 use crate::digits::decode_digits;
 use crate::line_fault::LineFault;
 use crate::numbers::{number, read_number};
 use crate::option_words::read_options;
+use crate::parity_arguments::read_parity;
 use dm_table::{CorruptionMode, Name, Options, TextKind, Verity, is_device, is_kept};
 use std::alloc::Global;
 use tree_shape::{Algorithm, Digest, Salt, is_block_size};
@@ -47,17 +50,9 @@ pub(crate) fn read_verity(alloc: Global, mut arguments: Words<'_>) -> Result<Ver
     let algorithm = read_algorithm(words.algorithm)?;
     let root = read_root(words.root)?;
     let salt = read_salt(algorithm, words.salt)?;
-    let options = read_options(
-        alloc,
-        arguments,
-        &[
-            "ignore_zero_blocks",
-            "restart_on_corruption",
-            "panic_on_corruption",
-            "try_verify_in_tasklet",
-        ],
-    )?;
+    let options = read_verity_options(alloc, arguments.again())?;
     let corruption = corruption_mode(&options)?;
+    let parity = read_parity(alloc, arguments, &options)?;
     let ignore_zero_blocks = is_kept(&options, b"ignore_zero_blocks");
     let in_tasklet = is_kept(&options, b"try_verify_in_tasklet");
     let data = Name::new(alloc, words.device)?;
@@ -74,6 +69,7 @@ pub(crate) fn read_verity(alloc: Global, mut arguments: Words<'_>) -> Result<Ver
         ignore_zero_blocks,
         corruption,
         in_tasklet,
+        parity,
     })
 }
 
@@ -116,7 +112,7 @@ fn check_version(word: &[u8]) -> Result<u64, TextKind>
     }
 }
 
-fn check_device(word: &[u8]) -> Result<(), TextKind>
+pub(crate) fn check_device(word: &[u8]) -> Result<(), TextKind>
     ensures { MatchResult result (λ _. device_at word.now ≡ Ok word.now) (λ kind. device_at word.now ≡ Err kind) }
 {
     if is_device(word) {
@@ -170,6 +166,31 @@ fn decode_salt(algorithm: Algorithm, word: &[u8], room: &mut [u8]) -> Result<Sal
 {
     decode_digits(word, room, TextKind::Salt)?;
     Salt::new(algorithm, room).ok_or(TextKind::Salt)
+}
+
+fn read_verity_options(alloc: Global, arguments: Words<'_>) -> Result<Options, LineFault>
+    ensures { IsReading result (options_at known_verity_options parity_options arguments.entry) }
+{
+    read_options(
+        alloc,
+        arguments,
+        &[
+            "ignore_zero_blocks",
+            "restart_on_corruption",
+            "panic_on_corruption",
+            "try_verify_in_tasklet",
+            "use_fec_from_device",
+            "fec_roots",
+            "fec_blocks",
+            "fec_start",
+        ],
+        &[
+            "use_fec_from_device",
+            "fec_roots",
+            "fec_blocks",
+            "fec_start",
+        ],
+    )
 }
 
 fn corruption_mode(options: &Options) -> Result<CorruptionMode, TextKind>

@@ -11,4 +11,5 @@ mod walk;
 
 pub use difference::{Totals, compare_trees};
 pub use fault::{DifferenceFault, Unlike, Which};
+pub use root_block::check_root_block;
 pub use trees::{Roots, TreePair, check_alike};

@@ -21,7 +21,7 @@ use verity_format::VerityTree;
 /// - `Hash` if the block has another digest.
 /// - `Image` if the device failed.
 /// - `NoMemory` if an allocation was refused.
-pub(crate) fn check_root_block<H: BlockDev>(
+pub fn check_root_block<H: BlockDev>(
     alloc: Global,
     device: &mut H,
     which: Which,

@@ -11,6 +11,8 @@ mod AskedLemmas
 mod BillLemmas
 mod CountLemmas
 mod ExcuseLemmas
+mod CopyReadLemmas
+mod FetchLemmas
 mod DamagedLemmas
 mod DataBackLemmas
 mod DistinctLemmas

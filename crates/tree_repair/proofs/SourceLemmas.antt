@@ -64,10 +64,10 @@ module _ {X : Type 0} (f : X → Device) (old : List Device) (xs : List X) (k : 
   more-here : (e : Device) → (get_or old k e).failures ≤ (f (get_or xs k d)).failures
   more-here e = subst (λ (x : Device). (get_or old k e).failures ≤ x.failures) (get_or-map f xs k d e inside) (so_far.more k low-here e)
 
-  new-here : (e : Device) → get_or (map f (set xs k v)) k e ≡ f v
+  pub new-here : (e : Device) → get_or (map f (set xs k v)) k e ≡ f v
   new-here e = ap (λ (l : List Device). get_or l k e) (map-set f xs k v) ∙ get_or-set_same (map f xs) k (f v) e (omega (arith, inside, length-map xs f))
 
-  new-other : (j : ℕ) (e : Device) → j ≢ k → get_or (map f (set xs k v)) j e ≡ get_or (map f xs) j e
+  pub new-other : (j : ℕ) (e : Device) → j ≢ k → get_or (map f (set xs k v)) j e ≡ get_or (map f xs) j e
   new-other j e other = ap (λ (l : List Device). get_or l j e) (map-set f xs k v) ∙ get_or-set_other (map f xs) k j (f v) e other
 
   pub each-next : IsOnlyRead (f (get_or xs k d)) (f v) → (f (get_or xs k d)).failures ≤ (f v).failures → AreEachRead old (map f (set xs k v))

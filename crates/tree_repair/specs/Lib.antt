@@ -24,6 +24,8 @@ pub mod Flaws
 pub mod Coverage
 pub mod Passes
 pub mod Notes
+pub mod Fetches
+pub mod CopyReads
 pub mod Moves
 pub mod Standing
 pub mod Failures

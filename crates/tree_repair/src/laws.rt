@@ -1,5 +1,6 @@
 //! Laws of repairs: each function's contract states the law, and a call of the function provides it.
 ghost use Rattle.tree_repair.specs.Beyond.{WhatStaysLostIsBeyondParity};
+ghost use Rattle.tree_repair.specs.CopyReads.{ReadsAreFew};
 ghost use Rattle.tree_repair.specs.UnreadBlocks.{BlocksArePassedByForCause, BlocksAreTouchedForCause, GoodBlocksAreLeftAlone, IntactBlocksAreLeftAlone, UnreadBlocksAreCounted};
 ghost use Rattle.tree_repair.specs.Laws.{MendedBlocksAreFormatted, MendedBlocksAreGood, NoHashBlockIsLost, OtherSectorsStay};
 ghost use Rattle.tree_repair.specs.Standing.{LeftGoodBlocksAreFormatted, LeftGoodBlocksStand, LeftGoodWaysStand, RepairsWriteAll};
@@ -159,3 +160,9 @@ pub fn damaged_blocks_within_parity_come_back()
 {
     formed_chains_are_good()
 }
+
+/// Runs are fetched from the copies by at most as many reads as there are runs that end before a block that isn't lacking, and whole reads
+/// in the blocks that are fetched.
+pub fn reads_are_few()
+    ensures { ReadsAreFew }
+{}

@@ -47,16 +47,29 @@ impl ListedBlocks {
     /// Returns from where a block is copied: the nearest block that is listed with the digest, if it is before the block and
     /// `upwards` is set, or if it is after it and `upwards` isn't. There is none for a block that is listed with the digest itself.
     pub(crate) fn source(&self, digest: &Digest, block: u64, upwards: bool) -> Option<u64> {
+        match self.nearest(digest, block) {
+            Some(source) => if_towards(source, block, upwards),
+            None => None,
+        }
+    }
+
+    /// Returns the nearest block that is listed with the digest. There is none for a block that is listed with the digest itself.
+    pub(crate) fn elsewhere(&self, digest: &Digest, block: u64) -> Option<u64> {
+        match self.nearest(digest, block) {
+            Some(source) => if_apart(source, block),
+            None => None,
+        }
+    }
+
+    // Returns the nearest block that is listed with the digest, or the block itself if it is listed so.
+    fn nearest(&self, digest: &Digest, block: u64) -> Option<u64> {
         let key = key_of(digest, block);
         let first = key - u128::from(block);
         let keys = self.keys.as_slice();
         let count = keys.partition_point(|listed| *listed < key);
         let after = listed_at(keys, count, first);
         let before = listed_before(keys, count, first);
-        match nearer(before, after, block) {
-            Some(source) => if_towards(source, block, upwards),
-            None => None,
-        }
+        nearer(before, after, block)
     }
 }
 
@@ -86,6 +99,14 @@ fn if_towards(source: u64, block: u64, upwards: bool) -> Option<u64> {
         return Some(source);
     }
     None
+}
+
+// Returns the source if it isn't the block.
+fn if_apart(source: u64, block: u64) -> Option<u64> {
+    if source == block {
+        return None;
+    }
+    Some(source)
 }
 
 // Returns the key of a block: 8 bytes of its digest as a number, times 2^64, and the block's number.

@@ -1,4 +1,4 @@
-//! Copies data blocks that are elsewhere on the data device.
+//! Copies data blocks that are elsewhere on the data device, and fetches those that aren't.
 ghost use Rattle.std.specs.Prelude.{◌≡◌, ◌<◌, ◌≤◌, ◌^◌, None, IfErr, IsTrue, OnOk, false, length, true};
 ghost use Rattle.block_device.specs.Call.{DeviceDoes};
 ghost use Rattle.program_io.specs.Counted.{Writes};
@@ -15,11 +15,14 @@ ghost use Rattle.tree_repair.specs.Worlds.{IsWorldRead};
 use crate::bad::BadBlocks;
 use crate::covered::is_place;
 use crate::fault::RepairFault;
+use crate::fetching::fetch_runs;
 use crate::image::DamagedImage;
 use crate::listed::ListedBlocks;
+use crate::lists::BlockLists;
 use crate::place::{Place, Repair, block_size};
 use crate::putting::{Missing, put_block};
 use crate::repair::{Plan, check_room, repair_heights, repair_of};
+use crate::seeds::copy_from_seeds;
 use crate::seeking::has;
 use crate::verified_path::VerifiedPath;
 use allocation::zeros;
@@ -37,9 +40,11 @@ struct Search<'a> {
 }
 
 /// Repairs the tree of an image as `repair_image` does, and then copies data blocks within the data device: each corrupt block to
-/// which verified hash blocks lead is read where the list has its digest, and written if it has the digest there. Blocks that moved
-/// up are copied from the last to the first, and then those that moved down in their order, so few are overwritten before they are
-/// copied. Prints a line for each repaired hash block and each copied block, and returns how many were copied. Nothing is synced.
+/// which verified hash blocks lead is read where the list, if there is one, has its digest, and written if it has the digest there.
+/// Blocks that moved up are copied from the last to the first, and then those that moved down in their order, so few are overwritten
+/// before they are copied. Corrupt blocks that the list of a copy has are copied from there. Then neighbouring blocks that are still
+/// corrupt are read from the copies by reads of at most 1 MiB, and those with their digest are written. Prints a line for each block that
+/// was written, and returns how many were copied within the data device. Nothing is synced.
 ///
 /// # Errors
 ///
@@ -49,7 +54,7 @@ struct Search<'a> {
 pub fn move_blocks<D: BlockDev, H: BlockDev, C: BlockDev, W: Write>(
     alloc: Global,
     image: &mut DamagedImage<D, H, C>,
-    listed: &ListedBlocks,
+    lists: &BlockLists,
     plan: &Plan,
     writer: &mut Counted<W>,
 ) -> Result<u64, RepairFault>
@@ -64,8 +69,30 @@ pub fn move_blocks<D: BlockDev, H: BlockDev, C: BlockDev, W: Write>(
     let repair = repair_of(alloc, plan, true);
     let mut bad = BadBlocks::new(alloc, false);
     repair_heights(&repair, 1, image, &mut bad, writer)?;
-    let moved = move_both(&repair, listed, image, writer)?;
+    let moved = move_if_listed(&repair, &lists.own, image, writer)?;
+    copy_from_seeds(&repair, lists.copies.as_slice(), image, writer)?;
+    fetch_runs(&repair, image, writer)?;
     Ok(moved)
+}
+
+// Copies the data blocks that moved, if there is a list.
+fn move_if_listed<D: BlockDev, H: BlockDev, C: BlockDev, W: Write>(
+    repair: &Repair,
+    listed: &Option<ListedBlocks>,
+    image: &mut DamagedImage<D, H, C>,
+    writer: &mut Counted<W>,
+) -> Result<u64, RepairFault>
+    requires asked { IsTrue repair.now.parity }
+    requires can { CanRun (job repair.now) image.old.world }
+    ensures run { HasMoved (job repair.now) image.old.world image.new.world result }
+    ensures told { IfErr result (IsWriterCause writer.new) }
+    ensures said { OnOk result (SaysMoves W.contents writer.old writer.new) }
+    ensures handed { MakesRepair (DeviceDoes D.state D.does) (DeviceDoes H.state H.does) (job repair.now) (wrote_all result) image.old image.new }
+{
+    match listed {
+        None => Ok(0),
+        Some(listed) => move_both(repair, listed, image, writer),
+    }
 }
 
 // Copies the data blocks that moved up, and then those that moved down.

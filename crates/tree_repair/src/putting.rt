@@ -91,6 +91,7 @@ pub(crate) fn put_block<D: BlockDev, H: BlockDev, C: BlockDev>(
     ensures err { OnErr result (FailsToPutMissing missing.now bytes.now image.old.world image.new.world) }
     ensures within { IsAskedAlone (put_bill (missing_size missing.now / 512)) image.old.world image.new.world }
     ensures handed { HandsMissing (DeviceDoes D.state D.does) (DeviceDoes H.state H.does) missing.now (is_ok result) image.old image.new }
+    ensures kept { image.new.world.data_copies ≡ image.old.world.data_copies }
 {
     let repair = missing.repair;
     let Place { height, index } = missing.place;

@@ -72,6 +72,7 @@ impl VerifiedPath {
         ensures way { IsWayOr (job repair.now).tree index height image.old.world.hash_dev image.new.world.hash_dev (path_found result self.new.path) }
         ensures asked { LeavesWorld (reading 0 (way_sectors repair.now.shape height)) nothing_due image.old.world image.new.world }
         ensures called { HandsToHash (DeviceDoes H.state H.does) IsNoWrite true image.old image.new }
+        ensures kept { image.new.world.data_copies ≡ image.old.world.data_copies }
     {
         self.reach_on(repair, &mut image.hash, index, height)
     }

@@ -25,10 +25,10 @@ use Rattle.verity_commands.specs.Surveyed.{SurveyedDevices}
 use Rattle.verity_format.specs.Blocks.{block_at}
 use Rattle.verity_format.proofs.lemmas.SizeLemmas.{block-size}
 use Rattle.update_commands.specs.declared.release.Release.{Release}
-use Rattle.update_commands.specs.Laws.{EndsUnrepaired, EndsUnsealedEarly, HasNoSuper}
-use Rattle.update_commands.specs.Moving.{MovesAloud, MovesListed}
+use Rattle.update_commands.specs.Laws.{EndsOnce, EndsTwice, EndsUnrepaired, EndsUnsealedEarly, HasNoSuper}
+use Rattle.update_commands.specs.Moving.{MovesListed}
 use Rattle.update_commands.specs.Releases.{plan_of}
-use Rattle.update_commands.specs.Updates.{EndsAloud, EndsMoving, with_cleared}
+use Rattle.update_commands.specs.Updates.{EndsAloud, EndsMoving, begun_world}
 
 -- ---- the cleared sector
 
@@ -79,6 +79,10 @@ all-off j one valid (v ∷ more) = ((λ found. block-off j one valid v.height v.
 abbrev Kept : RepairWorld → Type 0
 Kept w = HasNoSuper w.hash_dev × IsTrue w.hash_dev.steady
 
+-- so it is after the update
+abbrev KeptOn : SurveyedDevices → Type 0
+KeptOn t = HasNoSuper t.hash_dev × IsTrue t.hash_dev.steady
+
 module _ (law : OtherSectorsStay) (plan : Plan) (one : plan.tree.shape.start ≡ 1) where
   kept-repaired : (parity : Bool) (w w' : RepairWorld) (old new : Option (List ℕ)) (fault : Option RepairFault) → Repairs plan parity w w' old new fault → Kept w → Kept w'
   kept-repaired parity w w' old new fault repairs (none, steady) = (
@@ -121,20 +125,22 @@ module _ (law : OtherSectorsStay) (plan : Plan) (one : plan.tree.shape.start ≡
 
   -- with the report after it
   kept-told : (outcome : Outcome) (w : RepairWorld) (t' : SurveyedDevices) (old new : Option (List ℕ)) (failed : Bool) (fault : TreeFault) → IsRestEnd outcome plan (devices_in w) t' old new failed fault
-      → Kept w → HasNoSuper t'.hash_dev
-  kept-told (Whole count) w t' old new failed fault (same, ends) kept = subst (λ (t : SurveyedDevices). HasNoSuper t.hash_dev) (sym same) kept.0
-  kept-told Partly w t' old new failed fault (scanned, ends) kept =
-      ap (λ (image : List (List ℕ)). begins_super (slice_index_or image 0 [])) (scanned.hash_read.read.image kept.1) ∙ kept.0
+      → Kept w → KeptOn t'
+  kept-told (Whole count) w t' old new failed fault (same, ends) kept = subst (λ (t : SurveyedDevices). KeptOn t) (sym same) kept
+  kept-told Partly w t' old new failed fault (scanned, ends) kept = (
+    ap (λ (image : List (List ℕ)). begins_super (slice_index_or image 0 [])) (scanned.hash_read.read.image kept.1) ∙ kept.0,
+    subst IsTrue (sym scanned.hash_read.read.same.steady) kept.1,
+  )
 
   kept-early : (whole : Bool) (w : RepairWorld) (t' : SurveyedDevices) (old new : Option (List ℕ)) (failed : Bool) (fault : TreeFault) → EndsOnDevices plan whole w t' old new failed fault
-      → Kept w → HasNoSuper t'.hash_dev
+      → Kept w → KeptOn t'
   kept-early whole w t' old new failed fault (inl ends) kept =
-      subst (λ (t : SurveyedDevices). HasNoSuper t.hash_dev) (sym ends.same) (kept-half w ends.mid old new failed ends.cause ends.half kept).0
+      subst (λ (t : SurveyedDevices). KeptOn t) (sym ends.same) (kept-half w ends.mid old new failed ends.cause ends.half kept)
   kept-early whole w t' old new failed fault (inr ends) kept =
       kept-told (known_by whole ends.found) ends.mended t' ends.between new failed fault ends.ends (kept-once w ends.mended old ends.between ends.found ends.mends kept)
 
   kept-aloud : (json : Bool) (w : RepairWorld) (t' : SurveyedDevices) (old new : Option (List ℕ)) (failed : Bool) (fault : TreeFault) → EndsAloud json plan w t' old new failed fault
-      → Kept w → HasNoSuper t'.hash_dev
+      → Kept w → KeptOn t'
   kept-aloud true w t' old new failed fault ((unheard, ends), quiet) kept = kept-early true w t' None None unheard fault ends kept
   kept-aloud false w t' old new failed fault ends kept = kept-early true w t' old new failed fault ends kept
 
@@ -142,23 +148,29 @@ module _ (law : OtherSectorsStay) (plan : Plan) (one : plan.tree.shape.start ≡
   kept-blocks : (w w' : RepairWorld) (old new : Option (List ℕ)) → MovesBlocks plan w w' old new → Kept w → Kept w'
   kept-blocks w w' old new moves kept = kept-repaired true moves.mid w' None None None moves.moved (kept-repaired true w moves.mid old moves.between None moves.tree kept)
 
-  kept-moves : (json : Bool) (w w' : RepairWorld) (old new : Option (List ℕ)) → MovesAloud json plan w w' old new → Kept w → Kept w'
-  kept-moves true w w' old new moves kept = kept-blocks w w' None None moves.0 kept
-  kept-moves false w w' old new moves kept = kept-blocks w w' old new moves kept
-
   kept-moved : (json : Bool) (w w' : RepairWorld) (old new : Option (List ℕ)) → MovesListed json plan w w' old new → Kept w → Kept w'
-  kept-moved json w w' old new (inl unmoved) kept = subst Kept (sym unmoved.same) kept
-  kept-moved json w w' old new (inr moves) kept = kept-moves json w w' old new moves kept
+  kept-moved true w w' old new moves kept = kept-blocks w w' None None moves.0 kept
+  kept-moved false w w' old new moves kept = kept-blocks w w' old new moves kept
 
 -- ---- an update
 
-kept-ends : OtherSectorsStay → (r : Release) (json : Bool) (w : RepairWorld) (t' : SurveyedDevices) (fault : TreeFault) → EndsMoving r w t' fault ⊎ EndsUnrepaired r json w t' fault → Kept w → HasNoSuper t'.hash_dev
+kept-ends : OtherSectorsStay → (r : Release) (json : Bool) (w : RepairWorld) (t' : SurveyedDevices) (fault : TreeFault) → EndsMoving r w t' fault ⊎ EndsUnrepaired r json w t' fault → Kept w → KeptOn t'
 kept-ends law r json w t' fault (inl ends) kept =
-    subst (λ (t : SurveyedDevices). HasNoSuper t.hash_dev) (sym ends.same) (kept-unrepaired law (plan_of r) refl true w ends.behind None None ends.cause ends.fails kept).0
+    subst (λ (t : SurveyedDevices). KeptOn t) (sym ends.same) (kept-unrepaired law (plan_of r) refl true w ends.behind None None ends.cause ends.fails kept)
 kept-ends law r json w t' fault (inr ends) kept =
     kept-aloud law (plan_of r) refl json ends.moved t' ends.between ends.new ends.failed fault ends.ends (kept-moved law (plan_of r) refl json w ends.moved ends.old ends.between ends.moves kept)
 
+-- the second attempt begins with the hash device that the first one left
+kept-again : OtherSectorsStay → (r : Release) (json : Bool) (w again : RepairWorld) (cause : TreeFault) → EndsOnce r json w again cause → Kept w → Kept again
+kept-again law r json w again cause once kept =
+    subst (λ (d : Device). HasNoSuper d × IsTrue d.steady) (sym once.hash_same) (kept-ends law r json w once.t cause once.ends kept)
+
+kept-twice : OtherSectorsStay → (r : Release) (json : Bool) (w : RepairWorld) (t' : SurveyedDevices) (fault : TreeFault)
+    → (EndsMoving r w t' fault ⊎ EndsUnrepaired r json w t' fault) ⊎ EndsTwice r json w t' fault → Kept w → KeptOn t'
+kept-twice law r json w t' fault (inl ends) kept = kept-ends law r json w t' fault ends kept
+kept-twice law r json w t' fault (inr twice) kept = kept-ends law r true twice.again t' fault twice.ends (kept-again law r json w twice.again twice.cause twice.once kept)
+
 pub early-none : OtherSectorsStay → (r : Release) (json : Bool) (w : RepairWorld) (t' : SurveyedDevices) → EndsUnsealedEarly r json w t' → IsTrue w.hash_dev.steady → HasNoSuper t'.hash_dev
 early-none law r json w t' early steady =
-    kept-ends law r json (with_cleared w early.cleared) t' early.fault early.ends
-    (cleared-kept early.looked early.cleared early.begins.cleared (subst IsTrue (sym early.read.same.steady) steady))
+    (kept-twice law r json (begun_world w early.cleared early.seen) t' early.fault early.ends
+    (cleared-kept early.looked early.cleared early.begins.cleared (subst IsTrue (sym early.read.same.steady) steady))).0

@@ -31,7 +31,7 @@ use Rattle.update_commands.specs.Beginnings.{Begins}
 use Rattle.update_commands.specs.Finished.{HoldsRelease, UpdatedImagesHoldTheRelease, release_tree}
 use Rattle.update_commands.specs.Moving.{MovesListed}
 use Rattle.update_commands.specs.Releases.{plan_of}
-use Rattle.update_commands.specs.Updates.{RepairsAloud, UpdatesBegun, UpdatesDevices, UpdatesMoved, tally_from, with_cleared}
+use Rattle.update_commands.specs.Updates.{RepairsAloud, UpdatesBegun, UpdatesDevices, UpdatesMoved, begun_world, tally_from}
 use Rattle.update_commands.proofs.BeginningLemmas.{image-some}
 use Rattle.update_commands.proofs.EarlyEndLemmas.{cleared-steady}
 
@@ -65,8 +65,8 @@ cleared-whole old new (inr zeroed) whole steady some =
     }
 
 -- the hash device was read before
-cleared-world : (s : SuperRecord) → IsShape (shape_of s) → (w : RepairWorld) (looked cleared : Device) → IsOnlyRead w.hash_dev looked → Begins s w.data_dev looked cleared → IsWorldSteady w → IsWorldSteady (with_cleared w cleared)
-cleared-world s valid w looked cleared read begins steady =
+cleared-world : (s : SuperRecord) → IsShape (shape_of s) → (w : RepairWorld) (looked cleared : Device) (seen : List Device) → IsOnlyRead w.hash_dev looked → Begins s w.data_dev looked cleared → IsWorldSteady w → IsWorldSteady (begun_world w cleared seen)
+cleared-world s valid w looked cleared seen read begins steady =
     let some : 0 < looked.size = omega (arith, image-some s valid, begins.hash_fits) in
     let image : looked.image ≡ w.hash_dev.image = read.image steady.hash_steady in
     let still : IsTrue looked.steady = steady-then read.same steady.hash_steady in
@@ -87,9 +87,8 @@ moved-steady : (plan : Plan) (w w' : RepairWorld) (old new : Option (List ℕ)) 
 moved-steady plan w w' old new moves steady = repaired-steady plan true moves.mid w' None None moves.moved (repaired-steady plan true w moves.mid old moves.between moves.tree steady)
 
 listed-steady : (json : Bool) (plan : Plan) (w w' : RepairWorld) (old new : Option (List ℕ)) → MovesListed json plan w w' old new → IsWorldSteady w → IsWorldSteady w'
-listed-steady json plan w w' old new (inl unmoved) steady = subst (λ (v : RepairWorld). IsWorldSteady v) (sym unmoved.same) steady
-listed-steady true plan w w' old new (inr (moves, quiet)) steady = moved-steady plan w w' None None moves steady
-listed-steady false plan w w' old new (inr moves) steady = moved-steady plan w w' old new moves steady
+listed-steady true plan w w' old new (moves, quiet) steady = moved-steady plan w w' None None moves steady
+listed-steady false plan w w' old new moves steady = moved-steady plan w w' old new moves steady
 
 -- ---- blocks of a tree after the superblock stay when it is written
 
@@ -158,10 +157,10 @@ module _ (law : RepairedImagesAreValid) (r : Release) (super : IsSuperblock r.su
   begun-held json w t' old new begun steady =
       moved-held json (tally_from w begun.count) begun.moved t' begun.between new begun.updates (listed-steady json (plan_of r) w begun.moved old begun.between begun.moves steady)
 
-  updated-held : (json : Bool) (w : RepairWorld) (t' : SurveyedDevices) (old new : Option (List ℕ)) → UpdatesDevices r json w t' old new → IsWorldSteady w → HoldsRelease r t' ⊎ Collide r.superblock.salt
-  updated-held json w t' old new updates steady =
-      begun-held json (with_cleared w updates.cleared) t' old new updates.updates
-      (cleared-world r.superblock super.shape w updates.looked updates.cleared updates.read updates.begins steady)
+  updated-held : (no_index json : Bool) (w : RepairWorld) (t' : SurveyedDevices) (old new : Option (List ℕ)) → UpdatesDevices r no_index json w t' old new → IsWorldSteady w → HoldsRelease r t' ⊎ Collide r.superblock.salt
+  updated-held no_index json w t' old new updates steady =
+      begun-held json (begun_world w updates.cleared updates.seen) t' old new updates.updates
+      (cleared-world r.superblock super.shape w updates.looked updates.cleared updates.seen updates.lists.hash_read updates.begins steady)
 
 -- from the files on
 pub files-held : {S D : Type 0} (relations : Opener S D) (state : D → Device) → RepairedImagesAreValid → UpdatedImagesHoldTheRelease relations state
@@ -169,5 +168,5 @@ files-held relations state law old new o copies before behind u steady =
     let finds = u.is_ready.finds in
     let super = finds.reads.read.carried.valid in (
       record { is_super = super; pinned = finds.reads.pinned; root_is = finds.root_is },
-      updated-held law u.release super o.json (opened_world state u.opened) (surveyed_devices (state u.updates.data_dev) (state u.updates.hash_dev)) before behind u.updates.holds steady,
+      updated-held law u.release super o.no_index o.json (opened_world state u.opened) (surveyed_devices (state u.updates.data_dev) (state u.updates.hash_dev)) before behind u.updates.holds steady,
     )

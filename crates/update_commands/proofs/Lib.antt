@@ -3,6 +3,7 @@ pub mod CountLemmas
 pub mod EarlyEndLemmas
 pub mod EndingLemmas
 pub mod FinishedLemmas
+pub mod ListingLemmas
 pub mod PinnedDataLemmas
 pub mod SealLemmas
 pub mod TargetLemmas

@@ -1,14 +1,15 @@
 -- Devices that may be written stay so: after reads, after a superblock is cleared, and after moves.
-use Rattle.std.proofs.Common.{Bool, IsTrue, List, None, Option, inl, inr, ℕ, false, subst, sym, true}
+use Rattle.std.proofs.Common.{Bool, IsTrue, List, None, Option, ℕ, false, subst, sym, true}
 use Rattle.block_device.specs.Device.{Device, IsSameDevice}
 use Rattle.image_commands.specs.Clearing.{IsCleared}
-use Rattle.tree_repair.proofs.lemmas.SameLemmas.{repaired-same}
+use Rattle.tree_repair.proofs.lemmas.SameLemmas.{repaired-same, unrepaired-same}
+use Rattle.tree_repair.specs.declared.fault.RepairFault.{RepairFault}
 use Rattle.tree_repair.specs.declared.repair.Plan.{Plan}
 use Rattle.tree_repair.specs.Moves.{MovesBlocks}
 use Rattle.tree_repair.specs.Repairs.{IsAllowed}
 use Rattle.tree_repair.specs.Worlds.{RepairWorld}
 use Rattle.verity_format.specs.Blocks.{IsOnlyRead}
-use Rattle.update_commands.specs.Moving.{MovesAloud, MovesListed}
+use Rattle.update_commands.specs.Moving.{FailsToMove, MovesListed}
 use Rattle.update_commands.proofs.BeginningLemmas.{may_write-cleared}
 
 pub allowed-read : (data_dev hash_dev looked : Device) → IsOnlyRead hash_dev looked → IsAllowed true data_dev hash_dev → IsAllowed true data_dev looked
@@ -29,15 +30,15 @@ allowed-same w w' same allowed = record {
   hash_writable = λ write. subst IsTrue (sym same.1.may_write) (allowed.hash_writable write);
 }
 
-allowed-blocks : (plan : Plan) (w w' : RepairWorld) (old new : Option (List ℕ)) → MovesBlocks plan w w' old new → IsAllowed true w.data_dev w.hash_dev → IsAllowed true w'.data_dev w'.hash_dev
+pub allowed-blocks : (plan : Plan) (w w' : RepairWorld) (old new : Option (List ℕ)) → MovesBlocks plan w w' old new → IsAllowed true w.data_dev w.hash_dev → IsAllowed true w'.data_dev w'.hash_dev
 allowed-blocks plan w w' old new moves allowed =
     allowed-same moves.mid w' (repaired-same plan true moves.mid w' None None None moves.moved)
     (allowed-same w moves.mid (repaired-same plan true w moves.mid old moves.between None moves.tree) allowed)
 
-allowed-moves : (json : Bool) (plan : Plan) (w w' : RepairWorld) (old new : Option (List ℕ)) → MovesAloud json plan w w' old new → IsAllowed true w.data_dev w.hash_dev → IsAllowed true w'.data_dev w'.hash_dev
-allowed-moves true plan w w' old new moves allowed = allowed-blocks plan w w' None None moves.0 allowed
-allowed-moves false plan w w' old new moves allowed = allowed-blocks plan w w' old new moves allowed
-
 pub allowed-moved : (json : Bool) (plan : Plan) (w w' : RepairWorld) (old new : Option (List ℕ)) → MovesListed json plan w w' old new → IsAllowed true w.data_dev w.hash_dev → IsAllowed true w'.data_dev w'.hash_dev
-allowed-moved json plan w w' old new (inl unmoved) allowed = subst (λ (x : RepairWorld). IsAllowed true x.data_dev x.hash_dev) (sym unmoved.same) allowed
-allowed-moved json plan w w' old new (inr moves) allowed = allowed-moves json plan w w' old new moves allowed
+allowed-moved true plan w w' old new moves allowed = allowed-blocks plan w w' None None moves.0 allowed
+allowed-moved false plan w w' old new moves allowed = allowed-blocks plan w w' old new moves allowed
+
+-- after moves that ended early
+pub allowed-unmoved : (plan : Plan) (w w' : RepairWorld) (fault : RepairFault) → FailsToMove plan w w' fault → IsAllowed true w.data_dev w.hash_dev → IsAllowed true w'.data_dev w'.hash_dev
+allowed-unmoved plan w w' fault fails allowed = allowed-same w w' (unrepaired-same plan true w w' None None fault fails) allowed

@@ -14,22 +14,23 @@ use Rattle.verity_commands.specs.declared.tree_fault.TreeFault.{TreeFault}
 use Rattle.verity_commands.specs.declared.tree_fault.TreeFault.TheVariants.{Open}
 use Rattle.update_commands.specs.declared.order.UpdateOrder.{UpdateOrder}
 use Rattle.update_commands.specs.declared.release.Release.{Release}
-use Rattle.update_commands.specs.Growing.{FailsToGrowBoth, GrowsBoth}
+use Rattle.update_commands.specs.Growing.{FailsToGrowBoth, FailsToShrinkBoth, GrowsBoth, ShrinksBoth}
 use Rattle.update_commands.specs.Orders.{places_of}
 use Rattle.update_commands.specs.Releases.{HasNoRelease, OpensRelease}
 use Rattle.update_commands.specs.Updates.{EndsUpdate, UpdatesDevices}
 
--- where the two images are, by which argument the release is, its pin, and whether an object is printed
+-- where the two images are, by which argument the release is, its pin, and whether blocks aren't listed, and an object is printed
 pub record Order : Type 0 where
   pub places : Places
   pub release_path : List ℕ
   pub pin : Pin
+  pub no_index : Bool
   pub json : Bool
 
 abbrev pub order_of : UpdateOrder → Order
-order_of order = record { places = places_as (places_of order); release_path = order.release_hash.now; pin = order.pin; json = order.json }
+order_of order = record { places = places_as (places_of order); release_path = order.release_hash.now; pin = order.pin; no_index = order.no_index; json = order.json }
 
--- The superblock of the release was read and has the values of the pin; then both files were made long enough, and then the two images
+-- The superblock of the release was read and has the values of the pin, and its root hash block was verified; then both files were made long enough, and then the two images
 -- and the copies were opened. Nothing was written but zeros at the ends of files that were too short.
 pub record IsReady {S D : Type 0} (w : Calls S D) (o : Order) (copies : List ImageCopy) (release : Release) (opened : Opened D) : Type 0 where
   pub looked : S
@@ -39,16 +40,22 @@ pub record IsReady {S D : Type 0} (w : Calls S D) (o : Order) (copies : List Ima
   pub opens : OpensAll (record w { old = grown }) o.places copies opened
 
 -- all was opened; the image was brought to the release, and both parts were closed
-pub record UpdatesFiles {S D : Type 0} (w : Calls S D) (o : Order) (copies : List ImageCopy) (old new : Option (List ℕ)) : Type 0 where
+pub record UpdatesParts {S D : Type 0} (w : Calls S D) (o : Order) (copies : List ImageCopy) (old new : Option (List ℕ)) : Type 0 where
   pub ready : S
   pub release : Release
   pub opened : Opened D
   pub is_ready : IsReady (record w { new = ready }) o copies release opened
-  pub updates : GivesBack (record w { old = ready }) o.places opened.parts (λ t'. UpdatesDevices release o.json (opened_world w.state opened) t' old new)
+  pub updates : GivesBack (record w { old = ready }) o.places opened.parts (λ t'. UpdatesDevices release o.no_index o.json (opened_world w.state opened) t' old new)
+
+-- that, and last both files were made as long as the release if they were longer
+pub record UpdatesFiles {S D : Type 0} (w : Calls S D) (o : Order) (copies : List ImageCopy) (old new : Option (List ℕ)) : Type 0 where
+  pub closed : S
+  pub updated : UpdatesParts (record w { new = closed }) o copies old new
+  pub shrinks : ShrinksBoth (record w { old = closed }) o.places updated.release.superblock
 
 -- ---- how the command ends early
 
--- there is no release of the pin; nothing was written or printed
+-- there is no release of the pin, or its root hash block wasn't verified; nothing was written or printed
 pub record EndsUnreleased {S D : Type 0} (w : Calls S D) (o : Order) (old new : Option (List ℕ)) (fault : TreeFault) : Type 0 where
   pub none : HasNoRelease w o.release_path o.pin fault
   pub quiet : new ≡ old
@@ -79,11 +86,20 @@ pub record EndsUpdating {S D : Type 0} (w : Calls S D) (o : Order) (copies : Lis
   pub release : Release
   pub opened : Opened D
   pub is_ready : IsReady (record w { new = ready }) o copies release opened
-  pub ends : GivesBack (record w { old = ready }) o.places opened.parts (λ t'. EndsUpdate release o.json (opened_world w.state opened) t' old new failed fault)
+  pub ends : GivesBack (record w { old = ready }) o.places opened.parts (λ t'. EndsUpdate release o.no_index o.json (opened_world w.state opened) t' old new failed fault)
+
+-- the image was brought to the release, both parts were closed, and a file that is longer can't be shortened
+pub record EndsUnshrunk {S D : Type 0} (w : Calls S D) (o : Order) (copies : List ImageCopy) (old new : Option (List ℕ)) (fault : TreeFault) : Type 0 where
+  pub closed : S
+  pub updated : UpdatesParts (record w { new = closed }) o copies old new
+  pub file : UnopenedFile
+  pub fails : FailsToShrinkBoth (record w { old = closed }) o.places updated.release.superblock file
+  pub is : fault ≡ Open file
 
 abbrev pub IsUpdateEnd : {S D : Type 0} → Calls S D → Order → List ImageCopy → Option (List ℕ) → Option (List ℕ) → Bool → TreeFault → Type 0
 IsUpdateEnd w o copies old new failed fault =
-    EndsUnreleased w o old new fault ⊎ (EndsUngrown w o old new fault ⊎ (EndsUnopened w o copies old new fault ⊎ EndsUpdating w o copies old new failed fault))
+    EndsUnreleased w o old new fault
+    ⊎ (EndsUngrown w o old new fault ⊎ (EndsUnopened w o copies old new fault ⊎ (EndsUpdating w o copies old new failed fault ⊎ EndsUnshrunk w o copies old new fault)))
 
 -- ---- in terms of an opener, a writer before and after, and the arguments
 

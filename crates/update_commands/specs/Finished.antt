@@ -17,7 +17,7 @@ use Rattle.verity_commands.specs.Surveyed.{SurveyedDevices, surveyed_devices}
 use Rattle.verity_format.specs.Superblock.{IsSuperblock, spelling}
 use Rattle.verity_format.specs.Trees.{superblock_tree}
 use Rattle.update_commands.specs.declared.release.Release.{Release}
-use Rattle.update_commands.specs.Commands.{Order, UpdatesFiles}
+use Rattle.update_commands.specs.Commands.{Order, UpdatesParts}
 
 -- the tree of a release, under its root hash
 abbrev pub release_tree : Release → Tree
@@ -36,11 +36,11 @@ pub record HoldsRelease (r : Release) (t : SurveyedDevices) : Type 0 where
   pub data_clean : t.data_dev.dirty ≡ false
   pub hash_clean : t.hash_dev.dirty ≡ false
 
--- After an update that succeeded the two devices that were closed hold the release of the pin, if they were steady when they were
--- opened, whatever the images of the release and the copies returned; or two different inputs have one digest.
+-- After an update the two devices that were closed hold the release of the pin, also if a file can't be shortened then, if they were
+-- steady when they were opened, whatever the images of the release and the copies returned; or two different inputs have one digest.
 abbrev pub UpdatedImagesHoldTheRelease : {S D : Type 0} → Opener S D → (D → Device) → Type 0
 UpdatedImagesHoldTheRelease {S} {D} relations state =
-    (old new : S) → (o : Order) → (copies : List ImageCopy) → (before behind : Option (List ℕ)) → (u : UpdatesFiles (calls relations state old new) o copies before behind)
+    (old new : S) → (o : Order) → (copies : List ImageCopy) → (before behind : Option (List ℕ)) → (u : UpdatesParts (calls relations state old new) o copies before behind)
     → IsWorldSteady (opened_world state u.opened)
     → IsReleaseOf o.pin u.release × (HoldsRelease u.release (surveyed_devices (state u.updates.data_dev) (state u.updates.hash_dev)) ⊎ Collide u.release.superblock.salt)
 

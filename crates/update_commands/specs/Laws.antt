@@ -1,5 +1,5 @@
 -- The superblock after an update that ended early.
-use Rattle.std.specs.Prelude.{◌≡◌, ◌⊎◌, ℕ, Bool, false, IsTrue, List, [], Option}
+use Rattle.std.specs.Prelude.{true, ◌≡◌, ◌⊎◌, ℕ, Bool, false, IsTrue, List, [], Option}
 use Rattle.std.specs.List.{slice_index_or}
 use Rattle.block_device.specs.Device.{Device}
 use Rattle.image_commands.specs.Clearing.{begins_super}
@@ -11,7 +11,7 @@ use Rattle.update_commands.specs.declared.release.Release.{Release}
 use Rattle.update_commands.specs.Beginnings.{Begins}
 use Rattle.update_commands.specs.Moving.{MovesListed}
 use Rattle.update_commands.specs.Releases.{plan_of}
-use Rattle.update_commands.specs.Updates.{EndsAloud, EndsMoving, with_cleared}
+use Rattle.update_commands.specs.Updates.{EndsAloud, EndsMoving, begun_world}
 
 -- the first sector of the device doesn't begin as a superblock does
 abbrev pub HasNoSuper : Device → Type 0
@@ -27,14 +27,29 @@ pub record EndsUnrepaired (r : Release) (json : Bool) (w : RepairWorld) (t' : Su
   pub moves : MovesListed json (plan_of r) w moved old between
   pub ends : EndsAloud json (plan_of r) moved t' between new failed fault
 
--- the superblock was cleared, and then the moves or the repair ended early, or not all blocks are valid
+-- the moves, or what came after them, ended early, and the update went on from these devices
+pub record EndsOnce (r : Release) (json : Bool) (w again : RepairWorld) (cause : TreeFault) : Type 0 where
+  pub t : SurveyedDevices
+  pub ends : EndsMoving r w t cause ⊎ EndsUnrepaired r json w t cause
+  pub hash_same : again.hash_dev ≡ t.hash_dev
+
+-- it ended early again
+pub record EndsTwice (r : Release) (json : Bool) (w : RepairWorld) (t' : SurveyedDevices) (fault : TreeFault) : Type 0 where
+  pub again : RepairWorld
+  pub cause : TreeFault
+  pub once : EndsOnce r json w again cause
+  pub ends : EndsMoving r again t' fault ⊎ EndsUnrepaired r true again t' fault
+
+-- The superblock was cleared, and then the moves or the repair ended early, or not all blocks are valid; or so they did after the writer
+-- failed.
 pub record EndsUnsealedEarly (r : Release) (json : Bool) (w : RepairWorld) (t' : SurveyedDevices) : Type 0 where
   pub looked : Device
+  pub seen : List Device
   pub cleared : Device
   pub fault : TreeFault
   pub read : IsOnlyRead w.hash_dev looked
   pub begins : Begins r.superblock w.data_dev looked cleared
-  pub ends : EndsMoving r (with_cleared w cleared) t' fault ⊎ EndsUnrepaired r json (with_cleared w cleared) t' fault
+  pub ends : (EndsMoving r (begun_world w cleared seen) t' fault ⊎ EndsUnrepaired r json (begun_world w cleared seen) t' fault) ⊎ EndsTwice r json (begun_world w cleared seen) t' fault
 
 -- a steady hash device has no superblock then
 abbrev pub EarlyEndsLeaveNoSuperblock : Type 0

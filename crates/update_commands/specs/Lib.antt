@@ -4,6 +4,7 @@ pub mod Counts
 pub mod Finished
 pub mod Growing
 pub mod Laws
+pub mod Listings
 pub mod Moving
 pub mod Orders
 pub mod Releases

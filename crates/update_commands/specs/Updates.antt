@@ -6,14 +6,15 @@ use Rattle.program_io.specs.Counted.{CountedRecord}
 use Rattle.repair_commands.specs.Commands.{EndsOnDevices, RepairsDevices, devices_in}
 use Rattle.repair_commands.specs.Endings.{ending_fault}
 use Rattle.tree_repair.specs.declared.fault.RepairFault.{RepairFault}
+use Rattle.tree_repair.specs.declared.fault.RepairFault.TheVariants as repair_fault
 use Rattle.tree_repair.specs.declared.repair.Plan.{Plan}
+use Rattle.tree_repair.specs.Moves.{MovesBlocks}
 use Rattle.tree_repair.specs.Worlds.{RepairWorld, repair_world}
 use Rattle.tree_survey.specs.declared.fault.SurveyFault.TheVariants.{Image}
 use Rattle.verity_commands.specs.declared.tree_fault.TreeFault.{TreeFault}
-use Rattle.verity_commands.specs.declared.tree_fault.TreeFault.TheVariants.{Survey}
+use Rattle.verity_commands.specs.declared.tree_fault.TreeFault.TheVariants.{Survey, Write}
 use Rattle.verity_commands.specs.Surveyed.{SurveyedDevices, surveyed_devices}
 use Rattle.verity_format.specs.declared.verifying.VerifyFault.TheVariants.{Device as DeviceFailed}
-use Rattle.verity_format.specs.Blocks.{IsOnlyRead}
 use Rattle.verity_format.specs.Superblock.{SuperRecord, shape_of}
 use Rattle.update_commands.specs.declared.counts.Counts.{Counts}
 use Rattle.update_commands.specs.declared.counts.Tally.{Tally}
@@ -21,6 +22,7 @@ use Rattle.update_commands.specs.declared.devices.Target.{Target}
 use Rattle.update_commands.specs.declared.release.Release.{Release}
 use Rattle.update_commands.specs.Beginnings.{Begins, IsUnbegun}
 use Rattle.update_commands.specs.Counts.{IsUncounted, counts_of, counts_said, written_to}
+use Rattle.update_commands.specs.Listings.{ListsBlocks}
 use Rattle.update_commands.specs.Moving.{FailsToMove, MovesListed}
 use Rattle.update_commands.specs.Releases.{plan_of}
 use Rattle.update_commands.specs.Seals.{IsSealed, IsUnsealed}
@@ -71,6 +73,65 @@ pub record EndsUncounted (s : SuperRecord) (json : Bool) (hash_dev hash_dev' : D
 abbrev pub IsUnfinished : SuperRecord → Bool → Device → Device → Option (List ℕ) → Option (List ℕ) → Bool → TreeFault → Type 0
 IsUnfinished s json hash_dev hash_dev' old new failed fault = EndsUnsealed hash_dev hash_dev' old new fault ⊎ EndsUncounted s json hash_dev hash_dev' failed fault
 
+-- ---- after the writer failed
+
+-- the moves ended early, and the superblock wasn't written
+pub record EndsMoving (r : Release) (w : RepairWorld) (t' : SurveyedDevices) (fault : TreeFault) : Type 0 where
+  pub behind : RepairWorld
+  pub cause : RepairFault
+  pub fails : FailsToMove (plan_of r) w behind cause
+  pub is : fault ≡ ending_fault cause
+  pub same : t' ≡ devices_in behind
+
+-- the superblock was written and synced, and `Write` is the fault; or it couldn't be
+abbrev pub SealsUnheard : SuperRecord → Device → Device → TreeFault → Type 0
+SealsUnheard s hash_dev hash_dev' fault = ((fault ≡ Write) × IsSealed s hash_dev hash_dev') ⊎ ((fault ≡ Survey (Image DeviceFailed)) × IsUnsealed hash_dev hash_dev')
+
+-- without a writer all blocks were found or written valid, and synced; then that was done
+pub record EndsSealing (r : Release) (w : RepairWorld) (t' : SurveyedDevices) (fault : TreeFault) : Type 0 where
+  pub mended : SurveyedDevices
+  pub repairs : RepairsSilently (plan_of r) w mended
+  pub seals : SealsUnheard r.superblock mended.hash_dev t'.hash_dev fault
+  pub data_is : t'.data_dev ≡ mended.data_dev
+
+-- that, or the repair ended early, or not all blocks are valid, and the superblock wasn't written
+abbrev pub EndsMovedUnheard : Release → RepairWorld → SurveyedDevices → TreeFault → Type 0
+EndsMovedUnheard r w t' fault = EndsSilently (plan_of r) w t' fault ⊎ EndsSealing r w t' fault
+
+-- data blocks that moved were copied and others fetched, without a writer, and then that was done
+pub record EndsBehindUnheard (r : Release) (w : RepairWorld) (t' : SurveyedDevices) (fault : TreeFault) : Type 0 where
+  pub moved : RepairWorld
+  pub moves : MovesBlocks (plan_of r) w moved None None
+  pub ends : EndsMovedUnheard r moved t' fault
+
+-- From some state on the image was brought to the release without a writer. The fault is `Write` if the superblock was written.
+abbrev pub EndsUnheard : Release → RepairWorld → SurveyedDevices → TreeFault → Type 0
+EndsUnheard r w t' fault = EndsMoving r w t' fault ⊎ EndsBehindUnheard r w t' fault
+
+-- the writer failed
+abbrev pub is_unprinted : RepairFault → Bool
+is_unprinted repair_fault.Write = true
+is_unprinted fault = false
+
+-- what was done after moves that ended early: nothing; or the writer failed, and the update went on without it
+abbrev pub IsMovesEnd : Release → RepairWorld → SurveyedDevices → RepairFault → TreeFault → Type 0
+IsMovesEnd r w t' cause fault = ((fault ≡ ending_fault cause) × (t' ≡ devices_in w)) ⊎ ((is_unprinted cause ≡ true) × EndsUnheard r w t' fault)
+
+-- the update went on without a writer, from these devices on
+pub record UpdatesAgain (r : Release) (t t' : SurveyedDevices) (fault : TreeFault) : Type 0 where
+  pub again : RepairWorld
+  pub data_same : again.data_dev ≡ t.data_dev
+  pub hash_same : again.hash_dev ≡ t.hash_dev
+  pub ends : EndsUnheard r again t' fault
+
+-- no device was accessed, and the fault stays; or that was done
+abbrev pub IsUpdatedAgain : Release → SurveyedDevices → SurveyedDevices → TreeFault → TreeFault → Type 0
+IsUpdatedAgain r t t' cause fault = ((fault ≡ cause) × (t' ≡ t)) ⊎ UpdatesAgain r t t' fault
+
+-- the second only if the writer failed
+abbrev pub IsRepairEnd : Release → Bool → SurveyedDevices → SurveyedDevices → TreeFault → TreeFault → Type 0
+IsRepairEnd r failed t t' cause fault = ((fault ≡ cause) × (t' ≡ t)) ⊎ ((failed ≡ true) × UpdatesAgain r t t' fault)
+
 -- ---- after the moves
 
 -- the counts of the blocks that were written, up to a state of two devices
@@ -93,9 +154,18 @@ pub record EndsRepaired (r : Release) (json : Bool) (w : RepairWorld) (t' : Surv
   pub unfinished : IsUnfinished r.superblock json mended.hash_dev t'.hash_dev between new failed fault
   pub data_is : t'.data_dev ≡ mended.data_dev
 
--- that, or the repair ended early, or not all blocks are valid, and the superblock wasn't written
+-- the repair ended early, the writer had failed, and the update went on without it
+pub record EndsRepairedAgain (r : Release) (json : Bool) (w : RepairWorld) (t' : SurveyedDevices) (old new : Option (List ℕ)) (failed : Bool) (fault : TreeFault) : Type 0 where
+  pub mended : SurveyedDevices
+  pub cause : TreeFault
+  pub cut : EndsAloud json (plan_of r) w mended old new failed cause
+  pub told : failed ≡ true
+  pub goes_on : UpdatesAgain r mended t' fault
+
+-- one of these, or the repair ended early, or not all blocks are valid, and the superblock wasn't written
 abbrev pub EndsMoved : Release → Bool → RepairWorld → SurveyedDevices → Option (List ℕ) → Option (List ℕ) → Bool → TreeFault → Type 0
-EndsMoved r json w t' old new failed fault = EndsAloud json (plan_of r) w t' old new failed fault ⊎ EndsRepaired r json w t' old new failed fault
+EndsMoved r json w t' old new failed fault =
+    EndsAloud json (plan_of r) w t' old new failed fault ⊎ (EndsRepaired r json w t' old new failed fault ⊎ EndsRepairedAgain r json w t' old new failed fault)
 
 -- ---- after the superblock was cleared
 
@@ -111,14 +181,6 @@ pub record UpdatesBegun (r : Release) (json : Bool) (w : RepairWorld) (t' : Surv
   pub moves : MovesListed json (plan_of r) w moved old between
   pub updates : UpdatesMoved r json (tally_from w count) moved t' between new
 
--- the moves ended early, and the superblock wasn't written
-pub record EndsMoving (r : Release) (w : RepairWorld) (t' : SurveyedDevices) (fault : TreeFault) : Type 0 where
-  pub behind : RepairWorld
-  pub cause : RepairFault
-  pub fails : FailsToMove (plan_of r) w behind cause
-  pub is : fault ≡ ending_fault cause
-  pub same : t' ≡ devices_in behind
-
 -- the moves were made, and what came after them ended early
 pub record EndsBehindMoves (r : Release) (json : Bool) (w : RepairWorld) (t' : SurveyedDevices) (old new : Option (List ℕ)) (failed : Bool) (fault : TreeFault) : Type 0 where
   pub moved : RepairWorld
@@ -126,42 +188,53 @@ pub record EndsBehindMoves (r : Release) (json : Bool) (w : RepairWorld) (t' : S
   pub moves : MovesListed json (plan_of r) w moved old between
   pub ends : EndsMoved r json moved t' between new failed fault
 
+-- the moves ended early because the writer failed, and the update went on without it
+pub record EndsCutMoves (r : Release) (w : RepairWorld) (t' : SurveyedDevices) (fault : TreeFault) : Type 0 where
+  pub between : RepairWorld
+  pub cause : RepairFault
+  pub cut : FailsToMove (plan_of r) w between cause
+  pub unprinted : is_unprinted cause ≡ true
+  pub ends : EndsUnheard r between t' fault
+
 abbrev pub EndsBegun : Release → Bool → RepairWorld → SurveyedDevices → Option (List ℕ) → Option (List ℕ) → Bool → TreeFault → Type 0
-EndsBegun r json w t' old new failed fault = EndsMoving r w t' fault ⊎ EndsBehindMoves r json w t' old new failed fault
+EndsBegun r json w t' old new failed fault = EndsMoving r w t' fault ⊎ (EndsBehindMoves r json w t' old new failed fault ⊎ EndsCutMoves r w t' fault)
 
 -- ---- the update
 
--- the devices with a superblock that is cleared
-abbrev pub with_cleared : RepairWorld → Device → RepairWorld
-with_cleared w cleared = record w { hash_dev = cleared }
+-- the devices with a superblock that is cleared, after the hash devices of the copies were read
+abbrev pub begun_world : RepairWorld → Device → List Device → RepairWorld
+begun_world w cleared seen = record w { hash_dev = cleared; hash_copies = seen }
 
--- The old tree was read, the release fits on the devices, and the superblock was cleared and synced before anything else. Then the image
+-- Blocks were listed, the release fits on the devices, and the superblock was cleared and synced before anything else. Then the image
 -- was brought to the release, and the superblock written last.
-pub record UpdatesDevices (r : Release) (json : Bool) (w : RepairWorld) (t' : SurveyedDevices) (old new : Option (List ℕ)) : Type 0 where
+pub record UpdatesDevices (r : Release) (no_index json : Bool) (w : RepairWorld) (t' : SurveyedDevices) (old new : Option (List ℕ)) : Type 0 where
   pub looked : Device
+  pub seen : List Device
   pub cleared : Device
-  pub read : IsOnlyRead w.hash_dev looked
+  pub lists : ListsBlocks no_index w.hash_dev looked w.hash_copies seen
   pub begins : Begins r.superblock w.data_dev looked cleared
-  pub updates : UpdatesBegun r json (with_cleared w cleared) t' old new
+  pub updates : UpdatesBegun r json (begun_world w cleared seen) t' old new
 
 -- the release doesn't fit, or the superblock couldn't be cleared; nothing else was written, and nothing printed
-pub record EndsUnbegun (r : Release) (w : RepairWorld) (t' : SurveyedDevices) (old new : Option (List ℕ)) (fault : TreeFault) : Type 0 where
+pub record EndsUnbegun (r : Release) (no_index : Bool) (w : RepairWorld) (t' : SurveyedDevices) (old new : Option (List ℕ)) (fault : TreeFault) : Type 0 where
   pub looked : Device
-  pub read : IsOnlyRead w.hash_dev looked
+  pub seen : List Device
+  pub lists : ListsBlocks no_index w.hash_dev looked w.hash_copies seen
   pub unbegun : IsUnbegun r.superblock w.data_dev looked t'.hash_dev fault
   pub data_is : t'.data_dev ≡ w.data_dev
   pub quiet : new ≡ old
 
 -- the superblock was cleared and synced, and then the update ended early
-pub record EndsCleared (r : Release) (json : Bool) (w : RepairWorld) (t' : SurveyedDevices) (old new : Option (List ℕ)) (failed : Bool) (fault : TreeFault) : Type 0 where
+pub record EndsCleared (r : Release) (no_index json : Bool) (w : RepairWorld) (t' : SurveyedDevices) (old new : Option (List ℕ)) (failed : Bool) (fault : TreeFault) : Type 0 where
   pub looked : Device
+  pub seen : List Device
   pub cleared : Device
-  pub read : IsOnlyRead w.hash_dev looked
+  pub lists : ListsBlocks no_index w.hash_dev looked w.hash_copies seen
   pub begins : Begins r.superblock w.data_dev looked cleared
-  pub ends : EndsBegun r json (with_cleared w cleared) t' old new failed fault
+  pub ends : EndsBegun r json (begun_world w cleared seen) t' old new failed fault
 
-abbrev pub EndsUpdate : Release → Bool → RepairWorld → SurveyedDevices → Option (List ℕ) → Option (List ℕ) → Bool → TreeFault → Type 0
-EndsUpdate r json w t' old new failed fault = EndsUnbegun r w t' old new fault ⊎ EndsCleared r json w t' old new failed fault
+abbrev pub EndsUpdate : Release → Bool → Bool → RepairWorld → SurveyedDevices → Option (List ℕ) → Option (List ℕ) → Bool → TreeFault → Type 0
+EndsUpdate r no_index json w t' old new failed fault = EndsUnbegun r no_index w t' old new fault ⊎ EndsCleared r no_index json w t' old new failed fault
 
 -- ---- in terms of the devices that are returned, and a writer before and after
 
@@ -185,6 +258,23 @@ AreRepairedSilently data_state hash_state w plan d h = RepairsSilently plan w (s
 abbrev pub AreUnrepairedSilently : {D H : Type 0} → (D → Device) → (H → Device) → RepairWorld → Plan → D → H → TreeFault → Type 0
 AreUnrepairedSilently data_state hash_state w plan d h fault = EndsSilently plan w (surveyed_devices (data_state d) (hash_state h)) fault
 
+abbrev pub EndsMovedUnheardOf : {D H : Type 0} → (D → Device) → (H → Device) → RepairWorld → Release → D → H → TreeFault → Type 0
+EndsMovedUnheardOf data_state hash_state w r d h fault = EndsMovedUnheard r w (surveyed_devices (data_state d) (hash_state h)) fault
+
+abbrev pub EndsUnheardOf : {D H : Type 0} → (D → Device) → (H → Device) → RepairWorld → Release → D → H → TreeFault → Type 0
+EndsUnheardOf data_state hash_state w r d h fault = EndsUnheard r w (surveyed_devices (data_state d) (hash_state h)) fault
+
+abbrev pub IsMovesEndOf : {D H : Type 0} → (D → Device) → (H → Device) → RepairWorld → Release → RepairFault → D → H → TreeFault → Type 0
+IsMovesEndOf data_state hash_state w r cause d h fault = IsMovesEnd r w (surveyed_devices (data_state d) (hash_state h)) cause fault
+
+abbrev pub IsUpdatedAgainOf : {D H : Type 0} → (D → Device) → (H → Device) → D → H → Release → TreeFault → D → H → TreeFault → Type 0
+IsUpdatedAgainOf data_state hash_state d h r cause d' h' fault =
+    IsUpdatedAgain r (surveyed_devices (data_state d) (hash_state h)) (surveyed_devices (data_state d') (hash_state h')) cause fault
+
+abbrev pub IsRepairEndOf : {D H : Type 0} → (D → Device) → (H → Device) → D → H → Release → Bool → TreeFault → D → H → TreeFault → Type 0
+IsRepairEndOf data_state hash_state d h r failed cause d' h' fault =
+    IsRepairEnd r failed (surveyed_devices (data_state d) (hash_state h)) (surveyed_devices (data_state d') (hash_state h')) cause fault
+
 abbrev pub AreMovedUpdated : {D H W : Type 0} → (D → Device) → (H → Device) → RepairWorld → Tally → Release → Bool → D → H → (W → Option (List ℕ)) → CountedRecord W → CountedRecord W → Type 0
 AreMovedUpdated data_state hash_state w tally r json d h contents before behind =
     UpdatesMoved r json tally w (surveyed_devices (data_state d) (hash_state h)) (contents before.inner) (contents behind.inner)
@@ -201,10 +291,10 @@ abbrev pub AreBegunUnupdated : {D H C W : Type 0} → (D → Device) → (H → 
 AreBegunUnupdated data_state hash_state copy_state t r json d h contents before behind =
     EndsBegun r json (target_world data_state hash_state copy_state t) (surveyed_devices (data_state d) (hash_state h)) (contents before.inner) (contents behind.inner) behind.failed
 
-abbrev pub AreUpdated : {D H C W : Type 0} → (D → Device) → (H → Device) → (C → Device) → Target D H C → Release → Bool → D → H → (W → Option (List ℕ)) → CountedRecord W → CountedRecord W → Type 0
-AreUpdated data_state hash_state copy_state t r json d h contents before behind =
-    UpdatesDevices r json (target_world data_state hash_state copy_state t) (surveyed_devices (data_state d) (hash_state h)) (contents before.inner) (contents behind.inner)
+abbrev pub AreUpdated : {D H C W : Type 0} → (D → Device) → (H → Device) → (C → Device) → Target D H C → Release → Bool → Bool → D → H → (W → Option (List ℕ)) → CountedRecord W → CountedRecord W → Type 0
+AreUpdated data_state hash_state copy_state t r no_index json d h contents before behind =
+    UpdatesDevices r no_index json (target_world data_state hash_state copy_state t) (surveyed_devices (data_state d) (hash_state h)) (contents before.inner) (contents behind.inner)
 
-abbrev pub AreUnupdated : {D H C W : Type 0} → (D → Device) → (H → Device) → (C → Device) → Target D H C → Release → Bool → D → H → (W → Option (List ℕ)) → CountedRecord W → CountedRecord W → TreeFault → Type 0
-AreUnupdated data_state hash_state copy_state t r json d h contents before behind =
-    EndsUpdate r json (target_world data_state hash_state copy_state t) (surveyed_devices (data_state d) (hash_state h)) (contents before.inner) (contents behind.inner) behind.failed
+abbrev pub AreUnupdated : {D H C W : Type 0} → (D → Device) → (H → Device) → (C → Device) → Target D H C → Release → Bool → Bool → D → H → (W → Option (List ℕ)) → CountedRecord W → CountedRecord W → TreeFault → Type 0
+AreUnupdated data_state hash_state copy_state t r no_index json d h contents before behind =
+    EndsUpdate r no_index json (target_world data_state hash_state copy_state t) (surveyed_devices (data_state d) (hash_state h)) (contents before.inner) (contents behind.inner) behind.failed

@@ -5,16 +5,17 @@ ghost use Rattle.update_commands.specs.Updates.{AreBegunUnupdated, AreBegunUpdat
 
 use crate::beginning::begin;
 use crate::counts::{Counts, Tally, counts_of, say_counts, written_to};
-use crate::listing::list_old;
+use crate::listing::list_all;
 use crate::moving::move_listed;
 use crate::release::{Release, plan_of};
 use crate::sealing::seal;
+use crate::unheard::{end_moving, end_repairing};
 use block_device::{BlockDev, SyncDev};
 use program_io::Counted;
-use repair_commands::{Copies, Nowhere, devices_of, fault_of, repair_devices};
+use repair_commands::{Copies, Nowhere, repair_devices};
 use std::alloc::Global;
 use std::io::Write;
-use tree_repair::{DamagedImage, ListedBlocks, Plan};
+use tree_repair::{BlockLists, DamagedImage, Plan};
 use tree_survey::SurveyFault;
 use verity_commands::TreeFault;
 use verity_format::{Superblock, VerifyFault};
@@ -27,7 +28,7 @@ pub(crate) struct Target<D, H, C> {
     pub copies: Copies<C>,
 }
 
-/// Brings an image to a release: lists its blocks, clears its superblock, copies the blocks that moved, seeks each block that isn't the
+/// Brings an image to a release: lists its blocks and those of the copies, clears its superblock, copies the blocks that moved, seeks each block that isn't the
 /// release's in the copies, writes and syncs what was found, and writes the superblock only if all blocks are valid then. Returns the two
 /// devices of the image.
 ///
@@ -35,7 +36,7 @@ pub(crate) struct Target<D, H, C> {
 ///
 /// - `Survey` if the release doesn't fit on the devices, before anything is written, if a device failed, or memory ran out.
 /// - `Damaged` if blocks are lost.
-/// - `Write` if a line can't be written.
+/// - `Write` if a line can't be written; the image is brought to the release nevertheless.
 pub(crate) fn update_devices<
     'a,
     D: SyncDev + Drop,
@@ -46,28 +47,43 @@ pub(crate) fn update_devices<
     alloc: Global,
     target: Target<D, H, C>,
     release: &Release,
+    no_index: bool,
     json: bool,
     writer: &mut Counted<W>,
 ) -> (D, H, Result<(), TreeFault<'a>>)
     requires { IsAllowed true (D.state target.data_dev) (H.state target.hash_dev) }
-    ensures ok { OnOk result.2 (AreUpdated D.state H.state C.state target release.now json result.0 result.1 W.contents writer.old writer.new) }
-    ensures err { IfErr result.2 (AreUnupdated D.state H.state C.state target release.now json result.0 result.1 W.contents writer.old writer.new) }
+    ensures ok { OnOk result.2 (AreUpdated D.state H.state C.state target release.now no_index json result.0 result.1 W.contents writer.old writer.new) }
+    ensures err { IfErr result.2 (AreUnupdated D.state H.state C.state target release.now no_index json result.0 result.1 W.contents writer.old writer.new) }
 {
     let Target {
         data_dev,
         hash_dev,
         copies,
     } = target;
+    let Copies {
+        data_copies,
+        hash_copies,
+    } = copies;
     let mut cleared = hash_dev;
-    let listed = list_old(alloc, &mut cleared, &release.superblock);
+    let mut seen = hash_copies;
+    let lists = list_all(
+        alloc,
+        no_index,
+        &mut cleared,
+        &mut seen,
+        &release.superblock,
+    );
     match begin(&data_dev, &mut cleared, &release.superblock) {
         Ok(()) => {
             let begun = Target {
                 data_dev,
                 hash_dev: cleared,
-                copies,
+                copies: Copies {
+                    data_copies,
+                    hash_copies: seen,
+                },
             };
-            update_begun(alloc, begun, &listed, release, json, writer)
+            update_begun(alloc, begun, &lists, release, json, writer)
         }
         Err(fault) => (data_dev, cleared, Err(fault)),
     }
@@ -77,7 +93,7 @@ pub(crate) fn update_devices<
 fn update_begun<'a, D: SyncDev + Drop, H: SyncDev + Drop, C: BlockDev + Drop, W: Write>(
     alloc: Global,
     target: Target<D, H, C>,
-    listed: &Option<ListedBlocks>,
+    lists: &BlockLists,
     release: &Release,
     json: bool,
     writer: &mut Counted<W>,
@@ -89,14 +105,14 @@ fn update_begun<'a, D: SyncDev + Drop, H: SyncDev + Drop, C: BlockDev + Drop, W:
     let plan = plan_of(release);
     let before = written_to(&target.data_dev, &target.hash_dev);
     let mut image = image_of(target);
-    match move_listed(alloc, &mut image, listed, &plan, json, writer) {
+    match move_listed(alloc, &mut image, lists, &plan, json, writer) {
         Ok(moved) => {
             let tally = Tally { before, moved };
             update_moved(alloc, image, &tally, release, json, writer)
         }
         Err(fault) => {
-            let (data_dev, hash_dev) = devices_of(image);
-            (data_dev, hash_dev, Err(fault_of(fault)))
+            let (data_dev, hash_dev, ended) = end_moving(alloc, image, lists, release, fault);
+            (data_dev, hash_dev, Err(ended))
         }
     }
 }
@@ -125,12 +141,20 @@ fn update_moved<'a, D: SyncDev + Drop, H: SyncDev + Drop, C: BlockDev + Drop, W:
             let ended = finish(alloc, &mut sealed, superblock, &counts, json, writer);
             (data_dev, sealed, ended)
         }
-        Err(fault) => (data_dev, hash_dev, Err(fault)),
+        Err(fault) => {
+            let unprinted = writer.failed();
+            let (data_dev, hash_dev, ended) = end_repairing(
+                alloc, data_dev, hash_dev, release, unprinted, fault,
+            );
+            (data_dev, hash_dev, Err(ended))
+        }
     }
 }
 
 // The image that is repaired.
-fn image_of<D: BlockDev, H: BlockDev, C: BlockDev>(target: Target<D, H, C>) -> DamagedImage<D, H, C>
+pub(crate) fn image_of<D: BlockDev, H: BlockDev, C: BlockDev>(
+    target: Target<D, H, C>,
+) -> DamagedImage<D, H, C>
     ensures { result.world ≡ target_world D.state H.state C.state target }
 {
     let Target {
@@ -170,7 +194,7 @@ fn repair_aloud<'a, D: SyncDev + Drop, H: SyncDev + Drop, C: BlockDev + Drop, W:
 }
 
 // Repairs the image, and prints nothing.
-fn repair_silently<'a, D: SyncDev + Drop, H: SyncDev + Drop, C: BlockDev + Drop>(
+pub(crate) fn repair_silently<'a, D: SyncDev + Drop, H: SyncDev + Drop, C: BlockDev + Drop>(
     alloc: Global,
     image: DamagedImage<D, H, C>,
     plan: &Plan,

@@ -13,9 +13,9 @@ pub fn early_ends_leave_no_superblock()
     other_sectors_stay()
 }
 
-/// After an update that succeeded, on steady devices, all blocks are valid under the root hash of the pin, the superblock is the
-/// release's, and both devices are synced, whatever the release's images and the copies returned; or two different inputs have one
-/// digest.
+/// After an update, also if a file can't be shortened then, on steady devices all blocks are valid under the root hash of the pin, the
+/// superblock is the release's, and both devices are synced, whatever the release's images and the copies returned; or two different
+/// inputs have one digest.
 pub fn updated_images_hold_the_release<I: Images>()
     ensures { UpdatedImagesHoldTheRelease I.relations I.Dev.state }
 {

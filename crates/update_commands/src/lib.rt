@@ -11,6 +11,7 @@ mod moving;
 mod order;
 mod release;
 mod sealing;
+mod unheard;
 mod update;
 
 pub use order::UpdateOrder;

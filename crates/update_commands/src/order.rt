@@ -6,13 +6,14 @@ use image_pin::Pin;
 use repair_commands::RepairPlaces;
 
 /// The arguments that name the two images to be updated and the hash image of the release, the pin of the release, whether
-/// progress is shown, and whether what was done is printed as a JSON object.
+/// blocks aren't listed, whether progress is shown, and whether what was done is printed as a JSON object.
 #[derive(Clone, Copy)]
 pub struct UpdateOrder<'a> {
     pub data: &'a str,
     pub hash: &'a str,
     pub release_hash: &'a str,
     pub pin: Pin,
+    pub no_index: bool,
     pub progress: bool,
     pub json: bool,
 }

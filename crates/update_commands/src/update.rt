@@ -3,7 +3,7 @@ ghost use Rattle.std.specs.Prelude.{◌≡◌, IfErr, OnOk};
 ghost use Rattle.update_commands.specs.Commands.{AreImagesUnupdated, AreImagesUpdated};
 
 use crate::devices::{Target, update_devices};
-use crate::growing::grow_both;
+use crate::growing::{grow_both, shrink_both};
 use crate::order::{UpdateOrder, places_of};
 use crate::release::find_release;
 use block_device::BlockDev;
@@ -17,18 +17,21 @@ use std::io::Write;
 use verity_commands::TreeFault;
 use verity_format::{Superblock, data_sectors};
 
-/// Runs `update [--progress] [--json] --pin FILE DATA HASH NEWDATA NEWHASH [COPY ..]`: the superblock of NEWHASH is compared with the
-/// pin, and DATA and HASH are made as long as the release needs, before anything is written. Then the superblock of HASH is cleared,
-/// blocks that differ from the release are sought in the copies, in their order, and the superblock is written last, if all blocks
-/// are valid and their lines printed. It prints what `repair` prints, and the counts, or these alone as a JSON object.
+/// Runs `update [--no-index] [--progress] [--json] --pin FILE DATA HASH NEWDATA NEWHASH [COPY ..]`: the superblock and the root hash block of NEWHASH
+/// are compared with the pin, and DATA and HASH are made as long as the release needs, before anything is written. Then the superblock
+/// of HASH is cleared, blocks that differ from the release are sought in the copies, in their order, and the superblock is written
+/// if all blocks are valid. It prints what `repair` prints, and the counts, or these alone as a JSON object. Last DATA and HASH are
+/// shortened to the release if they are longer.
 ///
 /// # Errors
 ///
-/// - `Open` if a file can't be opened or made longer, or conflicts with an open one.
+/// - `Open` if a file can't be opened or made longer, or conflicts with an open one; or if one can't be shortened, after the image was
+///   brought to the release and the counts were printed.
 /// - `Survey` if there is no superblock of the release, it doesn't fit, a device failed, or memory ran out.
 /// - `Unpinned` if the superblock of the release differs from the pin.
+/// - `Trees` if the release is too small for its tree, or its root hash block fails verification or can't be read.
 /// - `Damaged` if blocks are lost.
-/// - `Write` if a line can't be written.
+/// - `Write` if a line can't be written; the image is brought to the release nevertheless.
 pub fn update_images<'a, I: Images, S: Watchers, W: Write>(
     alloc: Global,
     images: &mut I,
@@ -50,9 +53,18 @@ pub fn update_images<'a, I: Images, S: Watchers, W: Write>(
         copies: found,
     } = opened;
     let target = target_of(pair, found, watchers, order.progress, &release.superblock);
-    let (data_dev, hash_dev, ended) = update_devices(alloc, target, &release, order.json, writer);
+    let (data_dev, hash_dev, ended) = update_devices(
+        alloc,
+        target,
+        &release,
+        order.no_index,
+        order.json,
+        writer,
+    );
     give_back(images, places, parts, data_dev.inner, hash_dev);
-    ended
+    ended?;
+    shrink_both(images, places, &release.superblock)?;
+    Ok(())
 }
 
 // Returns the open devices. If `progress` is set, it is shown up to which place the data were read.

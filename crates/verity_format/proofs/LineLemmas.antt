@@ -22,6 +22,7 @@ line-limits s data_name hash_name root start p fits =
         root_bytes = p.root_bytes;
         salt_size = p.superblock.salt;
         salt_bytes = p.salt;
+        parity = tt;
       };
     }
 

@@ -1,5 +1,5 @@
 -- The table line that opens a verity image, and how its text is read.
-use Rattle.std.specs.Prelude.{◌≡◌, ℕ, ◌+◌, ◌^◌, ◌<◌, false, true, IsTrue, List, [], ◌∷◌, length, Ok}
+use Rattle.std.specs.Prelude.{◌≡◌, ℕ, ◌+◌, ◌^◌, ◌<◌, false, true, IsTrue, List, [], ◌∷◌, length, None, Ok}
 use Rattle.hex.specs.Hex.{IsBytes}
 use Rattle.dm_table.specs.declared.table.Line.{Line}
 use Rattle.dm_table.specs.declared.table.Target.TheVariants.{Verity as verity_target}
@@ -28,6 +28,7 @@ verity_line s data_name hash_name root start = record {
     ignore_zero_blocks = false;
     corruption = Fail;
     in_tasklet = false;
+    parity = None;
   });
 }
 

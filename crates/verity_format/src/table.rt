@@ -80,6 +80,7 @@ fn verity_line(
             ignore_zero_blocks: false,
             corruption: CorruptionMode::Fail,
             in_tasklet: false,
+            parity: None,
         }),
     })
 }

@@ -1,5 +1,6 @@
--- What `assemble [--type TYPE] [--arch ARCH] [--fec] [--sector-size 512|4096] [--draw-from SEED] [--pin FILE] OUT DATA` says.
-use Rattle.std.specs.Prelude.{codes, option_map, unwrap_or, Bool, List, Ok, Option, ℕ}
+-- What `assemble [--type TYPE] [--arch ARCH] [--fec] [--sector-size 512|4096] [--draw-from SEED] [--progress] [--pin FILE] OUT DATA` says.
+use Rattle.std.specs.Prelude.{codes, option_map, Bool, List, Ok, Option, ℕ}
+use Rattle.command_line.specs.DiskTypes.{arch_said, kind_said}
 use Rattle.command_line.specs.FormatOptions.{OptionTexts, text_of}
 use Rattle.command_line.specs.Misuses.{Reading, when}
 use Rattle.command_line.specs.Positional.{no_more, positional}
@@ -17,10 +18,10 @@ pub record AssembleRecord : Type 0 where
   pub parity : Bool
   -- what determines what is drawn, if it is given
   pub seed : Option (List ℕ)
+  pub progress : Bool
   -- of the pin, if it is to be written
   pub file : Option RootFileRecord
 
--- a root file system of x86-64 unless the options say another
 unfoldable pub assemble_said : OptionTexts → List (List ℕ) → Reading AssembleRecord
 assemble_said texts words =
     when (root_choice_of texts.pin texts.root_hash_file) (λ file.
@@ -28,16 +29,19 @@ assemble_said texts words =
     when (positional (codes "DATA") disk_path.1) (λ data_path.
     when (no_more data_path.1) (λ none.
     when (sector_size_of texts.sector_size) (λ sector_size.
+    when (kind_said texts.kind) (λ kind.
+    when (arch_said texts.arch) (λ arch.
     Ok (record {
       disk_path = disk_path.0;
       data_path = data_path.0;
-      kind = unwrap_or texts.kind (codes "root");
-      arch = unwrap_or texts.arch (codes "x86-64");
+      kind = kind;
+      arch = arch;
       sector_size = sector_size;
       parity = texts.parity;
       seed = texts.draw_from;
+      progress = texts.progress;
       file = file;
-    }))))))
+    }))))))))
 
 -- what the program's own value says
 abbrev pub assemble_record : AssembleWords → AssembleRecord
@@ -49,5 +53,6 @@ assemble_record w = record {
   sector_size = w.sector_size;
   parity = w.parity;
   seed = text_of w.seed;
+  progress = w.progress;
   file = option_map root_file_record w.file;
 }

@@ -1,4 +1,4 @@
--- What `copy [--cache N] [--differing] [--map FILE] [--retries N] [--progress] (STACK NAME OUT BINDING... | --disk [--grow] DISK OUT)` says.
+-- What `copy [--cache N] [--differing] [--map FILE] [--retries N] [--no-scrape] [--progress] (STACK NAME OUT BINDING... | --disk [--grow] DISK OUT)` says.
 use Rattle.std.specs.Prelude.{◌&&◌, not, codes, Bool, List, Option, Ok, map, ℕ}
 use Rattle.command_line.specs.Bindings.{BindingRecord, binding_record}
 use Rattle.command_line.specs.BindingWords.{bindings_of}
@@ -19,6 +19,7 @@ pub record CopyRecord : Type 0 where
   pub bindings : List BindingRecord
   pub map : Option (List ℕ)
   pub retries : ℕ
+  pub no_scrape : Bool
   pub progress : Bool
 
 unfoldable pub copy_said : OptionTexts → List (List ℕ) → Reading CopyRecord
@@ -39,6 +40,7 @@ copy_said texts words =
       bindings = bindings;
       map = path;
       retries = retries;
+      no_scrape = texts.no_scrape;
       progress = texts.progress;
     })))))))))
 
@@ -53,5 +55,6 @@ copy_record w = record {
   bindings = map binding_record w.bindings.items;
   map = text_of w.map;
   retries = w.retries;
+  no_scrape = w.no_scrape;
   progress = w.progress;
 }

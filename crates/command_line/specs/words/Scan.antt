@@ -1,4 +1,4 @@
--- What `scan [--cache N] [--map FILE] [--retries N] [--progress] [--json | --chart] (STACK NAME BINDING... | --disk DISK)` says.
+-- What `scan [--cache N] [--map FILE] [--retries N] [--no-scrape] [--progress] [--json | --chart] (STACK NAME BINDING... | --disk DISK)` says.
 use Rattle.std.specs.Prelude.{Bool, List, Option, Ok, map, ℕ}
 use Rattle.charts.specs.declared.form.ReportForm.{ReportForm}
 use Rattle.command_line.specs.Bindings.{BindingRecord, binding_record}
@@ -15,6 +15,7 @@ pub record ScanRecord : Type 0 where
   pub bindings : List BindingRecord
   pub map : Option (List ℕ)
   pub retries : ℕ
+  pub no_scrape : Bool
   pub progress : Bool
   pub form : ReportForm
 
@@ -32,6 +33,7 @@ scan_said texts words =
       bindings = bindings;
       map = path;
       retries = retries;
+      no_scrape = texts.no_scrape;
       progress = texts.progress;
       form = form;
     }))))))))
@@ -44,6 +46,7 @@ scan_record w = record {
   bindings = map binding_record w.bindings.items;
   map = text_of w.map;
   retries = w.retries;
+  no_scrape = w.no_scrape;
   progress = w.progress;
   form = w.form;
 }

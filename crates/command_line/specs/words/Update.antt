@@ -1,4 +1,4 @@
--- What `update [--progress] [--json] --pin FILE DATA HASH NEWDATA NEWHASH [DATACOPY HASHCOPY]..` says.
+-- What `update [--no-index] [--progress] [--json] --pin FILE DATA HASH NEWDATA NEWHASH [DATACOPY HASHCOPY]..` says.
 use Rattle.std.specs.Prelude.{codes, Bool, List, Ok, map, ℕ}
 use Rattle.command_line.specs.FormatOptions.{OptionTexts}
 use Rattle.command_line.specs.ImageCopies.{ImageCopyRecord, copies_and_last, image_copy_record, said_copies}
@@ -13,6 +13,7 @@ pub record UpdateRecord : Type 0 where
   pub release_hash : List ℕ
   pub pin : List ℕ
   pub copies : List ImageCopyRecord
+  pub no_index : Bool
   pub progress : Bool
   pub json : Bool
 
@@ -31,6 +32,7 @@ update_said texts words =
       release_hash = new_hash.0;
       pin = pin;
       copies = copies;
+      no_index = texts.no_index;
       progress = texts.progress;
       json = texts.json;
     })))))))
@@ -43,6 +45,7 @@ update_record w = record {
   release_hash = w.release_hash.now;
   pin = w.pin.now;
   copies = map image_copy_record w.copies.items;
+  no_index = w.no_index;
   progress = w.progress;
   json = w.json;
 }

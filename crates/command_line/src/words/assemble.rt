@@ -1,11 +1,11 @@
-//! `assemble [--type TYPE] [--arch ARCH] [--fec] [--sector-size 512|4096] [--draw-from SEED] [--pin FILE] OUT DATA`
-ghost use Rattle.std.specs.Prelude.{◌≡◌, unwrap_or};
-ghost use Rattle.command_line.specs.FormatOptions.{option_texts, text_of, texts_of};
+//! `assemble [--type TYPE] [--arch ARCH] [--fec] [--sector-size 512|4096] [--draw-from SEED] [--progress] [--pin FILE] OUT DATA`
+ghost use Rattle.command_line.specs.FormatOptions.{option_texts, texts_of};
 ghost use Rattle.command_line.specs.Invocations.{assemble};
 ghost use Rattle.command_line.specs.Misuses.{ReadsValue};
 ghost use Rattle.command_line.specs.Reading.{ReadsAs};
 ghost use Rattle.command_line.specs.words.Assemble.{assemble_record, assemble_said};
 
+use crate::disk_types::{arch_of, kind_of};
 use crate::fault::WordsFault;
 use crate::invocation::Invocation;
 use crate::misuse::Misuse;
@@ -25,11 +25,12 @@ pub struct AssembleWords<'a> {
     pub sector_size: u32,
     pub parity: bool,
     pub seed: Option<&'a str>,
+    pub progress: bool,
     pub file: Option<RootFile<'a>>,
 }
 
-/// Returns `assemble` with its arguments, `[--type TYPE] [--arch ARCH] [--fec] [--sector-size 512|4096] [--draw-from SEED] [--pin FILE]
-/// OUT DATA`.
+/// Returns `assemble` with its arguments, `[--type TYPE] [--arch ARCH] [--fec] [--sector-size 512|4096] [--draw-from SEED] [--progress]
+/// [--pin FILE] OUT DATA`.
 ///
 /// # Errors
 ///
@@ -57,8 +58,8 @@ fn assemble_words<'a>(
     let (data_path, words) = positional("DATA", words)?;
     no_more(words)?;
     let sector_size = sector_size_of(options.sector_size)?;
-    let kind = word_or(options.kind, "root");
-    let arch = word_or(options.arch, "x86-64");
+    let kind = kind_of(options.kind)?;
+    let arch = arch_of(options.arch)?;
     Ok(AssembleWords {
         disk_path,
         data_path,
@@ -67,16 +68,7 @@ fn assemble_words<'a>(
         sector_size,
         parity: options.parity,
         seed: options.draw_from,
+        progress: options.progress,
         file,
     })
-}
-
-// The word, or another one in place of a missing one.
-fn word_or<'a>(word: Option<&'a str>, other: &'a str) -> &'a str
-    ensures { result.now ≡ unwrap_or (text_of word.entry) other.now }
-{
-    match word {
-        Some(word) => word,
-        None => other,
-    }
 }

@@ -1,4 +1,4 @@
-//! `copy [--cache N] [--differing] [--map FILE] [--retries N] [--progress] (STACK NAME OUT BINDING... | --disk [--grow] DISK OUT)`
+//! `copy [--cache N] [--differing] [--map FILE] [--retries N] [--no-scrape] [--progress] (STACK NAME OUT BINDING... | --disk [--grow] DISK OUT)`
 ghost use Rattle.command_line.specs.Invocations.{copy};
 ghost use Rattle.command_line.specs.Reading.{ReadsAs};
 ghost use Rattle.command_line.specs.FormatOptions.{option_texts, texts_of};
@@ -18,7 +18,7 @@ use std::alloc::Global;
 
 /// The arguments of `copy`, which copies the readable sectors of a device: with `differing` only those that differ from the
 /// image's, with a map file only those that the map doesn't mark as read. Lost sectors are read again as many times as the retries.
-/// With `grow` the image of a disk is made long enough.
+/// With `no_scrape` failed pieces aren't searched sector by sector. With `grow` the image of a disk is made long enough.
 #[derive(Drop)]
 pub struct CopyWords<'a> {
     pub cache: u32,
@@ -29,11 +29,12 @@ pub struct CopyWords<'a> {
     pub bindings: Vec<Binding<'a>>,
     pub map: Option<&'a str>,
     pub retries: u64,
+    pub no_scrape: bool,
     pub progress: bool,
 }
 
-/// Returns `copy` with its arguments, `[--cache N] [--differing] [--map FILE] [--retries N] [--progress] (STACK NAME OUT BINDING... |
-/// --disk [--grow] DISK OUT)`.
+/// Returns `copy` with its arguments, `[--cache N] [--differing] [--map FILE] [--retries N] [--no-scrape] [--progress]
+/// (STACK NAME OUT BINDING... | --disk [--grow] DISK OUT)`.
 ///
 /// # Errors
 ///
@@ -65,6 +66,7 @@ pub fn copy_of<'a>(
         bindings,
         map,
         retries,
+        no_scrape: options.no_scrape,
         progress: options.progress,
     }))
 }

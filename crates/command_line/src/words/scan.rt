@@ -1,4 +1,4 @@
-//! `scan [--cache N] [--map FILE] [--retries N] [--progress] [--json | --chart] (STACK NAME BINDING... | --disk DISK)`
+//! `scan [--cache N] [--map FILE] [--retries N] [--no-scrape] [--progress] [--json | --chart] (STACK NAME BINDING... | --disk DISK)`
 ghost use Rattle.command_line.specs.Invocations.{scan};
 ghost use Rattle.command_line.specs.Reading.{ReadsAs};
 ghost use Rattle.command_line.specs.FormatOptions.{option_texts, texts_of};
@@ -16,7 +16,7 @@ use charts::ReportForm;
 use std::alloc::Global;
 
 /// The arguments of `scan`. With a map file, only sectors that the map doesn't mark as read are scanned. Lost sectors are read again as
-/// many times as the retries.
+/// many times as the retries. With `no_scrape` failed pieces aren't searched sector by sector.
 #[derive(Drop)]
 pub struct ScanWords<'a> {
     pub cache: u32,
@@ -24,12 +24,13 @@ pub struct ScanWords<'a> {
     pub bindings: Vec<Binding<'a>>,
     pub map: Option<&'a str>,
     pub retries: u64,
+    pub no_scrape: bool,
     pub progress: bool,
     pub form: ReportForm,
 }
 
-/// Returns `scan` with its arguments, `[--cache N] [--map FILE] [--retries N] [--progress] [--json | --chart] (STACK NAME BINDING... |
-/// --disk DISK)`.
+/// Returns `scan` with its arguments, `[--cache N] [--map FILE] [--retries N] [--no-scrape] [--progress] [--json | --chart]
+/// (STACK NAME BINDING... | --disk DISK)`.
 ///
 /// # Errors
 ///
@@ -57,6 +58,7 @@ pub fn scan_of<'a>(
         bindings,
         map,
         retries,
+        no_scrape: options.no_scrape,
         progress: options.progress,
         form,
     }))

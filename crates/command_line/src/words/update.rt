@@ -13,7 +13,7 @@ use crate::values::pin_of;
 use std::alloc::Global;
 
 /// A verity image is brought to the release of a pin. The copies are tried in their order; the last one is the release, whose hash
-/// image is under `release_hash`.
+/// image is under `release_hash`. With `no_index` no list is made of where blocks are.
 #[derive(Drop)]
 pub struct UpdateWords<'a> {
     pub data_path: &'a str,
@@ -21,11 +21,13 @@ pub struct UpdateWords<'a> {
     pub release_hash: &'a str,
     pub pin: &'a str,
     pub copies: Vec<ImageCopy<'a>>,
+    pub no_index: bool,
     pub progress: bool,
     pub json: bool,
 }
 
-/// Returns `update` with its arguments, `[--progress] [--json] --pin FILE DATA HASH NEWDATA NEWHASH [DATACOPY HASHCOPY]..`.
+/// Returns `update` with its arguments, `[--no-index] [--progress] [--json] --pin FILE DATA HASH NEWDATA NEWHASH
+/// [DATACOPY HASHCOPY]..`.
 ///
 /// # Errors
 ///
@@ -56,6 +58,7 @@ pub fn update_of<'a>(
         release_hash: new_hash,
         pin,
         copies,
+        no_index: options.no_index,
         progress: options.progress,
         json: options.json,
     }))

@@ -8,9 +8,11 @@ use crate::binding_words::bindings_of;
 use crate::bindings::Binding;
 use crate::fault::WordsFault;
 use crate::invocation::{Invocation, Transfer};
+use crate::misuse::{Cause, refuse_if};
 use crate::option_words::OptionWords;
 use crate::positional::{number_at, positional};
 use crate::values::cache_of;
+use crate::words::store::is_input;
 use std::alloc::Global;
 
 /// The bytes of a file are written to a device by one request.
@@ -26,8 +28,8 @@ pub struct WriteWords<'a> {
 ///
 /// # Errors
 ///
-/// - `Usage` if a positional argument before the bindings is missing, FIRST isn't a decimal number, the value of an option is
-///   invalid, or a further argument is no binding.
+/// - `Usage` if a positional argument before the bindings is missing, FIRST isn't a decimal number, STACK and SOURCE are both the
+///   standard input, the value of an option is invalid, or a further argument is no binding.
 /// - `NoMemory` if an allocation was refused.
 #[tactic(auto, unfolding(crate::specs::words::Write::write_said))]
 pub fn write_of<'a>(
@@ -41,6 +43,11 @@ pub fn write_of<'a>(
     let (name, words) = positional("NAME", words)?;
     let (first, words) = number_at("FIRST", words)?;
     let (source, words) = positional("SOURCE", words)?;
+    refuse_if(
+        is_input(stack) && is_input(source),
+        "SOURCE",
+        Cause::StandardInput,
+    )?;
     let cache = cache_of(options.cache)?;
     let bindings = bindings_of(alloc, words)?;
     Ok(Invocation::Write(WriteWords {

@@ -10,7 +10,7 @@ use Rattle.dm_table.specs.declared.fault.TextKind.TheVariants as kinds
 use Rattle.dm_table.specs.Words.{Word, is_text, words, text_lines}
 use Rattle.dm_table.specs.Reading.{◌>>=◌, at_place}
 use Rattle.dm_table.specs.Arguments.{number_at, bytes_at}
-use Rattle.dm_table.specs.Options.{are_options, known_at, counted_at, options_at}
+use Rattle.dm_table.specs.Options.{are_options, known_at, counted_at, option_names, options_at}
 use Rattle.dm_table.specs.Verity.{salt_at}
 use Rattle.dm_table.specs.declared.table.Target.TheVariants.{Striped}
 use Rattle.dm_table.specs.declared.target_type.TargetType.{TargetType}
@@ -29,9 +29,10 @@ pub known_at-ok : (known words : List Word) → are_options known words ≡ true
 unfolding known_at
 known_at-ok known words all = cond-true _ _ _ all
 
-pub options-known : (known : List Word) (count : Word) (words : List Word) (n : ℕ) → number_at count ≡ Ok n → length words ≡ n → options_at known (count ∷ words) ≡ known_at known words
+pub options-known : (known valued : List Word) (count : Word) (words : List Word) (n : ℕ) → number_at count ≡ Ok n → length words ≡ n
+    → options_at known valued (count ∷ words) ≡ known_at known (option_names valued false words)
 unfolding options_at
-options-known known count words n e same = ap (λ r. r >>= (λ n. counted_at known n words)) e ∙ cond-true _ _ _ (eq-eqb (length words) n same)
+options-known known valued count words n e same = ap (λ r. r >>= (λ n. counted_at known valued n words)) e ∙ cond-true _ _ _ (eq-eqb (length words) n same)
 
 -- a salt at each of its words
 pub salt_at-none : (word : Word) → bytes_eq word (codes "-") ≡ true → salt_at word ≡ Ok []

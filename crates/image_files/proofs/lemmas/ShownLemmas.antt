@@ -14,7 +14,7 @@ use Rattle.image_files.specs.declared.images.OpenImage.{OpenImage}
 use Rattle.image_files.specs.FileRelations.{FileView, IsOpenFile, IsOpenPart, file_relations}
 use Rattle.image_files.specs.FilesAfter.{files_at}
 use Rattle.image_files.specs.Histories.{AreMade, IsMade, in_history}
-use Rattle.image_files.specs.ImageCalls.{ImageCall, Open, OpenPart, Narrow, ReadText, Measure}
+use Rattle.image_files.specs.ImageCalls.{ImageCall, Open, OpenPart, Narrow, Lack, ReadText, Measure}
 use Rattle.image_files.specs.Promises.{FileRecord, Files, HoldsPart, HoldsSectors, KeepsFiles, ShowsFiles}
 use Rattle.image_files.specs.SystemShows.{IsOpenOf, SystemShows}
 use Rattle.image_files.proofs.AfterLemmas.{calls-change}
@@ -99,6 +99,7 @@ module _ {S D C F : Type 0} (view : FileView S D C F) (old new : S) (calls : Lis
         ap (λ (x : Device). x.steady) h.device ∙ (shows.opened_part n path writable part image c.0 h.asked).steady;
     steady_narrowed = λ n n' device narrowed part c steady.
         ap (λ (x : Device). x.steady) (was-made-at n (Narrow device part narrowed) c.0).3.part_state ∙ steady;
+    steady_lacking = λ n n' device lacking lost c steady. (was-made-at n (Lack device lost lacking) c.0).3.steady ∙ steady;
     told = λ n n' path most text file c is. shows.told n path most text file c.0 (was-made-at n (ReadText path most (Ok text)) c.0).3 is;
     measured = λ n n' path part file c is.
         let h = (was-made-at n (Measure path (Ok part)) c.0).3 in

@@ -22,3 +22,4 @@ load_message kinds.TooDeep = codes "more than 8 devices are stacked on each othe
 load_message kinds.CostTooLarge = codes "reading one sector could move more than 2^32 sectors of the images: remove a layer"
 load_message kinds.UnitDoesntDivide = codes "the length of the crypt line isn't a multiple of its sector size: shorten the line"
 load_message kinds.IvOffset = codes "the IV offset of the crypt line isn't a multiple of its sector size"
+load_message kinds.ParityDoesntCover = codes "the parity leaves out data or hash blocks, or data and hash blocks differ in size: check the line's 'fec_blocks'"

@@ -42,5 +42,7 @@ pub fn load_message(kind: LoadKind) -> &'static str
         LoadKind::UnitDoesntDivide =>
             "the length of the crypt line isn't a multiple of its sector size: shorten the line",
         LoadKind::IvOffset => "the IV offset of the crypt line isn't a multiple of its sector size",
+        LoadKind::ParityDoesntCover =>
+            "the parity leaves out data or hash blocks, or data and hash blocks differ in size: check the line's 'fec_blocks'",
     }
 }

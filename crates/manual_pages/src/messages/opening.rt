@@ -21,7 +21,7 @@ pub fn open_message(fault: OpenFault) -> Option<&'static str>
             "the file has more than 2^54 sectors: bind a part of it with 'ro@FIRST+COUNT:FILE'",
         ),
         OpenFault::OtherFault => Some(
-            "this is neither a file nor a block device, or it can't be opened or read: 'dmesg' may say why",
+            "this is neither a file nor a block device (behind 'ro%': no map of the file), or it can't be opened or read: 'dmesg' may say why",
         ),
         OpenFault::SameFile => Some(
             "an earlier argument leads to the same file, and one of the two is opened for writing: bind both with 'ro:'",

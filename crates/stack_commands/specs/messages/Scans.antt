@@ -23,6 +23,6 @@ recovering_message recovering.NoMemory = None
 recovering_message (recovering.Stack fault) = stack_message fault
 recovering_message (recovering.OutputTooSmall needed) = Some (codes "OUT has fewer sectors than needed; nothing was written: extend it with 'truncate'")
 recovering_message (recovering.Pass fault) = pass_message fault
-recovering_message (recovering.Lost read lost) = None
+recovering_message (recovering.Lost counts) = None
 recovering_message recovering.LostAsSaid = None
 recovering_message recovering.Write = None

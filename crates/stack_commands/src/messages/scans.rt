@@ -38,7 +38,7 @@ pub fn recovering_message(fault: RecoveringFault<'_>) -> Option<&'static str>
             "OUT has fewer sectors than needed; nothing was written: extend it with 'truncate'",
         ),
         RecoveringFault::Pass(fault) => pass_message(fault),
-        RecoveringFault::Lost { .. } => None,
+        RecoveringFault::Lost(_) => None,
         RecoveringFault::LostAsSaid => None,
         RecoveringFault::Write => None,
     }

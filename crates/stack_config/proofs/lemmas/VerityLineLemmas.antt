@@ -1,5 +1,6 @@
 -- What a loaded configuration gives of each verity line.
 use Rattle.std.proofs.Common.{subst, ◌≡◌, ◌+◌, ◌*◌, ◌/◌, ◌≤◌, ◌<◌, ℕ, zero, suc, refl, sym, ap, ◌∙◌, Bool, true, false, ◌&&◌, Some, None, arith}
+use Rattle.std.specs.List.{list_any}
 use Rattle.std.proofs.Math.Nat.{mul-le-mul_right}
 use Rattle.std.proofs.lemmas.Bool.{ltb-false}
 use Rattle.tree_shape.specs.Shape.{IsShape, first_fault, area_end, blocks_sectors}
@@ -12,10 +13,12 @@ use Rattle.stack_rules.specs.declared.lower.Lower.{Lower}
 use Rattle.stack_rules.specs.Records.{Configuration}
 use Rattle.stack_rules.specs.Names.{mapped, named, size, may_write}
 use Rattle.stack_rules.specs.Trees.{tree_of, line_data_sectors, line_tree_sectors, block_sectors, path_sectors}
-use Rattle.stack_rules.specs.Descend.{depth, read_cost}
+use Rattle.stack_rules.specs.Descend.{by_name, depth, line_read_cost, read_cost}
 use Rattle.stack_rules.specs.Lines.{IsLine}
-use Rattle.stack_rules.specs.Rules.{IsLoaded, is_beyond, is_uncovered, is_tree_beyond, needs_read_only}
+use Rattle.stack_rules.specs.Rules.{IsLoaded, ends_past, is_beyond, is_uncovered, is_tree_beyond, needs_read_only}
+use Rattle.stack_rules.specs.targets.Verity.{parity_ranges}
 use Rattle.stack_rules.proofs.lemmas.RangeLemmas.{is_beyond-verity}
+use Rattle.stack_rules.proofs.lemmas.ValidLineLemmas.{or-false}
 use Rattle.stack_config.proofs.lemmas.LoadedLineLemmas.{sound-line, line-grammar, size-most, range-inside, names-known, names-shallower, line-read-cost, name-cost}
 
 -- a line of device d, whose data blocks and tree lie on those two
@@ -50,10 +53,11 @@ verity-line c d l line verity loaded is has =
     let s = (sound-line c d l line loaded.valid is).1 in
     let grammar : IsVerityOfGrammar verity = subst IsTargetOfGrammar has (line-grammar c d l line loaded is).target in
     let covers : line.length ≤ line_data_sectors verity = ltb-false (line_data_sectors verity) line.length (sym (ap (is_uncovered line.length) has) ∙ s.covered) in
-    let room = range-inside c verity.data below (line_data_sectors verity) below-means (sym (is_beyond-verity c line.length verity) ∙ sym (ap (is_beyond c line.length) has) ∙ s.inside) in
+    let ends = or-false (ends_past c verity.data (line_data_sectors verity)) (list_any (λ range. ends_past c range.0 range.1) (parity_ranges verity verity.parity)) (sym (is_beyond-verity c line.length verity) ∙ sym (ap (is_beyond c line.length) has) ∙ s.inside) in
+    let room = range-inside c verity.data below (line_data_sectors verity) below-means ends.0 in
     let hash-room = range-inside c verity.hash hash (line_tree_sectors verity) hash-means (sym (ap (is_tree_beyond c) has) ∙ s.tree) in
     let shallower = rw has at (names-shallower c d l line loaded.valid is) in
-    let read = rw has at (line-read-cost c d l line loaded.valid is) in
+    let read : line_read_cost (by_name c 0 (read_cost c)) (Verity verity) ≤ read_cost c (mapped d) = rw has at (line-read-cost c d l line loaded.valid is) in
     let below-cost = name-cost c (read_cost c) verity.data below below-means in
     let hash-cost = name-cost c (read_cost c) verity.hash hash hash-means in (
       below,
@@ -75,7 +79,7 @@ verity-line c d l line verity loaded is has =
         read_only = and-true (may_write c (mapped d)) (sym (ap (λ t. may_write c (mapped d) && needs_read_only line.length t) has) ∙ s.read_only);
         below_shallower = shallower.0 below below-means;
         hash_shallower = shallower.1.0 hash hash-means;
-        cost = rw (below-cost, hash-cost) at read;
+        cost = omega (arith, read, ap (λ (k : ℕ). block_sectors verity * k) below-cost, ap (λ (k : ℕ). path_sectors verity * k) hash-cost);
       },
     )
 

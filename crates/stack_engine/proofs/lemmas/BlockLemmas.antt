@@ -21,7 +21,7 @@ use Rattle.stack_meaning.specs.Kept.{IsKept, AllKept}
 use Rattle.stack_meaning.specs.Leaves.{steady_images, AreSteady, AreRead}
 use Rattle.stack_meaning.specs.Places.{Place, run_expected}
 use Rattle.stack_meaning.specs.Reading.{Gets}
-use Rattle.stack_lines.specs.Walks.{DataBlock, chain_expected, GetsChain}
+use Rattle.stack_lines.specs.Walks.{DataBlock, base_said, chain_expected, sources_of, GetsChain}
 use Rattle.stack_meaning.proofs.lemmas.LeafListLemmas.{AreRead-none}
 use Rattle.stack_meaning.proofs.lemmas.SpanLemmas.{span_block, span_fails}
 use Rattle.stack_meaning.proofs.lemmas.RunLemmas.{fault_passes}
@@ -91,7 +91,7 @@ distinct-push found x none distinct a b y lower below same =
 
 -- the sectors of data block b from sector w of its line on, the l-th of device d, as a place
 abbrev pub block_place : DataBlock → ℕ × ℕ → ℕ → ℕ → Place
-block_place b at w cost = record { said = λ j. verity_said b.on_data.said b.on_hash.said at.0 at.1 b.verity (w + j); cost = cost; leaves = (chain_expected b).leaves }
+block_place b at w cost = record { said = λ j. verity_said (base_said b) at.0 at.1 b.verity (w + j); cost = cost; leaves = (chain_expected b).leaves }
 
 abbrev pub entry_in : DataBlock → ℕ × ℕ → Entry
 entry_in b at = (at.0, at.1, b.index)
@@ -106,7 +106,7 @@ module _ (b : DataBlock) (at : ℕ × ℕ) (w n cost : ℕ) (index : b.index ≡
   means_is : (images : Images) (j : ℕ) → j < n
       → ((block_place b at w cost).said j).means images ≡ then_outcome ((chain_expected b).means images) (λ block. Ok (content_part b.verity (w + j) block))
   means_is images j h =
-      ap (λ (k : ℕ). then_outcome (verified_block b.verity (λ s. (b.on_data.said s).means images) (λ s. (b.on_hash.said s).means images) k) (λ block. Ok (content_part b.verity (w + j) block)))
+      ap (λ (k : ℕ). then_outcome (verified_block b.verity (sources_of b images) k) (λ block. Ok (content_part b.verity (w + j) block)))
       (index_is j h)
 
   -- the sectors of a good chain that is there

@@ -1,5 +1,5 @@
 -- The walk to a data block of a verity line.
-use Rattle.std.proofs.Common.{◌≡◌, ℕ, suc, ◌+◌, ◌*◌, ◌<◌, ◌≤◌, Bool, IsTrue, ◌||◌, true, false, cond, List, [], ◌∷◌, ◌++◌, length, Result, Ok, Err, refl, sym, ap, ◌∙◌, subst, arith, inl, inr}
+use Rattle.std.proofs.Common.{◌≡◌, ℕ, suc, ◌+◌, ◌*◌, ◌<◌, ◌≤◌, Bool, IsTrue, ◌||◌, true, false, List, [], ◌∷◌, ◌++◌, length, Result, Ok, Err, refl, sym, ap, ◌∙◌, subst, arith, inl, inr}
 use Rattle.std.proofs.lemmas.Bool.{and_parts, cond-true, cond-false}
 use Rattle.std.proofs.lemmas.Slice.Eq.{bytes_eq-Decides}
 use Rattle.std.proofs.lemmas.List.{append_assoc, append-nil, length-append, length-replicate}
@@ -10,25 +10,26 @@ use Rattle.tree_shape.specs.Shape.{levels}
 use Rattle.block_device.specs.Device.{Device}
 use Rattle.dm_table.specs.declared.verity.Verity.{Verity}
 use Rattle.stack_rules.specs.Trees.{tree_of, block_sectors, zero_block}
+use Rattle.stack_meaning.specs.declared.fault.Fault.{Fault}
 use Rattle.stack_meaning.specs.declared.fault.IoFault.{IoFault}
 use Rattle.stack_meaning.specs.declared.fault.IoFault.TheVariants as io
-use Rattle.stack_meaning.specs.Outcomes.{mismatch, Outcome, Images, then_outcome}
+use Rattle.stack_meaning.specs.Outcomes.{Outcome, Images, then_outcome}
 use Rattle.stack_meaning.specs.Found.{FoundRecord}
 use Rattle.stack_meaning.specs.Blocks.{hash_sectors, hash_start, next_digest, checked, checked_span, is_ignored, data_block_at}
 use Rattle.stack_meaning.specs.Leaves.{steady_images, AreSteady, AreRead}
 use Rattle.stack_meaning.specs.Places.{Place, Expected, run_expected}
-use Rattle.stack_meaning.specs.Reading.{Answers, Gets}
-use Rattle.stack_lines.specs.Walks.{checked_expected, DataBlock, means_below, data_expected, chain_expected, GetsChain, IsWalked}
-use Rattle.stack_meaning.proofs.lemmas.LeafListLemmas.{AreRead-none, AreRead-then, AreRead-more, AreSteady-kept, AreSteady-within, images-kept}
+use Rattle.stack_meaning.specs.Reading.{Gets}
+use Rattle.stack_meaning.specs.Spares.{data_spare, healed_outcome}
+use Rattle.stack_engine.specs.Healing.{healed_result}
+use Rattle.stack_lines.specs.Walks.{checked_expected, DataBlock, block_leaves, means_below, data_expected, chain_expected, sources_of, spare_cost, spare_expected, GetsChain, IsWalked}
+use Rattle.stack_meaning.proofs.lemmas.CheckedLemmas.{checked-same}
+use Rattle.stack_meaning.proofs.lemmas.LeafListLemmas.{AreRead-none, AreRead-then, AreRead-more, AreSteady-kept, AreSteady-within, failed_later, images-kept}
 use Rattle.stack_lines.proofs.lemmas.StandingLemmas.{or-true}
 use Rattle.stack_meaning.proofs.lemmas.RunLemmas.{fault_passes}
 use Rattle.allocation.specs.Refusal.{IsOutOfMemory}
 use Rattle.stack_meaning.specs.Memory.{largest_allocation}
 
 -- ---- one block that is checked
-
-pub checked-same : (salt expected block : List ℕ) → digest salt block ≡ expected → checked salt expected block ≡ Ok block
-checked-same salt expected block e = ap (λ (b : Bool). cond b (Ok block) (Err mismatch)) ((bytes_eq-Decides (digest salt block) expected).1 e)
 
 module _ {A : Type 0} (bytes_of : A → List ℕ) (place : Place) (first n : ℕ) (salt expected : List ℕ) {old new : List Device} (chains : List FoundRecord) where
   pub checked_ok : (x : A) {bytes : List ℕ} → bytes_of x ≡ bytes → digest salt bytes ≡ expected → Gets (run_expected place chains first n) old new (Ok bytes)
@@ -51,6 +52,13 @@ module _ {A : Type 0} (bytes_of : A → List ℕ) (place : Place) (first n : ℕ
 pub ignored-digest : (v : Verity) (expected : List ℕ) → is_ignored v expected ≡ true → digest v.salt (zero_block v) ≡ expected
 ignored-digest v expected e = (bytes_eq-Decides (digest v.salt (zero_block v)) expected).0 (and_parts v.ignore_zero_blocks _ e).1
 
+-- the leaves beneath one of the devices are some of those beneath all
+hash-in : (b : DataBlock) (i : ℕ) → IsTrue (b.on_hash.leaves i) → IsTrue (block_leaves b i)
+hash-in b i is = ap (λ (x : Bool). b.on_data.leaves i || (x || b.on_parity.leaves i)) is ∙ or-true (b.on_data.leaves i)
+
+data-in : (b : DataBlock) (i : ℕ) → IsTrue (b.on_data.leaves i) → IsTrue (block_leaves b i)
+data-in b i is = ap (λ (x : Bool). x || (b.on_hash.leaves i || b.on_parity.leaves i)) is
+
 module _ {A : Type 0} (bytes_of : A → List ℕ) (b : DataBlock) (expected : List ℕ) where
   -- one that is ignored
   pub data_zeros : (leaves : List Device) (x : A) → 512 * block_sectors b.verity ≡ b.verity.data_block → is_ignored b.verity expected ≡ true → bytes_of x ≡ zero_block b.verity
@@ -62,14 +70,43 @@ module _ {A : Type 0} (bytes_of : A → List ℕ) (b : DataBlock) (expected : Li
   }
 
   -- one that is read
-  pub data_read : {old new : List Device} (result : Result A IoFault) → is_ignored b.verity expected ≡ false
-      → Gets (checked_expected bytes_of b.on_data (block_sectors b.verity * b.index) (block_sectors b.verity) b.verity.salt expected) old new result
-      → Gets (data_expected bytes_of b expected) old new result
-  data_read {old = old} result other q = record {
-    moved = q.moved;
+  pub data_read : {old new : List Device} (x : A) → is_ignored b.verity expected ≡ false
+      → Gets (checked_expected bytes_of b.on_data (block_sectors b.verity * b.index) (block_sectors b.verity) b.verity.salt expected) old new (Ok x)
+      → Gets (data_expected bytes_of b expected) old new (Ok x)
+  data_read {old = old} x other q = record {
+    moved = AreRead-more (omega arith) q.moved;
     may = q.may;
-    exact = λ steady. subst (λ (o : Outcome). Answers bytes_of o result) (sym (cond-false _ _ _ other)) (q.exact steady);
+    exact = λ steady. cond-false _ _ _ other ∙ ap (λ (o : Outcome). healed_outcome o (data_spare b.verity (sources_of b (steady_images old)) b.verity.parity b.index expected)) (q.exact (AreSteady-within old (data-in b) steady));
   }
+
+  module _ {old mid : List Device} (fault : Fault) (other : is_ignored b.verity expected ≡ false)
+      (own : Gets (checked_expected bytes_of b.on_data (block_sectors b.verity * b.index) (block_sectors b.verity) b.verity.salt expected) old mid (Err (io.Stack fault))) where
+    healed-exact : AreSteady (block_leaves b) old → (x : Outcome) → data_spare b.verity (sources_of b (steady_images mid)) b.verity.parity b.index expected ≡ x
+        → (data_expected bytes_of b expected).means (steady_images old) ≡ healed_outcome (Err fault) x
+    healed-exact steady x is =
+        let images : steady_images mid ≡ steady_images old = images-kept own.moved in
+        cond-false _ _ _ other
+        ∙ ap (λ (o : Outcome). healed_outcome o (data_spare b.verity (sources_of b (steady_images old)) b.verity.parity b.index expected)) (own.exact (AreSteady-within old (data-in b) steady))
+        ∙ ap (λ (o : Outcome). healed_outcome (Err fault) o) (ap (λ (i : Images). data_spare b.verity (sources_of b i) b.verity.parity b.index expected) (sym images) ∙ is)
+
+    -- or by its spare
+    pub data_healed : {new : List Device} (spare : Result A IoFault) → Gets (spare_expected bytes_of b expected) mid new spare → Gets (data_expected bytes_of b expected) old new (healed_result fault spare)
+    data_healed (Ok x) q = record {
+      moved = AreRead-then own.moved q.moved;
+      may = q.may;
+      exact = λ steady. healed-exact steady (Ok (bytes_of x)) (q.exact (AreSteady-kept old mid own.moved.moved.fixed steady));
+    }
+    data_healed (Err (io.Stack vain)) q = record {
+      moved = AreRead-then own.moved q.moved;
+      may = own.may;
+      exact = λ steady. healed-exact steady (Err vain) (q.exact (AreSteady-kept old mid own.moved.moved.fixed steady));
+    }
+    data_healed (Err (io.Device i)) q = record {
+      moved = AreRead-then own.moved q.moved;
+      may = (q.may.0, failed_later own.moved.moved q.moved.moved q.may.1);
+      exact = λ steady. tt;
+    }
+    data_healed (Err io.NoMemory) q = record { moved = AreRead-then own.moved q.moved; may = q.may; exact = λ steady. tt }
 
 -- ---- the walk
 
@@ -83,13 +120,6 @@ levels_cost v hb cost m n h =
 -- what is expected of the hash block of level l
 abbrev hash_expected : {A : Type 0} → (A → List ℕ) → DataBlock → ℕ → List ℕ → Expected A
 hash_expected bytes_of b l expected = checked_expected bytes_of b.on_hash (hash_start b.verity l b.index) (hash_sectors b.verity) b.verity.salt expected
-
--- the leaves beneath one of the two devices are some of those beneath both
-hash-in : (b : DataBlock) (i : ℕ) → IsTrue (b.on_hash.leaves i) → IsTrue ((chain_expected b).leaves i)
-hash-in b i is = ap (λ (x : Bool). b.on_data.leaves i || x) is ∙ or-true (b.on_data.leaves i)
-
-data-in : (b : DataBlock) (i : ℕ) → IsTrue (b.on_data.leaves i) → IsTrue ((chain_expected b).leaves i)
-data-in b i is = ap (λ (x : Bool). x || b.on_hash.leaves i) is
 
 -- the meaning goes on with what the next hash block means
 means-step : {A : Type 0} (bytes_of : A → List ℕ) (b : DataBlock) (l : ℕ) {expected : List ℕ} {path : List (List ℕ)} {old mid : List Device} → IsWalked b (suc l) expected path old mid → AreSteady (chain_expected b).leaves old
@@ -107,11 +137,11 @@ means-end : {A : Type 0} (bytes_of : A → List ℕ) (b : DataBlock) {expected :
 means-end bytes_of b {expected = expected} {old = old} {mid = mid} p steady x is =
     let images : steady_images mid ≡ steady_images old = images-kept p.moved in
     p.exact steady
-    ∙ ap (λ (m : Images). data_block_at b.verity (λ s. (b.on_data.said s).means m) b.index expected) (sym images)
+    ∙ ap (λ (m : Images). data_block_at b.verity (sources_of b m) b.index expected) (sym images)
     ∙ is
 
 path_cost : (b : DataBlock) {expected : List ℕ} {path : List (List ℕ)} {old mid : List Device} → IsWalked b 0 expected path old mid
-    → length path * (hash_sectors b.verity * b.on_hash.cost) + block_sectors b.verity * b.on_data.cost ≤ (chain_expected b).cost
+    → length path * (hash_sectors b.verity * b.on_hash.cost) + (block_sectors b.verity * b.on_data.cost + spare_cost b) ≤ (chain_expected b).cost
 path_cost b {path = path} p =
     let most = levels_cost (levels (tree_of b.verity)) (hash_sectors b.verity) b.on_hash.cost (length path) 0 (omega (arith, p.count)) in omega (arith, most)
 
@@ -152,7 +182,7 @@ module _ {A : Type 0} (bytes_of : A → List ℕ) (b : DataBlock) {expected : Li
       record {
         moved = AreRead-more (path_cost b p) (AreRead-then p.moved q.moved);
         may = (refl, record { index = h; path = omega (arith, p.count); hangs = subst (λ (y : List (List ℕ)). HangsFrom (tree_of b.verity) b.verity.salt b.index b.verity.root y (bytes_of x)) (append-nil path) (p.hangs [] (bytes_of x) refl (size, q.may.1)) });
-        exact = λ steady. means-end bytes_of b p steady (Ok (bytes_of x)) (q.exact (AreSteady-within mid (data-in b) (AreSteady-kept old mid p.moved.moved.fixed steady)));
+        exact = λ steady. means-end bytes_of b p steady (Ok (bytes_of x)) (q.exact (AreSteady-kept old mid p.moved.moved.fixed steady));
       }
 
   pub walk_fails : (fault : IoFault) → Gets (data_expected bytes_of b expected) mid new (Err fault)
@@ -160,7 +190,7 @@ module _ {A : Type 0} (bytes_of : A → List ℕ) (b : DataBlock) {expected : Li
   walk_fails fault q =
       fault_passes {wanted = data_expected bytes_of b expected} {wanted' = chain_expected b} fault q p.moved (path_cost b p)
       (λ x meets. elim meets [ inl differs ↦ inl differs | inr some ↦ inr (inl some) ])
-      (data-in b)
+      (λ i on. on)
       (λ steady x is. means-end bytes_of b p steady (Err x) is)
 
 -- no memory for the path

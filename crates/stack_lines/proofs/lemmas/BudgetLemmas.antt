@@ -1,15 +1,19 @@
 -- Budgets: of runs that are cut, of the sectors of one line, and of units and data blocks.
-use Rattle.std.proofs.Common.{◌≡◌, ℕ, ◌+◌, ◌*◌, ◌%◌, ◌<◌, ◌≤◌, List, Option, Some, refl, sym, ap, ◌∙◌, arith}
+use Rattle.std.proofs.Common.{◌≡◌, ℕ, ◌+◌, ◌*◌, ◌%◌, ◌<◌, ◌≤◌, List, [], ◌∷◌, map, Option, Some, None, refl, sym, ap, ◌∙◌, arith}
+use Rattle.std.specs.Option.{option_map_or}
 use Rattle.std.proofs.Math.Nat.{mul_assoc}
 use Rattle.dm_table.specs.declared.crypt.Crypt.{Crypt}
+use Rattle.dm_table.specs.declared.parity.Parity.{Parity}
 use Rattle.dm_table.specs.declared.table.Target.{Target}
 use Rattle.dm_table.specs.declared.table.Target.TheVariants.{Crypt as crypt_target, Verity as verity_target}
+use Rattle.dm_table.specs.declared.verity.Verity.{Verity}
 use Rattle.stack_rules.specs.declared.lower.Lower.TheVariants.{Leaf as leaf}
 use Rattle.stack_rules.specs.Records.{Configuration}
 use Rattle.stack_rules.specs.Names.{mapped}
 use Rattle.stack_rules.specs.Descend.{by_name, line_read_cost, read_cost}
 use Rattle.stack_rules.specs.Rules.{IsLoaded, IsValid}
 use Rattle.stack_rules.specs.Trees.{block_sectors}
+use Rattle.stack_rules.specs.targets.Verity.{mend_cost, parity_bases}
 use Rattle.stack_meaning.specs.Units.{units_of, per_unit}
 use Rattle.stack_meaning.proofs.lemmas.UnitSizeLemmas.{per_unit-some, per_unit-of}
 use Rattle.stack_meaning.specs.Beneath.{beneath, said_or, HandsOn}
@@ -21,6 +25,7 @@ use Rattle.stack_lines.specs.declared.source.CryptPart.{CryptPart}
 use Rattle.stack_lines.specs.declared.source.Source.{Source}
 use Rattle.stack_lines.specs.declared.source.VerityPart.{VerityPart}
 use Rattle.stack_lines.specs.Sources.{IsServed}
+use Rattle.stack_lines.specs.Walks.{block_in, chain_expected}
 use Rattle.stack_lines.specs.Prices.{Pricing, price_as, by_runs}
 use Rattle.stack_lines.specs.Budgets.{line_price, read_prices, budget, crypt_budget, part_budget, source_budget}
 use Rattle.stack_lines.proofs.lemmas.PriceLemmas.{CutAt, in_step, step-once, steps-each, ArePrices, priced-leaf, priced-apart, served-priced}
@@ -83,3 +88,16 @@ module _ (c : Configuration) (x : VerityPart) (n : ℕ) where
   -- a part of one data block
   pub block-budget : 0 < n → x.first % block_sectors x.verity.now + n ≤ block_sectors x.verity.now → part_budget c x n ≡ line_read_cost (by_name c 0 (read_cost c)) (verity_target x.verity.now)
   block-budget some fits = step-once (block_sectors x.verity.now) (λ (s k : ℕ). line_read_cost (by_name c 0 (read_cost c)) (verity_target x.verity.now)) (omega (arith, some, fits)) x.first n some fits
+
+-- ---- one data block
+
+-- its chain and its spare cost what a sector of its line does
+pub chain-cost : (c : Configuration) (v : Verity) (i : ℕ) → (chain_expected (block_in c v i)).cost ≡ line_read_cost (by_name c 0 (read_cost c)) (verity_target v)
+chain-cost c v i = omega (arith, spare v.parity)
+  where
+    at : List ℕ → ℕ
+    at = by_name c 0 (read_cost c)
+
+    spare : (o : Option Parity) → mend_cost v o (at v.data ∷ at v.hash ∷ option_map_or (λ p. at p.device) o 0 ∷ []) ≡ mend_cost v o (at v.data ∷ at v.hash ∷ map at (map (λ base. base.device) (parity_bases o)))
+    spare None = refl
+    spare (Some p) = refl

@@ -98,7 +98,7 @@ module _ (c : Configuration) (i : ℕ) (images other : Images) (alike : (j : ℕ
 
 module _ (c : Configuration) (i : ℕ) (old new : List Device) (fixed : map fixed_part new ≡ map fixed_part old) (others : (j : ℕ) (d : Device) → j ≢ i → get_or new j d ≡ get_or old j d) where
   abbrev any_device : Device
-  any_device = record { size = 0; may_write = false; steady = false; never_fails = false; dirty = false; image = []; reads = 0; writes = 0; failures = 0 }
+  any_device = record { size = 0; may_write = false; steady = false; never_fails = false; dirty = false; image = []; reads = 0; writes = 0; failures = 0; lacked_space = false }
 
   image_at : (leaves : List Device) (j : ℕ) → get_or (steady_images leaves) j [] ≡ steady_image (get_or leaves j any_device)
   image_at leaves j = elim (cases_lt j (length leaves)) [

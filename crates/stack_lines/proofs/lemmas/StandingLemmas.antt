@@ -209,7 +209,7 @@ pub hash-stands : (c : Configuration) (i d l : ℕ) (line : Line) (v : Verity) (
     → line_stands_on c i d l ≡ stands_on c i y
 hash-stands c i d l line v y loaded at is second =
     let name = name-at c loaded d l 1 y second in
-    let same : names_at c d l ≡ v.data ∷ (v.hash ∷ []) = ap (λ (o : Option Line). option_map_or (λ line. names line.target) o []) at ∙ ap names is in
+    let same : names_at c d l ≡ names (verity_target v) = ap (λ (o : Option Line). option_map_or (λ line. names line.target) o []) at ∙ ap names is in
     let hash : Some v.hash ≡ Some name.0 = ap (λ (l : List (List ℕ)). slice_get l 1) (sym same) ∙ name.1 in
     let whole : line_stands_on c i d l ≡ name_stands_on c i v.hash = verity-stands c i d l line v at is in
     whole ∙ ap (name_stands_on c i) (same_Some v.hash name.0 hash) ∙ name-stands c i name.0 y name.2
@@ -271,12 +271,12 @@ not-hashed c i target h = go (verity_of target) h
 pub stands-not : (c : Configuration) (i d l : ℕ) (line : Line) → IsLine c d l line → is_verity line.target ≡ false → line_stands_on c i d l ≡ false
 stands-not c i d l line at h = stands-at c i d l line at ∙ not-hashed c i line.target h
 
-two-names : (target : Target) → is_verity target ≡ true → length (names target) ≡ 2
-two-names (verity_target v) h = refl
+two-names : (target : Target) → is_verity target ≡ true → 2 ≤ length (names target)
+two-names (verity_target v) h = omega arith
 two-names target h = absurd cc
 
-pub verity-names : (c : Configuration) (d l : ℕ) (line : Line) → IsLine c d l line → is_verity line.target ≡ true → length (names_at c d l) ≡ 2
-verity-names c d l line at h = ap (λ (o : Option Line). length (option_map_or (λ line. names line.target) o [])) at ∙ two-names line.target h
+pub verity-names : (c : Configuration) (d l : ℕ) (line : Line) → IsLine c d l line → is_verity line.target ≡ true → 2 ≤ length (names_at c d l)
+verity-names c d l line at h = omega (arith, ap (λ (o : Option Line). length (option_map_or (λ line. names line.target) o [])) at, two-names line.target h)
 
 second-stands : (c : Configuration) (i d l : ℕ) (line : Line) (y : Lower) (target : Target) → IsLoaded c → IsLine c d l line → line.target ≡ target → is_verity target ≡ true → lower_at c d l 1 ≡ Some y → line_stands_on c i d l ≡ stands_on c i y
 second-stands c i d l line y (verity_target v) loaded at is h second = hash-stands c i d l line v y loaded at is second

@@ -1,10 +1,12 @@
 -- Which leaves a read touches, from the lines down.
-use Rattle.std.proofs.Common.{IsTrue, ◌≡◌, ◌≢◌, ℕ, ◌+◌, ◌-◌, ◌<◌, Bool, true, false, ◌||◌, ◌==◌, List, [], ◌∷◌, get_or, map, set, Some, Result, Ok, Err, refl, sym, ap, ◌∙◌, subst, arith}
+use Rattle.std.proofs.Common.{IsTrue, ◌≡◌, ◌≢◌, ℕ, ◌+◌, ◌-◌, ◌<◌, Bool, true, false, ◌||◌, ◌==◌, List, [], ◌∷◌, get_or, map, set, Option, Some, None, Result, Ok, Err, refl, sym, ap, ◌∙◌, subst, arith}
 use Rattle.std.specs.Prelude.{slice_get, IfErr}
 use Rattle.std.specs.List.{AllByRecursion, list_any}
+use Rattle.std.specs.Option.{option_map_or}
 use Rattle.std.proofs.lemmas.Bool.Decides.{nat_tests}
 use Rattle.std.proofs.lemmas.List.{get_or-set_other, map-set}
 use Rattle.block_device.specs.Device.{Device}
+use Rattle.dm_table.specs.declared.parity.Parity.{Parity}
 use Rattle.dm_table.specs.declared.verity.Verity.{Verity}
 use Rattle.dm_table.specs.declared.table.Line.{Line}
 use Rattle.dm_table.specs.declared.table.Target.{Target}
@@ -15,6 +17,7 @@ use Rattle.stack_rules.specs.Records.{Configuration}
 use Rattle.stack_rules.specs.Names.{mapped, named, names, lines_of}
 use Rattle.stack_rules.specs.Lines.{IsLine}
 use Rattle.stack_rules.specs.Rules.{IsLoaded}
+use Rattle.stack_rules.specs.targets.Verity.{parity_bases}
 use Rattle.stack_meaning.specs.declared.fault.IoFault.{IoFault}
 use Rattle.stack_meaning.specs.declared.fault.IoFault.TheVariants as io
 use Rattle.stack_meaning.specs.Beneath.{beneath}
@@ -27,8 +30,9 @@ use Rattle.stack_lines.specs.declared.tree.Tree.{Tree}
 use Rattle.stack_lines.specs.Sources.{HasTarget, IsPartOf, IsServed}
 use Rattle.stack_lines.specs.Standing.{stands_on, name_stands_on}
 use Rattle.stack_lines.specs.Touches.{NamesOneOf, TouchesOnly, leaves_of, source_leaves}
-use Rattle.stack_lines.specs.Walks.{IsTreeOf}
+use Rattle.stack_lines.specs.Walks.{IsTreeOf, block_in, block_leaves}
 use Rattle.stack_lines.proofs.lemmas.StandingLemmas.{or-false, stands-leaf, stands-device, name-stands}
+use Rattle.stack_lines.proofs.lemmas.VerityLineLemmas.{parity-named}
 
 -- ---- one set of leaves, and several calls
 
@@ -121,16 +125,24 @@ module _ (c : Configuration) (loaded : IsLoaded c) (d l : ℕ) (line : Line) (at
   under-out s p lower under is = sym (name-stands c i p.0 lower is) ∙ of_beneath (λ (n : List ℕ). name_stands_on c i n ≡ false) line.target s p names-out under
 
 -- the leaves beneath a verity line
-names-none : (f : List ℕ → Bool) (a b : List ℕ) → AllByRecursion (λ name. f name ≡ false) (a ∷ b ∷ []) → list_any f (a ∷ b ∷ []) ≡ false
-names-none f a b none = ap (λ (x : Bool). x || (f b || false)) none.0 ∙ ap (λ (y : Bool). y || false) none.1.0
+any-none : {X : Type 0} (p : X → Bool) (xs : List X) → AllByRecursion (λ x. p x ≡ false) xs → list_any p xs ≡ false
+any-none p [] none = refl
+any-none p (x ∷ xs) none = ap (λ (b : Bool). b || list_any p xs) none.0 ∙ any-none p xs none.1
 
 pub verity-names : (c : Configuration) (d l n : ℕ) (v : Verity) → IsLoaded c → HasTarget c d l (verity_target v) n → (i : ℕ) → IsTrue (target_leaves c (verity_target v) i) → IsTrue (leaves_of c (mapped d) i)
 verity-names c d l n v loaded has =
     one-within (target_leaves c (verity_target v)) (leaves_of c (mapped d))
-    (λ i out. names-none (name_stands_on c i) v.data v.hash (subst (λ (t : Target). AllByRecursion (λ name. name_stands_on c i name ≡ false) (names t)) has.has (names-out c loaded d l has.line has.is i out)))
+    (λ i out. any-none (name_stands_on c i) (names (verity_target v)) (subst (λ (t : Target). AllByRecursion (λ name. name_stands_on c i name ≡ false) (names t)) has.has (names-out c loaded d l has.line has.is i out)))
 
-pub verity-leaves : (c : Configuration) (v : Verity) (i : ℕ) → target_leaves c (verity_target v) i ≡ (name_stands_on c i v.data || name_stands_on c i v.hash)
-verity-leaves c v i = ap (λ (b : Bool). name_stands_on c i v.data || b) (or-false (name_stands_on c i v.hash))
+pub verity-leaves : (c : Configuration) (v : Verity) (k i : ℕ) → target_leaves c (verity_target v) i ≡ block_leaves (block_in c v k) i
+verity-leaves c v k i = go v.parity
+  where
+    at : List ℕ → Bool
+    at name = name_stands_on c i name
+
+    go : (o : Option Parity) → list_any at (v.data ∷ v.hash ∷ map (λ base. base.device) (parity_bases o)) ≡ (at v.data || (at v.hash || option_map_or (λ p. at p.device) o false))
+    go None = refl
+    go (Some p) = ap (λ (b : Bool). at v.data || (at v.hash || b)) (or-false (at p.device))
 
 -- the device beneath a part of a crypt line
 pub crypt-within : (c : Configuration) (d l n : ℕ) (target : Target) (u : CryptPart) → IsLoaded c → HasTarget c d l target n → IsPartOf c target u → AreWithin (leaves_of c u.lower) (leaves_of c (mapped d))
@@ -144,6 +156,12 @@ module _ (c : Configuration) (v : Verity) (tree : Tree) (loaded : IsLoaded c) (i
 
   pub hash-within : AreWithin (leaves_of c tree.hash) (leaves_of c (mapped tree.device.0))
   hash-within i out = name-out c loaded tree.device.0 tree.line is.is.line is.is.is i out 1 v.hash tree.hash (ap (λ (t : Target). slice_get (names t) 1) is.is.has) is.on_hash
+
+  pub parity-within : (lower : Lower) → tree.parity ≡ Some lower → AreWithin (leaves_of c lower) (leaves_of c (mapped tree.device.0))
+  parity-within lower there i out =
+      let p = parity-named c v tree is lower there in
+      let third : slice_get (names (verity_target v)) 2 ≡ Some p.parity.device = ap (λ (o : Option Parity). slice_get (v.data ∷ v.hash ∷ map (λ base. base.device) (parity_bases o)) 2) p.has in
+      name-out c loaded tree.device.0 tree.line is.is.line is.is.is i out 2 p.parity.device lower (ap (λ (t : Target). slice_get (names t) 2) is.is.has ∙ third) p.named
 
 -- where the sectors of a device come from
 pub served-within : (c : Configuration) (d s n : ℕ) (source : Source) → IsLoaded c → 0 < n → IsServed c d s n source → AreWithin (source_leaves c source) (leaves_of c (mapped d))

@@ -9,18 +9,21 @@ use Rattle.std.proofs.Math.Path.{fun_ext}
 use Rattle.std.proofs.lemmas.Bool.{cond-true, cond-false, eq-eqb, ne_eqb}
 use Rattle.std.proofs.lemmas.List.{get_or-set_same, get_or-set_other, length-map}
 use Rattle.std.proofs.lemmas.List.FromFn.{fill_by_all, get_or-map-range_with_len}
+use Rattle.dm_table.specs.declared.table.Base.{Base}
 use Rattle.dm_table.specs.declared.table.Line.{Line}
 use Rattle.dm_table.specs.declared.table.Target.{Target}
 use Rattle.dm_table.specs.declared.table.Target.TheVariants.{Crypt, Verity}
 use Rattle.dm_table.specs.declared.crypt.Crypt.{Crypt as CryptRecord}
 use Rattle.dm_table.specs.declared.verity.Verity.{Verity as VerityRecord}
+use Rattle.dm_table.specs.declared.parity.Parity.{Parity}
 use Rattle.stack_loader.specs.declared.cost.Direction.{Direction}
 use Rattle.stack_loader.specs.declared.cost.Direction.TheVariants.{Read, Write}
 use Rattle.stack_rules.specs.declared.lower.Lower.{Lower}
 use Rattle.stack_rules.specs.declared.lower.Lower.TheVariants.{Leaf as leaf, Device as device}
 use Rattle.stack_rules.specs.Records.{Configuration, DeviceRecord}
 use Rattle.stack_rules.specs.Names.{mapped, named, names, lowers_of, lines_of}
-use Rattle.stack_rules.specs.Trees.{block_sectors, path_sectors, verity_of}
+use Rattle.stack_rules.specs.Trees.{block_sectors, path_sectors, mend_sectors, verity_of}
+use Rattle.stack_rules.specs.targets.Verity.{parity_bases, mend_cost}
 use Rattle.stack_rules.specs.Units.{crypt_of, unit_write_cost}
 use Rattle.stack_rules.specs.Descend.{greatest, known, by_name, depth, descend, cost_rule, line_read_cost, line_write_cost, read_cost, write_cost}
 use Rattle.stack_rules.specs.Kept.{each_mapped, meanings}
@@ -70,16 +73,23 @@ unit-one u read write one = cond-true (u == 1) write (u * (read + write)) (eq-eq
 pub unit-more : (u read write : ℕ) → (u ≡ 1 → ⊥) → unit_write_cost u read write ≡ u * (read + write)
 unit-more u read write more = cond-false (u == 1) write (u * (read + write)) (ne_eqb u 1 more)
 
--- the two lower devices of a verity line
+mend-row : (c : Configuration) (below : Lower → ℕ) (row : List Lower) (ns : List (List ℕ)) (verity : VerityRecord) (parity : Option Parity) → Mean c row ns
+    → mend_cost verity parity (map below row) ≡ mend_cost verity parity (map (by_name c 0 below) ns)
+mend-row c below row ns verity None means = refl
+mend-row c below row ns verity (Some parity) means = ap (λ n. mend_sectors verity * n) (sym (names-row c below row ns means))
+
+-- the lower devices of a verity line
 pub line_read_cost-verity : (c : Configuration) (below : Lower → ℕ) (row : List Lower) (verity : VerityRecord) → Mean c row (names (Verity verity))
-    → block_sectors verity * option_map_or below (slice_get row 0) 0 + path_sectors verity * option_map_or below (slice_get row 1) 0 ≡ line_read_cost (by_name c 0 below) (Verity verity)
-line_read_cost-verity c below (l ∷ m ∷ []) verity means =
+    → block_sectors verity * option_map_or below (slice_get row 0) 0 + path_sectors verity * option_map_or below (slice_get row 1) 0 + mend_cost verity verity.parity (map below row) ≡ line_read_cost (by_name c 0 below) (Verity verity)
+line_read_cost-verity c below (l ∷ m ∷ ls) verity means =
     let first : Some l ≡ named c verity.data = cc in
     let second : Some m ≡ named c verity.hash = cc in
-    rw (← first, ← second) refl
+    let restored = mend-row c below (l ∷ m ∷ ls) (names (Verity verity)) verity verity.parity means in
+    ap (λ n. block_sectors verity * n + path_sectors verity * below m + mend_cost verity verity.parity (map below (l ∷ m ∷ ls))) (ap (known 0 below) first)
+    ∙ ap (λ n. block_sectors verity * by_name c 0 below verity.data + path_sectors verity * n + mend_cost verity verity.parity (map below (l ∷ m ∷ ls))) (ap (known 0 below) second)
+    ∙ ap (λ n. block_sectors verity * by_name c 0 below verity.data + path_sectors verity * by_name c 0 below verity.hash + n) restored
 line_read_cost-verity c below [] verity means = let clash : [] ≡ map (named c) (names (Verity verity)) = means in cc
-line_read_cost-verity c below (l ∷ []) verity means = let clash : [] ≡ named c verity.hash ∷ [] = cc in cc
-line_read_cost-verity c below (l ∷ m ∷ n ∷ ls) verity means = let clash : map (λ (lower : Lower). Some lower) (n ∷ ls) ≡ [] = cc in cc
+line_read_cost-verity c below (l ∷ []) verity means = let clash : [] ≡ map (named c) (verity.hash ∷ map (λ (base : Base). base.device) (parity_bases verity.parity)) = cc in cc
 
 -- ---- one device
 

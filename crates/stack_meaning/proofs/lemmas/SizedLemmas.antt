@@ -1,5 +1,5 @@
 -- Sectors that have bytes have 512, and the parts of a span.
-use Rattle.std.proofs.Common.{◌≡◌, ℕ, zero, suc, ◌+◌, ◌-◌, ◌*◌, ◌/◌, ◌%◌, ◌<◌, List, [], ◌++◌, length, get_or, All, take, drop, Option, Some, None, Ok, Err, refl, sym, ap, ◌∙◌, subst, arith, inl, inr}
+use Rattle.std.proofs.Common.{◌≡◌, ℕ, zero, suc, ◌+◌, ◌*◌, ◌/◌, ◌%◌, ◌<◌, List, [], ◌++◌, length, get_or, All, take, drop, Option, Some, None, Ok, Err, refl, sym, ap, ◌∙◌, subst, arith, inl, inr}
 use Rattle.std.proofs.lemmas.List.{get_or_past, length-append, length-drop, length-take-le, length-replicate, take_all, take-append-le}
 use Rattle.std.proofs.Math.Seq.{drop-append-add}
 use Rattle.std.proofs.lemmas.List.Elements.{All-get_or}
@@ -12,11 +12,14 @@ use Rattle.xts_sector.proofs.lemmas.UnitLemmas as xts
 use Rattle.stack_meaning.specs.declared.units.CryptUnits.{CryptUnits}
 use Rattle.stack_meaning.specs.Units.{per_unit, crypt_unit_number, decrypted_unit, unit_part, unit_first}
 use Rattle.stack_meaning.specs.Beneath.{said_or}
+use Rattle.stack_meaning.specs.Spares.{BlockSources, data_spare}
 use Rattle.stack_meaning.specs.Blocks.{hash_sectors, hash_start, next_digest, checked, checked_span, is_ignored, data_block_at, block_below}
 use Rattle.stack_meaning.specs.Said.{Said, none_said, leaf_said}
 use Rattle.stack_meaning.specs.targets.Crypt.{crypt_said}
-use Rattle.stack_meaning.specs.Outcomes.{Images, Outcome, mismatch, changed_outcome, joint_outcome, span, then_outcome, zero_sector, AreWhole}
+use Rattle.stack_meaning.specs.Outcomes.{Images, Outcome, changed_outcome, joint_outcome, span, zero_sector, AreWhole}
+use Rattle.stack_meaning.proofs.lemmas.CheckedLemmas.{checked-is, then-parts}
 use Rattle.stack_meaning.proofs.lemmas.MeaningLaws.{IsSized}
+use Rattle.stack_meaning.proofs.lemmas.SpareLemmas.{healed-from, spare-length}
 use Rattle.stack_meaning.proofs.lemmas.SpanLemmas.{span-add}
 use Rattle.stack_meaning.proofs.lemmas.UnitSizeLemmas.{per_unit-some}
 
@@ -57,33 +60,27 @@ span-part at sized first a n m bytes e =
 
 -- ---- blocks that are checked
 
-pub then-parts : (x : Outcome) (next : List ℕ → Outcome) (bytes : List ℕ) → then_outcome x next ≡ Ok bytes → (b : List ℕ) × (x ≡ Ok b) × (next b ≡ Ok bytes)
-then-parts (Ok b) next bytes e = (b, refl, e)
-then-parts (Err f) next bytes e = cc
-
-checked-is : (salt expected block bytes : List ℕ) → checked salt expected block ≡ Ok bytes → block ≡ bytes
-checked-is salt expected block bytes e = go (Rattle.std.specs.Str.bytes_eq (Rattle.tree_shape.specs.Digests.digest salt block) expected) e
-  where
-    go : (t : Rattle.std.proofs.Common.Bool) → Rattle.std.proofs.Common.cond t (Ok block) (Err mismatch) ≡ Ok bytes → block ≡ bytes
-    go Rattle.std.proofs.Common.true h = cc
-    go Rattle.std.proofs.Common.false h = cc
-
-data-length : (v : Verity) (on_data : ℕ → Outcome) → 512 * block_sectors v ≡ v.data_block → AreSized on_data → (i : ℕ) (expected bytes : List ℕ) → data_block_at v on_data i expected ≡ Ok bytes → length bytes ≡ 512 * block_sectors v
-data-length v on_data whole sized i expected bytes e = elim (cases_Bool (is_ignored v expected)) [
+data-length : (v : Verity) (below : BlockSources) → 512 * block_sectors v ≡ v.data_block → AreSized below.on_data → (i : ℕ) (expected bytes : List ℕ) → data_block_at v below i expected ≡ Ok bytes → length bytes ≡ 512 * block_sectors v
+data-length v below whole sized i expected bytes e = elim (cases_Bool (is_ignored v expected)) [
   | inl zeros ↦
       let both : Ok (zero_block v) ≡ Ok bytes = sym (cond-true _ _ _ zeros) ∙ e in
       let same : zero_block v ≡ bytes = cc in
       ap length (sym same) ∙ length-replicate {A = ℕ} v.data_block 0 ∙ sym whole
   | inr other ↦
-      let read = then-parts (span on_data (block_sectors v * i) (block_sectors v)) (checked v.salt expected) bytes (sym (cond-false _ _ _ other) ∙ e) in
-      ap length (sym (checked-is v.salt expected read.0 bytes read.2)) ∙ span-length on_data sized (block_sectors v * i) (block_sectors v) read.0 read.1
+      let first : ℕ = block_sectors v * i in
+      elim (healed-from (checked_span below.on_data first (block_sectors v) v.salt expected) (data_spare v below v.parity i expected) bytes (sym (cond-false _ _ _ other) ∙ e)) [
+        | inl own ↦
+            let read = then-parts (span below.on_data first (block_sectors v)) (checked v.salt expected) bytes own in
+            ap length (sym (checked-is v.salt expected read.0 bytes read.2)) ∙ span-length below.on_data sized first (block_sectors v) read.0 read.1
+        | inr spare ↦ spare-length v below v.parity i expected bytes spare ∙ sym whole
+      ]
 ]
 
-pub block-length : (v : Verity) (on_data on_hash : ℕ → Outcome) → 512 * block_sectors v ≡ v.data_block → AreSized on_data → (i l : ℕ) (expected bytes : List ℕ) → block_below v on_data on_hash i l expected ≡ Ok bytes → length bytes ≡ 512 * block_sectors v
-block-length v on_data on_hash whole sized i zero expected bytes e = data-length v on_data whole sized i expected bytes e
-block-length v on_data on_hash whole sized i (suc l) expected bytes e =
-    let read = then-parts (checked_span on_hash (hash_start v l i) (hash_sectors v) v.salt expected) (λ block. block_below v on_data on_hash i l (next_digest v l i block)) bytes e in
-    block-length v on_data on_hash whole sized i l (next_digest v l i read.0) bytes read.2
+pub block-length : (v : Verity) (below : BlockSources) → 512 * block_sectors v ≡ v.data_block → AreSized below.on_data → (i l : ℕ) (expected bytes : List ℕ) → block_below v below i l expected ≡ Ok bytes → length bytes ≡ 512 * block_sectors v
+block-length v below whole sized i zero expected bytes e = data-length v below whole sized i expected bytes e
+block-length v below whole sized i (suc l) expected bytes e =
+    let read = then-parts (checked_span below.on_hash (hash_start v l i) (hash_sectors v) v.salt expected) (λ block. block_below v below i l (next_digest v l i block)) bytes e in
+    block-length v below whole sized i l (next_digest v l i read.0) bytes read.2
 
 -- ---- sectors
 

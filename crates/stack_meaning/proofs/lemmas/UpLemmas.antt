@@ -1,5 +1,5 @@
 -- What is said of one sector and of another, and where reads of them stop.
-use Rattle.std.proofs.Common.{◌≡◌, ℕ, ◌+◌, ◌-◌, ◌<◌, ◌≤◌, List, Contains, Result, Ok, Err, sym, ◌∙◌, subst, arith}
+use Rattle.std.proofs.Common.{◌≡◌, ℕ, ◌+◌, ◌-◌, ◌<◌, ◌≤◌, List, Contains, Result, Ok, Err, ◌∙◌, subst, arith}
 use Rattle.std.proofs.Common.{get_or}
 use Rattle.block_device.specs.Device.{Device}
 use Rattle.stack_meaning.specs.declared.fault.IoFault.{IoFault}
@@ -8,7 +8,7 @@ use Rattle.stack_meaning.specs.declared.fault.Fault.{Fault}
 use Rattle.stack_meaning.specs.Outcomes.{LeafSector}
 use Rattle.stack_meaning.specs.Changes.{reached}
 use Rattle.stack_meaning.specs.Meaning.{Said}
-use Rattle.stack_meaning.specs.Stops.{FailedBy, StopsReading, ReadStops}
+use Rattle.stack_meaning.specs.Stops.{FailedBy, ReadStops}
 use Rattle.stack_meaning.proofs.lemmas.ChangeLemmas.{Among, reached-first, reached-later}
 
 -- a fault that the one meets the other meets, and what the one reaches the other reaches

@@ -4,8 +4,9 @@ use Rattle.hash_tree.specs.Chain.{ChainRecord, IsGood}
 use Rattle.block_device.specs.Device.{Device}
 use Rattle.dm_table.specs.declared.verity.Verity.{Verity}
 use Rattle.stack_rules.specs.Trees.{tree_of, block_sectors}
-use Rattle.stack_meaning.specs.Outcomes.{then_outcome, part}
+use Rattle.stack_meaning.specs.Outcomes.{Images, then_outcome, part}
 use Rattle.stack_meaning.specs.Found.{FoundRecord, Entry, found_entry}
+use Rattle.stack_meaning.specs.Spares.{BlockSources}
 use Rattle.stack_meaning.specs.Blocks.{verified_block, BlockMeets}
 use Rattle.stack_meaning.specs.Leaves.{steady_images, AreSteady}
 use Rattle.stack_meaning.specs.Said.{Said}
@@ -22,31 +23,35 @@ pub record IsShown (chains : List FoundRecord) (entry : Entry) (v : Verity) (x :
 abbrev pub content_part : Verity → ℕ → List ℕ → List ℕ
 content_part v s content = part content (s % block_sectors v)
 
+-- the sectors of the three devices of a line over these images, given the semantics of sector t of base i
+abbrev pub sources_over : (ℕ → ℕ → Said) → Images → BlockSources
+sources_over below images = record { on_data = λ t. (below 0 t).means images; on_hash = λ t. (below 1 t).means images; on_parity = λ t. (below 2 t).means images }
+
 -- sector s of a `verity` line, which is line l of device d: that of its data block, verified from the root hash down;
 -- it may be that of a valid chain that was found for it, and no write reaches it
-abbrev pub verity_said : (ℕ → Said) → (ℕ → Said) → ℕ → ℕ → Verity → ℕ → Said
-verity_said on_data on_hash d l v s =
+abbrev pub verity_said : (ℕ → ℕ → Said) → ℕ → ℕ → Verity → ℕ → Said
+verity_said below d l v s =
     let i = s / block_sectors v in
     record {
-      means = λ images. then_outcome (verified_block v (λ t. (on_data t).means images) (λ t. (on_hash t).means images) i) (λ block. Ok (content_part v s block));
+      means = λ images. then_outcome (verified_block v (sources_over below images) i) (λ block. Ok (content_part v s block));
       may = λ chains bytes. (x : FoundRecord) × IsShown chains (d, l, i) v x × (bytes ≡ content_part v s x.chain.content);
-      meets = BlockMeets v (λ t. (on_data t).meets) (λ t. (on_hash t).meets) i;
+      meets = BlockMeets v (λ t. (below 0 t).meets) (λ t. (below 1 t).meets) i;
       entries = (d, l, i) ∷ [];
       reaches = [];
       encrypts = ⊥;
     }
 
 -- a chain of a `verity` line over these leaves: it is valid, and if they are steady its content is the data block
-pub record IsOfVerity (on_data on_hash : ℕ → Said) (these : ℕ → Bool) (leaves : List Device) (v : Verity) (chain : ChainRecord) : Type 0 where
+pub record IsOfVerity (below : ℕ → ℕ → Said) (these : ℕ → Bool) (leaves : List Device) (v : Verity) (chain : ChainRecord) : Type 0 where
   pub good : IsGood (tree_of v) v.salt v.root chain
-  pub exact : AreSteady these leaves → verified_block v (λ t. (on_data t).means (steady_images leaves)) (λ t. (on_hash t).means (steady_images leaves)) chain.index ≡ Ok chain.content
+  pub exact : AreSteady these leaves → verified_block v (sources_over below (steady_images leaves)) chain.index ≡ Ok chain.content
 
 abbrev pub verity_meaning : Verity → TargetMeaning
 verity_meaning line = record {
   meant = own (record {
-    said = λ below d l. verity_said (below 0) (below 1) d l line;
+    said = λ below d l. verity_said below d l line;
     put = λ reads puts s sectors images. done images;
-    keeps = λ below these leaves chain. IsOfVerity (below 0) (below 1) these leaves line chain;
+    keeps = λ below these leaves chain. IsOfVerity below these leaves line chain;
   });
   together = λ s. nat_lt (s % block_sectors line + 1) (block_sectors line);
 }

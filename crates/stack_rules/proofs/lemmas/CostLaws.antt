@@ -51,7 +51,7 @@ dearest-covers [] i = omega arith
 dearest-covers (x ∷ costs) zero = le-max_left x (greatest costs)
 dearest-covers (x ∷ costs) (suc i) = omega (arith, dearest-covers costs i, le-max_right x (greatest costs))
 
-dearest-capped : Caps greatest
+pub dearest-capped : Caps greatest
 dearest-capped k [] [] same = omega arith
 dearest-capped k [] (y ∷ ys) same = absurd same
 dearest-capped k (x ∷ xs) [] same = absurd same

@@ -4,7 +4,7 @@ use Rattle.std.specs.Prelude.{◌==◌}
 use Rattle.std.specs.List.{AllByRecursion, list_any}
 use Rattle.dm_table.specs.declared.table.Line.{Line}
 use Rattle.stack_rules.specs.declared.refusal.LoadKind.{LoadKind}
-use Rattle.stack_rules.specs.declared.refusal.LoadKind.TheVariants.{StripesDontDivide, UnitDoesntDivide, IvOffset, LineBeyondTree, NeedsReadOnly}
+use Rattle.stack_rules.specs.declared.refusal.LoadKind.TheVariants.{StripesDontDivide, UnitDoesntDivide, IvOffset, ParityDoesntCover, LineBeyondTree, NeedsReadOnly}
 use Rattle.stack_rules.specs.FaultKinds.{load_number}
 use Rattle.stack_rules.specs.Records.{Configuration}
 use Rattle.stack_rules.specs.Rules.{line_faults, refuses}
@@ -18,11 +18,11 @@ OfRange P (Some range) = P range.0
 
 -- the kinds of rules that a line asks of its target
 abbrev pub asked_kinds : List LoadKind
-asked_kinds = StripesDontDivide ∷ UnitDoesntDivide ∷ IvOffset ∷ LineBeyondTree ∷ NeedsReadOnly ∷ []
+asked_kinds = StripesDontDivide ∷ UnitDoesntDivide ∷ IvOffset ∷ ParityDoesntCover ∷ LineBeyondTree ∷ NeedsReadOnly ∷ []
 
 -- a line of a device that may be written asks for each of them
 pub asks-each : (c : Configuration) (before : ℕ) (line : Line) → AllByRecursion (λ kind. has_fault kind (line_faults c true before line) ≡ refuses kind line.length line.target) asked_kinds
-asks-each c before line = (refl, (refl, (refl, (refl, (refl, tt)))))
+asks-each c before line = (refl, (refl, (refl, (refl, (refl, (refl, tt))))))
 
 -- the rule is of such a kind, and refuses where it says so
 abbrev pub IsAsked : List (LoadKind × Bool) → LoadKind × Bool → Type 0

@@ -12,7 +12,7 @@ use Rattle.stack_rules.specs.declared.refusal.Refusal.{Refusal}
 use Rattle.stack_rules.specs.Names.{table_sectors}
 use Rattle.stack_rules.specs.Lines.{Follow}
 use Rattle.stack_rules.specs.Descend.{most_devices}
-use Rattle.stack_rules.specs.Rules.{IsValid, first, each_device, device_rules, depth_rules, cost_rules, unknown_names, cycles, table_rules, line_faults, line_rules, refusals_at, refuse, is_too_many, most_lines, most_sectors, is_undivided, cuts_unit, is_off_unit, is_beyond, is_uncovered, is_tree_beyond, needs_read_only, names_read_only}
+use Rattle.stack_rules.specs.Rules.{IsValid, first, each_device, device_rules, depth_rules, cost_rules, unknown_names, cycles, table_rules, line_faults, line_rules, refusals_at, refuse, is_too_many, most_lines, most_sectors, is_undivided, cuts_unit, is_off_unit, is_unprotected, is_beyond, is_uncovered, is_tree_beyond, needs_read_only, names_read_only}
 
 -- two lists in which nothing refuses
 pub parts : (xs ys : List (Option Refusal)) → first (xs ++ ys) ≡ None → (first xs ≡ None) × (first ys ≡ None)
@@ -86,6 +86,7 @@ pub record IsSound (c : Configuration) (writable : Bool) (before : ℕ) (line : 
   pub divides : is_undivided line.length line.target ≡ false
   pub units : cuts_unit line.length line.target ≡ false
   pub offset : is_off_unit line.length line.target ≡ false
+  pub protected : is_unprotected line.length line.target ≡ false
   pub inside : is_beyond c line.length line.target ≡ false
   pub covered : is_uncovered line.length line.target ≡ false
   pub tree : is_tree_beyond c line.target ≡ false
@@ -103,7 +104,7 @@ sound c valid d x device l line there =
     from : (before : ℕ) → first (line_rules c x.writable (d + 1) (l + 1) before line) ≡ None → IsSound c x.writable before line
     from before h =
         let a = faults-none (d + 1) (l + 1) (line_faults c x.writable before line) h in
-        record { some = at_least_one line.length a.0; start = equal line.start before a.1.0; low = Rattle.std.proofs.lemmas.Bool.ltb-false most_sectors (line.start + line.length) a.1.1.0; divides = a.1.1.1.0; units = a.1.1.1.1.0; offset = a.1.1.1.1.1.0; inside = a.1.1.1.1.1.1.0; covered = a.1.1.1.1.1.1.1.0; tree = a.1.1.1.1.1.1.1.1.0; read_only = a.1.1.1.1.1.1.1.1.1.0; lowers = a.1.1.1.1.1.1.1.1.1.1.0 }
+        record { some = at_least_one line.length a.0; start = equal line.start before a.1.0; low = Rattle.std.proofs.lemmas.Bool.ltb-false most_sectors (line.start + line.length) a.1.1.0; divides = a.1.1.1.0; units = a.1.1.1.1.0; offset = a.1.1.1.1.1.0; protected = a.1.1.1.1.1.1.0; inside = a.1.1.1.1.1.1.1.0; covered = a.1.1.1.1.1.1.1.1.0; tree = a.1.1.1.1.1.1.1.1.1.0; read_only = a.1.1.1.1.1.1.1.1.1.1.0; lowers = a.1.1.1.1.1.1.1.1.1.1.1.0 }
 
 -- ---- lines follow each other
 

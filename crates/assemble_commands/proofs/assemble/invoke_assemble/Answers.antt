@@ -105,7 +105,7 @@ returns-in_err-made-clause-err g c =
           opens = c.in_ok-data.ensures.ok;
         };
         is_plan = rw c.sectors-sectors.ensures.size at c.in_ok-plan.ensures.ok;
-        ends = rw c.place_use.ensures at c.in_err-made.ensures.err;
+        ends = rw c.watched_data-data_dev.ensures at (rw c.place_use.ensures at c.in_err-made.ensures.err);
       })),
       refl,
     ))
@@ -136,7 +136,7 @@ returns-in_err-finish-clause-err g c =
                 opens = c.in_ok-data.ensures.ok;
               };
               is_plan = rw c.sectors-sectors.ensures.size at c.in_ok-plan.ensures.ok;
-              fills = rw c.place_use.ensures at c.in_ok-made.ensures.ok;
+              fills = rw c.watched_data-data_dev.ensures at (rw c.place_use.ensures at c.in_ok-made.ensures.ok);
             };
             unpinned = unpinned.0;
           })),
@@ -164,7 +164,7 @@ returns-in_err-finish-clause-err g c =
                 opens = c.in_ok-data.ensures.ok;
               };
               is_plan = rw c.sectors-sectors.ensures.size at c.in_ok-plan.ensures.ok;
-              fills = rw c.place_use.ensures at c.in_ok-made.ensures.ok;
+              fills = rw c.watched_data-data_dev.ensures at (rw c.place_use.ensures at c.in_ok-made.ensures.ok);
             };
             pinned = unprinted.1.1;
           },
@@ -190,7 +190,7 @@ returns-clause-ok g c = record {
       opens = c.in_ok-data.ensures.ok;
     };
     is_plan = rw c.sectors-sectors.ensures.size at c.in_ok-plan.ensures.ok;
-    fills = rw c.place_use.ensures at c.in_ok-made.ensures.ok;
+    fills = rw c.watched_data-data_dev.ensures at (rw c.place_use.ensures at c.in_ok-made.ensures.ok);
   };
   finishes = c.in_ok-finish.ensures.ok;
 }

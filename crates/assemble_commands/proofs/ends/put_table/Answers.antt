@@ -67,6 +67,7 @@ returns-in-Ok-clause-ok g c =
       opened = c.in_ok-image.ensures.ok;
       used = record {
         long = subst (λ (n : ℕ). is_short n plan.parts.sectors ≡ false) c.sectors-sectors.ensures.size (sym c.is_short.ensures ∙ c.if-is_short.false);
+        few = omega (arith, c.sectors-sectors.ensures.size, c.sectors-sectors.ensures.small);
         puts = subst (λ (disk : Disk). PutsEnds device (front_bytes disk (disk_id made) (partitions_of plan made)) (back_sector disk) (back_bytes disk (disk_id made) (partitions_of plan made)) new) c.of-disk.ensures.value
             (puts-same device new _ _ _ _ _ _ (c.deref.ensures.value ∙ c.in_ok-ends.ensures.front) c.back_sector.ensures (c.deref-2.ensures.value ∙ c.in_ok-ends.ensures.back) c.in-Ok.ensures.ok);
       };

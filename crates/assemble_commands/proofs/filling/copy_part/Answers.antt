@@ -26,12 +26,12 @@ returns-then-held-sectors-clause-err g c =
       image = c.in_ok-image.image;
       device' = c.in_ok-image.image.device;
       opened = c.in_ok-image.ensures.ok;
-      fails = (c.args.data_dev.now, inl (omega (arith, c.if-held-sectors.true, c.sectors-held.ensures.size, c.sectors-sectors.ensures.size), refl));
+      fails = (c.args.data_dev.now.inner, inl (omega (arith, c.if-held-sectors.true, c.sectors-held.ensures.size, c.sectors-sectors.ensures.size), refl));
     }))
 
 pub returns-clause-err : goal.returns-clause-err
 returns-clause-err g c =
-    inr (inr (record { image = c.in_ok-image.image; device' = c.copy_synced.new.to; opened = c.in_ok-image.ensures.ok; fails = (c.copy_synced.new.from, inr (c.in-Err.ensures.err, refl)) }))
+    inr (inr (record { image = c.in_ok-image.image; device' = c.copy_synced.new.to; opened = c.in_ok-image.ensures.ok; fails = (c.copy_synced.new.from.inner, inr (c.in-Err.ensures.err, refl)) }))
 
 pub returns-in-Ok-clause-ok : goal.returns-in-Ok-clause-ok
 returns-in-Ok-clause-ok g c = record {

@@ -8,7 +8,7 @@ returns-in_err-image-clause-err g c =
 
 pub returns-clause-err : goal.returns-clause-err
 returns-clause-err g c =
-    inr (record { image = c.in_ok-image.image; device' = c.make.new.hash_dev; opened = c.in_ok-image.ensures.ok; fails = (c.make.new.data_dev, c.in-Err.ensures.err) })
+    inr (record { image = c.in_ok-image.image; device' = c.make.new.hash_dev; opened = c.in_ok-image.ensures.ok; fails = (c.make.new.data_dev.inner, c.in-Err.ensures.err) })
 
 pub returns-in-Ok-clause-ok : goal.returns-in-Ok-clause-ok
 returns-in-Ok-clause-ok g c = record {

@@ -4,7 +4,7 @@ use Rattle.fec_commands.specs.declared.fault.FecFault.TheVariants.{Parity, Verit
 use Rattle.tree_shape.specs.Shape.{ShapeRecord}
 use Rattle.verity_commands.specs.declared.verity_fault.VerityFault.TheVariants.{Image}
 use Rattle.assemble_commands.specs.StepEnds.{IsUnlaid}
-use Rattle.assemble_commands.proofs.EndLemmas.{err-from}
+use Rattle.assemble_commands.proofs.EndLemmas.{err-from, sealed-inner, sealing-inner}
 use Rattle.assemble_commands.proofs.parity.protect_parts.Goals as goal
 
 pub returns-then-not-plan-clause-ok : goal.returns-then-not-plan-clause-ok
@@ -33,7 +33,7 @@ returns-in_default-clause-err g c =
         parity = c.in_ok-parity.parity;
         opens_hash = c.in_ok-hash.ensures.ok;
         opens_parity = c.in_ok-parity.ensures.ok;
-        fails = inl (refl, subst (λ (s : ShapeRecord). IsUnlaid s (state c.args.data_dev.now) (state c.in_ok-hash.hash.device)) c.shape-shape.ensures.value c.in_default.ensures.none);
+        fails = inl (refl, subst (λ (s : ShapeRecord). IsUnlaid s (state c.args.data_dev.now.inner) (state c.in_ok-hash.hash.device)) c.shape-shape.ensures.value c.in_default.ensures.none);
       }),
     )
 
@@ -55,7 +55,7 @@ returns-in_err-write_synced-clause-err g c =
           parity_dev' = c.write_synced.new.parity_dev;
           is = subst (λ (s : ShapeRecord). IsLayoutOf s (state c.in_ok-hash.hash.device).size 2 c.in-Some.layout) c.shape-shape.ensures.value c.in-Some.ensures.is;
           laid = c.in-Some.ensures.laid;
-          ends = c.in_err-write_synced.ensures.err;
+          ends = sealing-inner state (λ w. w.inner) _ c.in-Some.layout _ _ _ _ cause c.in_err-write_synced.ensures.err;
           fault_is = refl;
         });
       }),
@@ -75,6 +75,6 @@ returns-clause-ok g c =
       opens_parity = c.in_ok-parity.ensures.ok;
       is = subst (λ (s : ShapeRecord). IsLayoutOf s (state c.in_ok-hash.hash.device).size 2 c.in-Some.layout) c.shape-shape.ensures.value c.in-Some.ensures.is;
       laid = c.in-Some.ensures.laid;
-      sealed = c.in_ok-write_synced.ensures.ok;
+      sealed = sealed-inner state (λ w. w.inner) _ c.in-Some.layout _ _ _ _ c.in_ok-write_synced.ensures.ok;
       closed = c.close_part.ensures;
     })

@@ -4,7 +4,7 @@ use Rattle.image_commands.specs.declared.fault.ImageFault.TheVariants.{Format}
 use Rattle.tree_shape.specs.Shape.{ShapeRecord}
 use Rattle.verity_format.specs.Image.{image_sectors}
 use Rattle.verity_format.specs.Superblock.{shape_of}
-use Rattle.assemble_commands.specs.Plans.{IsParityCount}
+use Rattle.assemble_commands.specs.Plans.{IsParityCount, padded}
 use Rattle.assemble_commands.proofs.EndLemmas.{err-from}
 use Rattle.assemble_commands.proofs.plan.plan_disk.Goals as goal
 
@@ -32,9 +32,12 @@ returns-clause-ok g c =
     record {
       drawn = rw c.seed_options.ensures at c.in_ok-options.ensures.ok;
       shaped = c.in_ok-superblock.ensures.ok;
+      is_superblock = c.in_ok-superblock.ensures.valid;
       parity_count = parity;
       parity = subst (λ (n : ℕ). IsParityCount shape n c.args.words.now.parity parity) hash (subst (λ (s : ShapeRecord). IsParityCount s c.image_sectors-hash.result c.args.words.now.parity parity) c.shape-shape.ensures.value c.parity_count-parity.ensures);
-      parts = c.disk_parts.ensures ∙ ap (λ (n : ℕ). disk_parts c.args.sectors n parity) hash;
+      parts = c.disk_parts.ensures
+          ∙ ap (λ (n : ℕ). disk_parts n c.image_sectors-hash.result parity) c.padded-data.ensures
+          ∙ ap (λ (n : ℕ). disk_parts (padded c.args.words.now.sector_size c.args.sectors) n parity) hash;
       kinds_are = refl;
       size = c.size_of.ensures;
       has_parity = refl;

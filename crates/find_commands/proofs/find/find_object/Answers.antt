@@ -1,4 +1,4 @@
-use Rattle.std.proofs.Common.{List, inr, refl, subst, arith}
+use Rattle.std.proofs.Common.{List, inr, refl, sym, subst, ◌∙◌}
 use Rattle.std.specs.Prelude.{string_bytes}
 use Rattle.scan_commands.specs.declared.recovering_fault.RecoveringFault.TheVariants.{NoMemory, Write}
 use Rattle.find_commands.specs.declared.finding.Finding.{Finding}
@@ -23,13 +23,13 @@ returns-in_err-line-clause-err g c =
 pub returns-in_err-put-clause-err : goal.returns-in_err-put-clause-err
 returns-in_err-put-clause-err g c = err-from c.from_residual-in_err-put.result _ Write c.from_residual-in_err-put.ensures.1 c.in_err-put.ensures.writes.failed
 
-pub returns-then-counts-gt0-clause-err : goal.returns-then-counts-gt0-clause-err
-returns-then-counts-gt0-clause-err g c =
+pub returns-then-has_missing-clause-err : goal.returns-then-has_missing-clause-err
+returns-then-has_missing-clause-err g c =
     let old = search_sides c.args.device.now c.new-kept.result in
     let new = search_sides c.find_in.new.device c.find_in.new.list in
     let contents = g.W.Write.contents in (
       c.in-Ok.counts,
-      c.if-counts-gt0.true,
+      sym c.has_missing.ensures ∙ c.if-has_missing.true,
       prints-object g.D.BlockDev.state c.args.device.now c.find_in.new.device c.found_line.new.device (contents c.args.writer.now.inner) _ c.find_in.new.list.findings.items _ c.in-Ok.counts
           (string_bytes c.in_ok-line.line) _ (kept-found g.D.BlockDev.state g.D.BlockDev.does old new c.in-Ok.counts c.new-kept.ensures c.in-Ok.ensures.ok) c.as_slice.ensures.value c.in_ok-line.ensures.ok c.as_bytes.ensures.value
           c.in_ok-put.ensures.writes.ok,
@@ -41,7 +41,7 @@ returns-clause-ok g c =
     let new = search_sides c.find_in.new.device c.find_in.new.list in
     let contents = g.W.Write.contents in (
       c.in-Ok.counts,
-      omega (arith, c.if-counts-gt0.false),
+      sym c.has_missing.ensures ∙ c.if-has_missing.false,
       prints-object g.D.BlockDev.state c.args.device.now c.find_in.new.device c.found_line.new.device (contents c.args.writer.now.inner) _ c.find_in.new.list.findings.items _ c.in-Ok.counts
           (string_bytes c.in_ok-line.line) _ (kept-found g.D.BlockDev.state g.D.BlockDev.does old new c.in-Ok.counts c.new-kept.ensures c.in-Ok.ensures.ok) c.as_slice.ensures.value c.in_ok-line.ensures.ok c.as_bytes.ensures.value
           c.in_ok-put.ensures.writes.ok,

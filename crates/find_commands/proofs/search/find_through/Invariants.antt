@@ -6,7 +6,7 @@ use Rattle.find_commands.proofs.search.find_through.Given as goal
 -- the sectors before this one were read or are lost
 abbrev pub invariant-pieces : goal.invariant-pieces
 invariant-pieces g l = record {
-  so_far : IsSearch (DeviceDoes g.D.BlockDev.state g.D.BlockDev.does) g.L.FindingList.receives (search_sides l.fn.device l.fn.list) (search_sides l.device l.list) l.position.at l.position.lost;
+  so_far : IsSearch (DeviceDoes g.D.BlockDev.state g.D.BlockDev.does) g.L.FindingList.receives (search_sides l.fn.device l.fn.list) (search_sides l.device l.list) l.position.at l.position.lost l.header;
   all : l.sectors ≡ (g.D.BlockDev.state l.fn.device).size;
   same : (g.D.BlockDev.state l.device).size ≡ l.sectors;
   within : l.position.at ≤ l.sectors;

@@ -1,4 +1,4 @@
-use Rattle.std.proofs.Common.{◌≡◌, ◌∙◌, ℕ, false, inl, refl, sym, subst, rules}
+use Rattle.std.proofs.Common.{◌≡◌, ◌∙◌, ℕ, false, inl, refl, sym, subst, arith, rules}
 use Rattle.std.proofs.lemmas.Result.{IfOk-weaker}
 use Rattle.serde_json.specs.Data.{null}
 use Rattle.serde_json.specs.View.{view}
@@ -7,10 +7,15 @@ use Rattle.find_commands.specs.Luks.{has_area, header_size}
 use Rattle.find_commands.proofs.AreaLemmas.{area-fits, segments-sought, segments-tried}
 use Rattle.find_commands.proofs.segments.find_segments.Goals as goal
 
+pub area_first-requires : goal.area_first-requires
+area_first-requires g c =
+    let f = c.args.finding.now in
+    omega (arith, (area-fits c.sectors-sectors.result f.sector (header_size f.checksum f.size) (sym c.has_area.ensures ∙ c.if-has_area.true)).2, c.sectors-sectors.ensures.small)
+
 pub seek_segments-requires : goal.seek_segments-requires
 seek_segments-requires g c =
     let f = c.args.finding.now in
-    rw (c.area_first.ensures, c.area_sectors.ensures, sym c.sectors-sectors.ensures.size) (area-fits c.sectors-sectors.result f.offset (header_size f.kind f.size) (sym c.has_area.ensures ∙ c.if-has_area.true))
+    rw (c.area_first.ensures, c.area_sectors.ensures, sym c.sectors-sectors.ensures.size) (area-fits c.sectors-sectors.result f.sector (header_size f.checksum f.size) (sym c.has_area.ensures ∙ c.if-has_area.true))
 
 pub returns-then-has_area-clause-ok : goal.returns-then-has_area-clause-ok
 returns-then-has_area-clause-ok g c =

@@ -10,7 +10,7 @@ returns-in_err-named-clause-err g c =
 pub returns-then-named-clause-ok : goal.returns-then-named-clause-ok
 returns-then-named-clause-ok g c =
     let named = rw c.if-named.true at c.in_ok-named.ensures.ok in
-    on_ok_weaker c.grow_file.result (λ grown. inl (record { between = c.names_file.new.images; named = named; grown = grown })) c.grow_file.ensures.ok
+    on_ok_weaker c.grow_file.result (λ resized. inl (record { between = c.names_file.new.images; named = named; resized = resized })) c.grow_file.ensures.ok
 
 pub returns-then-named-clause-err : goal.returns-then-named-clause-err
 returns-then-named-clause-err g c =

@@ -1,4 +1,4 @@
-use Rattle.std.proofs.Common.{arith, inl, inr, sym, ◌∙◌}
+use Rattle.std.proofs.Common.{arith, inl, inr, refl, sym, ◌∙◌}
 use Rattle.stack_rules.specs.Names.{mapped}
 use Rattle.stack_meaning.specs.Meaning.{said_at}
 use Rattle.stack_meaning.proofs.lemmas.LoadedLemmas.{size-small}
@@ -13,7 +13,7 @@ pub loop-run-init : goal.loop-run-init
 loop-run-init c = let first = c.device_extent-extent.ensures in record { extent = first; runs = omega (arith, first.some) }
 
 pub returns-then-extent-most : goal.returns-then-extent-most
-returns-then-extent-most c = record { told = c.loop-run.invariant.extent; ends = inl (omega (arith, c.if-extent-most.true)) }
+returns-then-extent-most c = record { told = c.loop-run.invariant.extent; ends = inl (omega (arith, c.if-extent-most.true)); joined = omega (arith, c.loop-run.invariant.runs) }
 
 pub returns-then-not-is_same_kind : goal.returns-then-not-is_same_kind
 returns-then-not-is_same_kind c =
@@ -23,7 +23,8 @@ returns-then-not-is_same_kind c =
     let next = c.device_extent-next in
     record {
       told = c.loop-run.invariant.extent;
-      ends = ends-before (said_at config d) (HasKind config d) c.args.first c.args.most extent next.result next.ensures (sym c.is_same_kind.ensures ∙ c.if-not-is_same_kind.true);
+      ends = ends-before (said_at config d) (HasKind config d) c.args.first c.args.most extent next.result _ next.ensures (sym c.is_same_kind.ensures ∙ c.if-not-is_same_kind.true);
+      joined = omega (arith, c.loop-run.invariant.runs);
     }
 
 pub loop-run-preserved : goal.loop-run-preserved
@@ -40,4 +41,4 @@ loop-run-preserved c =
     }
 
 pub returns : goal.returns
-returns c = record { told = c.loop-run.invariant.extent; ends = inr (inl (omega (arith, c.loop-run.invariant.runs))) }
+returns c = record { told = c.loop-run.invariant.extent; ends = inr (inl refl); joined = omega (arith, c.loop-run.invariant.runs, c.requires.some) }

@@ -1,4 +1,4 @@
-use Rattle.std.proofs.Common.{◌<◌}
+use Rattle.std.proofs.Common.{◌≤◌}
 use Rattle.stack_rules.specs.Names.{mapped}
 use Rattle.stack_meaning.specs.Meaning.{said_at}
 use Rattle.nbd_server.specs.Extents.{HasKind, IsToldExtent}
@@ -8,5 +8,5 @@ use Rattle.nbd_server.proofs.extent.extent_at.Given as goal
 abbrev pub invariant-loop-run : goal.invariant-loop-run
 invariant-loop-run l = record {
   extent : IsToldExtent (said_at l.config (mapped l.d.0)) (HasKind l.config (mapped l.d.0)) l.first l.most l.extent;
-  runs : l._run < l.extent.count;
+  runs : l.run ≤ l.extent.count;
 }

@@ -7,8 +7,9 @@ use Rattle.nbd_server.specs.declared.failure.Failure.{Failure}
 use Rattle.nbd_protocol.specs.Exports.{export_record}
 use Rattle.nbd_protocol.specs.Headers.{command_of}
 use Rattle.nbd_protocol.specs.Streaming.{IsShort}
-use Rattle.nbd_server.specs.Transmission.{ServesCommand, WritesGiven, data_outcome, no_bytes}
-use Rattle.nbd_server.proofs.ByteLemmas.{bare-other, served-bare, served-write, settled, unsettled, write-payload}
+use Rattle.nbd_server.specs.Failures.{write_failure}
+use Rattle.nbd_server.specs.Transmission.{ReportsSpace, ServesCommand, WritesGiven, data_outcome, no_bytes}
+use Rattle.nbd_server.proofs.ByteLemmas.{bare-other, reports-done, reports-failed, served-bare, served-write, settled, unsettled, write-payload}
 use Rattle.nbd_server.proofs.transmission.serve_request.Goals as goal
 
 -- ---- a command that no bytes follow
@@ -67,7 +68,7 @@ returns-in-Ok-2-clause-ok g c =
       size = p.1 ∙ sym (write-payload w.offset w.length w.fua e a h command);
       consumed = p.2;
       serves = served-write e a c.args.queue.now c.settle.new.queue h w.offset w.length w.fua p.0 (data_outcome c.settle.result) command
-          (settled w.fua does c.take_write.new.queue c.settle.new.queue (data_outcome c.settle.result) given c.settle.ensures.value);
+          (settled w.fua (ReportsSpace does) c.take_write.new.queue c.settle.new.queue (data_outcome c.settle.result) (reports-done does c.take_write.new.queue given) c.settle.ensures.value);
       inside = c.settle.ensures.inside;
     }
 
@@ -79,6 +80,7 @@ returns-in-Err-2-clause-ok g c =
     let w = c.in-Write in
     let p = c.in_ok-take_write-in-Write.ensures.ok in
     let error = c.in-Err-2.error in
+    let w' = c.take_write.new.queue in
     let command : command_of e a h ≡ Ok (Write w.offset w.length w.fua) = sym c.command.ensures.value ∙ c.in-Ok.is ∙ ap Ok w.is in
     let does = WritesGiven e c.args.queue.now w.offset p.0 in
     let given : does (Err error) c.take_write.new.queue = subst (λ (r : Result Unit Failure). does (no_bytes r) c.take_write.new.queue) c.in-Err-2.is p.3 in
@@ -86,6 +88,7 @@ returns-in-Err-2-clause-ok g c =
       payload = p.0;
       size = p.1 ∙ sym (write-payload w.offset w.length w.fua e a h command);
       consumed = p.2;
-      serves = served-write e a c.args.queue.now c.take_write.new.queue h w.offset w.length w.fua p.0 (Err error) command (unsettled w.fua does c.take_write.new.queue error given);
+      serves = rw (c.of_write.ensures, c.stack.ensures) (served-write e a c.args.queue.now w' h w.offset w.length w.fua p.0 (Err (write_failure w'.stack.leaves error)) command
+          (unsettled w.fua (ReportsSpace does) w' (write_failure w'.stack.leaves error) (reports-failed does w' error given)));
       inside = tt;
     }

@@ -1,5 +1,6 @@
 use Rattle.std.proofs.Common.{◌∙◌, arith, refl, inl, inr, subst, sym}
 use Rattle.nbd_protocol.specs.Exports.{export_record}
+use Rattle.nbd_server.specs.Extents.{most_runs}
 use Rattle.nbd_server.specs.Status.{HasLineStatus, TouchKind}
 use Rattle.nbd_server.specs.declared.extent.ExtentKind.{ExtentKind}
 use Rattle.nbd_server.specs.declared.extent.ExtentKind.TheVariants as known
@@ -54,7 +55,7 @@ returns-clause-ok g c =
     let extent = c.bytes_at-extent.result in
     let is = rw (c.config.ensures.value, c.stack.ensures) at c.bytes_at-extent.ensures in
     let differs = kind-other extent.kind known.IgnoresZeros (sym c.is_same_kind.ensures ∙ c.if-is_same_kind.false) in
-    let begins = extent-begins w.stack.config e at c.args.len extent is in
+    let begins = extent-begins w.stack.config e most_runs at c.args.len extent is in
     ok-as c.status_of.result (λ told. HasLineStatus w.stack.config e at c.args.len c.args.one told.items) (λ told. TellsExtents e w at c.args.len c.args.one told.items w)
     (λ told p. inl (record { other = (extent.kind, differs, begins); status = p; same = refl })) (rw (c.config-2.ensures.value, c.stack-2.ensures) at c.status_of.ensures.ok)
 

@@ -1,16 +1,18 @@
 use Rattle.std.proofs.Common.{replicate}
-use Rattle.std.proofs.lemmas.Result.{err_from_is_err_and}
 use Rattle.nbd_protocol.specs.Exports.{export_record}
-use Rattle.nbd_server.specs.Transmission.{WritesAny, data_outcome}
-use Rattle.nbd_server.proofs.ByteLemmas.{settled, unsettled}
+use Rattle.nbd_server.specs.Failures.{write_failure}
+use Rattle.nbd_server.specs.Transmission.{ReportsSpace, WritesAny, data_outcome}
+use Rattle.nbd_server.proofs.ByteLemmas.{reports-done, reports-failed, settled, unsettled}
 use Rattle.nbd_server.proofs.transmission.zero.Goals as goal
 
-pub returns-in_err-write_zeros-clause-value : goal.returns-in_err-write_zeros-clause-value
-returns-in_err-write_zeros-clause-value g c =
-    let p = err_from_is_err_and c.from_residual.result c.from_residual.ensures.1 in
-    rw (p.1, p.2) (unsettled c.args.fua (WritesAny (export_record c.args.export.now) c.args.queue.now c.args.offset (replicate c.args.len 0)) c.write_zeros.new.queue c.in_err-write_zeros.field-0.0 c.in_err-write_zeros.ensures)
+pub returns-in-Err-clause-value : goal.returns-in-Err-clause-value
+returns-in-Err-clause-value g c =
+    let does = WritesAny (export_record c.args.export.now) c.args.queue.now c.args.offset (replicate c.args.len 0) in
+    let w' = c.write_zeros.new.queue in
+    let error = c.in-Err.error in
+    rw (c.of_write.ensures, c.stack.ensures) (unsettled c.args.fua (ReportsSpace does) w' (write_failure w'.stack.leaves error) (reports-failed does w' error c.in-Err.ensures))
 
-pub returns-clause-value : goal.returns-clause-value
-returns-clause-value g c =
-    settled c.args.fua (WritesAny (export_record c.args.export.now) c.args.queue.now c.args.offset (replicate c.args.len 0)) c.write_zeros.new.queue c.settle.new.queue (data_outcome c.settle.result)
-    c.in_ok-write_zeros.ensures c.settle.ensures.value
+pub returns-in-Ok-clause-value : goal.returns-in-Ok-clause-value
+returns-in-Ok-clause-value g c =
+    let does = WritesAny (export_record c.args.export.now) c.args.queue.now c.args.offset (replicate c.args.len 0) in
+    settled c.args.fua (ReportsSpace does) c.write_zeros.new.queue c.settle.new.queue (data_outcome c.settle.result) (reports-done does c.write_zeros.new.queue c.in-Ok.ensures) c.settle.ensures.value

@@ -34,21 +34,21 @@ loop-run-preserved c =
     let run : Run = get_or runs i (record { count = 0; had = false }) in
     let front : List Run = take i runs in (
       c.in_ok-print_run.ensures.ok
-          ∙ ap (λ (t : List ℕ). t ++ map_run_text c.args.tried c.loop-run.at run) c.loop-run.invariant.0
-          ∙ ap (λ (n : ℕ). map_text c.args.kind c.args.tried front ++ map_run_text c.args.tried n run) c.loop-run.invariant.1
-          ∙ map_text-push c.args.kind c.args.tried front run
-          ∙ ap (map_text c.args.kind c.args.tried) (sym (take_more runs i (record { count = 0; had = false }) c.loop-run-test.true)),
+          ∙ ap (λ (t : List ℕ). t ++ map_run_text c.args.no_scrape c.args.tried c.loop-run.at run) c.loop-run.invariant.0
+          ∙ ap (λ (n : ℕ). map_text c.args.kind c.args.no_scrape c.args.tried front ++ map_run_text c.args.no_scrape c.args.tried n run) c.loop-run.invariant.1
+          ∙ map_text-push c.args.kind c.args.no_scrape c.args.tried front run
+          ∙ ap (map_text c.args.kind c.args.no_scrape c.args.tried) (sym (take_more runs i (record { count = 0; had = false }) c.loop-run-test.true)),
       ap (λ (n : ℕ). n + run.count) c.loop-run.invariant.1 ∙ sym (length-take runs i (record { count = 0; had = false }) c.loop-run-test.true),
     )
 
 pub returns-clause-reads_back : goal.returns-clause-reads_back
 returns-clause-reads_back c =
     let items = c.runs-run-items.ensures in
-    ap (map_of (length (marks c.args.map.now))) (c.loop-run.invariant.0 ∙ ap (map_text c.args.kind c.args.tried) (take_all _ _ c.loop-run-test.false ∙ items.value))
-    ∙ map-read c.args.kind c.args.tried c.args.map.now items.whole
+    ap (map_of (length (marks c.args.map.now))) (c.loop-run.invariant.0 ∙ ap (map_text c.args.kind c.args.no_scrape c.args.tried) (take_all _ _ c.loop-run-test.false ∙ items.value))
+    ∙ map-read c.args.kind c.args.no_scrape c.args.tried c.args.map.now items.whole
 
 pub returns-clause-kind : goal.returns-clause-kind
 returns-clause-kind c =
     let items = c.runs-run-items.ensures in
-    ap kind_of (c.loop-run.invariant.0 ∙ ap (map_text c.args.kind c.args.tried) (take_all _ _ c.loop-run-test.false ∙ items.value))
-    ∙ map-kind c.args.kind c.args.tried c.args.map.now items.whole
+    ap kind_of (c.loop-run.invariant.0 ∙ ap (map_text c.args.kind c.args.no_scrape c.args.tried) (take_all _ _ c.loop-run-test.false ∙ items.value))
+    ∙ map-kind c.args.kind c.args.no_scrape c.args.tried c.args.map.now items.whole

@@ -1,10 +1,12 @@
 use Rattle.std.proofs.Common.{◌≤◌, ◌<◌, ℕ, inl, inr, length, sym, refl, ap, subst, ◌∙◌}
 use Rattle.image_files.specs.Opener.{calls}
+use Rattle.rescue_map.specs.declared.totals.Totals.{Totals}
 use Rattle.stack_rules.specs.Names.{mapped, size}
 use Rattle.stack_rules.specs.Records.{Configuration}
+use Rattle.stack_recovery.specs.PassPieces.{Scanned, scanned}
 use Rattle.stack_recovery.specs.Recoveries.{sides}
 use Rattle.scan_commands.specs.MapFiles.{IsMapRead, IsMapUnread, map_path_of}
-use Rattle.scan_commands.specs.PassesInTurns.{EndsRetries, RetriesInTurns, after_turns, phase_after}
+use Rattle.scan_commands.specs.PassesInTurns.{EndsRetries, RetriesInTurns, after_turns, counts_of, phase_after}
 use Rattle.scan_commands.specs.Turns.{kept, progressed}
 use Rattle.scan_commands.proofs.RetryTurnLemmas.{ended-turns, whole-turns}
 use Rattle.scan_commands.proofs.TurnLemmas.{err-from}
@@ -65,10 +67,11 @@ pub returns-in_err-tried-clause-err : goal.returns-in_err-tried-clause-err
 returns-in_err-tried-clause-err g c =
     let all = c.sectors-sectors.ensures ∙ ap (λ (x : Configuration). size x (mapped c.args.passing.now.device.0)) c.config.ensures.value in
     let d : ℕ = c.args.passing.now.device.0 in
+    let scan : Scanned = scanned d c.args.passing.now.no_scrape in
     let replaces = g.I.Images.relations.replaces in
     let file = map_path_of c.args.file in
     let skimmed = c.in_ok-skimmed.ensures.goes_on in
-    let between = progressed c.read_in_turns.new.images (sides c.read_in_turns.new.stack (g.O.BlockDev.state c.read_in_turns.new.out) (g.L.Listing.told c.read_in_turns.new.listing)) c.in_ok-skimmed.skimmed (size c.args.passing.now.stack.config (mapped d)) in
+    let between = progressed c.read_in_turns.new.images (sides c.read_in_turns.new.stack (g.O.BlockDev.state c.read_in_turns.new.out) (g.L.Listing.told c.read_in_turns.new.listing)) c.in_ok-skimmed.skimmed.map (size c.args.passing.now.stack.config (mapped d)) c.in_ok-skimmed.skimmed.untried in
     err-from c.from_residual-in_err-tried.result _ c.in_err-tried.field-0.0 c.from_residual-in_err-tried.ensures.1
     (inr (record {
       runs = c.in_ok-map.map;
@@ -78,8 +81,8 @@ returns-in_err-tried-clause-err g c =
         between = between;
         skims = c.in_ok-skimmed.ensures.ok;
         later = inl (
-          subst (λ (x : Configuration). EndsRetries (kept replaces file d (size x (mapped d))) c.args.passing.now.retries
-              (after_turns c.read_in_turns.new.images c.read_in_turns.new.stack (g.O.BlockDev.state c.read_in_turns.new.out) c.in_ok-skimmed.skimmed)
+          subst (λ (x : Configuration). EndsRetries (kept replaces file scan (size x (mapped d))) c.args.passing.now.retries
+              (after_turns c.read_in_turns.new.images c.read_in_turns.new.stack (g.O.BlockDev.state c.read_in_turns.new.out) c.in_ok-skimmed.skimmed.map)
               c.retry_in_turns.new.images c.retry_in_turns.new.passing.stack (g.O.BlockDev.state c.retry_in_turns.new.passing.out) c.in_err-tried.field-0.0) skimmed.config c.in_err-tried.ensures.err,
           refl,
         );
@@ -90,13 +93,14 @@ pub returns-in_err-rescued-clause-err : goal.returns-in_err-rescued-clause-err
 returns-in_err-rescued-clause-err g c =
     let all = c.sectors-sectors.ensures ∙ ap (λ (x : Configuration). size x (mapped c.args.passing.now.device.0)) c.config.ensures.value in
     let d : ℕ = c.args.passing.now.device.0 in
+    let scan : Scanned = scanned d c.args.passing.now.no_scrape in
     let replaces = g.I.Images.relations.replaces in
     let file = map_path_of c.args.file in
     let skimmed = c.in_ok-skimmed.ensures.goes_on in
-    let between = progressed c.read_in_turns.new.images (sides c.read_in_turns.new.stack (g.O.BlockDev.state c.read_in_turns.new.out) (g.L.Listing.told c.read_in_turns.new.listing)) c.in_ok-skimmed.skimmed (size c.args.passing.now.stack.config (mapped d)) in
+    let between = progressed c.read_in_turns.new.images (sides c.read_in_turns.new.stack (g.O.BlockDev.state c.read_in_turns.new.out) (g.L.Listing.told c.read_in_turns.new.listing)) c.in_ok-skimmed.skimmed.map (size c.args.passing.now.stack.config (mapped d)) c.in_ok-skimmed.skimmed.untried in
     let left = c.in_ok-tried.ensures.left in
     let after = after_turns c.retry_in_turns.new.images c.retry_in_turns.new.passing.stack (g.O.BlockDev.state c.retry_in_turns.new.passing.out) c.in_ok-tried.tried.map in
-    let again = subst (λ (x : Configuration). RetriesInTurns (kept replaces file d (size x (mapped d))) c.args.passing.now.retries (after_turns c.read_in_turns.new.images c.read_in_turns.new.stack (g.O.BlockDev.state c.read_in_turns.new.out) c.in_ok-skimmed.skimmed)
+    let again = subst (λ (x : Configuration). RetriesInTurns (kept replaces file scan (size x (mapped d))) c.args.passing.now.retries (after_turns c.read_in_turns.new.images c.read_in_turns.new.stack (g.O.BlockDev.state c.read_in_turns.new.out) c.in_ok-skimmed.skimmed.map)
     c.in_ok-tried.tried.passes after) skimmed.config c.in_ok-tried.ensures.ok in
     err-from c.from_residual-in_err-rescued.result _ c.in_err-rescued.field-0.0 c.from_residual-in_err-rescued.ensures.1
     (inr (record {
@@ -110,7 +114,7 @@ returns-in_err-rescued-clause-err g c =
           left = after;
           passes = c.in_ok-tried.tried.passes;
           again = again;
-          ends = ended-turns replaces file d _ _ (phase_after c.in_ok-tried.tried.passes) _ _ _ _ _ (left.config ∙ skimmed.config) c.phase_after.ensures c.in_err-rescued.ensures.err;
+          ends = ended-turns replaces file scan _ _ (phase_after c.in_ok-tried.tried.passes) _ _ _ _ _ (left.config ∙ skimmed.config) c.phase_after.ensures c.in_err-rescued.ensures.err;
         });
       });
     }))
@@ -119,16 +123,16 @@ pub returns-clause-ok : goal.returns-clause-ok
 returns-clause-ok g c =
     let all = c.sectors-sectors.ensures ∙ ap (λ (x : Configuration). size x (mapped c.args.passing.now.device.0)) c.config.ensures.value in
     let d : ℕ = c.args.passing.now.device.0 in
+    let scan : Scanned = scanned d c.args.passing.now.no_scrape in
     let replaces = g.I.Images.relations.replaces in
     let file = map_path_of c.args.file in
     let skimmed = c.in_ok-skimmed.ensures.goes_on in
-    let between = progressed c.read_in_turns.new.images (sides c.read_in_turns.new.stack (g.O.BlockDev.state c.read_in_turns.new.out) (g.L.Listing.told c.read_in_turns.new.listing)) c.in_ok-skimmed.skimmed (size c.args.passing.now.stack.config (mapped d)) in
+    let between = progressed c.read_in_turns.new.images (sides c.read_in_turns.new.stack (g.O.BlockDev.state c.read_in_turns.new.out) (g.L.Listing.told c.read_in_turns.new.listing)) c.in_ok-skimmed.skimmed.map (size c.args.passing.now.stack.config (mapped d)) c.in_ok-skimmed.skimmed.untried in
     let left = c.in_ok-tried.ensures.left in
     let after = after_turns c.retry_in_turns.new.images c.retry_in_turns.new.passing.stack (g.O.BlockDev.state c.retry_in_turns.new.passing.out) c.in_ok-tried.tried.map in
-    let again = subst (λ (x : Configuration). RetriesInTurns (kept replaces file d (size x (mapped d))) c.args.passing.now.retries (after_turns c.read_in_turns.new.images c.read_in_turns.new.stack (g.O.BlockDev.state c.read_in_turns.new.out) c.in_ok-skimmed.skimmed)
+    let again = subst (λ (x : Configuration). RetriesInTurns (kept replaces file scan (size x (mapped d))) c.args.passing.now.retries (after_turns c.read_in_turns.new.images c.read_in_turns.new.stack (g.O.BlockDev.state c.read_in_turns.new.out) c.in_ok-skimmed.skimmed.map)
     c.in_ok-tried.tried.passes after) skimmed.config c.in_ok-tried.ensures.ok in
     record {
-      totals = c.totals_of.result;
       runs = c.in_ok-map.map;
       between = c.read_map.new.images;
       read = subst (λ (n : ℕ). IsMapRead (calls g.I.Images.relations g.I.Dev.BlockDev.state c.args.images.now c.read_map.new.images) file n c.in_ok-map.map) all c.in_ok-map.ensures.ok;
@@ -136,11 +140,10 @@ returns-clause-ok g c =
         between = between;
         passes = c.in_ok-tried.tried.passes;
         left = after;
-        runs = c.in_ok-rescued.rescued;
+        made = c.in_ok-rescued.rescued;
         skims = c.in_ok-skimmed.ensures.ok;
         again = again;
-        rescues = whole-turns replaces file d _ _ (phase_after c.in_ok-tried.tried.passes) _ _ _ _ _ (left.config ∙ skimmed.config) c.phase_after.ensures c.in_ok-rescued.ensures.ok;
-        counted = c.totals_of.ensures;
+        rescues = whole-turns replaces file scan _ _ (phase_after c.in_ok-tried.tried.passes) _ _ _ _ _ (left.config ∙ skimmed.config) c.phase_after.ensures c.in_ok-rescued.ensures.ok;
+        counted = c.counts_of.ensures ∙ ap (λ (t : Totals). counts_of t c.in_ok-rescued.rescued.untried) c.totals_of.ensures;
       };
-      counted = c.counts_of.ensures;
     }

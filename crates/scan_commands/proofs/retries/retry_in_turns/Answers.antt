@@ -1,6 +1,7 @@
 use Rattle.std.proofs.Common.{◌≡◌, ◌≤◌, ◌<◌, ℕ, suc, IsTrue, length, inl, inr, refl, sym, ap, ◌∙◌, subst, arith}
 use Rattle.stack_rules.specs.Names.{mapped, size}
 use Rattle.stack_rules.specs.Records.{Configuration}
+use Rattle.stack_recovery.specs.PassPieces.{Scanned, scanned}
 use Rattle.stack_recovery.specs.Retries.{no_step}
 use Rattle.stack_recovery.proofs.lemmas.StepLemmas.{more-steps}
 use Rattle.scan_commands.specs.MapFiles.{map_path_of}
@@ -36,14 +37,15 @@ pub passes-preserved : goal.passes-preserved
 passes-preserved g c =
     let u = c.passes.invariant in
     let d : ℕ = c.args.passing.now.device.0 in
+    let scan : Scanned = scanned d c.args.passing.now.no_scrape in
     let file = map_path_of c.args.file in
     let replaces = g.I.Images.relations.replaces in
-    let goes = c.in_ok-left.ensures.goes_on in
+    let goes = c.in_ok-read.ensures.goes_on in
     let now = after_turns c.passes.images c.passes.passing.stack (g.O.BlockDev.state c.passes.passing.out) c.passes.left in
-    let next = after_turns c.read_in_turns.new.images c.read_in_turns.new.stack (g.O.BlockDev.state c.read_in_turns.new.out) c.in_ok-left.left in
+    let next = after_turns c.read_in_turns.new.images c.read_in_turns.new.stack (g.O.BlockDev.state c.read_in_turns.new.out) c.in_ok-read.read.map in
     record {
-      steps = more-steps (IsSilentTurns (kept replaces file d (size c.args.passing.now.stack.config (mapped d)))) _ c.passes.passes _ now next (omega arith) u.steps
-          (_, _, whole-turns replaces file d _ _ (phase_after c.passes.passes) _ _ _ _ _ u.left.config c.phase_after.ensures c.in_ok-left.ensures.ok);
+      steps = more-steps (IsSilentTurns (kept replaces file scan (size c.args.passing.now.stack.config (mapped d)))) _ c.passes.passes _ now next (omega arith) u.steps
+          (_, _, c.in_ok-read.read.untried, whole-turns replaces file scan _ _ (phase_after c.passes.passes) _ _ _ _ _ u.left.config c.phase_after.ensures c.in_ok-read.ensures.ok);
       few = omega (arith, c.passes-test.true);
       left = record {
         map = goes.map ∙ ap (λ (x : Configuration). size x (mapped d)) u.left.config;
@@ -53,18 +55,19 @@ passes-preserved g c =
       };
     }
 
-pub returns-in_err-left-clause-err : goal.returns-in_err-left-clause-err
-returns-in_err-left-clause-err g c =
+pub returns-in_err-read-clause-err : goal.returns-in_err-read-clause-err
+returns-in_err-read-clause-err g c =
     let u = c.passes.invariant in
     let d : ℕ = c.args.passing.now.device.0 in
+    let scan : Scanned = scanned d c.args.passing.now.no_scrape in
     let file = map_path_of c.args.file in
     let replaces = g.I.Images.relations.replaces in
-    err-from c.from_residual.result _ c.in_err-left.field-0.0 c.from_residual.ensures.1 (record {
+    err-from c.from_residual.result _ c.in_err-read.field-0.0 c.from_residual.ensures.1 (record {
       left = after_turns c.passes.images c.passes.passing.stack (g.O.BlockDev.state c.passes.passing.out) c.passes.left;
       passes = c.passes.passes;
       before = _;
       after = _;
       steps = u.steps;
       few = omega (arith, c.passes-test.true);
-      ends = ended-turns replaces file d _ _ (phase_after c.passes.passes) _ _ _ _ _ u.left.config c.phase_after.ensures c.in_err-left.ensures.err;
+      ends = ended-turns replaces file scan _ _ (phase_after c.passes.passes) _ _ _ _ _ u.left.config c.phase_after.ensures c.in_err-read.ensures.err;
     })

@@ -4,9 +4,10 @@ use Rattle.stack_rules.specs.Records.{Configuration}
 use Rattle.stack_rules.proofs.lemmas.PassingLemmas.{out_of_memory-more}
 use Rattle.stack_meaning.specs.Memory.{largest_allocation}
 use Rattle.scan_commands.specs.declared.rescue_fault.PassFault.TheVariants.{NoMemory}
+use Rattle.stack_recovery.specs.PassPieces.{scanned}
 use Rattle.stack_recovery.specs.Recoveries.{sides}
 use Rattle.scan_commands.specs.MapFiles.{map_path_of}
-use Rattle.scan_commands.specs.Turns.{begins, goes_on, passes}
+use Rattle.scan_commands.specs.Turns.{begins, goes_on, passes, made_map}
 use Rattle.scan_commands.proofs.TurnLemmas.{ends-as, err-from, turn-config, turn-out, whole-as}
 use Rattle.scan_commands.proofs.turns.read_in_turns.Goals.{then-is_had, else-is_had+in_ok-ended}
 use Rattle.scan_commands.proofs.turns.read_in_turns.Goals as goal
@@ -28,14 +29,14 @@ pub returns-in_err-wanted-clause-err : goal.returns-in_err-wanted-clause-err
 returns-in_err-wanted-clause-err g c =
     let u = c.turns.invariant in
     err-from c.from_residual.result _ NoMemory c.from_residual.ensures.1
-    (ends-as g.I.Images.relations.replaces (map_path_of c.args.kept.file) c.args.kept.phase c.args.d.0 c.sectors-sectors.result _ _ _ c.turns.images
+    (ends-as g.I.Images.relations.replaces (map_path_of c.args.kept.file) c.args.kept.phase (scanned c.args.d.0 c.args.kept.no_scrape) c.sectors-sectors.result _ _ _ c.turns.images
     (sides c.turns.stack (g.O.BlockDev.state c.turns.out) (g.L.Listing.told c.turns.listing)) NoMemory u.all u.turns (refl, refl, out_of_memory-more 1 largest_allocation (omega arith) c.in_err-wanted.ensures.err, inl refl))
 
 pub returns-in_err-ended-clause-err : goal.returns-in_err-ended-clause-err
 returns-in_err-ended-clause-err g c =
     let u = c.turns.invariant in
     err-from c.from_residual-in_err-ended.result _ c.in_err-ended.field-0.0 c.from_residual-in_err-ended.ensures.1
-    (ends-as g.I.Images.relations.replaces (map_path_of c.args.kept.file) c.args.kept.phase c.args.d.0 c.sectors-sectors.result _ _ _ c.take_turn.new.images
+    (ends-as g.I.Images.relations.replaces (map_path_of c.args.kept.file) c.args.kept.phase (scanned c.args.d.0 c.args.kept.no_scrape) c.sectors-sectors.result _ _ _ c.take_turn.new.images
     (sides c.take_turn.new.stack (g.O.BlockDev.state c.take_turn.new.out) (g.L.Listing.told c.take_turn.new.listing)) c.in_err-ended.field-0.0 u.all u.turns c.in_err-ended.ensures.err)
 
 pub turns-preserved : goal.turns-preserved
@@ -43,7 +44,7 @@ turns-preserved g c =
     let u = c.turns.invariant in
     let more : c.turns.at + c.min-count.result ≤ c.sectors-sectors.result = omega (arith, c.min-count.ensures, c.turns-test.true) in
     elim c.if-is_had.branch [
-      | then-is_had w ↦ rw (w.images-is, w.stack-is, w.out-is, w.listing-is, w.map-is, w.at-is) (record {
+      | then-is_had w ↦ rw (w.images-is, w.stack-is, w.out-is, w.listing-is, w.map-is, w.at-is, w.untried-is) (record {
         turns = passes u.turns (record {
           span = record { first = c.turns.at; count = c.min-count.result };
           next = record {
@@ -66,7 +67,7 @@ turns-preserved g c =
         allowed = u.allowed;
       })
       | else-is_had+in_ok-ended w ↦ let t = w.in_ok-ended.ensures.ok in
-          rw (w.images-is, w.stack-is, w.out-is, w.listing-is, w.map-is, w.at-is) (record {
+          rw (w.images-is, w.stack-is, w.out-is, w.listing-is, w.map-is, w.at-is, w.untried-is) (record {
             turns = goes_on u.turns t;
             map = w.in_ok-ended.ensures.sectors;
             within = omega (arith, t.here, t.next.inside);
@@ -87,8 +88,8 @@ pub returns-clause-ok : goal.returns-clause-ok
 returns-clause-ok g c =
     let u = c.turns.invariant in
     let end : c.turns.at ≡ c.sectors-sectors.result = omega (arith, u.within, c.turns-test.false) in
-    whole-as g.I.Images.relations.replaces (map_path_of c.args.kept.file) c.args.kept.phase c.args.d.0 c.sectors-sectors.result _ c.turns.at _ c.turns.images
-    (sides c.turns.stack (g.O.BlockDev.state c.turns.out) (g.L.Listing.told c.turns.listing)) c.turns.map u.all end u.turns
+    whole-as g.I.Images.relations.replaces (map_path_of c.args.kept.file) c.args.kept.phase (scanned c.args.d.0 c.args.kept.no_scrape) c.sectors-sectors.result _ c.turns.at _ c.turns.images
+    (sides c.turns.stack (g.O.BlockDev.state c.turns.out) (g.L.Listing.told c.turns.listing)) (made_map c.turns.map c.turns.untried) u.all end u.turns
 
 pub returns-clause-goes_on : goal.returns-clause-goes_on
 returns-clause-goes_on g c =

@@ -4,6 +4,7 @@ use Rattle.block_device.specs.Device.{Device}
 use Rattle.rescue_map.specs.MapText.{map_text}
 use Rattle.stack_rules.proofs.lemmas.PassingLemmas.{out_of_memory-more}
 use Rattle.stack_meaning.specs.Memory.{largest_allocation}
+use Rattle.stack_recovery.specs.PassPieces.{scanned}
 use Rattle.stack_recovery.specs.Recoveries.{Sides, sides}
 use Rattle.scan_commands.specs.declared.rescue_fault.PassFault.TheVariants.{NoMemory, Output}
 use Rattle.scan_commands.specs.MapFiles.{map_path_of, recovery_ending}
@@ -25,8 +26,8 @@ splice-requires-clause-inside g c = omega (arith, c.min-at.ensures, c.sectors_of
 
 pub returns-in_err-read-clause-err : goal.returns-in_err-read-clause-err
 returns-in_err-read-clause-err g c =
-    let k = kept g.I.Images.relations.replaces (map_path_of c.args.turn.file) c.args.d.0 c.args.turn.sectors in
-    let now = progressed c.args.images.now (sides c.args.stack.now (g.O.BlockDev.state c.args.out.now) (g.L.Listing.told c.args.listing.now)) c.args.turn.map.now c.args.turn.span.first in
+    let k = kept g.I.Images.relations.replaces (map_path_of c.args.turn.file) (scanned c.args.d.0 c.args.turn.no_scrape) c.args.turn.sectors in
+    let now = progressed c.args.images.now (sides c.args.stack.now (g.O.BlockDev.state c.args.out.now) (g.L.Listing.told c.args.listing.now)) c.args.turn.map.now c.args.turn.span.first c.args.turn.untried in
     err-from c.from_residual.result _ (recovery_ending c.in_err-read.field-0.0) c.from_residual.ensures.1 (stops-reading k c.args.turn.phase now c.args.turn.span _ _ _ c.in_err-read.field-0.0 c.requires.next c.requires.wanted c.in_err-read.ensures.err)
 
 pub returns-in_err-sync-clause-err : goal.returns-in_err-sync-clause-err
@@ -36,8 +37,8 @@ returns-in_err-sync-clause-err g c =
     let left : Sides = sides c.read_turn.new.stack (g.O.BlockDev.state c.read_turn.new.out) (g.L.Listing.told c.read_turn.new.listing) in
     err-from c.from_residual-in_err-sync.result _ Output c.from_residual-in_err-sync.ensures.1 (
       refl,
-      failed-behind (g.O.BlockDev.state c.args.out.now) (g.O.BlockDev.state c.read_turn.new.out) (g.O.BlockDev.state c.sync.new.self) (reads-unfailed c.args.turn.phase _ c.args.d.0 old _ left r) c.in_err-sync.ensures.err.failed,
-      λ h. false≢true (c.in_err-sync.ensures.sure ((reads-out c.args.turn.phase _ c.args.d.0 old _ left r).never_fails h)),
+      failed-behind (g.O.BlockDev.state c.args.out.now) (g.O.BlockDev.state c.read_turn.new.out) (g.O.BlockDev.state c.sync.new.self) (reads-unfailed c.args.turn.phase _ (scanned c.args.d.0 c.args.turn.no_scrape) old _ left r) c.in_err-sync.ensures.err.failed,
+      λ h. false≢true (c.in_err-sync.ensures.sure ((reads-out c.args.turn.phase _ (scanned c.args.d.0 c.args.turn.no_scrape) old _ left r).never_fails h)),
       record {
         span = c.args.turn.span;
         end = c.args.turn.span.first + c.args.turn.span.count;
@@ -45,7 +46,7 @@ returns-in_err-sync-clause-err g c =
         fails = inr (record {
           left = left;
           made = c.in_ok-read.read;
-          reads = subst (λ (l : List Bool). ReadsSectors c.args.turn.phase l c.args.d.0 old c.in_ok-read.read left) c.requires.wanted r;
+          reads = subst (λ (l : List Bool). ReadsSectors c.args.turn.phase l (scanned c.args.d.0 c.args.turn.no_scrape) old c.in_ok-read.read left) c.requires.wanted r;
           unsynced = c.in_err-sync.ensures.err;
           stack = refl;
           printed = refl;
@@ -59,7 +60,7 @@ returns-in_err-map-clause-err g c =
     let left : Sides = sides c.read_turn.new.stack (g.O.BlockDev.state c.read_turn.new.out) (g.L.Listing.told c.read_turn.new.listing) in
     err-from c.from_residual-in_err-map.result _ NoMemory c.from_residual-in_err-map.ensures.1 (
       refl,
-      ap (λ (o : Device). o.failures) c.in_ok-sync.ensures.ok ∙ reads-unfailed c.args.turn.phase _ c.args.d.0 old _ left c.in_ok-read.ensures.ok.reads,
+      ap (λ (o : Device). o.failures) c.in_ok-sync.ensures.ok ∙ reads-unfailed c.args.turn.phase _ (scanned c.args.d.0 c.args.turn.no_scrape) old _ left c.in_ok-read.ensures.ok.reads,
       out_of_memory-more 1 largest_allocation (omega arith) c.in_err-map.ensures.err,
       inr (inr (record {
         span = c.args.turn.span;
@@ -67,27 +68,27 @@ returns-in_err-map-clause-err g c =
         next = c.requires.next;
         left = left;
         made = c.in_ok-read.read;
-        reads = subst (λ (l : List Bool). ReadsSectors c.args.turn.phase l c.args.d.0 old c.in_ok-read.read left) c.requires.wanted c.in_ok-read.ensures.ok.reads;
+        reads = subst (λ (l : List Bool). ReadsSectors c.args.turn.phase l (scanned c.args.d.0 c.args.turn.no_scrape) old c.in_ok-read.read left) c.requires.wanted c.in_ok-read.ensures.ok.reads;
         on_medium = ap (λ (o : Device). sides c.read_turn.new.stack o (g.L.Listing.told c.read_turn.new.listing)) c.in_ok-sync.ensures.ok;
       })),
     )
 
 pub returns-in_err-write_map-clause-err : goal.returns-in_err-write_map-clause-err
 returns-in_err-write_map-clause-err g c =
-    let k = kept g.I.Images.relations.replaces (map_path_of c.args.turn.file) c.args.d.0 c.args.turn.sectors in
+    let k = kept g.I.Images.relations.replaces (map_path_of c.args.turn.file) (scanned c.args.d.0 c.args.turn.no_scrape) c.args.turn.sectors in
     let old : Sides = sides c.args.stack.now (g.O.BlockDev.state c.args.out.now) (g.L.Listing.told c.args.listing.now) in
     let left : Sides = sides c.read_turn.new.stack (g.O.BlockDev.state c.read_turn.new.out) (g.L.Listing.told c.read_turn.new.listing) in
-    let now = progressed c.args.images.now old c.args.turn.map.now c.args.turn.span.first in
+    let now = progressed c.args.images.now old c.args.turn.map.now c.args.turn.span.first c.args.turn.untried in
     err-from c.from_residual-in_err-write_map.result _ c.in_err-write_map.field-0.0 c.from_residual-in_err-write_map.ensures.1
-    (stops-unwritten k c.args.turn.phase now (map_text c.args.turn.file.kind c.tried_before-tried.result c.in_ok-map.map) c.write_map.new.images (sides c.read_turn.new.stack (g.O.BlockDev.state c.sync.new.self) (g.L.Listing.told c.read_turn.new.listing)) c.in_err-write_map.field-0.0
-    (ap (λ (o : Device). o.failures) c.in_ok-sync.ensures.ok ∙ reads-unfailed c.args.turn.phase _ c.args.d.0 old _ left c.in_ok-read.ensures.ok.reads)
+    (stops-unwritten k c.args.turn.phase now (map_text c.args.turn.file.kind c.args.turn.no_scrape c.tried_before-tried.result c.in_ok-map.map) c.write_map.new.images (sides c.read_turn.new.stack (g.O.BlockDev.state c.sync.new.self) (g.L.Listing.told c.read_turn.new.listing)) c.in_err-write_map.field-0.0
+    (ap (λ (o : Device). o.failures) c.in_ok-sync.ensures.ok ∙ reads-unfailed c.args.turn.phase _ (scanned c.args.d.0 c.args.turn.no_scrape) old _ left c.in_ok-read.ensures.ok.reads)
     (record {
       span = c.args.turn.span;
       end = c.args.turn.span.first + c.args.turn.span.count;
       next = c.requires.next;
       left = left;
       made = c.in_ok-read.read;
-      reads = subst (λ (l : List Bool). ReadsSectors c.args.turn.phase l c.args.d.0 old c.in_ok-read.read left) c.requires.wanted c.in_ok-read.ensures.ok.reads;
+      reads = subst (λ (l : List Bool). ReadsSectors c.args.turn.phase l (scanned c.args.d.0 c.args.turn.no_scrape) old c.in_ok-read.read left) c.requires.wanted c.in_ok-read.ensures.ok.reads;
       on_medium = ap (λ (o : Device). sides c.read_turn.new.stack o (g.L.Listing.told c.read_turn.new.listing)) c.in_ok-sync.ensures.ok;
     })
     c.in_err-write_map.ensures.err)
@@ -102,10 +103,11 @@ returns-clause-ok g c =
       next = c.requires.next;
       left = left;
       made = c.in_ok-read.read;
-      reads = subst (λ (l : List Bool). ReadsSectors c.args.turn.phase l c.args.d.0 old c.in_ok-read.read left) c.requires.wanted c.in_ok-read.ensures.ok.reads;
+      reads = subst (λ (l : List Bool). ReadsSectors c.args.turn.phase l (scanned c.args.d.0 c.args.turn.no_scrape) old c.in_ok-read.read left) c.requires.wanted c.in_ok-read.ensures.ok.reads;
       on_medium = ap (λ (o : Device). sides c.read_turn.new.stack o (g.L.Listing.told c.read_turn.new.listing)) c.in_ok-sync.ensures.ok;
       some = omega (arith, c.min-at.ensures, c.sectors_of.ensures, c.in_ok-read.ensures.ok.some, c.requires.next.some);
       here = c.min-at.ensures ∙ ap (min (c.args.turn.span.first + c.args.turn.span.count)) c.sectors_of.ensures;
       map = c.in_ok-map.ensures.marks;
-      written = subst (λ (t : Option ℕ). g.I.Images.relations.replaces c.args.images.now c.args.turn.file.path.now (map_text c.args.turn.file.kind t c.in_ok-map.map) (Ok tt) c.write_map.new.images) c.tried_before-tried.ensures c.in_ok-write_map.ensures.ok;
+      untried = c.saturating_add-untried.ensures;
+      written = subst (λ (t : Option ℕ). g.I.Images.relations.replaces c.args.images.now c.args.turn.file.path.now (map_text c.args.turn.file.kind c.args.turn.no_scrape t c.in_ok-map.map) (Ok tt) c.write_map.new.images) c.tried_before-tried.ensures c.in_ok-write_map.ensures.ok;
     }

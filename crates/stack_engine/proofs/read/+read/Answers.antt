@@ -1,4 +1,4 @@
-use Rattle.std.proofs.Common.{All, ◌≡◌, ◌<◌, ◌≤◌, ◌+◌, ◌/◌, ◌*◌, ◌-◌, ◌%◌, length, take, drop, map, replicate, get_or, eqb, true, false, ℕ, List, [], ◌∷◌, ◌++◌, Vec, Global, Option, Result, Ok, Err, inl, inr, refl, sym, ap, ◌∙◌, subst, arith}
+use Rattle.std.proofs.Common.{All, ◌≡◌, ◌<◌, ◌≤◌, ◌+◌, ◌/◌, ◌*◌, ◌-◌, ◌%◌, length, take, drop, map, replicate, get_or, eqb, true, false, ℕ, suc, List, [], ◌∷◌, ◌++◌, Vec, Global, Option, Some, None, Result, Ok, Err, inl, inr, refl, sym, ap, ◌∙◌, subst, arith}
 use Rattle.std.proofs.lemmas.List.{length-map, length-take, length-take-le, length-drop, length-append, map-append, take_all}
 use Rattle.std.proofs.Math.Seq.{get_or-append_seam, take-append_seam}
 use Rattle.std.proofs.lemmas.Slice.Eq.{bytes_eq-Decides}
@@ -11,8 +11,9 @@ use Rattle.stack_engine.specs.LeafCalls.{IsLeafCall}
 use Rattle.stack_engine.specs.SectorCalls.{Gives, zeros_read, fails_read}
 use Rattle.stack_engine.proofs.LeafCallLemmas.{makes-none}
 use Rattle.stack_engine.specs.SectorCalls.{LeadsTo, ReadsBy, block_full, block_of, data_of, expected_hash, hash_full, hash_kept, hash_of, last_bytes, one_block, one_ignored, place_in, way_full, whole_data}
-use Rattle.stack_engine.specs.ReadSteps.{expected_in}
-use Rattle.stack_engine.proofs.WayCallLemmas.{block-ungiven, chain-given, checked-given, data-given, data-short, data-ungiven, differs-given, hash-given, hash-ungiven, last-push, leads-begin, one-given, place-same, place-turn, reads-expected, way-ended, way-led, way-short, way-unled}
+use Rattle.stack_engine.specs.Healing.{healed_result}
+use Rattle.stack_engine.specs.ReadSteps.{block_answer, expected_in}
+use Rattle.stack_engine.proofs.WayCallLemmas.{block-ungiven, chain-given, checked-given, data-given, data-short, data-ungiven, differs-given, hash-given, hash-ungiven, last-push, leads-begin, one-given, one-healed, place-same, place-turn, reads-expected, way-ended, way-led, way-short, way-unled}
 use Rattle.stack_engine.proofs.BlockCallLemmas.{BlocksUpTo, block-settled, block-unlike, blocks-begin, blocks-given, blocks-short, blocks-unled, blocks-way, gives-at, path-last, row-asked, row-begins, row-given, row-some, row-stays, row-ungiven, together-at}
 use Rattle.stack_engine.proofs.SectorCallLemmas.{leaf-given, gives-begin, run-given, run-ungiven, all-given, units-given, units-ungiven, part-given, part-ungiven}
 use Rattle.std.specs.Vec.{with_items}
@@ -26,13 +27,14 @@ use Rattle.stack_rules.specs.declared.lower.DevId.{DevId}
 use Rattle.stack_rules.specs.declared.lower.Lower.TheVariants.{Leaf}
 use Rattle.stack_rules.specs.declared.lower.Lower.{Lower}
 use Rattle.stack_meaning.specs.declared.fault.Fault.TheVariants.{ErrorTarget, Mismatch}
-use Rattle.stack_meaning.specs.declared.fault.IoFault.TheVariants.{Stack, NoMemory}
+use Rattle.stack_meaning.specs.declared.fault.Fault.{Fault}
+use Rattle.stack_meaning.specs.declared.fault.IoFault.TheVariants.{Device, Stack, NoMemory}
 use Rattle.stack_lines.specs.declared.source.Source.{Source}
 use Rattle.stack_lines.specs.declared.source.Source.TheVariants.{Below, Units, UnitPart, Block, Zeros}
 use Rattle.stack_meaning.specs.Found.{Entry, FoundRecord, found_entry}
 use Rattle.stack_lines.specs.declared.tree.Extent.{Extent}
 use Rattle.stack_meaning.specs.Blocks.{hash_sectors, hash_start, next_digest}
-use Rattle.stack_lines.specs.Walks.{block_in, checked_expected, GetsChain, IsWalked}
+use Rattle.stack_lines.specs.Walks.{block_in, checked_expected, data_expected, GetsChain, IsWalked}
 use Rattle.stack_meaning.specs.declared.fault.IoFault.{IoFault}
 use Rattle.stack_meaning.specs.Places.{place_of, run_expected, LeafRead}
 use Rattle.stack_meaning.specs.Reading.{Gets, buffer_answer}
@@ -49,7 +51,7 @@ use Rattle.stack_engine.proofs.BlockPartLemmas.{kept_at, kept_for, kept_length, 
 use Rattle.stack_lines.specs.declared.source.CryptPart.{CryptPart}
 use Rattle.stack_lines.specs.Sources.{AreUnits}
 use Rattle.stack_engine.proofs.lemmas.BlockLemmas.{distinct-push, length-content}
-use Rattle.stack_engine.proofs.lemmas.WalkLemmas.{checked_ok, checked_err, data_zeros, data_read, walk_full}
+use Rattle.stack_engine.proofs.lemmas.WalkLemmas.{checked_ok, checked_err, data_zeros, data_read, data_healed, walk_full}
 use Rattle.stack_meaning.proofs.lemmas.LeafLemmas.{all-whole}
 use Rattle.stack_meaning.specs.Units.{per_unit, decrypted_units}
 use Rattle.stack_lines.proofs.lemmas.UnitSourceLemmas.{units-bytes, whole-units, part-read, part-failed, units-read, units-failed}
@@ -73,6 +75,22 @@ use Rattle.stack_engine.proofs.TouchedLemmas.{extent-touched, same-within, hash-
 use Rattle.stack_engine.specs.Backings.{did, backing_of}
 use Rattle.stack_engine.specs.ReadSteps.{run_beneath, IsReadStep}
 use Rattle.stack_engine.proofs.StepLemmas.{met, step-met, step-none, below-step, units-step, part-step, zeros-step, fails-step, leaf-step, device-begin, device-step-ok, device-step-err}
+use Rattle.std.proofs.Math.Nat.{mul-le-mul_right}
+use Rattle.dm_table.specs.declared.parity.Parity.{Parity}
+use Rattle.dm_table.specs.declared.verity.Verity.{Verity}
+use Rattle.stack_rules.specs.Records.{Configuration}
+use Rattle.stack_rules.specs.Rules.{IsLoaded}
+use Rattle.stack_rules.specs.Trees.{zero_block}
+use Rattle.stack_meaning.specs.Spares.{with_parity}
+use Rattle.stack_lines.specs.declared.tree.Tree.{Tree}
+use Rattle.stack_lines.specs.Walks.{IsTreeOf}
+use Rattle.stack_engine.specs.SectorCalls.{DataPlace, other_at, other_by, sums_of}
+use Rattle.stack_engine.specs.Spares.{IsStoredAt, other_wanted, stored_wanted}
+use Rattle.stack_engine.specs.declared.spare.Stored.{Stored}
+use Rattle.stack_engine.proofs.HealLemmas.{heals-failed, heals-had, heals-short}
+use Rattle.stack_engine.proofs.MendCallLemmas.{leads-then, other-added, other-lost, other-past, spare-given, spare-lost, spare-other, spare-past, stored-given, stored-lost}
+use Rattle.stack_engine.proofs.lemmas.MendLemmas.{IsSummed, spare-differs, spare-ends, spare-none, stored-fails, summed-fails, summed-more, summed-none}
+use Rattle.stack_engine.proofs.lemmas.RoundLemmas.{is-round, mend-inside, other-given, other-none, other-of, other-read, other-unread, parity-of, stored-count, stored-read, stored-unread}
 use Rattle.stack_engine.proofs.read.+read.Goals as goal
 
 pub read_device-overflow_add-first : goal.read_device-overflow_add-first
@@ -598,13 +616,12 @@ read_data-read_checked-requires g t c κs within =
     let same : depth config extent.result.lower ≡ depth config c.args.tree.now.data = ap (λ (e : Extent). depth config e.lower) extent.ensures.value in
     (omega (arith, deep, same), (within, (c.requires.stack, extent.ensures.lies)))
 
-pub read_data-returns-clause-reads : goal.read_data-returns-clause-reads
-read_data-returns-clause-reads g t c =
+pub read_data-returns-in-Ok-read_checked-clause-reads : goal.read_data-returns-in-Ok-read_checked-clause-reads
+read_data-returns-in-Ok-read_checked-clause-reads g t c =
     let v = c.args.verity.now in
     let config = c.args.config.now in
-    let is = c.requires.block.lies in
-    data_read bytes (block_in config v c.args.index) c.args.expected.now c.read_checked.result (sym c.is_ignored.ensures ∙ c.if-is_ignored.false)
-    (checked_as config v.data c.args.tree.now.data (block_sectors v * c.args.index) (block_sectors v) v.salt c.args.expected.now c.read_checked.result c.data_extent-extent.result is.on_data c.data_extent-extent.ensures.value c.read_checked.ensures.reads)
+    data_read bytes (block_in config v c.args.index) c.args.expected.now c.in-Ok-read_checked.block (sym c.is_ignored.ensures ∙ c.if-is_ignored.false)
+    (checked_as config v.data c.args.tree.now.data (block_sectors v * c.args.index) (block_sectors v) v.salt c.args.expected.now (Ok c.in-Ok-read_checked.block) c.data_extent-extent.result c.requires.block.lies.on_data c.data_extent-extent.ensures.value c.in-Ok-read_checked.ensures.reads)
 
 -- ---- hash blocks
 
@@ -1059,7 +1076,7 @@ read_blocks-checks-preserved g t c =
       cached = record { capacity = c.in-Ok-read_beneath.ensures.cached.capacity ∙ c.in-Ok.ensures.cached.capacity ∙ all.cached.capacity; sound = c.in-Ok-read_beneath.ensures.cached.sound };
       touches = data-touched config v tree.result b.loaded tree.ensures.tree p.device tree.ensures.device all.touches c.in-Ok.ensures.touches c.in-Ok-read_beneath.ensures.touches;
       given =
-          let same = place-turn c.args.part tree.result (c.args.part.first / c.from.result + c.checks.at) c.checks.at tree.ensures.tree.on_hash c.requires.fits.holds.of.on_hash tree.ensures.data turn.index in
+          let same = place-turn c.args.part tree.result (c.args.part.first / c.from.result + c.checks.at) c.checks.at tree.ensures.tree.on_hash c.requires.fits.holds.of.on_hash tree.ensures.data tree.ensures.tree.on_parity c.requires.fits.holds.of.on_parity turn.index in
           let walked = blocks-way c.checks.invariant.given turn.inside same c.in-Ok.ensures.given in
           let goes = path-last c.as_slice.ensures.value (c.levels-levels.ensures.value ∙ ap levels tree.ensures.tree.shape_is) in
           let given = c.in-Ok-read_beneath.ensures.given in
@@ -1167,10 +1184,6 @@ walk-returns-in-Err-read_data-clause-touches g t c =
 pub walk-returns-in-Ok-read_data-clause-touches : goal.walk-returns-in-Ok-read_data-clause-touches
 walk-returns-in-Ok-read_data-clause-touches g t c =
     asks-then c.loop-level.invariant.touches (asks-as (Ok _) tt (λ failures. refl) c.in-Ok-read_data.ensures.touches)
-
-pub read_data-returns-clause-touches : goal.read_data-returns-clause-touches
-read_data-returns-clause-touches g t c =
-    asks-up (data-within c.args.config.now c.args.verity.now c.args.tree.now c.requires.stack.sound.loaded c.requires.block.lies) (extent-touched c.args.config.now c.data_extent-extent.result c.data_extent-extent.ensures c.read_checked.ensures.touches)
 
 pub path_block-returns-in-Err-clause-touches : goal.path_block-returns-in-Err-clause-touches
 path_block-returns-in-Err-clause-touches g t c =
@@ -1418,9 +1431,6 @@ read_data-returns-in-Ok-clause-given g t c last =
 pub read_data-returns-in-Err-clause-given : goal.read_data-returns-in-Err-clause-given
 read_data-returns-in-Err-clause-given g t c last = makes-none (way_full (place_in c.args.verity.now c.args.tree.now c.args.index) 0 c.args.expected.now last one_block)
 
-pub read_data-returns-clause-given : goal.read_data-returns-clause-given
-read_data-returns-clause-given g t c last = one-given last (sym c.is_ignored.ensures ∙ c.if-is_ignored.false) c.data_extent-extent.ensures.value c.read_checked.ensures.given
-
 pub walk-returns-in-Err-clause-given : goal.walk-returns-in-Err-clause-given
 walk-returns-in-Err-clause-given g t c =
     way-unled c.loop-level.level (c.loop-level.level - 1) (omega (arith, c.loop-level-test.true)) c.loop-level.invariant.given.1
@@ -1464,12 +1474,12 @@ read_block-returns-in-Some-clause-given g t c =
 pub read_block-returns-in-Err-clause-given : goal.read_block-returns-in-Err-clause-given
 read_block-returns-in-Err-clause-given g t c =
     let tree = c.tree_of-tree in
-    data-ungiven c.args.part (length c.args.out.now / 512) c.from-sectors.ensures (place-same c.args.part tree.result (c.args.part.first / c.from-sectors.result) tree.ensures.tree.on_hash c.requires.fits.holds.of.on_hash tree.ensures.data) c.in-Err.ensures.given
+    data-ungiven c.args.part (length c.args.out.now / 512) c.from-sectors.ensures (place-same c.args.part tree.result (c.args.part.first / c.from-sectors.result) tree.ensures.tree.on_hash c.requires.fits.holds.of.on_hash tree.ensures.data tree.ensures.tree.on_parity c.requires.fits.holds.of.on_parity) c.in-Err.ensures.given
 
 pub read_block-returns-in-Err-push-clause-given : goal.read_block-returns-in-Err-push-clause-given
 read_block-returns-in-Err-push-clause-given g t c =
     let tree = c.tree_of-tree in
-    data-short c.args.part (length c.args.out.now / 512) c.from-sectors.ensures (place-same c.args.part tree.result (c.args.part.first / c.from-sectors.result) tree.ensures.tree.on_hash c.requires.fits.holds.of.on_hash tree.ensures.data) c.in-Ok.ensures.given
+    data-short c.args.part (length c.args.out.now / 512) c.from-sectors.ensures (place-same c.args.part tree.result (c.args.part.first / c.from-sectors.result) tree.ensures.tree.on_hash c.requires.fits.holds.of.on_hash tree.ensures.data tree.ensures.tree.on_parity c.requires.fits.holds.of.on_parity) c.in-Ok.ensures.given
 
 pub read_block-returns-in-Ok-push-clause-given : goal.read_block-returns-in-Ok-push-clause-given
 read_block-returns-in-Ok-push-clause-given g t c =
@@ -1490,7 +1500,7 @@ read_block-returns-in-Ok-push-clause-given g t c =
     ∙ ap (λ (y : FoundRecord). take (length c.args.out.now) (drop (512 * (p.first % c.from-sectors.result)) y.chain.content)) here
     ∙ ap (λ (k : ℕ). take k (drop (512 * (p.first % c.from-sectors.result)) c.in-Ok.chain.content)) len
     ∙ ap (λ (k : ℕ). take (512 * n) (drop (512 * (p.first % k)) c.in-Ok.chain.content)) sectors in
-    data-given p n sectors (place-same p tree.result (p.first / c.from-sectors.result) tree.ensures.tree.on_hash c.requires.fits.holds.of.on_hash tree.ensures.data) is c.in-Ok.ensures.given
+    data-given p n sectors (place-same p tree.result (p.first / c.from-sectors.result) tree.ensures.tree.on_hash c.requires.fits.holds.of.on_hash tree.ensures.data tree.ensures.tree.on_parity c.requires.fits.holds.of.on_parity) is c.in-Ok.ensures.given
 
 pub path_block-returns-then-stands-clause-given : goal.path_block-returns-then-stands-clause-given
 path_block-returns-then-stands-clause-given g t c x =
@@ -1558,7 +1568,7 @@ pub read_blocks-returns-in-Err-clause-given : goal.read_blocks-returns-in-Err-cl
 read_blocks-returns-in-Err-clause-given g t c =
     let turn = turn-at (blocks-at c.requires) c.checks.invariant.checked c.requires.fits.sectors.whole c.from.ensures c.checks-test.true in
     let tree = c.tree_of-tree in
-    blocks-unled c.checks.invariant.given turn.inside (place-turn c.args.part tree.result (c.args.part.first / c.from.result + c.checks.at) c.checks.at tree.ensures.tree.on_hash c.requires.fits.holds.of.on_hash tree.ensures.data turn.index) c.in-Err.ensures.given
+    blocks-unled c.checks.invariant.given turn.inside (place-turn c.args.part tree.result (c.args.part.first / c.from.result + c.checks.at) c.checks.at tree.ensures.tree.on_hash c.requires.fits.holds.of.on_hash tree.ensures.data tree.ensures.tree.on_parity c.requires.fits.holds.of.on_parity turn.index) c.in-Err.ensures.given
 
 pub read_blocks-returns-in-Err-read_beneath-clause-given : goal.read_blocks-returns-in-Err-read_beneath-clause-given
 read_blocks-returns-in-Err-read_beneath-clause-given g t c =
@@ -1569,7 +1579,7 @@ read_blocks-returns-in-Err-read_beneath-clause-given g t c =
     let given = c.in-Err-read_beneath.ensures.given in
     let turn = turn-at b c.checks.invariant.checked c.requires.fits.sectors.whole c.from.ensures c.checks-test.true in
     let row = row-at b turn many.result many.ensures.most in
-    let same = place-turn c.args.part tree.result (c.args.part.first / c.from.result + c.checks.at) c.checks.at tree.ensures.tree.on_hash c.requires.fits.holds.of.on_hash tree.ensures.data turn.index in
+    let same = place-turn c.args.part tree.result (c.args.part.first / c.from.result + c.checks.at) c.checks.at tree.ensures.tree.on_hash c.requires.fits.holds.of.on_hash tree.ensures.data tree.ensures.tree.on_parity c.requires.fits.holds.of.on_parity turn.index in
     let walked = blocks-way c.checks.invariant.given turn.inside same c.in-Ok.ensures.given in
     let goes = path-last c.as_slice.ensures.value (c.levels-levels.ensures.value ∙ ap levels tree.ensures.tree.shape_is) in
     let some : 0 < many.result = row-asked many.result v.data_block _ row.len (λ none. let clash : false ≡ true = (given.none none).1 in cc) in
@@ -1594,7 +1604,7 @@ read_blocks-returns-then-not-settle-clause-given g t c =
     let far_to = far b turn row many.ensures.fresh inv.had c.in-Ok.ensures.moved c.in-Ok.ensures.ok gets in
     let ahead = row-ahead b turn row many.ensures.fresh c.checks.made inv.had c.in-Ok.ensures.moved gets (all-whole g.D.BlockDev.state g.met.D.BlockDev.whole c.walk_path.new.backing.devices.items) inv.room inv.ahead put c.digest_blocks.ensures in
     let made : List (List ℕ) = put_mid j (j + many.result - j) c.checks.made c.digest_blocks.new.out in
-    let same = place-turn c.args.part tree.result (c.args.part.first / c.from.result + c.checks.at) c.checks.at tree.ensures.tree.on_hash c.requires.fits.holds.of.on_hash tree.ensures.data turn.index in
+    let same = place-turn c.args.part tree.result (c.args.part.first / c.from.result + c.checks.at) c.checks.at tree.ensures.tree.on_hash c.requires.fits.holds.of.on_hash tree.ensures.data tree.ensures.tree.on_parity c.requires.fits.holds.of.on_parity turn.index in
     let walked = blocks-way c.checks.invariant.given turn.inside same c.in-Ok.ensures.given in
     let goes = path-last c.as_slice.ensures.value (c.levels-levels.ensures.value ∙ ap levels tree.ensures.tree.shape_is) in
     let given = c.in-Ok-read_beneath.ensures.given in
@@ -1604,7 +1614,7 @@ read_blocks-returns-then-not-settle-clause-given g t c =
     let near : j * v.data_block + v.data_block - j * v.data_block ≡ v.data_block = sub-same (j * v.data_block) v.data_block in
     let other = c.if-not-settle.ensures.other refl in
     block-unlike rowed (j * v.data_block + v.data_block - j * v.data_block) near turn.inside (sym b.size.whole) put.end (sym c.is_ignored-ignored.ensures ∙ other.0) (row-covers many.ensures.some other.0)
-    (λ same_digest. other.1 (digest-made b _ turn.inside far_to next put.len put.end made c.index-made-at.result ahead (row-covers many.ensures.some other.0) ∙ same_digest))
+    (λ same_digest. other.1 (digest-made b _ turn.inside far_to next put.len put.end made c.index-made-at.result ahead (row-covers many.ensures.some other.0) ∙ same_digest)) b.plain
 
 pub read_blocks-returns-in-Err-keep-clause-given : goal.read_blocks-returns-in-Err-keep-clause-given
 read_blocks-returns-in-Err-keep-clause-given g t c =
@@ -1622,7 +1632,7 @@ read_blocks-returns-in-Err-keep-clause-given g t c =
     let far_to = far b turn row many.ensures.fresh inv.had c.in-Ok.ensures.moved c.in-Ok.ensures.ok gets in
     let ahead = row-ahead b turn row many.ensures.fresh c.checks.made inv.had c.in-Ok.ensures.moved gets (all-whole g.D.BlockDev.state g.met.D.BlockDev.whole c.walk_path.new.backing.devices.items) inv.room inv.ahead put c.digest_blocks.ensures in
     let made : List (List ℕ) = put_mid j (j + many.result - j) c.checks.made c.digest_blocks.new.out in
-    let same = place-turn c.args.part tree.result (c.args.part.first / c.from.result + c.checks.at) c.checks.at tree.ensures.tree.on_hash c.requires.fits.holds.of.on_hash tree.ensures.data turn.index in
+    let same = place-turn c.args.part tree.result (c.args.part.first / c.from.result + c.checks.at) c.checks.at tree.ensures.tree.on_hash c.requires.fits.holds.of.on_hash tree.ensures.data tree.ensures.tree.on_parity c.requires.fits.holds.of.on_parity turn.index in
     let walked = blocks-way c.checks.invariant.given turn.inside same c.in-Ok.ensures.given in
     let goes = path-last c.as_slice.ensures.value (c.levels-levels.ensures.value ∙ ap levels tree.ensures.tree.shape_is) in
     let given = c.in-Ok-read_beneath.ensures.given in
@@ -1641,3 +1651,439 @@ read_blocks-returns-clause-given g t c =
     let whole = c.requires.fits.sectors.whole in
     let all : c.checks.at ≡ length c.args.out.now / 512 / block_sectors c.args.part.verity.now = omega (arith, c.checks-test.false, inv.checked.within, digest-count b c.args.out.now (omega (arith, whole))) in
     blocks-given inv.given (omega (arith, all)) (blocks-long c.args.out.now _ _ b inv.checked.size whole all)
+
+-- ---- the spare of a data block
+
+pub add_other-read_beneath-requires : goal.add_other-read_beneath-requires
+add_other-read_beneath-requires g t c κs within =
+    let config = c.args.config.now in
+    let v = c.args.verity.now in
+    let tree = c.args.tree.now in
+    let e = c.in-Some.extent in
+    let given = other-given (place_in v tree c.args.at.0) v.parity c.args.at.1 e (sym c.in-Some.ensures.is) in
+    let of = other-of config v tree c.requires.stack.sound.loaded c.requires.block.lies c.args.at.0 given.0 c.args.at.1 e given.2 in
+    let lies = c.in-Some.ensures.lies in
+    let room : length c.as_mut_slice-all.result.now ≡ 4096 = ap (λ (l : List ℕ). length l) c.as_mut_slice-all.ensures.value in
+    let size : length (take (e.sectors * 512) c.as_mut_slice-all.result.now) ≡ e.sectors * 512 = omega (arith, room, lies.few, length-take (e.sectors * 512) c.as_mut_slice-all.result.now) in
+    let deep = of.2.deep in
+    (omega (arith, deep), (within, (c.requires.stack, (omega (arith, size), omega (arith, size, lies.inside)))))
+
+pub add_other-add_block-requires : goal.add_other-add_block-requires
+add_other-add_block-requires g t c =
+    let config = c.args.config.now in
+    let v = c.args.verity.now in
+    let tree = c.args.tree.now in
+    let e = c.in-Some.extent in
+    let given = other-given (place_in v tree c.args.at.0) v.parity c.args.at.1 e (sym c.in-Some.ensures.is) in
+    let of = other-of config v tree c.requires.stack.sound.loaded c.requires.block.lies c.args.at.0 given.0 c.args.at.1 e given.2 in
+    let lies = c.in-Some.ensures.lies in
+    let room : length c.as_mut_slice-all.result.now ≡ 4096 = ap (λ (l : List ℕ). length l) c.as_mut_slice-all.ensures.value in
+    let size : length (take (e.sectors * 512) c.as_mut_slice-all.result.now) ≡ e.sectors * 512 = omega (arith, room, lies.few, length-take (e.sectors * 512) c.as_mut_slice-all.result.now) in
+    let whole = data-whole config tree.device.0 tree.line v c.requires.stack.sound.loaded c.requires.block.lies.is in
+    omega (arith, c.read_beneath.auto.out, size, of.1, whole.whole, c.requires.size)
+
+pub add_other-returns-in-None-clause-reads : goal.add_other-returns-in-None-clause-reads
+add_other-returns-in-None-clause-reads g t c q has =
+    let place = place_in c.args.verity.now c.args.tree.now c.args.at.0 in
+    let none : other_at place q c.args.at.1 ≡ None = sym (c.in-None.ensures.is ∙ ap (λ (o : Option Parity). other_by place o c.args.at.1) has) in
+    other-none c.args.config.now c.args.verity.now c.args.tree.now c.requires.stack.sound.loaded c.requires.block.lies c.args.at.0 q c.args.at.1 c.args.sums.now (map g.D.BlockDev.state c.args.backing.now.devices.items) none c.requires.size
+
+pub add_other-returns-in-None-clause-given : goal.add_other-returns-in-None-clause-given
+add_other-returns-in-None-clause-given g t c q has inside =
+    let place = place_in c.args.verity.now c.args.tree.now c.args.at.0 in
+    other-past inside (sym (c.in-None.ensures.is ∙ ap (λ (o : Option Parity). other_by place o c.args.at.1) has))
+
+pub add_other-returns-in-Err-clause-reads : goal.add_other-returns-in-Err-clause-reads
+add_other-returns-in-Err-clause-reads g t c q has =
+    let place = place_in c.args.verity.now c.args.tree.now c.args.at.0 in
+    let e = c.in-Some.extent in
+    let at : other_at place q c.args.at.1 ≡ Some e = sym (c.in-Some.ensures.is ∙ ap (λ (o : Option Parity). other_by place o c.args.at.1) has) in
+    let count = room_sectors c.as_mut_slice-all.result.now e.sectors (ap (λ (l : List ℕ). length l) c.as_mut_slice-all.ensures.value) c.in-Some.ensures.few in
+    other-unread c.args.config.now c.args.verity.now c.args.tree.now c.requires.stack.sound.loaded c.requires.block.lies c.args.at.0 q c.args.at.1 c.args.sums.now e at _ count c.in-Err.fault c.in-Err.ensures.reads
+
+pub add_other-returns-in-Ok-clause-reads : goal.add_other-returns-in-Ok-clause-reads
+add_other-returns-in-Ok-clause-reads g t c q has =
+    let config = c.args.config.now in
+    let v = c.args.verity.now in
+    let place = place_in v c.args.tree.now c.args.at.0 in
+    let e = c.in-Some.extent in
+    let at : other_at place q c.args.at.1 ≡ Some e = sym (c.in-Some.ensures.is ∙ ap (λ (o : Option Parity). other_by place o c.args.at.1) has) in
+    let count = room_sectors c.as_mut_slice-all.result.now e.sectors (ap (λ (l : List ℕ). length l) c.as_mut_slice-all.ensures.value) c.in-Some.ensures.few in
+    subst (λ (x : List ℕ). Gets (other_wanted (block_in config v c.args.at.0) q c.args.at.1 c.args.sums.now) (map g.D.BlockDev.state c.args.backing.now.devices.items) (map g.D.BlockDev.state c.read_beneath.new.backing.devices.items) (Ok x)) (sym c.add_block.ensures)
+    (other-read config v c.args.tree.now c.requires.stack.sound.loaded c.requires.block.lies c.args.at.0 q c.args.at.1 c.args.sums.now e at _ count c.in-Ok.ensures.reads)
+
+pub add_other-returns-in-Err-clause-touches : goal.add_other-returns-in-Err-clause-touches
+add_other-returns-in-Err-clause-touches g t c =
+    let v = c.args.verity.now in
+    let tree = c.args.tree.now in
+    let given = other-given (place_in v tree c.args.at.0) v.parity c.args.at.1 c.in-Some.extent (sym c.in-Some.ensures.is) in
+    asks-up (other-of c.args.config.now v tree c.requires.stack.sound.loaded c.requires.block.lies c.args.at.0 given.0 c.args.at.1 c.in-Some.extent given.2).2.within c.in-Err.ensures.touches
+
+pub add_other-returns-in-Ok-clause-touches : goal.add_other-returns-in-Ok-clause-touches
+add_other-returns-in-Ok-clause-touches g t c =
+    let v = c.args.verity.now in
+    let tree = c.args.tree.now in
+    let given = other-given (place_in v tree c.args.at.0) v.parity c.args.at.1 c.in-Some.extent (sym c.in-Some.ensures.is) in
+    asks-up (other-of c.args.config.now v tree c.requires.stack.sound.loaded c.requires.block.lies c.args.at.0 given.0 c.args.at.1 c.in-Some.extent given.2).2.within c.in-Ok.ensures.touches
+
+pub add_other-returns-in-Err-clause-given : goal.add_other-returns-in-Err-clause-given
+add_other-returns-in-Err-clause-given g t c q has inside =
+    let place = place_in c.args.verity.now c.args.tree.now c.args.at.0 in
+    let e = c.in-Some.extent in
+    let at : other_at place q c.args.at.1 ≡ Some e = sym (c.in-Some.ensures.is ∙ ap (λ (o : Option Parity). other_by place o c.args.at.1) has) in
+    let count = room_sectors c.as_mut_slice-all.result.now e.sectors (ap (λ (l : List ℕ). length l) c.as_mut_slice-all.ensures.value) c.in-Some.ensures.few in
+    other-lost c.args.sums.now e inside at count (c.in-Err.ensures.given.some (omega (arith, count, c.in-Some.ensures.lies.some)))
+
+pub add_other-returns-in-Ok-clause-given : goal.add_other-returns-in-Ok-clause-given
+add_other-returns-in-Ok-clause-given g t c q has inside =
+    let place = place_in c.args.verity.now c.args.tree.now c.args.at.0 in
+    let i : ℕ = c.args.at.1 in
+    let e = c.in-Some.extent in
+    let at : other_at place q i ≡ Some e = sym (c.in-Some.ensures.is ∙ ap (λ (o : Option Parity). other_by place o i) has) in
+    let count = room_sectors c.as_mut_slice-all.result.now e.sectors (ap (λ (l : List ℕ). length l) c.as_mut_slice-all.ensures.value) c.in-Some.ensures.few in
+    subst (λ (x : List ℕ). LeadsTo (DeviceDoes g.D.BlockDev.state g.D.BlockDev.does) c.args.config.now (sums_of place q i c.args.sums.now) (sums_of place q (suc i) x) c.args.backing.now.devices.items c.read_beneath.new.backing.devices.items) (sym c.add_block.ensures)
+    (other-added e inside at count (c.in-Ok.ensures.given.some (omega (arith, count, c.in-Some.ensures.lies.some))))
+
+pub add_parity-read_beneath-requires : goal.add_parity-read_beneath-requires
+add_parity-read_beneath-requires g t c κs within =
+    let at = c.in-Some.stored in
+    let is = c.in-Some.ensures.is in
+    let room : length c.as_mut_slice-all.result.now ≡ 98304 = ap (λ (l : List ℕ). length l) c.as_mut_slice-all.ensures.value in
+    let size : length (take (at.sectors * 512) c.as_mut_slice-all.result.now) ≡ at.sectors * 512 = omega (arith, room, c.in-Some.ensures.few, length-take (at.sectors * 512) c.as_mut_slice-all.result.now) in
+    let deep = (parity-of c.args.config.now c.args.verity.now c.args.tree.now c.requires.stack.sound.loaded c.requires.block.lies c.args.index at.lower is.2.on).deep in
+    (omega (arith, deep), (within, (c.requires.stack, (omega (arith, size), omega (arith, size, is.2.inside)))))
+
+pub add_parity-add_stored-requires-clause-some : goal.add_parity-add_stored-requires-clause-some
+add_parity-add_stored-requires-clause-some g t c =
+    let whole = data-whole c.args.config.now c.args.tree.now.device.0 c.args.tree.now.line c.args.verity.now c.requires.stack.sound.loaded c.requires.block.lies.is in
+    omega (arith, whole.whole, whole.some, c.requires.size)
+
+pub add_parity-add_stored-requires-clause-whole : goal.add_parity-add_stored-requires-clause-whole
+add_parity-add_stored-requires-clause-whole g t c =
+    let v = c.args.verity.now in
+    let at = c.in-Some.stored in
+    let is = c.in-Some.ensures.is in
+    let whole = data-whole c.args.config.now c.args.tree.now.device.0 c.args.tree.now.line v c.requires.stack.sound.loaded c.requires.block.lies.is in
+    let room : length c.as_mut_slice-all.result.now ≡ 98304 = ap (λ (l : List ℕ). length l) c.as_mut_slice-all.ensures.value in
+    let len : length c.read_beneath.new.out ≡ block_sectors v * is.0.roots * 512 = omega (arith, c.read_beneath.auto.out, room, c.in-Some.ensures.few, is.2.sectors, length-take (at.sectors * 512) c.as_mut_slice-all.result.now) in
+    (stored-count (block_sectors v) is.0.roots (length c.args.sums.now) (length c.read_beneath.new.out) (omega (arith, whole.whole, c.requires.size)) (omega (arith, whole.whole, whole.some, c.requires.size)) len).0
+
+pub add_parity-returns-in-None-clause-reads : goal.add_parity-returns-in-None-clause-reads
+add_parity-returns-in-None-clause-reads g t c q has = let clash : false ≡ true = c.in-None.ensures.some q has in absurd cc
+
+pub add_parity-returns-in-None-clause-given : goal.add_parity-returns-in-None-clause-given
+add_parity-returns-in-None-clause-given g t c q has = let clash : false ≡ true = c.in-None.ensures.some q has in absurd cc
+
+-- the parity that the line has
+stored-as : (c : Configuration) (p : DataPlace) (o : Option Parity) (q : Parity) (at : Stored) → (x : Parity) × (o ≡ Some x) × IsStoredAt c p x at → o ≡ Some q → IsStoredAt c p q at
+stored-as c p o q at is has =
+    let both : Some is.0 ≡ Some q = sym is.1 ∙ has in
+    let same : is.0 ≡ q = cc in
+    subst (λ (x : Parity). IsStoredAt c p x at) same is.2
+
+stored-room : (all : List ℕ) (n : ℕ) → length all ≡ 98304 → n ≤ 192 → length (take (n * 512) all) / 512 ≡ n
+stored-room all n room few = omega (arith, room, few, length-take (n * 512) all)
+
+pub add_parity-returns-in-Err-clause-reads : goal.add_parity-returns-in-Err-clause-reads
+add_parity-returns-in-Err-clause-reads g t c q has =
+    let config = c.args.config.now in
+    let v = c.args.verity.now in
+    let at = c.in-Some.stored in
+    let stored = stored-as config (place_in v c.args.tree.now c.args.index) v.parity q at c.in-Some.ensures.is has in
+    let count = stored-room c.as_mut_slice-all.result.now at.sectors (ap (λ (l : List ℕ). length l) c.as_mut_slice-all.ensures.value) c.in-Some.ensures.few in
+    stored-unread config v c.args.tree.now c.requires.stack.sound.loaded c.requires.block.lies c.args.index q c.args.sums.now at stored _ count c.in-Err.fault c.in-Err.ensures.reads
+
+-- the sums with the parity
+stored-sums : (config : Configuration) (v : Verity) (tree : Tree) (q : Parity) (sums out new all : List ℕ) (at : Stored) → IsLoaded config → IsTreeOf config v tree → length sums ≡ v.data_block → at.sectors ≡ block_sectors v * q.roots → length out ≡ length (take (at.sectors * 512) all) → length all ≡ 98304 → at.sectors ≤ 192
+    → new ≡ with_parity (length out / length sums) sums out → new ≡ with_parity q.roots sums out
+stored-sums config v tree q sums out new all at loaded lies size sectors wide room few is =
+    let whole = data-whole config tree.device.0 tree.line v loaded lies.is in
+    let len : length out ≡ block_sectors v * q.roots * 512 = omega (arith, wide, room, few, sectors, length-take (at.sectors * 512) all) in
+    is ∙ ap (λ (k : ℕ). with_parity k sums out) (stored-count (block_sectors v) q.roots (length sums) (length out) (omega (arith, whole.whole, size)) (omega (arith, whole.whole, whole.some, size)) len).1
+
+pub add_parity-returns-in-Ok-clause-reads : goal.add_parity-returns-in-Ok-clause-reads
+add_parity-returns-in-Ok-clause-reads g t c q has =
+    let config = c.args.config.now in
+    let v = c.args.verity.now in
+    let tree = c.args.tree.now in
+    let at = c.in-Some.stored in
+    let stored = stored-as config (place_in v tree c.args.index) v.parity q at c.in-Some.ensures.is has in
+    let room = ap (λ (l : List ℕ). length l) c.as_mut_slice-all.ensures.value in
+    let count = stored-room c.as_mut_slice-all.result.now at.sectors room c.in-Some.ensures.few in
+    let is = stored-sums config v tree q c.args.sums.now c.read_beneath.new.out c.add_stored.new.sums c.as_mut_slice-all.result.now at c.requires.stack.sound.loaded c.requires.block.lies c.requires.size stored.sectors c.read_beneath.auto.out room c.in-Some.ensures.few c.add_stored.ensures in
+    subst (λ (x : List ℕ). Gets (stored_wanted (block_in config v c.args.index) q c.args.sums.now) (map g.D.BlockDev.state c.args.backing.now.devices.items) (map g.D.BlockDev.state c.read_beneath.new.backing.devices.items) (Ok x)) (sym is)
+    (stored-read config v tree c.requires.stack.sound.loaded c.requires.block.lies c.args.index q c.args.sums.now at stored _ count c.in-Ok.ensures.reads)
+
+pub add_parity-returns-in-Err-clause-touches : goal.add_parity-returns-in-Err-clause-touches
+add_parity-returns-in-Err-clause-touches g t c = asks-up (parity-of c.args.config.now c.args.verity.now c.args.tree.now c.requires.stack.sound.loaded c.requires.block.lies c.args.index c.in-Some.stored.lower c.in-Some.ensures.is.2.on).within c.in-Err.ensures.touches
+
+pub add_parity-returns-in-Ok-clause-touches : goal.add_parity-returns-in-Ok-clause-touches
+add_parity-returns-in-Ok-clause-touches g t c = asks-up (parity-of c.args.config.now c.args.verity.now c.args.tree.now c.requires.stack.sound.loaded c.requires.block.lies c.args.index c.in-Some.stored.lower c.in-Some.ensures.is.2.on).within c.in-Ok.ensures.touches
+
+stored-some : (config : Configuration) (v : Verity) (tree : Tree) (q : Parity) (all : List ℕ) (at : Stored) → IsLoaded config → IsTreeOf config v tree → 2 ≤ q.roots → at.sectors ≡ block_sectors v * q.roots → length all ≡ 98304 → at.sectors ≤ 192 → 0 < length (take (at.sectors * 512) all)
+stored-some config v tree q all at loaded lies some sectors room few =
+    let whole = data-whole config tree.device.0 tree.line v loaded lies.is in
+    let more : 1 * q.roots ≤ block_sectors v * q.roots = mul-le-mul_right q.roots whole.some in
+    omega (arith, more, some, sectors, room, few, length-take (at.sectors * 512) all)
+
+pub add_parity-returns-in-Err-clause-given : goal.add_parity-returns-in-Err-clause-given
+add_parity-returns-in-Err-clause-given g t c q has =
+    let config = c.args.config.now in
+    let v = c.args.verity.now in
+    let tree = c.args.tree.now in
+    let loaded = c.requires.stack.sound.loaded in
+    let at = c.in-Some.stored in
+    let stored = stored-as config (place_in v tree c.args.index) v.parity q at c.in-Some.ensures.is has in
+    let room = ap (λ (l : List ℕ). length l) c.as_mut_slice-all.ensures.value in
+    let count = stored-room c.as_mut_slice-all.result.now at.sectors room c.in-Some.ensures.few in
+    let round = is-round config v tree loaded c.requires.block.lies c.args.index c.requires.block.there q has in
+    stored-lost c.args.sums.now at stored count (c.in-Err.ensures.given.some (stored-some config v tree q c.as_mut_slice-all.result.now at loaded c.requires.block.lies round.some stored.sectors room c.in-Some.ensures.few))
+
+pub add_parity-returns-in-Ok-clause-given : goal.add_parity-returns-in-Ok-clause-given
+add_parity-returns-in-Ok-clause-given g t c q has =
+    let config = c.args.config.now in
+    let v = c.args.verity.now in
+    let tree = c.args.tree.now in
+    let loaded = c.requires.stack.sound.loaded in
+    let place = place_in v tree c.args.index in
+    let at = c.in-Some.stored in
+    let stored = stored-as config place v.parity q at c.in-Some.ensures.is has in
+    let room = ap (λ (l : List ℕ). length l) c.as_mut_slice-all.ensures.value in
+    let count = stored-room c.as_mut_slice-all.result.now at.sectors room c.in-Some.ensures.few in
+    let round = is-round config v tree loaded c.requires.block.lies c.args.index c.requires.block.there q has in
+    let is = stored-sums config v tree q c.args.sums.now c.read_beneath.new.out c.add_stored.new.sums c.as_mut_slice-all.result.now at loaded c.requires.block.lies c.requires.size stored.sectors c.read_beneath.auto.out room c.in-Some.ensures.few c.add_stored.ensures in
+    subst (λ (x : List ℕ). ReadsBy (DeviceDoes g.D.BlockDev.state g.D.BlockDev.does) config (sums_of place q (255 - q.roots) c.args.sums.now) c.args.backing.now.devices.items c.read_beneath.new.backing.devices.items (Ok x)) (sym is)
+    (stored-given c.args.sums.now at stored count (c.in-Ok.ensures.given.some (stored-some config v tree q c.as_mut_slice-all.result.now at loaded c.requires.block.lies round.some stored.sectors room c.in-Some.ensures.few)))
+
+pub mend-loop-place-init : goal.mend-loop-place-init
+mend-loop-place-init g t c =
+    let config = c.args.config.now in
+    let v = c.args.verity.now in
+    let tree = c.args.tree.now in
+    let index : ℕ = c.args.lost.now.index in
+    let leaves = map g.D.BlockDev.state c.args.backing.now.devices.items in
+    let zeros : c.fill_zeros.new.out ≡ zero_block v = c.fill_zeros.ensures ∙ ap (λ (n : ℕ). replicate n 0) c.requires.size in
+    record {
+      within = omega arith;
+      summed = λ q has.
+          let round = is-round config v tree c.requires.stack.sound.loaded c.requires.block.lies index c.requires.block.there q has in
+          subst (λ (x : List ℕ). IsSummed (block_in config v index) q 0 x leaves leaves) (sym zeros) (summed-none (block_in config v index) q has round.some round.few round.low leaves);
+      cached = record { capacity = refl; sound = c.requires.stack.cached };
+      touches = asks-none (leaves_of config (mapped tree.device.0)) leaves (Ok tt) tt refl;
+      given = λ q has. subst (λ (x : List ℕ). LeadsTo (DeviceDoes g.D.BlockDev.state g.D.BlockDev.does) config (sums_of (place_in v tree index) q 0 (zero_block v)) (sums_of (place_in v tree index) q 0 x) c.args.backing.now.devices.items c.args.backing.now.devices.items) (sym zeros) (leads-begin (sums_of (place_in v tree index) q 0 (zero_block v)));
+    }
+
+pub mend-returns-in-None-clause-reads : goal.mend-returns-in-None-clause-reads
+mend-returns-in-None-clause-reads g t c = spare-none (block_in c.args.config.now c.args.verity.now c.args.lost.now.index) c.args.lost.now.digest (map g.D.BlockDev.state c.args.backing.now.devices.items) c.in-None.is
+
+pub mend-returns-in-None-clause-given : goal.mend-returns-in-None-clause-given
+mend-returns-in-None-clause-given g t c = spare-past (place_in c.args.verity.now c.args.tree.now c.args.lost.now.index) c.args.lost.now.digest c.in-None.is
+
+pub mend-add_other-requires : goal.mend-add_other-requires
+mend-add_other-requires g t c κs within =
+    let inv = c.loop-place.invariant in
+    let summed = inv.summed c.in-Some.parity c.in-Some.is in
+    (omega arith, (within, (stack-later c.args.config.now summed.moved.moved.fixed c.requires.stack inv.cached, (c.requires.block, omega (arith, c.loop-place.auto.out, c.fill_zeros.auto.out, c.requires.size)))))
+
+pub mend-returns-in-Err-clause-reads : goal.mend-returns-in-Err-clause-reads
+mend-returns-in-Err-clause-reads g t c =
+    let config = c.args.config.now in
+    let v = c.args.verity.now in
+    let index : ℕ = c.args.lost.now.index in
+    let q = c.in-Some.parity in
+    let has = c.in-Some.is in
+    let round = is-round config v c.args.tree.now c.requires.stack.sound.loaded c.requires.block.lies index c.requires.block.there q has in
+    summed-fails (block_in config v index) q has round.some round.few round.low (c.loop-place.invariant.summed q has) c.args.lost.now.digest c.in-Err.unread (omega (arith, c.loop-place-test.true)) (c.in-Err.ensures.reads q has)
+
+pub mend-returns-in-Err-clause-touches : goal.mend-returns-in-Err-clause-touches
+mend-returns-in-Err-clause-touches g t c = asks-then c.loop-place.invariant.touches c.in-Err.ensures.touches
+
+pub mend-returns-in-Err-clause-given : goal.mend-returns-in-Err-clause-given
+mend-returns-in-Err-clause-given g t c =
+    let q = c.in-Some.parity in
+    let has = c.in-Some.is in
+    spare-lost has (c.loop-place.invariant.given q has) (c.in-Err.ensures.given q has (omega (arith, c.loop-place-test.true)))
+
+pub mend-loop-place-preserved : goal.mend-loop-place-preserved
+mend-loop-place-preserved g t c =
+    let config = c.args.config.now in
+    let v = c.args.verity.now in
+    let tree = c.args.tree.now in
+    let index : ℕ = c.args.lost.now.index in
+    let inv = c.loop-place.invariant in
+    let place : ℕ = c.loop-place.place in
+    let next : suc place ≡ place + 1 = omega arith in
+    let old = map g.D.BlockDev.state c.args.backing.now.devices.items in
+    let new = map g.D.BlockDev.state c.add_other.new.backing.devices.items in
+    record {
+      within = omega (arith, c.loop-place-test.true);
+      summed = λ q has.
+          let round = is-round config v tree c.requires.stack.sound.loaded c.requires.block.lies index c.requires.block.there q has in
+          subst (λ (k : ℕ). IsSummed (block_in config v index) q k c.add_other.new.sums old new) next (summed-more (block_in config v index) q has round.some round.few round.low (inv.summed q has) (c.in-Ok.ensures.reads q has));
+      cached = record { capacity = c.in-Ok.ensures.cached.capacity ∙ inv.cached.capacity; sound = c.in-Ok.ensures.cached.sound };
+      touches = asks-then inv.touches c.in-Ok.ensures.touches;
+      given = λ q has.
+          let low : place < 255 - q.roots = mend-inside v.parity c.in-Some.parity q place c.in-Some.is has (omega (arith, c.loop-place-test.true)) in
+          subst (λ (k : ℕ). LeadsTo (DeviceDoes g.D.BlockDev.state g.D.BlockDev.does) config (sums_of (place_in v tree index) q 0 (zero_block v)) (sums_of (place_in v tree index) q k c.add_other.new.sums) c.args.backing.now.devices.items c.add_other.new.backing.devices.items) next
+          (leads-then (inv.given q has) (c.in-Ok.ensures.given q has low));
+    }
+
+pub mend-add_parity-requires : goal.mend-add_parity-requires
+mend-add_parity-requires g t c κs within =
+    let inv = c.loop-place.invariant in
+    let summed = inv.summed c.in-Some.parity c.in-Some.is in
+    (omega arith, (within, (stack-later c.args.config.now summed.moved.moved.fixed c.requires.stack inv.cached, (c.requires.block, omega (arith, c.loop-place.auto.out, c.fill_zeros.auto.out, c.requires.size)))))
+
+pub mend-returns-in-Err-add_parity-clause-reads : goal.mend-returns-in-Err-add_parity-clause-reads
+mend-returns-in-Err-add_parity-clause-reads g t c =
+    let config = c.args.config.now in
+    let v = c.args.verity.now in
+    let index : ℕ = c.args.lost.now.index in
+    let q = c.in-Some.parity in
+    let has = c.in-Some.is in
+    let round = is-round config v c.args.tree.now c.requires.stack.sound.loaded c.requires.block.lies index c.requires.block.there q has in
+    stored-fails (block_in config v index) q has round.some round.few round.low c.args.lost.now.digest (omega (arith, c.loop-place-test.false, c.loop-place.invariant.within)) (c.loop-place.invariant.summed q has) c.in-Err-add_parity.fault (c.in-Err-add_parity.ensures.reads q has)
+
+pub mend-returns-in-Err-add_parity-clause-given : goal.mend-returns-in-Err-add_parity-clause-given
+mend-returns-in-Err-add_parity-clause-given g t c =
+    let q = c.in-Some.parity in
+    let has = c.in-Some.is in
+    let place = place_in c.args.verity.now c.args.tree.now c.args.lost.now.index in
+    let all : 255 - q.roots ≡ c.loop-place.place = omega (arith, c.loop-place-test.false, c.loop-place.invariant.within) in
+    spare-lost has (c.loop-place.invariant.given q has)
+    (subst (λ (k : ℕ). ReadsBy (DeviceDoes g.D.BlockDev.state g.D.BlockDev.does) c.args.config.now (sums_of place q k c.loop-place.out) c.loop-place.backing.devices.items c.add_parity.new.backing.devices.items (Err c.in-Err-add_parity.fault)) all (c.in-Err-add_parity.ensures.given q has))
+
+pub mend-returns-then-eq-clause-reads : goal.mend-returns-then-eq-clause-reads
+mend-returns-then-eq-clause-reads g t c =
+    let config = c.args.config.now in
+    let v = c.args.verity.now in
+    let tree = c.args.tree.now in
+    let index : ℕ = c.args.lost.now.index in
+    let q = c.in-Some.parity in
+    let has = c.in-Some.is in
+    let round = is-round config v tree c.requires.stack.sound.loaded c.requires.block.lies index c.requires.block.there q has in
+    let whole = data-whole config tree.device.0 tree.line v c.requires.stack.sound.loaded c.requires.block.lies.is in
+    let good : c.digest.result ≡ c.args.lost.now.digest = (bytes_eq-Decides c.digest.result c.args.lost.now.digest).0 (sym c.eq.ensures ∙ c.if-eq.true) in
+    spare-ends (block_in config v index) q has round.some round.few round.low c.args.lost.now.digest (omega (arith, c.loop-place-test.false, c.loop-place.invariant.within)) (c.loop-place.invariant.summed q has) (c.in-Ok-add_parity.ensures.reads q has)
+    (omega (arith, c.add_parity.auto.sums, c.loop-place.auto.out, c.fill_zeros.auto.out, c.requires.size, whole.whole)) (sym c.digest.ensures ∙ good)
+
+pub mend-returns-then-eq-clause-given : goal.mend-returns-then-eq-clause-given
+mend-returns-then-eq-clause-given g t c =
+    let q = c.in-Some.parity in
+    let has = c.in-Some.is in
+    let place = place_in c.args.verity.now c.args.tree.now c.args.lost.now.index in
+    let all : 255 - q.roots ≡ c.loop-place.place = omega (arith, c.loop-place-test.false, c.loop-place.invariant.within) in
+    let good : c.digest.result ≡ c.args.lost.now.digest = (bytes_eq-Decides c.digest.result c.args.lost.now.digest).0 (sym c.eq.ensures ∙ c.if-eq.true) in
+    spare-given has (c.loop-place.invariant.given q has) (sym c.digest.ensures ∙ good)
+    (subst (λ (k : ℕ). ReadsBy (DeviceDoes g.D.BlockDev.state g.D.BlockDev.does) c.args.config.now (sums_of place q k c.loop-place.out) c.loop-place.backing.devices.items c.add_parity.new.backing.devices.items (Ok c.add_parity.new.sums)) all (c.in-Ok-add_parity.ensures.given q has))
+
+pub mend-returns-clause-reads : goal.mend-returns-clause-reads
+mend-returns-clause-reads g t c =
+    let config = c.args.config.now in
+    let v = c.args.verity.now in
+    let index : ℕ = c.args.lost.now.index in
+    let q = c.in-Some.parity in
+    let has = c.in-Some.is in
+    let round = is-round config v c.args.tree.now c.requires.stack.sound.loaded c.requires.block.lies index c.requires.block.there q has in
+    let other : digest v.salt c.add_parity.new.sums ≡ c.args.lost.now.digest → ⊥ = λ same.
+    let made : c.digest.result ≡ c.args.lost.now.digest = c.digest.ensures ∙ same in
+    let clash : false ≡ true = sym c.if-eq.false ∙ c.eq.ensures ∙ (bytes_eq-Decides c.digest.result c.args.lost.now.digest).1 made in
+    cc in
+    spare-differs (block_in config v index) q has round.some round.few round.low c.args.lost.now.digest (omega (arith, c.loop-place-test.false, c.loop-place.invariant.within)) (c.loop-place.invariant.summed q has) (c.in-Ok-add_parity.ensures.reads q has) other
+
+pub mend-returns-clause-given : goal.mend-returns-clause-given
+mend-returns-clause-given g t c =
+    let q = c.in-Some.parity in
+    let has = c.in-Some.is in
+    let v = c.args.verity.now in
+    let place = place_in v c.args.tree.now c.args.lost.now.index in
+    let all : 255 - q.roots ≡ c.loop-place.place = omega (arith, c.loop-place-test.false, c.loop-place.invariant.within) in
+    let other : digest v.salt c.add_parity.new.sums ≡ c.args.lost.now.digest → ⊥ = λ same.
+    let made : c.digest.result ≡ c.args.lost.now.digest = c.digest.ensures ∙ same in
+    let clash : false ≡ true = sym c.if-eq.false ∙ c.eq.ensures ∙ (bytes_eq-Decides c.digest.result c.args.lost.now.digest).1 made in
+    cc in
+    spare-other has (c.loop-place.invariant.given q has) other
+    (subst (λ (k : ℕ). ReadsBy (DeviceDoes g.D.BlockDev.state g.D.BlockDev.does) c.args.config.now (sums_of place q k c.loop-place.out) c.loop-place.backing.devices.items c.add_parity.new.backing.devices.items (Ok c.add_parity.new.sums)) all (c.in-Ok-add_parity.ensures.given q has))
+
+-- ---- healing
+
+pub heal-zero_block-requires : goal.heal-zero_block-requires
+heal-zero_block-requires g t c =
+    let tree = c.args.tree.now in
+    let size = data-whole c.args.config.now tree.device.0 tree.line c.args.verity.now c.requires.stack.sound.loaded c.requires.block.lies.is in
+    omega (arith, size.whole, size.most)
+
+pub heal-returns-in-Err-clause-reads : goal.heal-returns-in-Err-clause-reads
+heal-returns-in-Err-clause-reads g t c = heals-short g.D.BlockDev.state c.args.config.now (place_in c.args.verity.now c.args.tree.now c.args.lost.now.index) c.args.lost.now c.args.fault refl c.in-Err.ensures.err
+
+pub heal-returns-in-Ok-mend-clause-reads : goal.heal-returns-in-Ok-mend-clause-reads
+heal-returns-in-Ok-mend-clause-reads g t c =
+    let block = c.in-Ok.block in
+    let out = c.mend.new.out in
+    let held : length out ≡ block.len = c.mend.auto.out ∙ ap (λ (l : List ℕ). length l) c.as_mut_slice.ensures.value ∙ sym block.ok.0 in
+    heals-had g.D.BlockDev.state c.args.config.now (place_in c.args.verity.now c.args.tree.now c.args.lost.now.index) c.args.lost.now c.args.fault (with_items block out) (with_items_is block out held) c.in-Ok-mend.ensures.reads c.in-Ok-mend.ensures.given
+
+pub heal-returns-in-Err-Stack-clause-reads : goal.heal-returns-in-Err-Stack-clause-reads
+heal-returns-in-Err-Stack-clause-reads g t c = heals-failed g.D.BlockDev.state c.args.config.now (place_in c.args.verity.now c.args.tree.now c.args.lost.now.index) c.args.lost.now c.args.fault _ (rw c.in-Err-Stack.field-0-is at c.in-Err-Stack.ensures.reads) (rw c.in-Err-Stack.field-0-is at c.in-Err-Stack.ensures.given)
+
+pub heal-returns-in-Err-Device-clause-reads : goal.heal-returns-in-Err-Device-clause-reads
+heal-returns-in-Err-Device-clause-reads g t c = heals-failed g.D.BlockDev.state c.args.config.now (place_in c.args.verity.now c.args.tree.now c.args.lost.now.index) c.args.lost.now c.args.fault _ (rw c.in-Err-Device.field-0-is at c.in-Err-Device.ensures.reads) (rw c.in-Err-Device.field-0-is at c.in-Err-Device.ensures.given)
+
+pub heal-returns-clause-reads : goal.heal-returns-clause-reads
+heal-returns-clause-reads g t c = heals-failed g.D.BlockDev.state c.args.config.now (place_in c.args.verity.now c.args.tree.now c.args.lost.now.index) c.args.lost.now c.args.fault _ (rw c.in-Err-NoMemory.field-0-is at c.in-Err-NoMemory.ensures.reads) (rw c.in-Err-NoMemory.field-0-is at c.in-Err-NoMemory.ensures.given)
+
+pub read_data-heal-requires : goal.read_data-heal-requires
+read_data-heal-requires g t c κs within =
+    (omega arith, (within, (stack-later c.args.config.now c.in-Err-Stack.ensures.reads.moved.moved.fixed c.requires.stack c.in-Err-Stack.ensures.cached, c.requires.block)))
+
+pub read_data-returns-in-Ok-read_checked-clause-touches : goal.read_data-returns-in-Ok-read_checked-clause-touches
+read_data-returns-in-Ok-read_checked-clause-touches g t c =
+    asks-up (data-within c.args.config.now c.args.verity.now c.args.tree.now c.requires.stack.sound.loaded c.requires.block.lies) (extent-touched c.args.config.now c.data_extent-extent.result c.data_extent-extent.ensures c.in-Ok-read_checked.ensures.touches)
+
+pub read_data-returns-in-Ok-read_checked-clause-given : goal.read_data-returns-in-Ok-read_checked-clause-given
+read_data-returns-in-Ok-read_checked-clause-given g t c last = one-given last (sym c.is_ignored.ensures ∙ c.if-is_ignored.false) c.data_extent-extent.ensures.value tt c.in-Ok-read_checked.ensures.given
+
+pub read_data-returns-in-Err-Stack-clause-reads : goal.read_data-returns-in-Err-Stack-clause-reads
+read_data-returns-in-Err-Stack-clause-reads g t c =
+    let v = c.args.verity.now in
+    let config = c.args.config.now in
+    let healed = c.heal.ensures.reads in
+    let b = block_in config v c.args.index in
+    let own = checked_as config v.data c.args.tree.now.data (block_sectors v * c.args.index) (block_sectors v) v.salt c.args.expected.now (Err (Stack c.in-Err-Stack.fault)) c.data_extent-extent.result c.requires.block.lies.on_data c.data_extent-extent.ensures.value (rw c.in-Err-Stack.field-0-is at c.in-Err-Stack.ensures.reads) in
+    subst (λ (r : Result (Vec ℕ Global) IoFault). Gets (data_expected bytes b c.args.expected.now) (map g.D.BlockDev.state c.args.backing.now.devices.items) (map g.D.BlockDev.state c.heal.new.backing.devices.items) r) (sym healed.is)
+    (data_healed bytes b c.args.expected.now c.in-Err-Stack.fault (sym c.is_ignored.ensures ∙ c.if-is_ignored.false) own healed.spare healed.got)
+
+pub read_data-returns-in-Err-Stack-clause-touches : goal.read_data-returns-in-Err-Stack-clause-touches
+read_data-returns-in-Err-Stack-clause-touches g t c =
+    asks-then (asks-as {B = Unit {0}} (Ok tt) tt (λ failures. refl) (asks-up (data-within c.args.config.now c.args.verity.now c.args.tree.now c.requires.stack.sound.loaded c.requires.block.lies) (extent-touched c.args.config.now c.data_extent-extent.result c.data_extent-extent.ensures (rw c.in-Err-Stack.field-0-is at c.in-Err-Stack.ensures.touches))))
+    c.heal.ensures.touches
+
+-- the bytes of what is answered after the spare
+healed-bytes : (fault : Fault) (spare : Result (Vec ℕ Global) IoFault) → healed_result fault (block_answer spare) ≡ block_answer (healed_result fault spare)
+healed-bytes fault (Ok x) = refl
+healed-bytes fault (Err (Stack vain)) = refl
+healed-bytes fault (Err (Device i)) = refl
+healed-bytes fault (Err NoMemory) = refl
+
+pub read_data-returns-in-Err-Stack-clause-given : goal.read_data-returns-in-Err-Stack-clause-given
+read_data-returns-in-Err-Stack-clause-given g t c last =
+    let healed = c.heal.ensures.reads in
+    let place = place_in c.args.verity.now c.args.tree.now c.args.index in
+    let fault = c.in-Err-Stack.fault in
+    subst (λ (r : Result (List ℕ) IoFault). ReadsBy (DeviceDoes g.D.BlockDev.state g.D.BlockDev.does) c.args.config.now (data_of place 0 c.args.expected.now last one_block) c.args.backing.now.devices.items c.heal.new.backing.devices.items r)
+    (healed-bytes fault healed.spare ∙ ap block_answer (sym healed.is))
+    (one-healed last (sym c.is_ignored.ensures ∙ c.if-is_ignored.false) c.data_extent-extent.ensures.value (rw c.in-Err-Stack.field-0-is at c.in-Err-Stack.ensures.given) healed.given)
+
+pub read_data-returns-in-Err-Device-clause-touches : goal.read_data-returns-in-Err-Device-clause-touches
+read_data-returns-in-Err-Device-clause-touches g t c =
+    asks-up (data-within c.args.config.now c.args.verity.now c.args.tree.now c.requires.stack.sound.loaded c.requires.block.lies) (extent-touched c.args.config.now c.data_extent-extent.result c.data_extent-extent.ensures (rw c.in-Err-Device.field-0-is at c.in-Err-Device.ensures.touches))
+
+pub read_data-returns-in-Err-Device-clause-given : goal.read_data-returns-in-Err-Device-clause-given
+read_data-returns-in-Err-Device-clause-given g t c last = one-given last (sym c.is_ignored.ensures ∙ c.if-is_ignored.false) c.data_extent-extent.ensures.value tt (rw c.in-Err-Device.field-0-is at c.in-Err-Device.ensures.given)
+
+pub read_data-returns-in-Err-NoMemory-clause-touches : goal.read_data-returns-in-Err-NoMemory-clause-touches
+read_data-returns-in-Err-NoMemory-clause-touches g t c =
+    asks-up (data-within c.args.config.now c.args.verity.now c.args.tree.now c.requires.stack.sound.loaded c.requires.block.lies) (extent-touched c.args.config.now c.data_extent-extent.result c.data_extent-extent.ensures (rw c.in-Err-NoMemory.field-0-is at c.in-Err-NoMemory.ensures.touches))
+
+pub read_data-returns-in-Err-NoMemory-clause-given : goal.read_data-returns-in-Err-NoMemory-clause-given
+read_data-returns-in-Err-NoMemory-clause-given g t c last = one-given last (sym c.is_ignored.ensures ∙ c.if-is_ignored.false) c.data_extent-extent.ensures.value tt (rw c.in-Err-NoMemory.field-0-is at c.in-Err-NoMemory.ensures.given)

@@ -1,8 +1,11 @@
-use Rattle.std.proofs.Common.{All, length, take, map, ◌-◌, ◌≡◌, ◌≤◌, ◌+◌, ◌/◌, ◌*◌, ◌%◌, ℕ, List, Ok}
+use Rattle.std.proofs.Common.{All, length, take, map, ◌-◌, ◌≡◌, ◌≤◌, ◌+◌, ◌/◌, ◌*◌, ◌%◌, ℕ, List, Ok, Some}
+use Rattle.dm_table.specs.declared.parity.Parity.{Parity}
 use Rattle.stack_rules.specs.Names.{mapped}
+use Rattle.stack_rules.specs.Trees.{zero_block}
 use Rattle.stack_rules.specs.Descend.{depth}
 use Rattle.block_device.specs.Call.{DeviceDoes}
-use Rattle.stack_engine.specs.SectorCalls.{DataRead, LeadsTo, data_of, last_bytes, one_block, place_in, whole_data}
+use Rattle.stack_engine.specs.SectorCalls.{DataRead, LeadsTo, data_of, last_bytes, one_block, place_in, sums_of, whole_data}
+use Rattle.stack_engine.proofs.lemmas.MendLemmas.{IsSummed}
 use Rattle.stack_engine.proofs.BlockCallLemmas.{BlocksUpTo}
 use Rattle.stack_engine.proofs.SectorCallLemmas.{GivesUpTo}
 use Rattle.stack_lines.specs.Sources.{source_depth}
@@ -16,18 +19,18 @@ use Rattle.stack_engine.specs.Keeping.{ReadsAs}
 use Rattle.stack_engine.specs.ReadSteps.{run_beneath, IsReadStep}
 use Rattle.stack_engine.proofs.read.+read.Given as goal
 
--- 8 times the depth and a rank, of which 0 to 4 are left for the steps of a target: part of a unit takes 4, whole units 3,
--- a data block 4, the walk to it 3, its last step 2, a hash block 8 times its own depth and 9, and a block that is checked
--- 8 times its own depth and 8
+-- 16 times the depth and a rank, of which 0 to 6 are left for the steps of a target: part of a unit takes 4, whole units 3,
+-- a data block 6, the walk to it 5, its last step 4, healing 3, its spare 2, a step of that 1, a hash block 16 times its own depth
+-- and 11, and a block that is checked 16 times its own depth and 10
 
 abbrev pub decreases-read_lower : goal.decreases-read_lower
-decreases-read_lower g l = 8 * depth l.config.now l.from.0 + 7
+decreases-read_lower g l = 16 * depth l.config.now l.from.0 + 9
 
 abbrev pub decreases-read_device : goal.decreases-read_device
-decreases-read_device g l = 8 * depth l.config.now (mapped l.from.0.0) + 6
+decreases-read_device g l = 16 * depth l.config.now (mapped l.from.0.0) + 8
 
 abbrev pub decreases-read_run : goal.decreases-read_run
-decreases-read_run g l = 8 * source_depth l.config.now l.source + 5
+decreases-read_run g l = 16 * source_depth l.config.now l.source + 7
 
 -- the bytes so far are those of a read of so many sectors
 abbrev pub invariant-read_device-loop-at : goal.invariant-read_device-loop-at
@@ -45,25 +48,25 @@ abbrev pub decreases-read_device-loop-at : goal.decreases-read_device-loop-at
 decreases-read_device-loop-at g l = length l.initial.out - l.at
 
 abbrev pub decreases-read_unit_part : goal.decreases-read_unit_part
-decreases-read_unit_part g l = 8 * (depth l.config.now l.part.lower + 1) + 4
+decreases-read_unit_part g l = 16 * (depth l.config.now l.part.lower + 1) + 4
 
 abbrev pub decreases-read_units : goal.decreases-read_units
-decreases-read_units g l = 8 * (depth l.config.now l.part.lower + 1) + 3
+decreases-read_units g l = 16 * (depth l.config.now l.part.lower + 1) + 3
 
 abbrev pub decreases-read_block : goal.decreases-read_block
-decreases-read_block g l = 8 * depth l.config.now (mapped l.part.device.0) + 4
+decreases-read_block g l = 16 * depth l.config.now (mapped l.part.device.0) + 6
 
 abbrev pub decreases-walk : goal.decreases-walk
-decreases-walk g l = 8 * depth l.config.now (mapped l.tree.now.device.0) + 3
+decreases-walk g l = 16 * depth l.config.now (mapped l.tree.now.device.0) + 5
 
 abbrev pub decreases-read_data : goal.decreases-read_data
-decreases-read_data g l = 8 * depth l.config.now (mapped l.tree.now.device.0) + 2
+decreases-read_data g l = 16 * depth l.config.now (mapped l.tree.now.device.0) + 4
 
 abbrev pub decreases-hash_block : goal.decreases-hash_block
-decreases-hash_block g l = 8 * depth l.config.now l.extent.lower + 9
+decreases-hash_block g l = 16 * depth l.config.now l.extent.lower + 11
 
 abbrev pub decreases-read_checked : goal.decreases-read_checked
-decreases-read_checked g l = 8 * depth l.config.now l.extent.lower + 8
+decreases-read_checked g l = 16 * depth l.config.now l.extent.lower + 10
 
 -- what the path so far shows
 abbrev pub invariant-walk-loop-level : goal.invariant-walk-loop-level
@@ -80,13 +83,13 @@ abbrev pub decreases-walk-loop-level : goal.decreases-walk-loop-level
 decreases-walk-loop-level g l = l.level
 
 abbrev pub decreases-path_block : goal.decreases-path_block
-decreases-path_block g l = 8 * depth l.config.now l.tree.now.hash + 10
+decreases-path_block g l = 16 * depth l.config.now l.tree.now.hash + 12
 
 abbrev pub decreases-walk_path : goal.decreases-walk_path
-decreases-walk_path g l = 8 * depth l.config.now (mapped l.tree.now.device.0) + 3
+decreases-walk_path g l = 16 * depth l.config.now (mapped l.tree.now.device.0) + 5
 
 abbrev pub decreases-read_blocks : goal.decreases-read_blocks
-decreases-read_blocks g l = 8 * depth l.config.now (mapped l.part.device.0) + 4
+decreases-read_blocks g l = 16 * depth l.config.now (mapped l.part.device.0) + 6
 
 -- what the blocks of the path so far show
 abbrev pub invariant-walk_path-loop-left : goal.invariant-walk_path-loop-left
@@ -105,7 +108,7 @@ abbrev pub decreases-walk_path-loop-left : goal.decreases-walk_path-loop-left
 decreases-walk_path-loop-left g l = l.left
 
 abbrev pub decreases-read_beneath : goal.decreases-read_beneath
-decreases-read_beneath g l = 8 * depth l.config.now l.lower + 8
+decreases-read_beneath g l = 16 * depth l.config.now l.lower + 10
 
 -- the blocks so far were read, and those after them are as they were read last
 abbrev pub invariant-read_blocks-checks : goal.invariant-read_blocks-checks
@@ -119,3 +122,29 @@ invariant-read_blocks-checks g l = record {
 
 abbrev pub decreases-read_blocks-checks : goal.decreases-read_blocks-checks
 decreases-read_blocks-checks g l = l.count - l.at
+
+abbrev pub decreases-add_other : goal.decreases-add_other
+decreases-add_other g l = 16 * depth l.config.now (mapped l.tree.now.device.0) + 1
+
+abbrev pub decreases-add_parity : goal.decreases-add_parity
+decreases-add_parity g l = 16 * depth l.config.now (mapped l.tree.now.device.0) + 1
+
+abbrev pub decreases-mend : goal.decreases-mend
+decreases-mend g l = 16 * depth l.config.now (mapped l.tree.now.device.0) + 2
+
+abbrev pub decreases-heal : goal.decreases-heal
+decreases-heal g l = 16 * depth l.config.now (mapped l.tree.now.device.0) + 3
+
+-- the blocks at the positions so far were added
+abbrev pub invariant-mend-loop-place : goal.invariant-mend-loop-place
+invariant-mend-loop-place g l = record {
+  within : l.place ≤ l.count;
+  summed : (q : Parity) → l.verity.parity ≡ Some q → IsSummed (block_in l.config l.verity l.index) q l.place l.out (map g.D.BlockDev.state l.fn.backing.devices.items) (map g.D.BlockDev.state l.backing.devices.items);
+  cached : KeepsCache l.config (map g.D.BlockDev.state l.backing.devices.items) l.fn.backing.cache l.backing.cache;
+  touches : AsksOnly {A = Unit {0}} (leaves_of l.config (mapped l.tree.device.0)) (map g.D.BlockDev.state l.fn.backing.devices.items) (map g.D.BlockDev.state l.backing.devices.items) (Ok tt);
+  given : (q : Parity) → l.verity.parity ≡ Some q → LeadsTo (DeviceDoes g.D.BlockDev.state g.D.BlockDev.does) l.config (sums_of (place_in l.verity l.tree l.index) q 0 (zero_block l.verity)) (sums_of (place_in l.verity l.tree l.index) q l.place l.out)
+      l.fn.backing.devices.items l.backing.devices.items;
+}
+
+abbrev pub decreases-mend-loop-place : goal.decreases-mend-loop-place
+decreases-mend-loop-place g l = l.count - l.place

@@ -1,4 +1,4 @@
-use Rattle.std.proofs.Common.{◌≡◌, ◌+◌, ◌<◌, ◌≤◌, ℕ, sym, subst, arith}
+use Rattle.std.proofs.Common.{◌≡◌, ℕ, sym, subst, arith}
 use Rattle.stack_rules.specs.Trees.{block_sectors}
 use Rattle.stack_meaning.specs.Puts.{in_one_run}
 use Rattle.stack_lines.specs.declared.source.Source.TheVariants.{Block}

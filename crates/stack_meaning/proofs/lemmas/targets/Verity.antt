@@ -12,29 +12,37 @@ use Rattle.stack_meaning.specs.Found.{Entry}
 use Rattle.stack_meaning.specs.Blocks.{verified_block}
 use Rattle.stack_meaning.specs.Leaves.{AreSteady}
 use Rattle.stack_meaning.specs.Outcomes.{Images, Outcome, then_outcome, part}
-use Rattle.stack_meaning.specs.targets.Verity.{verity_meaning}
+use Rattle.stack_meaning.specs.Said.{Said}
+use Rattle.stack_meaning.specs.Spares.{BlockSources}
+use Rattle.stack_meaning.specs.targets.Verity.{sources_over, verity_meaning}
 use Rattle.stack_meaning.proofs.lemmas.BlockSizeLemmas.{whole-sectors}
-use Rattle.stack_meaning.proofs.lemmas.MeaningLaws.{MeantLaws}
-use Rattle.stack_meaning.proofs.lemmas.SizedLemmas.{block-length, then-parts}
+use Rattle.stack_meaning.proofs.lemmas.MeaningLaws.{IsAlike, MeantLaws}
+use Rattle.stack_meaning.proofs.lemmas.CheckedLemmas.{then-parts}
+use Rattle.stack_meaning.proofs.lemmas.SizedLemmas.{block-length}
 use Rattle.stack_meaning.proofs.lemmas.LeafListLemmas.{AreSteady-kept, images-kept}
+
+-- the three devices mean the same over both
+sources-alike : (images other : Images) (below : ℕ → ℕ → Said) → ((i t : ℕ) → IsAlike images other (below i t)) → sources_over below images ≡ sources_over below other
+sources-alike images other below all =
+    let over : ℕ → Images → ℕ → Outcome = λ i m t. (below i t).means m in
+    let same : (i : ℕ) → over i images ≡ over i other = λ i. fun_ext (all i) in
+    let sources : (ℕ → Outcome) → (ℕ → Outcome) → (ℕ → Outcome) → BlockSources = λ x y z. record { on_data = x; on_hash = y; on_parity = z } in
+    ap (λ (f : ℕ → Outcome). sources f (over 1 images) (over 2 images)) (same 0)
+    ∙ ap (λ (f : ℕ → Outcome). sources (over 0 other) f (over 2 images)) (same 1)
+    ∙ ap (λ (f : ℕ → Outcome). sources (over 0 other) (over 1 other) f) (same 2)
 
 pub verity-laws : (v : Verity) → MeantLaws (verity_target v) (verity_meaning v).meant
 verity-laws v = record {
   mono = λ below all d l s u w more b h. (h.0, record { given = more h.0 h.1.given; at = h.1.at; good = h.1.good }, h.2);
   alike = λ images other below all d l s.
-      let i : ℕ = s / (v.data_block / 512) in
-      let on_data : (λ t. (below 0 t).means images) ≡ (λ t. (below 0 t).means other) = fun_ext (all 0) in
-      let on_hash : (λ t. (below 1 t).means images) ≡ (λ t. (below 1 t).means other) = fun_ext (all 1) in
       let next : List ℕ → Outcome = λ block. Ok (part block (s % (v.data_block / 512))) in
-      ap (λ (f : ℕ → Outcome). then_outcome (verified_block v f (λ t. (below 1 t).means images) i) next) on_data
-      ∙ ap (λ (f : ℕ → Outcome). then_outcome (verified_block v (λ t. (below 0 t).means other) f i) next) on_hash;
+      ap (λ (sources : BlockSources). then_outcome (verified_block v sources (s / (v.data_block / 512))) next) (sources-alike images other below all);
   sized = λ grammar images below all d l s b h.
       let some = whole-sectors v.data_block grammar.places.data_block in
       let i : ℕ = s / block_sectors v in
-      let on_data : ℕ → Outcome = λ t. (below 0 t).means images in
-      let on_hash : ℕ → Outcome = λ t. (below 1 t).means images in
-      let read = then-parts (verified_block v on_data on_hash i) (λ block. Ok (part block (s % block_sectors v))) b h in
-      let size = block-length v on_data on_hash some.whole (all 0) i (levels (tree_of v)) v.root read.0 read.1 in
+      let sources : BlockSources = sources_over below images in
+      let read = then-parts (verified_block v sources i) (λ block. Ok (part block (s % block_sectors v))) b h in
+      let size = block-length v sources some.whole (all 0) i (levels (tree_of v)) v.root read.0 read.1 in
       let low : s % block_sectors v < block_sectors v = mod_below s (block_sectors v) some.some in
       let same : part read.0 (s % block_sectors v) ≡ b = cc in
       subst IsSector same (length-take-le 512 (drop (512 * (s % block_sectors v)) read.0) (omega (arith, size, low, length-drop (512 * (s % block_sectors v)) read.0)));
@@ -48,6 +56,6 @@ verity-laws v = record {
     good = h.good;
     exact = λ steady.
         let before : AreSteady these old = AreSteady-kept new old (sym a.moved.fixed) steady in
-        ap (λ (m : Images). verified_block v (λ t. (below 0 t).means m) (λ t. (below 1 t).means m) chain.index) (images-kept a) ∙ h.exact before;
+        ap (λ (m : Images). verified_block v (sources_over below m) chain.index) (images-kept a) ∙ h.exact before;
   };
 }

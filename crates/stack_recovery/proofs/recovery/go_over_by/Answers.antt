@@ -1,4 +1,4 @@
-use Rattle.std.proofs.Common.{◌≡◌, ◌⊎◌, ◌+◌, ◌-◌, ◌≤◌, ◌<◌, ◌*◌, ◌/◌, ◌^◌, ℕ, Bool, true, false, List, [], ◌∷◌, ◌++◌, replicate, Ok, Err, IsErrAnd, arith, refl, sym, ◌∙◌, ap, ap₂, subst, length, take, Option, None, is_some, inl, inr}
+use Rattle.std.proofs.Common.{◌≡◌, ◌⊎◌, ◌+◌, ◌-◌, ◌≤◌, ◌<◌, ◌*◌, ◌/◌, ◌^◌, ℕ, Bool, true, false, List, [], ◌∷◌, ◌++◌, replicate, Ok, Err, IsErrAnd, arith, refl, sym, ◌∙◌, ap, subst, length, take, Option, is_some, inl, inr}
 use Rattle.std.proofs.lemmas.Bool.{false≢true}
 use Rattle.std.proofs.lemmas.List.{length-take-le}
 use Rattle.std.proofs.lemmas.Result.{err_from_is_err_and}
@@ -16,21 +16,22 @@ use Rattle.stack_recovery.specs.declared.fault.RecoveryFault.{RecoveryFault}
 use Rattle.stack_recovery.specs.declared.fault.RecoveryFault.TheVariants.{NoMemory, Output}
 use Rattle.runs.specs.Runs.{run}
 use Rattle.runs.specs.Tallies.{EndsAt}
+use Rattle.stack_recovery.specs.declared.lost_run.Loss.{Loss}
 use Rattle.stack_recovery.specs.LostRuns.{LostRun}
 use Rattle.stack_recovery.specs.declared.tally.Tally.{Tally}
 use Rattle.stack_recovery.specs.Alike.{AreAlike}
 use Rattle.stack_recovery.specs.LeafReads.{CopiesLeaves, no_piece, piece_failed, sectors_had}
-use Rattle.stack_recovery.specs.Losses.{ListsLost, NotesLost, TalliesLost}
+use Rattle.stack_recovery.specs.Losses.{ListsLost, NotesLost, TalliesLost, loss_by}
 use Rattle.stack_recovery.specs.PassPieces.{IsNextPiece, pass_over}
-use Rattle.stack_recovery.specs.PieceLimits.{limit_after_bytes, limit_up_to}
+use Rattle.stack_recovery.specs.PieceLimits.{is_given_up, limit_after_bytes, limit_after_loss, limit_up_to}
 use Rattle.stack_recovery.specs.Pieces.{EndsAligned}
-use Rattle.stack_recovery.specs.Recoveries.{EndsEarly, Sides, sides}
+use Rattle.stack_recovery.specs.Recoveries.{EndsEarly, Sides, scanned_by, sides}
 use Rattle.stack_recovery.specs.Surveys.{AreMarked}
 use Rattle.stack_recovery.proofs.AheadLemmas.{ahead-inside, ahead-next, ahead-some, first-run, marked-next, notes-some}
 use Rattle.stack_recovery.proofs.HandingLemmas.{hands-failed, hands-in-piece, hands-over, hands-part}
 use Rattle.stack_recovery.proofs.LeafReadLemmas.{copies-again, copies-had}
-use Rattle.stack_recovery.proofs.PieceLemmas.{next-piece}
-use Rattle.stack_recovery.proofs.UnderwayLemmas.{IsUnderway, counted-all, ends-in-piece, fails-output, few, note-room, runs-short, underway-again, underway-had, underway-kept, underway-lost, underway-none, underway-until}
+use Rattle.stack_recovery.proofs.PieceLemmas.{found-again, loss-fault, loss-found, may-lose, next-piece}
+use Rattle.stack_recovery.proofs.UnderwayLemmas.{IsUnderway, closed-tally, counted-all, ends-in-piece, fails-output, few, note-room, runs-short, underway-again, underway-had, underway-kept, underway-lost, underway-none, underway-until}
 use Rattle.stack_recovery.proofs.WritingLemmas.{err-from}
 use Rattle.stack_recovery.proofs.recovery.go_over_by.Goals as goal
 
@@ -42,8 +43,8 @@ pieces-init g c =
     record {
       so_far = record {
         calls = [];
-        under = subst (λ (t : Tally). IsUnderway (is_some c.args.noted.now) before c.args.pass.device.0 old old 0 t c.args.noted.now c.of_run-piece_limit.result []) (sym c.new-tally.ensures)
-            (underway-none (is_some c.args.noted.now) before c.args.pass.device.0 old c.args.noted.now c.of_run-piece_limit.result c.requires.begun c.of_run-piece_limit.ensures.value);
+        under = subst (λ (t : Tally). IsUnderway (is_some c.args.noted.now) before (scanned_by c.args.pass) old old 0 t c.args.noted.now c.of_run-piece_limit.result []) (sym c.new-tally.ensures)
+            (underway-none (is_some c.args.noted.now) before (scanned_by c.args.pass) old c.args.noted.now c.of_run-piece_limit.result c.requires.begun c.of_run-piece_limit.ensures.value);
         did = refl;
       };
       called = no_piece;
@@ -76,7 +77,7 @@ returns-in_err-note-clause-err g c =
     let new : Sides = sides c.pieces.stack (g.O.BlockDev.state c.pieces.out) (g.L.Listing.told c.pieces.listing) in
     let makes_map : Bool = is_some c.args.noted.now in
     err-from c.from_residual.result _ _ c.from_residual.ensures.1
-    (subst (EndsEarly makes_map (marks_ahead c.args.ahead) c.args.pass.device.0 old new) (sym c.in_err-note.ensures.err.0)
+    (subst (EndsEarly makes_map (marks_ahead c.args.ahead) (scanned_by c.args.pass) old new) (sym c.in_err-note.ensures.err.0)
     (runs-short _ _ _ _ _ _ _ _ _ _ u.so_far.under c.pieces.stack u.unfailed (inr (sym u.noted ∙ c.in_err-note.ensures.made, c.in_err-note.ensures.err.1))))
 
 pub overflow_add-at : goal.overflow_add-at
@@ -101,7 +102,7 @@ pieces-preserved-then-run g c =
     let first = first-run c.pieces.ahead c.next_run-run.new.self here c.next_run-run.ensures.same c.next_run-run.ensures.first in
     let inside = ahead-inside before c.pieces.at c.sectors-sectors.result here.count here.had _ _ (c.requires.fits ∙ sym u.all) u.ahead first u.within in
     let marked : AreMarked before c.pieces.at here.count true = subst (AreMarked before c.pieces.at here.count) c.if-run.true (marked-next before c.pieces.at here.count here.count here.had _ (omega arith) (u.ahead ∙ first)) in
-    let tally : c.close.new.self ≡ record { last = None; lost = c.pieces.tally.lost } = ap₂ {C = Tally} (λ (l : Option LostRun) (m : ℕ). record { last = l; lost = m }) c.close.ensures.last c.close.ensures.lost in
+    let tally = closed-tally c.pieces.tally c.close.new.self c.close.ensures.last c.close.ensures.lost.0 c.close.ensures.lost.1 in
     record {
       so_far = record {
         calls = u.so_far.calls;
@@ -160,7 +161,7 @@ returns-in_err-note-in-Ok-clause-err g c =
     let new : Sides = sides c.read_bytes.new.self (g.O.BlockDev.state c.pieces.out) (g.L.Listing.told c.pieces.listing) in
     let makes_map : Bool = is_some c.args.noted.now in
     err-from c.from_residual-in_err-note-in-Ok.result _ _ c.from_residual-in_err-note-in-Ok.ensures.1
-    (subst (EndsEarly makes_map (marks_ahead c.args.ahead) c.args.pass.device.0 old new) (sym c.in_err-note-in-Ok.ensures.err.0)
+    (subst (EndsEarly makes_map (marks_ahead c.args.ahead) (scanned_by c.args.pass) old new) (sym c.in_err-note-in-Ok.ensures.err.0)
     (runs-short _ _ _ _ _ _ _ _ _ _ u.so_far.under c.read_bytes.new.self u.unfailed (inr (sym u.noted ∙ c.in_err-note-in-Ok.ensures.made, c.in_err-note-in-Ok.ensures.err.1))))
 
 pub write-requires-clause-range : goal.write-requires-clause-range
@@ -211,7 +212,7 @@ pieces-preserved-in-Ok g c =
     let len : length bytes ≡ 512 * n = piece.any.may.read.run.len in
     let old : Sides = sides c.args.stack.now (g.O.BlockDev.state c.args.out.now) (g.L.Listing.told c.args.listing.now) in
     let new : Sides = sides c.read_bytes.new.self (g.O.BlockDev.state c.write.new.self) (g.L.Listing.told c.close-in-Ok.new.listing) in
-    let tally : c.close-in-Ok.new.self ≡ record { last = None; lost = c.pieces.tally.lost } = ap₂ {C = Tally} (λ (l : Option LostRun) (m : ℕ). record { last = l; lost = m }) c.close-in-Ok.ensures.last c.close-in-Ok.ensures.lost in
+    let tally = closed-tally c.pieces.tally c.close-in-Ok.new.self c.close-in-Ok.ensures.last c.close-in-Ok.ensures.lost.0 c.close-in-Ok.ensures.lost.1 in
     let k : ℕ = length bytes / 512 in
     let count : length bytes / 512 ≡ n = omega (arith, len) in
     let same : c.from-count.result ≡ n = c.from-count.ensures in
@@ -223,7 +224,7 @@ pieces-preserved-in-Ok g c =
     record {
       so_far = record {
         calls = u.so_far.calls ++ Write c.pieces.at bytes true ∷ [];
-        under = subst (λ (m : ℕ). IsUnderway (is_some c.args.noted.now) before c.args.pass.device.0 old new (c.pieces.at + m) c.close-in-Ok.new.self c.note-in-Ok.new.noted c.after_bytes-piece_limit.result (u.so_far.calls ++ Write c.pieces.at bytes true ∷ [])) (sym same)
+        under = subst (λ (m : ℕ). IsUnderway (is_some c.args.noted.now) before (scanned_by c.args.pass) old new (c.pieces.at + m) c.close-in-Ok.new.self c.note-in-Ok.new.noted c.after_bytes-piece_limit.result (u.so_far.calls ++ Write c.pieces.at bytes true ∷ [])) (sym same)
             (underway-had _ _ _ _ _ _ _ _ _ _ u.so_far.under n bytes c.read_bytes.new.self k _ (g.O.BlockDev.state c.write.new.self) (g.L.Listing.told c.close-in-Ok.new.listing) c.close-in-Ok.new.self c.note-in-Ok.new.noted
             c.after_bytes-piece_limit.result next (c.after_bytes-piece_limit.ensures.value ∙ ap (λ (m : ℕ). limit_after_bytes c.pieces.piece_limit n (c.pieces.at + m)) same)
             c.piece_at-piece.ensures.some piece marked (rw same at c.in_ok-note-in-Ok.ensures.ok) count c.in_ok-write-in-Ok.ensures.moved
@@ -282,10 +283,17 @@ pieces-preserved-then-branch g c =
     let wide : length (take (n * 512) c.pieces.room) ≡ n * 512 = length-take-le (n * 512) c.pieces.room (omega (arith, c.requires.buffer, c.pieces.auto.room, c.piece_at-piece.ensures.few)) in
     let number : length (take (n * 512) c.pieces.room) / 512 ≡ n = omega (arith, wide) in
     let piece = subst (λ (m : ℕ). EachBytes c.pieces.stack c.args.pass.device.0 c.pieces.at m (Err c.in-Err.fault) c.read_bytes.new.self) number (record { any = c.in-Err.ensures.any; steady = c.in-Err.ensures.steady }) in
-    let grown : LostRun = run c.pieces.at n c.in-Err.fault in
+    let alike : Bool = c.piece_at-piece.result.alike in
+    let loss : Loss = loss_by alike c.in-Err.fault in
+    let grown : LostRun = run c.pieces.at n loss in
     let call = c.in_ok-lose_piece-in-Err in
     let is : call.field-0 ≡ true = c.if-branch.true in
-    let alike : AreAlike c.pieces.stack.config c.args.pass.device.0 c.pieces.at n = subst (λ (x : Configuration). AreAlike x c.args.pass.device.0 c.pieces.at n) c.config-else-run.ensures.value (c.piece_at-piece.ensures.alike (sym call.ensures.alike ∙ is)) in
+    let end : is_given_up alike c.args.pass.no_scrape c.pieces.piece_limit.doubt (c.pieces.at + n) ≡ true =
+    ap (λ (m : ℕ). is_given_up alike c.args.pass.no_scrape c.pieces.piece_limit.doubt (c.pieces.at + m)) (sym c.from-count.ensures) ∙ sym c.is_given_up-given_up.ensures ∙ sym call.ensures.given_up ∙ is in
+    let may = may-lose c.pieces.stack.config c.args.pass.device.0 c.pieces.at n alike c.in-Err.fault
+    (λ t. subst (λ (x : Configuration). AreAlike x c.args.pass.device.0 c.pieces.at n) c.config-else-run.ensures.value (c.piece_at-piece.ensures.alike t)) call.ensures.kind in
+    let found = loss-found c.args.pass.no_scrape c.pieces.piece_limit c.pieces.at n alike c.in-Err.fault end c.piece_at-piece.ensures.apart in
+    let answered = subst (λ (f : IoFault). EachBytes c.pieces.stack c.args.pass.device.0 c.pieces.at n (Err f) c.read_bytes.new.self) (sym (loss-fault alike c.in-Err.fault)) piece in
     let noting = subst (NotesLost n c.pieces.noted c.lose_piece.new.noted) is call.ensures.noted in
     let tally = subst (TalliesLost grown c.pieces.tally c.lose_piece.new.tally) is call.ensures.tallied in
     let told = subst (ListsLost g.L.Listing.told grown c.pieces.tally c.pieces.listing c.lose_piece.new.listing) is call.ensures.told in
@@ -300,10 +308,10 @@ pieces-preserved-then-branch g c =
     record {
       so_far = record {
         calls = u.so_far.calls;
-        under = subst (λ (m : ℕ). IsUnderway (is_some c.args.noted.now) before c.args.pass.device.0 old new (c.pieces.at + m) c.lose_piece.new.tally c.lose_piece.new.noted c.after_loss-piece_limit.result u.so_far.calls) (sym same)
-            (underway-lost _ _ _ _ _ _ _ _ _ _ u.so_far.under n c.in-Err.fault c.read_bytes.new.self (g.L.Listing.told c.lose_piece.new.listing) c.lose_piece.new.tally c.lose_piece.new.noted
-            c.after_loss-piece_limit.result next c.after_loss-piece_limit.ensures.value
-            c.piece_at-piece.ensures.some piece marked noting alike call.ensures.kind told tally);
+        under = subst (λ (m : ℕ). IsUnderway (is_some c.args.noted.now) before (scanned_by c.args.pass) old new (c.pieces.at + m) c.lose_piece.new.tally c.lose_piece.new.noted c.after_loss-piece_limit.result u.so_far.calls) (sym same)
+            (underway-lost _ _ _ _ _ _ _ _ _ _ u.so_far.under n loss c.read_bytes.new.self (g.L.Listing.told c.lose_piece.new.listing) c.lose_piece.new.tally c.lose_piece.new.noted
+            c.after_loss-piece_limit.result next found (c.after_loss-piece_limit.ensures.value ∙ ap (λ (m : ℕ). limit_after_loss c.args.pass.no_scrape c.pieces.piece_limit (c.pieces.at + m)) same)
+            c.piece_at-piece.ensures.some answered marked noting may told tally);
         did = u.so_far.did;
       };
       called = piece_failed (length (take (n * 512) c.pieces.room) / 512) c.from-count.result c.in-Err.fault u.called c.in-Err.ensures.given;
@@ -337,13 +345,17 @@ pieces-preserved g c =
     (subst (λ (x : Configuration). EndsAligned x c.args.pass.device.0 c.pieces.at (c.pieces.at + here.count) c.pieces.piece_limit.most n) (c.config-else-run.ensures.value ∙ u.config) c.piece_at-piece.ensures.ends) in
     let call = c.in_ok-lose_piece-in-Err in
     let isnt : call.field-0 ≡ false = c.if-branch.false in
+    let alike : Bool = c.piece_at-piece.result.alike in
+    let loss : Loss = loss_by alike c.in-Err.fault in
+    let wanted : is_given_up alike c.args.pass.no_scrape c.pieces.piece_limit.doubt (c.pieces.at + n) ≡ false =
+    ap (λ (m : ℕ). is_given_up alike c.args.pass.no_scrape c.pieces.piece_limit.doubt (c.pieces.at + m)) (sym c.from-count.ensures) ∙ sym c.is_given_up-given_up.ensures ∙ sym call.ensures.given_up ∙ isnt in
     let noted = subst (NotesLost n c.pieces.noted c.lose_piece.new.noted) isnt call.ensures.noted in
-    let tally = subst (TalliesLost (run c.pieces.at n c.in-Err.fault) c.pieces.tally c.lose_piece.new.tally) isnt call.ensures.tallied in
-    let told = subst (ListsLost g.L.Listing.told (run c.pieces.at n c.in-Err.fault) c.pieces.tally c.pieces.listing c.lose_piece.new.listing) isnt call.ensures.told in
+    let tally = subst (TalliesLost (run c.pieces.at n loss) c.pieces.tally c.lose_piece.new.tally) isnt call.ensures.tallied in
+    let told = subst (ListsLost g.L.Listing.told (run c.pieces.at n loss) c.pieces.tally c.pieces.listing c.lose_piece.new.listing) isnt call.ensures.told in
     record {
       so_far = record {
         calls = u.so_far.calls;
-        under = rw (noted, tally, told) (underway-again _ _ _ _ _ _ _ _ _ _ u.so_far.under n c.in-Err.fault c.read_bytes.new.self c.up_to-piece_limit.result next (c.piece_at-piece.ensures.apart (sym call.ensures.alike ∙ isnt))
+        under = rw (noted, tally, told) (underway-again _ _ _ _ _ _ _ _ _ _ u.so_far.under n c.in-Err.fault c.read_bytes.new.self c.up_to-piece_limit.result next (found-again c.args.pass.no_scrape c.pieces.piece_limit c.pieces.at n alike wanted c.piece_at-piece.ensures.apart)
             (c.up_to-piece_limit.ensures.value ∙ ap (λ (m : ℕ). limit_up_to (c.pieces.at + m)) c.from-count.ensures) piece marked);
         did = u.so_far.did;
       };
@@ -358,6 +370,22 @@ pieces-preserved g c =
       noted = ap (λ (m : Option (List Run)). is_some m) noted ∙ u.noted;
       single = λ none. c.next_run-run.ensures.single (u.single none);
     }
+
+-- a piece that is read again has two sectors or more, and the next one has one
+pub pieces-smaller : goal.pieces-smaller
+pieces-smaller g c =
+    let n : ℕ = c.piece_at-piece.result.count in
+    let alike : Bool = c.piece_at-piece.result.alike in
+    let call = c.in_ok-lose_piece-in-Err in
+    let isnt : call.field-0 ≡ false = c.if-branch.false in
+    let wanted : is_given_up alike c.args.pass.no_scrape c.pieces.piece_limit.doubt (c.pieces.at + n) ≡ false =
+    ap (λ (m : ℕ). is_given_up alike c.args.pass.no_scrape c.pieces.piece_limit.doubt (c.pieces.at + m)) (sym c.from-count.ensures) ∙ sym c.is_given_up-given_up.ensures ∙ sym call.ensures.given_up ∙ isnt in
+    let again = found-again c.args.pass.no_scrape c.pieces.piece_limit c.pieces.at n alike wanted c.piece_at-piece.ensures.apart in
+    omega (arith, again.some, again.few, c.up_to-piece_limit.ensures.least)
+
+pub pieces-smaller-then-branch : goal.pieces-smaller-then-branch
+pieces-smaller-then-branch g c =
+    omega (arith, c.pieces-test.true, c.pass_end.ensures.few, c.from-count.ensures, c.piece_at-piece.ensures.some, c.after_loss-piece_limit.ensures.piece_limit.1)
 
 pub finish-requires : goal.finish-requires
 finish-requires g c = few _ _ _ _ _ _ _ _ _ _ c.pieces.invariant.so_far.under

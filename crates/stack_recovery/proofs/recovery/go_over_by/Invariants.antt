@@ -4,14 +4,14 @@ use Rattle.stack_rules.specs.Names.{mapped, size}
 use Rattle.rescue_map.specs.Aheads.{marks_ahead}
 use Rattle.stack_recovery.specs.LeafReads.{CopiesLeaves}
 use Rattle.stack_recovery.specs.Pieces.{IsPieceLimit}
-use Rattle.stack_recovery.specs.Recoveries.{sides}
+use Rattle.stack_recovery.specs.Recoveries.{scanned_by, sides}
 use Rattle.stack_recovery.proofs.HandingLemmas.{IsHanding}
 use Rattle.stack_recovery.proofs.recovery.go_over_by.Given as goal
 
 -- the sectors before this one are had or lost
 abbrev pub invariant-pieces : goal.invariant-pieces
 invariant-pieces g l = record {
-  so_far : IsHanding (DeviceDoes g.O.BlockDev.state g.O.BlockDev.does) (is_some l.fn.noted) (marks_ahead l.fn.ahead) l.fn.pass.device.0 (sides l.fn.stack (g.O.BlockDev.state l.fn.out) (g.L.Listing.told l.fn.listing)) (sides l.stack (g.O.BlockDev.state l.out) (g.L.Listing.told l.listing)) l.at l.tally l.noted l.piece_limit l.fn.out l.out;
+  so_far : IsHanding (DeviceDoes g.O.BlockDev.state g.O.BlockDev.does) (is_some l.fn.noted) (marks_ahead l.fn.ahead) (scanned_by l.fn.pass) (sides l.fn.stack (g.O.BlockDev.state l.fn.out) (g.L.Listing.told l.fn.listing)) (sides l.stack (g.O.BlockDev.state l.out) (g.L.Listing.told l.listing)) l.at l.tally l.noted l.piece_limit l.fn.out l.out;
   called : CopiesLeaves g.D.BlockDev.state g.D.BlockDev.does (DeviceDoes g.O.BlockDev.state g.O.BlockDev.does) (marks_ahead l.fn.ahead) l.fn.pass.device.0 l.fn.stack l.fn.out l.at l.stack l.out;
   ahead : drop l.at (marks_ahead l.fn.ahead) ≡ marks_ahead l.ahead;
   config : l.stack.config ≡ l.fn.stack.config;

@@ -7,7 +7,7 @@ use Rattle.stack_rules.specs.Names.{mapped, size}
 use Rattle.stack_rules.specs.Records.{Configuration}
 use Rattle.stack_recovery.specs.LeafReads.{no_pass, one_pass}
 use Rattle.stack_recovery.specs.Recoveries.{counted_sectors}
-use Rattle.stack_recovery.specs.Retries.{AfterPass, IsSilentHanding, IsSilentPass, after_pass, no_step}
+use Rattle.stack_recovery.specs.Retries.{AfterPass, IsSilentHanding, IsSilentPass, after_pass, no_step, retried_by, scan_of}
 use Rattle.stack_recovery.proofs.LeafReadLemmas.{passes-end}
 use Rattle.stack_recovery.proofs.RetryLemmas.{counted-whole, goes-whole, silent-handing, silent-part, steps-kept}
 use Rattle.stack_recovery.proofs.lemmas.StepLemmas.{more-steps}
@@ -19,22 +19,22 @@ passes-init g c = record { steps = no_step; handed = no_step; called = no_pass; 
 
 pub rescue-requires-clause-device : goal.rescue-requires-clause-device
 rescue-requires-clause-device g c =
-    let kept = steps-kept c.args.plan.device.0 (after_pass c.args.stack.now (g.O.BlockDev.state c.args.out.now) c.args.map) c.requires.fits c.passes.invariant.steps in
+    let kept = steps-kept (scan_of (retried_by c.args.plan)) (after_pass c.args.stack.now (g.O.BlockDev.state c.args.out.now) c.args.map) c.requires.fits c.passes.invariant.steps in
     subst (λ (x : Configuration). c.args.plan.device.0 < length x.devices) (sym kept.config) c.requires.device
 
 pub rescue-requires-clause-fits : goal.rescue-requires-clause-fits
 rescue-requires-clause-fits g c =
-    (steps-kept c.args.plan.device.0 (after_pass c.args.stack.now (g.O.BlockDev.state c.args.out.now) c.args.map) c.requires.fits c.passes.invariant.steps).sectors
+    (steps-kept (scan_of (retried_by c.args.plan)) (after_pass c.args.stack.now (g.O.BlockDev.state c.args.out.now) c.args.map) c.requires.fits c.passes.invariant.steps).sectors
 
 pub rescue-requires-clause-room : goal.rescue-requires-clause-room
 rescue-requires-clause-room g c =
-    let kept = steps-kept c.args.plan.device.0 (after_pass c.args.stack.now (g.O.BlockDev.state c.args.out.now) c.args.map) c.requires.fits c.passes.invariant.steps in
+    let kept = steps-kept (scan_of (retried_by c.args.plan)) (after_pass c.args.stack.now (g.O.BlockDev.state c.args.out.now) c.args.map) c.requires.fits c.passes.invariant.steps in
     subst (λ (x : Configuration). size x (mapped c.args.plan.device.0) ≤ (g.O.BlockDev.state c.passes.out).size) (sym kept.config)
     (subst (λ (m : ℕ). size c.args.stack.now.config (mapped c.args.plan.device.0) ≤ m) (sym kept.same.size) c.requires.room)
 
 pub rescue-requires-clause-allowed : goal.rescue-requires-clause-allowed
 rescue-requires-clause-allowed g c =
-    let kept = steps-kept c.args.plan.device.0 (after_pass c.args.stack.now (g.O.BlockDev.state c.args.out.now) c.args.map) c.requires.fits c.passes.invariant.steps in
+    let kept = steps-kept (scan_of (retried_by c.args.plan)) (after_pass c.args.stack.now (g.O.BlockDev.state c.args.out.now) c.args.map) c.requires.fits c.passes.invariant.steps in
     subst IsTrue (sym kept.same.may_write) c.requires.allowed
 
 pub passes-preserved : goal.passes-preserved
@@ -46,7 +46,7 @@ passes-preserved g c =
     let seen = after_pass c.passes.stack (g.O.BlockDev.state c.passes.out) c.passes.left in
     let seen_next = after_pass c.rescue.new.stack (g.O.BlockDev.state c.rescue.new.out) c.in_ok-rescued.rescued.map in
     record {
-      steps = more-steps (λ (n : ℕ). IsSilentPass d) _ c.passes.passes _ seen seen_next (omega arith) c.passes.invariant.steps (_, _, c.in_ok-rescued.rescued.counts, goes-whole _ _ _ _ _ _ c.in_ok-rescued.ensures.ok);
+      steps = more-steps (λ (n : ℕ). IsSilentPass (scan_of (retried_by c.args.plan))) _ c.passes.passes _ seen seen_next (omega arith) c.passes.invariant.steps (_, _, c.in_ok-rescued.rescued.counts, goes-whole _ _ _ _ _ _ c.in_ok-rescued.ensures.ok);
       handed = more-steps (λ (n : ℕ). IsSilentHanding Did d) _ c.passes.passes _ now next (omega arith) c.passes.invariant.handed (silent-handing Did d _ now next _ _ c.in_ok-rescued.ensures.handed (counted-whole _ _ _ _ _ _ c.in_ok-rescued.ensures.ok));
       called = one_pass (marks c.passes.left) (counted_sectors c.in_ok-rescued.rescued.counts) c.passes.invariant.called c.in_ok-rescued.ensures.called;
       few = omega (arith, c.passes-test.true);

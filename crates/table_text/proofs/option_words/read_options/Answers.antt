@@ -16,16 +16,19 @@ pub returns-in_err-count : goal.returns-in_err-count
 unfolding options_at
 returns-in_err-count c =
     let known = map (λ word. word.now) c.args.known.now in
+    let valued = map (λ word. word.now) c.args.valued.now in
     exit_kind _ _ _ c.from_residual.ensures.1
-    (ap (options_at known) c.in-Some.ensures ∙ ap (λ r. r >>= (λ n. counted_at known n c.next_word.new.self)) (sym c.in_err-count.ensures))
+    (ap (options_at known valued) c.in-Some.ensures ∙ ap (λ r. r >>= (λ n. counted_at known valued n c.next_word.new.self)) (sym c.in_err-count.ensures))
 
 pub returns-then-not-are : goal.returns-then-not-are
 returns-then-not-are c =
     let known = map (λ word. word.now) c.args.known.now in
-    ap (options_at known) c.in-Some.ensures ∙ options-count known _ _ c.in_ok-count.count (sym c.in_ok-count.ensures) (λ same. false≢true (sym c.if-not-are.true ∙ c.are.ensures.1 same))
+    let valued = map (λ word. word.now) c.args.valued.now in
+    ap (options_at known valued) c.in-Some.ensures ∙ options-count known valued _ _ c.in_ok-count.count (sym c.in_ok-count.ensures) (λ same. false≢true (sym c.if-not-are.true ∙ c.are.ensures.1 same))
 
 pub returns : goal.returns
 returns c =
     let known = map (λ word. word.now) c.args.known.now in
-    let whole = ap (options_at known) c.in-Some.ensures ∙ options-known known _ _ c.in_ok-count.count (sym c.in_ok-count.ensures) (c.are.ensures.0 c.if-not-are.false) in
+    let valued = map (λ word. word.now) c.args.valued.now in
+    let whole = ap (options_at known valued) c.in-Some.ensures ∙ options-known known valued _ _ c.in_ok-count.count (sym c.in_ok-count.ensures) (c.are.ensures.0 c.if-not-are.false) in
     rw whole c.read_known.ensures

@@ -1,5 +1,6 @@
 use Rattle.std.proofs.Common.{List, ℕ, ap, arith, false, length, refl, true, ◌∙◌}
 use Rattle.std.proofs.lemmas.List.{length-replicate}
+use Rattle.tree_repair.specs.Moves.{move_line}
 use Rattle.tree_repair.proofs.MoveLemmas.{lines-none, lines-one}
 use Rattle.tree_repair.proofs.OutcomeLemmas.{on_ok-from}
 use Rattle.tree_repair.proofs.ParityLemmas.{size-block}
@@ -29,7 +30,7 @@ pub returns-then-not-is_at-clause-run : goal.returns-then-not-is_at-clause-run
 returns-then-not-is_at-clause-run g c = has-read c.is_at.ensures.read
 
 pub returns-then-not-is_at-clause-said : goal.returns-then-not-is_at-clause-said
-returns-then-not-is_at-clause-said g c = lines-none (g.W.Write.contents c.args.writer.now.inner)
+returns-then-not-is_at-clause-said g c = lines-none move_line (g.W.Write.contents c.args.writer.now.inner)
 
 pub put_block-requires-clause-can : goal.put_block-requires-clause-can
 put_block-requires-clause-can g c = can-read c.is_at.ensures.read c.requires.can
@@ -55,7 +56,7 @@ pub returns-then-not-back-clause-run : goal.returns-then-not-back-clause-run
 returns-then-not-back-clause-run g c = has-behind c.is_at.ensures.read (has-read (rw c.if-not-back.true at c.in_ok-back.ensures.ok).0)
 
 pub returns-then-not-back-clause-said : goal.returns-then-not-back-clause-said
-returns-then-not-back-clause-said g c = lines-none (g.W.Write.contents c.args.writer.now.inner)
+returns-then-not-back-clause-said g c = lines-none move_line (g.W.Write.contents c.args.writer.now.inner)
 
 pub returns-in_err-say_moved-clause-run : goal.returns-in_err-say_moved-clause-run
 returns-in_err-say_moved-clause-run g c =

@@ -1,5 +1,6 @@
 use Rattle.std.proofs.Common.{◌≤◌, ap, arith}
 use Rattle.tree_shape.specs.Shape.{levels}
+use Rattle.tree_repair.specs.Moves.{move_line}
 use Rattle.tree_repair.proofs.MoveLemmas.{lines-none}
 use Rattle.tree_repair.proofs.RunLemmas.{can-read, has-behind, has-none, has-read}
 use Rattle.block_device.specs.Call.{DeviceDoes}
@@ -12,7 +13,7 @@ pub returns-then-not-is_place-clause-run : goal.returns-then-not-is_place-clause
 returns-then-not-is_place-clause-run g c = has-none
 
 pub returns-then-not-is_place-clause-said : goal.returns-then-not-is_place-clause-said
-returns-then-not-is_place-clause-said g c = lines-none (g.W.Write.contents c.args.writer.now.inner)
+returns-then-not-is_place-clause-said g c = lines-none move_line (g.W.Write.contents c.args.writer.now.inner)
 
 pub reach-requires-clause-place : goal.reach-requires-clause-place
 reach-requires-clause-place g c = c.is_place.ensures.some c.if-not-is_place.false
@@ -21,7 +22,7 @@ pub returns-then-not-reach-clause-run : goal.returns-then-not-reach-clause-run
 returns-then-not-reach-clause-run g c = has-read c.reach.ensures.read
 
 pub returns-then-not-reach-clause-said : goal.returns-then-not-reach-clause-said
-returns-then-not-reach-clause-said g c = lines-none (g.W.Write.contents c.args.writer.now.inner)
+returns-then-not-reach-clause-said g c = lines-none move_line (g.W.Write.contents c.args.writer.now.inner)
 
 pub digest_at-digest-requires : goal.digest_at-digest-requires
 digest_at-digest-requires g c = let way = rw c.if-not-reach.false at c.reach.ensures.way in omega (arith, way.few, ap levels way.is.shape_is)
@@ -30,7 +31,7 @@ pub returns-in-None-clause-run : goal.returns-in-None-clause-run
 returns-in-None-clause-run g c = has-read c.reach.ensures.read
 
 pub returns-in-None-clause-said : goal.returns-in-None-clause-said
-returns-in-None-clause-said g c = lines-none (g.W.Write.contents c.args.writer.now.inner)
+returns-in-None-clause-said g c = lines-none move_line (g.W.Write.contents c.args.writer.now.inner)
 
 pub copy_from-requires-clause-can : goal.copy_from-requires-clause-can
 copy_from-requires-clause-can g c = can-read c.reach.ensures.read c.requires.can

@@ -1,3 +1,4 @@
+use Rattle.tree_repair.specs.Moves.{move_line}
 use Rattle.tree_repair.proofs.MoveLemmas.{lines-then}
 use Rattle.tree_repair.proofs.OutcomeLemmas.{on_ok-from}
 use Rattle.tree_repair.proofs.RunLemmas.{can-later, ended-from, has-then}
@@ -27,7 +28,7 @@ returns-clause-run g c = has-then c.in_ok-up.ensures.run c.in_ok-down.ensures.ru
 
 pub returns-clause-said : goal.returns-clause-said
 returns-clause-said g c =
-    lines-then (g.W.Write.contents c.args.writer.now.inner) (g.W.Write.contents c.move_data.new.writer.inner) (g.W.Write.contents c.move_data-2.new.writer.inner) c.in_ok-up.ensures.said c.in_ok-down.ensures.said
+    lines-then move_line (g.W.Write.contents c.args.writer.now.inner) (g.W.Write.contents c.move_data.new.writer.inner) (g.W.Write.contents c.move_data-2.new.writer.inner) c.in_ok-up.ensures.said c.in_ok-down.ensures.said
 
 pub returns-in_err-up-clause-handed : goal.returns-in_err-up-clause-handed
 returns-in_err-up-clause-handed g c =

@@ -1,4 +1,5 @@
 use Rattle.std.proofs.Common.{arith, true}
+use Rattle.tree_repair.specs.Moves.{move_line}
 use Rattle.tree_repair.proofs.MoveLemmas.{lines-none, lines-then}
 use Rattle.tree_repair.proofs.OutcomeLemmas.{on_ok-from}
 use Rattle.tree_repair.proofs.RunLemmas.{can-later, ended-from, ends-read, has-none, has-then, memory-within, world-none}
@@ -14,7 +15,7 @@ pub returns-in_err-last_path-clause-said : goal.returns-in_err-last_path-clause-
 returns-in_err-last_path-clause-said g c = on_ok-from c.from_residual.result _ _ c.from_residual.ensures.1
 
 pub each-init : goal.each-init
-each-init g c = record { tree = c.in_ok-last_path.ensures.ok; run = has-none; handed = hands-none (DeviceDoes g.D.BlockDev.state g.D.BlockDev.does) (DeviceDoes g.H.BlockDev.state g.H.BlockDev.does) (job c.args.repair.now) c.args.image.now; said = lines-none (g.W.Write.contents c.args.writer.now.inner) }
+each-init g c = record { tree = c.in_ok-last_path.ensures.ok; run = has-none; handed = hands-none (DeviceDoes g.D.BlockDev.state g.D.BlockDev.does) (DeviceDoes g.H.BlockDev.state g.H.BlockDev.does) (job c.args.repair.now) c.args.image.now; said = lines-none move_line (g.W.Write.contents c.args.writer.now.inner) }
 
 pub move_block-requires-clause-can : goal.move_block-requires-clause-can
 move_block-requires-clause-can g c = can-later c.each.invariant.run c.requires.can
@@ -24,7 +25,7 @@ each-preserved g c = record {
   tree = c.move_block.ensures.tree;
   run = has-then c.each.invariant.run c.in_ok-copied.ensures.run;
   handed = hands-then (DeviceDoes g.D.BlockDev.state g.D.BlockDev.does) (DeviceDoes g.H.BlockDev.state g.H.BlockDev.does) (job c.args.repair.now) true c.args.image.now c.each.image c.move_block.new.image c.each.invariant.handed c.in_ok-copied.ensures.handed;
-  said = lines-then (g.W.Write.contents c.args.writer.now.inner) (g.W.Write.contents c.each.writer.inner) (g.W.Write.contents c.move_block.new.writer.inner) c.each.invariant.said c.in_ok-copied.ensures.said;
+  said = lines-then move_line (g.W.Write.contents c.args.writer.now.inner) (g.W.Write.contents c.each.writer.inner) (g.W.Write.contents c.move_block.new.writer.inner) c.each.invariant.said c.in_ok-copied.ensures.said;
 }
 
 pub returns-in_err-copied-clause-run : goal.returns-in_err-copied-clause-run

@@ -133,3 +133,9 @@ returns-clause-handed g c =
     let b = image_record (repair_world w.data_dev (g.H.BlockDev.state c.replace-2.new.device) w.data_copies w.hash_copies) i.data c.replace-2.new.device in
     subst (λ x. HandsMissing asks does m (is_ok c.replace-2.result) x b) c.image.view_is
     (hash-handed asks does m.place.height Allowed (is_ok c.replace-2.result) a b (m.place.height - 1) some ((rw (c.digest_at-digest.ensures, c.first_sector-first.ensures.value, c.requires.bytes) at c.replace-2.ensures.handed), refl))
+
+pub returns-then-height-eq0-clause-kept : goal.returns-then-height-eq0-clause-kept
+returns-then-height-eq0-clause-kept g c = ap (λ i. (world_of i).data_copies) c.image.view_is
+
+pub returns-clause-kept : goal.returns-clause-kept
+returns-clause-kept g c = ap (λ i. (world_of i).data_copies) c.image.view_is

@@ -1,14 +1,13 @@
-use Rattle.std.proofs.Common.{IsTrue, ap, arith, inl, inr, refl, subst, sym, ◌∙◌}
+use Rattle.std.proofs.Common.{IsTrue, ap, arith, inl, inr, refl, subst, sym}
 use Rattle.std.proofs.Math.Path.{subst₂}
 use Rattle.std.proofs.lemmas.Result.{IfErr-weaker, on_ok_weaker}
-use Rattle.block_device.specs.Device.{Device}
 use Rattle.tree_repair.specs.declared.repair.Plan.{Plan}
 use Rattle.tree_repair.specs.Worlds.{RepairWorld}
 use Rattle.verity_commands.specs.Surveyed.{surveyed_devices}
 use Rattle.update_commands.specs.declared.counts.Written.{Written}
 use Rattle.update_commands.specs.Moving.{FailsToMove, MovesListed}
 use Rattle.update_commands.specs.Updates.{UpdatesMoved}
-use Rattle.update_commands.proofs.UpdateLemmas.{allowed-moved}
+use Rattle.update_commands.proofs.UpdateLemmas.{allowed-moved, allowed-unmoved}
 use Rattle.update_commands.proofs.devices.update_begun.Goals as goal
 
 pub move_listed-requires-clause-first : goal.move_listed-requires-clause-first
@@ -57,21 +56,27 @@ returns-in-Ok-clause-err g c =
     let between = g.W.Write.contents c.move_listed.new.writer.inner in
     let moved = c.move_listed.new.image.world in
     IfErr-weaker c.update_moved.result.2 _ _
-    (λ fault ends. inr (record {
+    (λ fault ends. inr (inl (record {
       moved = moved;
       between = between;
       moves = subst₂ (λ (p : Plan) (w : RepairWorld). MovesListed json p w moved old between) c.plan_of-plan.ensures c.image_of-image.ensures c.in-Ok.ensures.ok;
       ends = ends;
-    }))
+    })))
     c.update_moved.ensures.err
+
+pub end_moving-data_dev-requires : goal.end_moving-data_dev-requires
+end_moving-data_dev-requires g c =
+    let world = c.image_of-image.ensures in
+    allowed-unmoved c.plan_of-plan.result c.image_of-image.result.world c.move_listed.new.image.world c.in-Err.fault c.in-Err.ensures.err (record {
+      data_writable = λ write. subst IsTrue (sym (ap (λ (w : RepairWorld). w.data_dev.may_write) world)) (c.requires.data_writable refl);
+      hash_writable = λ write. subst IsTrue (sym (ap (λ (w : RepairWorld). w.hash_dev.may_write) world)) (c.requires.hash_writable refl);
+    })
 
 pub returns-in-Err-clause-err : goal.returns-in-Err-clause-err
 returns-in-Err-clause-err g c =
     let behind = c.move_listed.new.image.world in
-    inl (record {
-      behind = behind;
-      cause = c.in-Err.fault;
-      fails = subst₂ (λ (p : Plan) (w : RepairWorld). FailsToMove p w behind c.in-Err.fault) c.plan_of-plan.ensures c.image_of-image.ensures c.in-Err.ensures.err;
-      is = c.fault_of.ensures;
-      same = ap (λ (d : Device). surveyed_devices d (g.H.BlockDev.state c.devices_of-data_dev.result.1)) c.devices_of-data_dev.ensures.data ∙ ap (λ (h : Device). surveyed_devices behind.data_dev h) c.devices_of-data_dev.ensures.hash;
-    })
+    let fails = subst₂ (λ (p : Plan) (w : RepairWorld). FailsToMove p w behind c.in-Err.fault) c.plan_of-plan.ensures c.image_of-image.ensures c.in-Err.ensures.err in
+    elim c.end_moving-data_dev.ensures [
+      | inl done ↦ inl (record { behind = behind; cause = c.in-Err.fault; fails = fails; is = done.0; same = done.1 })
+      | inr unheard ↦ inr (inr (record { between = behind; cause = c.in-Err.fault; cut = fails; unprinted = unheard.0; ends = unheard.1 }))
+    ]

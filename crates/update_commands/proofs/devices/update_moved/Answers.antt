@@ -1,11 +1,14 @@
-use Rattle.std.proofs.Common.{ap, arith, inl, inr, refl, subst, ◌∙◌}
+use Rattle.std.proofs.Common.{ap, arith, inl, inr, refl, subst, sym, ◌∙◌}
+use Rattle.std.proofs.Math.Path.{subst₂}
 use Rattle.std.proofs.lemmas.Result.{IfErr-weaker, on_ok_weaker}
 use Rattle.tree_repair.specs.declared.repair.Plan.{Plan}
-use Rattle.verity_commands.specs.Surveyed.{surveyed_devices}
+use Rattle.verity_commands.specs.declared.tree_fault.TreeFault.{TreeFault}
+use Rattle.verity_commands.specs.Surveyed.{SurveyedDevices, surveyed_devices}
 use Rattle.verity_format.specs.Superblock.{shape_of}
 use Rattle.update_commands.specs.declared.counts.Counts.{Counts}
 use Rattle.update_commands.specs.declared.counts.Written.{Written}
 use Rattle.update_commands.specs.Counts.{counts_of}
+use Rattle.update_commands.specs.Releases.{plan_of}
 use Rattle.update_commands.specs.Updates.{EndsAloud, Finishes, RepairsAloud}
 use Rattle.update_commands.proofs.devices.update_moved.Goals as goal
 
@@ -48,13 +51,13 @@ returns-in-Ok-clause-err g c =
     let between = g.W.Write.contents c.repair_aloud-data_dev.new.writer.inner in
     let mended = surveyed_devices (g.D.BlockDev.state c.repair_aloud-data_dev.result.0) (g.H.BlockDev.state c.repair_aloud-data_dev.result.1) in
     IfErr-weaker c.finish-ended.result _ _
-    (λ fault unfinished. inr (record {
+    (λ fault unfinished. inr (inl (record {
       mended = mended;
       between = between;
       repairs = subst (λ (p : Plan). RepairsAloud json p w mended old between) c.plan_of-plan.ensures (rw c.in-Ok.is at c.repair_aloud-data_dev.ensures.ok);
       unfinished = unfinished;
       data_is = refl;
-    }))
+    })))
     c.finish-ended.ensures.err
 
 pub returns-in-Err-clause-err : goal.returns-in-Err-clause-err
@@ -65,4 +68,9 @@ returns-in-Err-clause-err g c =
     let new = g.W.Write.contents c.repair_aloud-data_dev.new.writer.inner in
     let failed = c.repair_aloud-data_dev.new.writer.failed in
     let mended = surveyed_devices (g.D.BlockDev.state c.repair_aloud-data_dev.result.0) (g.H.BlockDev.state c.repair_aloud-data_dev.result.1) in
-    inl (subst (λ (p : Plan). EndsAloud json p w mended old new failed c.in-Err.fault) c.plan_of-plan.ensures (rw c.in-Err.is at c.repair_aloud-data_dev.ensures.err))
+    let plan = plan_of c.args.release.now in
+    let cut : EndsAloud json plan w mended old new failed c.in-Err.fault = subst (λ (p : Plan). EndsAloud json p w mended old new failed c.in-Err.fault) c.plan_of-plan.ensures (rw c.in-Err.is at c.repair_aloud-data_dev.ensures.err) in
+    elim c.end_repairing-data_dev.ensures [
+      | inl done ↦ inl (subst₂ (λ (f : TreeFault) (t : SurveyedDevices). EndsAloud json plan w t old new failed f) (sym done.0) (sym done.1) cut)
+      | inr again ↦ inr (inr (record { mended = mended; cause = c.in-Err.fault; cut = cut; told = sym c.failed-unprinted.ensures ∙ again.0; goes_on = again.1 }))
+    ]

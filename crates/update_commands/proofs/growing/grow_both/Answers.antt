@@ -24,8 +24,8 @@ returns-clause-ok g c =
     on_ok_weaker c.grow_place-2.result
     (λ grown. record {
       between = between;
-      data_grown = subst (λ (n : ℕ). GrowsPlace (calls relations state c.args.images.now between) c.args.places.«data».now n) data_needed c.in_ok-grow_place.ensures.ok;
-      hash_grown = subst (λ (n : ℕ). GrowsPlace (calls relations state between c.grow_place-2.new.images) c.args.places.hash.now n) hash_needed grown;
+      data_resized = subst (λ (n : ℕ). GrowsPlace (calls relations state c.args.images.now between) c.args.places.«data».now n) data_needed c.in_ok-grow_place.ensures.ok;
+      hash_resized = subst (λ (n : ℕ). GrowsPlace (calls relations state between c.grow_place-2.new.images) c.args.places.hash.now n) hash_needed grown;
     })
     c.grow_place-2.ensures.ok
 
@@ -39,7 +39,7 @@ returns-clause-err g c =
     IfErr-weaker c.grow_place-2.result _ _
     (λ file fails. inr (record {
       between = between;
-      data_grown = subst (λ (n : ℕ). GrowsPlace (calls relations state c.args.images.now between) c.args.places.«data».now n) data_needed c.in_ok-grow_place.ensures.ok;
+      data_resized = subst (λ (n : ℕ). GrowsPlace (calls relations state c.args.images.now between) c.args.places.«data».now n) data_needed c.in_ok-grow_place.ensures.ok;
       fails = subst (λ (n : ℕ). FailsToGrowPlace (calls relations state between c.grow_place-2.new.images) c.args.places.hash.now n file) hash_needed fails;
     }))
     c.grow_place-2.ensures.err

@@ -1,12 +1,15 @@
-use Rattle.std.proofs.Common.{inl, inr, refl}
+use Rattle.std.proofs.Common.{refl}
 use Rattle.std.proofs.lemmas.Result.{on_ok_weaker}
 use Rattle.update_commands.proofs.moving.move_listed.Goals as goal
 
-pub returns-in-None-clause-ok : goal.returns-in-None-clause-ok
-returns-in-None-clause-ok g c = inl (record { same = refl; quiet = refl })
+pub returns-then-json-clause-ok : goal.returns-then-json-clause-ok
+returns-then-json-clause-ok g c = rw c.if-json.true (on_ok_weaker c.move_silently.result (λ moves. (moves, refl)) c.move_silently.ensures.ok)
 
-pub returns-in-Some-clause-ok : goal.returns-in-Some-clause-ok
-returns-in-Some-clause-ok g c = on_ok_weaker c.move_aloud.result (λ moves. inr moves) c.move_aloud.ensures.ok
+pub returns-then-json-clause-err : goal.returns-then-json-clause-err
+returns-then-json-clause-err g c = c.move_silently.ensures.err
 
-pub returns-in-Some-clause-err : goal.returns-in-Some-clause-err
-returns-in-Some-clause-err g c = c.move_aloud.ensures.err
+pub returns-clause-ok : goal.returns-clause-ok
+returns-clause-ok g c = rw c.if-json.false c.move_blocks.ensures.ok
+
+pub returns-clause-err : goal.returns-clause-err
+returns-clause-err g c = c.move_blocks.ensures.err

@@ -48,48 +48,20 @@ update_devices-data_dev-requires g c =
       hash_writable = λ may. subst IsTrue (sym (ap (λ device. (state device).may_write) c.target_of-target.ensures.hash ∙ c.in_ok-opened.ensures.hash_fresh.may_write ∙ ap (λ places. places.write) write)) refl;
     }
 
-pub returns-clause-ok : goal.returns-clause-ok
-returns-clause-ok g c =
+pub returns-in_err-ended-clause-err : goal.returns-in_err-ended-clause-err
+returns-in_err-ended-clause-err g c =
     let state = g.I.Dev.BlockDev.state in
     let release = c.in_ok-release.release in
     let json = c.args.order.now.json in
-    let old = g.W.Write.contents c.args.writer.now.inner in
-    let new = g.W.Write.contents c.update_devices-data_dev.new.writer.inner in
-    let after = surveyed_devices (state c.update_devices-data_dev.result.0.inner) (state c.update_devices-data_dev.result.1) in
-    let world = world-same state c.in_ok-opened.opened _ _ _ c.target_of-target.ensures.«data» c.target_of-target.ensures.hash c.target_of-target.ensures.copies in
-    on_ok_weaker c.update_devices-data_dev.result.2
-    (λ updates. record {
-      ready = c.open_all.new.images;
-      release = release;
-      opened = c.in_ok-opened.opened;
-      is_ready = record {
-        looked = c.find_release.new.images;
-        grown = c.grow_both.new.images;
-        finds = c.in_ok-release.ensures.ok;
-        grows = rw c.places_of-places.ensures at c.in_ok-grow_both.ensures.ok;
-        opens = rw c.places_of-places.ensures at c.in_ok-opened.ensures.ok;
-      };
-      updates = record {
-        data_dev = c.update_devices-data_dev.result.0.inner;
-        hash_dev = c.update_devices-data_dev.result.1;
-        holds = subst (λ (w : RepairWorld). UpdatesDevices release json w after old new) world updates;
-        back = rw c.places_of-places.ensures at c.give_back.ensures;
-      };
-    })
-    c.update_devices-data_dev.ensures.ok
-
-pub returns-clause-err : goal.returns-clause-err
-returns-clause-err g c =
-    let state = g.I.Dev.BlockDev.state in
-    let release = c.in_ok-release.release in
-    let json = c.args.order.now.json in
+    let no_index = c.args.order.now.no_index in
     let old = g.W.Write.contents c.args.writer.now.inner in
     let new = g.W.Write.contents c.update_devices-data_dev.new.writer.inner in
     let failed = c.update_devices-data_dev.new.writer.failed in
     let after = surveyed_devices (state c.update_devices-data_dev.result.0.inner) (state c.update_devices-data_dev.result.1) in
     let world = world-same state c.in_ok-opened.opened _ _ _ c.target_of-target.ensures.«data» c.target_of-target.ensures.hash c.target_of-target.ensures.copies in
-    IfErr-weaker c.update_devices-data_dev.result.2 _ _
-    (λ fault ends. inr (inr (inr (record {
+    let fault = c.in_err-ended.field-0.0 in
+    err-from c.from_residual-in_err-ended.result _ fault c.from_residual-in_err-ended.ensures.1
+    (inr (inr (inr (inl (record {
       ready = c.open_all.new.images;
       release = release;
       opened = c.in_ok-opened.opened;
@@ -103,8 +75,77 @@ returns-clause-err g c =
       ends = record {
         data_dev = c.update_devices-data_dev.result.0.inner;
         hash_dev = c.update_devices-data_dev.result.1;
-        holds = subst (λ (w : RepairWorld). EndsUpdate release json w after old new failed fault) world ends;
+        holds = subst (λ (w : RepairWorld). EndsUpdate release no_index json w after old new failed fault) world (rw c.in_err-ended.was at c.update_devices-data_dev.ensures.err);
         back = rw c.places_of-places.ensures at c.give_back.ensures;
       };
-    }))))
-    c.update_devices-data_dev.ensures.err
+    })))))
+
+pub returns-in_err-shrink_both-clause-err : goal.returns-in_err-shrink_both-clause-err
+returns-in_err-shrink_both-clause-err g c =
+    let state = g.I.Dev.BlockDev.state in
+    let release = c.in_ok-release.release in
+    let json = c.args.order.now.json in
+    let no_index = c.args.order.now.no_index in
+    let old = g.W.Write.contents c.args.writer.now.inner in
+    let new = g.W.Write.contents c.update_devices-data_dev.new.writer.inner in
+    let after = surveyed_devices (state c.update_devices-data_dev.result.0.inner) (state c.update_devices-data_dev.result.1) in
+    let world = world-same state c.in_ok-opened.opened _ _ _ c.target_of-target.ensures.«data» c.target_of-target.ensures.hash c.target_of-target.ensures.copies in
+    let file = c.in_err-shrink_both.field-0.0 in
+    err-from c.from_residual-in_err-shrink_both.result _ (Open file) c.from_residual-in_err-shrink_both.ensures.1
+    (inr (inr (inr (inr (record {
+      closed = c.give_back.new.images;
+      updated = record {
+        ready = c.open_all.new.images;
+        release = release;
+        opened = c.in_ok-opened.opened;
+        is_ready = record {
+          looked = c.find_release.new.images;
+          grown = c.grow_both.new.images;
+          finds = c.in_ok-release.ensures.ok;
+          grows = rw c.places_of-places.ensures at c.in_ok-grow_both.ensures.ok;
+          opens = rw c.places_of-places.ensures at c.in_ok-opened.ensures.ok;
+        };
+        updates = record {
+          data_dev = c.update_devices-data_dev.result.0.inner;
+          hash_dev = c.update_devices-data_dev.result.1;
+          holds = subst (λ (w : RepairWorld). UpdatesDevices release no_index json w after old new) world (rw c.in_ok-ended.was at c.update_devices-data_dev.ensures.ok);
+          back = rw c.places_of-places.ensures at c.give_back.ensures;
+        };
+      };
+      file = file;
+      fails = rw c.places_of-places.ensures at c.in_err-shrink_both.ensures.err;
+      is = refl;
+    })))))
+
+pub returns-clause-ok : goal.returns-clause-ok
+returns-clause-ok g c =
+    let state = g.I.Dev.BlockDev.state in
+    let release = c.in_ok-release.release in
+    let json = c.args.order.now.json in
+    let no_index = c.args.order.now.no_index in
+    let old = g.W.Write.contents c.args.writer.now.inner in
+    let new = g.W.Write.contents c.update_devices-data_dev.new.writer.inner in
+    let after = surveyed_devices (state c.update_devices-data_dev.result.0.inner) (state c.update_devices-data_dev.result.1) in
+    let world = world-same state c.in_ok-opened.opened _ _ _ c.target_of-target.ensures.«data» c.target_of-target.ensures.hash c.target_of-target.ensures.copies in
+    record {
+      closed = c.give_back.new.images;
+      updated = record {
+        ready = c.open_all.new.images;
+        release = release;
+        opened = c.in_ok-opened.opened;
+        is_ready = record {
+          looked = c.find_release.new.images;
+          grown = c.grow_both.new.images;
+          finds = c.in_ok-release.ensures.ok;
+          grows = rw c.places_of-places.ensures at c.in_ok-grow_both.ensures.ok;
+          opens = rw c.places_of-places.ensures at c.in_ok-opened.ensures.ok;
+        };
+        updates = record {
+          data_dev = c.update_devices-data_dev.result.0.inner;
+          hash_dev = c.update_devices-data_dev.result.1;
+          holds = subst (λ (w : RepairWorld). UpdatesDevices release no_index json w after old new) world (rw c.in_ok-ended.was at c.update_devices-data_dev.ensures.ok);
+          back = rw c.places_of-places.ensures at c.give_back.ensures;
+        };
+      };
+      shrinks = rw c.places_of-places.ensures at c.in_ok-shrink_both.ensures.ok;
+    }

@@ -2,6 +2,8 @@ use Rattle.std.proofs.Common.{ap, refl, ◌∙◌}
 use Rattle.block_device.specs.contracts.any.AnyDevBlockDev.TheImpl.{ghosts}
 use Rattle.block_device.specs.declared.any.AnyDev.{AnyDev}
 use Rattle.block_device.specs.Device.{Device}
+use Rattle.device_adapters.specs.declared.lacking.Lacking.{Lacking}
+use Rattle.device_adapters.specs.Lacking.{lacking, parts_in}
 use Rattle.image_files.proofs.FileLemmas.{made}
 use Rattle.image_files.proofs.file_images.FileImagesImages.narrow.Goals as goal
 
@@ -10,7 +12,10 @@ returns-clause-narrowed g c = (
   made _ _ _,
   refl,
   refl,
-  record { whole = ap (λ (d : AnyDev). ghosts.state d) c.narrow.ensures.inner; part_state = c.narrow.ensures.state },
+  record {
+    whole = ap (λ (d : Lacking AnyDev). lacking (ghosts.state d.inner) (parts_in d.lost) d.sectors_of_failed_reads d.failed_reads) c.narrow.ensures.inner;
+    part_state = c.narrow.ensures.state;
+  },
 )
 
 pub returns-clause-part : goal.returns-clause-part

@@ -42,3 +42,6 @@ returns-clause-called g c =
     let b = image_record (repair_world (g.D.BlockDev.state i.data) (g.H.BlockDev.state c.reach_on.new.device) (map g.C.BlockDev.state i.data_copies.items) (map g.C.BlockDev.state i.hash_copies.items)) i.data c.reach_on.new.device in
     subst (λ x. HandsToHash (DeviceDoes g.H.BlockDev.state g.H.BlockDev.does) IsNoWrite true x b) c.image.view_is
     (c.reach_on.ensures.called, refl)
+
+pub returns-clause-kept : goal.returns-clause-kept
+returns-clause-kept g c = ap (λ i. (world_of i).data_copies) c.image.view_is

@@ -1,6 +1,0 @@
-use Rattle.block_device.specs.declared.seal.Seal.TheVariants.{System}
-use Rattle.block_device.specs.FileCalls.{was-lengthened}
-use Rattle.block_device.proofs.file_calls.lengthen_file.Goals as goal
-
-pub returns-in-Ok : goal.returns-in-Ok
-returns-in-Ok c = was-lengthened c.args.file.now c.args.bytes c.args.file.now System

@@ -1,0 +1,10 @@
+use Rattle.std.proofs.Common.{ℕ, List, length, ap, arith}
+use Rattle.std.proofs.lemmas.Result.{err_from_is_err_and}
+use Rattle.dm_table.proofs.lemmas.NameLengthLemmas.{device-length}
+use Rattle.dm_table.proofs.parity.Parity.try_clone.Goals as goal
+
+pub returns-in_err-device-clause-err : goal.returns-in_err-device-clause-err
+returns-in_err-device-clause-err c =
+    let p = err_from_is_err_and c.from_residual.result c.from_residual.ensures.1 in
+    let same = ap (λ (bytes : List ℕ). length bytes) c.as_slice.ensures in
+    rw (p.1, p.2) (omega (arith, c.in_err-device.ensures.err.0, same, device-length c.args.self.now.device c.requires.device))

@@ -1,0 +1,73 @@
+-- A data block that is healed, and blocks of another digest.
+use Rattle.std.proofs.Common.{◌≡◌, Bool, true, false, cond, List, ℕ, length, Vec, Global, Ok, Err, refl, sym, ap, ◌∙◌, subst}
+use Rattle.std.proofs.lemmas.Slice.Eq.{bytes_eq-Decides}
+use Rattle.std.specs.Str.{bytes_eq}
+use Rattle.allocation.specs.Refusal.{IsOutOfMemory}
+use Rattle.tree_shape.specs.Digests.{digest}
+use Rattle.block_device.specs.Call.{Call}
+use Rattle.block_device.specs.Device.{Device}
+use Rattle.stack_rules.specs.Records.{Configuration}
+use Rattle.stack_meaning.specs.declared.fault.Fault.{Fault}
+use Rattle.stack_meaning.specs.declared.fault.IoFault.{IoFault}
+use Rattle.stack_meaning.specs.declared.fault.IoFault.TheVariants as io
+use Rattle.stack_meaning.specs.Blocks.{checked}
+use Rattle.stack_meaning.specs.Memory.{largest_allocation}
+use Rattle.stack_meaning.specs.Outcomes.{mismatch}
+use Rattle.stack_meaning.specs.Reading.{Gets}
+use Rattle.stack_meaning.proofs.lemmas.LeafListLemmas.{AreRead-none}
+use Rattle.stack_lines.specs.Walks.{DataBlock, block_in, spare_expected}
+use Rattle.stack_engine.specs.declared.backing.Backing.{Backing}
+use Rattle.stack_engine.specs.declared.spare.LostBlock.{LostBlock}
+use Rattle.stack_engine.specs.Backings.{leaves_in}
+use Rattle.stack_engine.specs.Healing.{healed_result}
+use Rattle.stack_engine.specs.ReadSteps.{ReadsOn}
+use Rattle.stack_engine.specs.SectorCalls.{DataPlace, spare_full, spare_of}
+use Rattle.stack_engine.specs.Spares.{HealsBy}
+use Rattle.stack_engine.proofs.LeafCallLemmas.{makes-none}
+
+pub checked-other : (salt expected block : List ℕ) → (digest salt block ≡ expected → ⊥) → checked salt expected block ≡ Err mismatch
+checked-other salt expected block other = go (bytes_eq (digest salt block) expected) refl
+  where
+    go : (t : Bool) → bytes_eq (digest salt block) expected ≡ t → cond t (Ok block) (Err mismatch) ≡ Err mismatch
+    go true same = absurd (other ((bytes_eq-Decides (digest salt block) expected).0 same))
+    go false e = refl
+
+abbrev bytes : Vec ℕ Global → List ℕ
+bytes = λ block. block.items
+
+module _ (b : DataBlock) (expected : List ℕ) {old new : List Device} where
+  -- the spare that a buffer holds
+  spare-had : (block : Vec ℕ Global) {out : List ℕ} → block.items ≡ out → Gets (spare_expected (λ (x : List ℕ). x) b expected) old new (Ok out) → Gets (spare_expected bytes b expected) old new (Ok block)
+  spare-had block is p = record {
+    moved = p.moved;
+    may = (ap (λ (l : List ℕ). length l) is ∙ p.may.0, ap (digest b.verity.salt) is ∙ p.may.1);
+    exact = λ steady. p.exact steady ∙ ap Ok (sym is);
+  }
+
+  spare-failed : (fault : IoFault) → Gets (spare_expected (λ (x : List ℕ). x) b expected) old new (Err fault) → Gets (spare_expected bytes b expected) old new (Err fault)
+  spare-failed (io.Stack fault) p = record { moved = p.moved; may = p.may; exact = p.exact }
+  spare-failed (io.Device i) p = record { moved = p.moved; may = p.may; exact = p.exact }
+  spare-failed io.NoMemory p = record { moved = p.moved; may = p.may; exact = p.exact }
+
+module _ {D : Type 0} (state : D → Device) {does : D → Call → D → Type 0} (c : Configuration) (p : DataPlace) (lost : LostBlock) (fault : Fault) {old new : Backing D} where
+  pub heals-had : (block : Vec ℕ Global) {out : List ℕ} → block.items ≡ out → Gets (spare_expected (λ (x : List ℕ). x) (block_in c p.verity lost.index) lost.digest) (leaves_in state old) (leaves_in state new) (Ok out) → ReadsOn does c (spare_of p lost.digest) old new (Ok out)
+      → HealsBy state does c p lost fault old new (Ok block)
+  heals-had block is got given = record {
+    spare = Ok block;
+    is = refl;
+    got = spare-had (block_in c p.verity lost.index) lost.digest block is got;
+    given = subst (λ (x : List ℕ). ReadsOn does c (spare_of p lost.digest) old new (Ok x)) (sym is) given;
+  }
+
+  pub heals-failed : (why : IoFault) → Gets (spare_expected (λ (x : List ℕ). x) (block_in c p.verity lost.index) lost.digest) (leaves_in state old) (leaves_in state new) (Err why) → ReadsOn does c (spare_of p lost.digest) old new (Err why)
+      → HealsBy state does c p lost fault old new (healed_result fault (Err why))
+  heals-failed why got given = record { spare = Err why; is = refl; got = spare-failed (block_in c p.verity lost.index) lost.digest why got; given = given }
+
+  -- no memory for it
+  pub heals-short : new ≡ old → IsOutOfMemory largest_allocation → HealsBy state does c p lost fault old new (Err io.NoMemory)
+  heals-short same refused = subst (λ (x : Backing D). HealsBy state does c p lost fault old x (Err io.NoMemory)) (sym same) (record {
+    spare = Err io.NoMemory;
+    is = refl;
+    got = record { moved = AreRead-none _ (leaves_in state old); may = refused; exact = λ steady. tt };
+    given = makes-none (spare_full p lost.digest);
+  })

@@ -1,0 +1,72 @@
+-- What the steps of a read of a data block's spare say: of a position of its round, of the round's parity, and of the whole.
+use Rattle.std.specs.Prelude.{◌≡◌, ℕ, suc, ◌+◌, ◌-◌, ◌*◌, ◌/◌, ◌%◌, ◌==◌, ◌≤◌, if◌then◌else◌, List, ◌∷◌, [], Vec, Some, Result, Ok, Err}
+use Rattle.std.specs.Global.{Global}
+use Rattle.block_device.specs.Call.{Call}
+use Rattle.block_device.specs.Device.{Device}
+use Rattle.dm_table.specs.declared.parity.Parity.{Parity}
+use Rattle.dm_table.specs.declared.verity.Verity.{Verity}
+use Rattle.stack_rules.specs.Names.{size}
+use Rattle.stack_rules.specs.Records.{Configuration}
+use Rattle.stack_rules.specs.TargetRules.{greatest}
+use Rattle.stack_rules.specs.Trees.{block_sectors, round_count}
+use Rattle.stack_meaning.specs.declared.fault.Fault.{Fault}
+use Rattle.stack_meaning.specs.declared.fault.IoFault.{IoFault}
+use Rattle.stack_meaning.specs.Outcomes.{then_outcome}
+use Rattle.stack_meaning.specs.Places.{Expected}
+use Rattle.stack_meaning.specs.Spares.{added_block, round_block, round_parity, with_parity}
+use Rattle.stack_lines.specs.Walks.{DataBlock, block_in, block_leaves, sources_of, spare_expected}
+use Rattle.stack_engine.specs.declared.backing.Backing.{Backing}
+use Rattle.stack_engine.specs.declared.spare.LostBlock.{LostBlock}
+use Rattle.stack_engine.specs.declared.spare.Stored.{Stored}
+use Rattle.stack_engine.specs.Healing.{healed_result}
+use Rattle.stack_engine.specs.ReadSteps.{GetsBy, ReadsOn, block_answer}
+use Rattle.stack_engine.specs.SectorCalls.{DataPlace, LeadsTo, parity_first, spare_of, sums_of}
+
+-- the parity of the round of a data block is stored there, inside its device
+pub record IsStoredAt (c : Configuration) (p : DataPlace) (q : Parity) (at : Stored) : Type 0 where
+  pub on : p.on_parity ≡ Some at.lower
+  pub first : at.first ≡ parity_first p q
+  pub sectors : at.sectors ≡ block_sectors p.verity * q.roots
+  pub inside : at.first + at.sectors ≤ size c at.lower
+
+-- the most leaf sectors that are read for a sector of one of the three devices
+abbrev pub sector_cost : DataBlock → ℕ
+sector_cost b = greatest (b.on_data.cost ∷ b.on_hash.cost ∷ b.on_parity.cost ∷ [])
+
+-- sums, to which the block at position i of the round was added, unless it is the lost one
+abbrev pub other_wanted : DataBlock → Parity → ℕ → List ℕ → Expected (List ℕ)
+other_wanted b q i sums = record {
+  is = λ bytes. Unit {0};
+  faults = λ fault. Unit {0};
+  bytes_of = λ bytes. bytes;
+  means = λ images. then_outcome (round_block b.verity q (sources_of b images) (b.index % round_count q) (b.index / round_count q) i) (λ block. Ok (added_block sums block));
+  cost = if i == b.index / round_count q then 0 else block_sectors b.verity * sector_cost b;
+  leaves = block_leaves b;
+}
+
+-- sums, to which the parity of the round was added
+abbrev pub stored_wanted : DataBlock → Parity → List ℕ → Expected (List ℕ)
+stored_wanted b q sums = record {
+  is = λ bytes. Unit {0};
+  faults = λ fault. Unit {0};
+  bytes_of = λ bytes. bytes;
+  means = λ images. then_outcome (round_parity b.verity q (sources_of b images) (b.index % round_count q)) (λ parity. Ok (with_parity q.roots sums parity));
+  cost = block_sectors b.verity * q.roots * sector_cost b;
+  leaves = block_leaves b;
+}
+
+-- the spare of a data block of a line
+abbrev pub spare_wanted : Configuration → Verity → LostBlock → Expected (List ℕ)
+spare_wanted c v lost = spare_expected (λ bytes. bytes) (block_in c v lost.index) lost.digest
+
+-- the block at position i was added to sums, or can't be read: the calls
+abbrev pub AddsTo : {D : Type 0} → (D → Call → D → Type 0) → Configuration → DataPlace → Parity → ℕ → List ℕ → Backing D → Backing D → Result (List ℕ) IoFault → Type 0
+AddsTo does c p q i sums old new (Ok added) = LeadsTo does c (sums_of p q i sums) (sums_of p q (suc i) added) old.devices.items new.devices.items
+AddsTo does c p q i sums old new (Err fault) = ReadsOn does c (sums_of p q i sums) old new (Err fault)
+
+-- A data block whose own read ended in that fault is healed: its spare, and the calls that read it; or the fault.
+pub record HealsBy {D : Type 0} (state : D → Device) (does : D → Call → D → Type 0) (c : Configuration) (p : DataPlace) (lost : LostBlock) (fault : Fault) (old new : Backing D) (result : Result (Vec ℕ Global) IoFault) : Type 0 where
+  pub spare : Result (Vec ℕ Global) IoFault
+  pub is : result ≡ healed_result fault spare
+  pub got : GetsBy state (spare_expected (λ block. block.items) (block_in c p.verity lost.index) lost.digest) old new spare
+  pub given : ReadsOn does c (spare_of p lost.digest) old new (block_answer spare)

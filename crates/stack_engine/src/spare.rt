@@ -1,0 +1,120 @@
+//! The spare of a data block: the sum, by exclusive-or, of the other blocks of its round and of their parity.
+ghost use Rattle.std.specs.Prelude.{◌≡◌, ◌≤◌, ◌<◌, ◌/◌, ◌%◌, length, IfSome, IsSome, Some};
+ghost use Rattle.dm_table.specs.declared.parity.Parity.{Parity};
+ghost use Rattle.dm_table.specs.Grammar.{IsParityOfGrammar};
+ghost use Rattle.stack_rules.specs.Rules.{IsLoaded};
+ghost use Rattle.stack_meaning.specs.Spares.{added_block, with_parity};
+ghost use Rattle.stack_lines.specs.Extents.{LiesInsideLower};
+ghost use Rattle.stack_lines.specs.Walks.{HasDataBlock};
+ghost use Rattle.stack_engine.specs.SectorCalls.{other_by, other_number, place_in};
+ghost use Rattle.stack_engine.specs.Spares.{IsStoredAt};
+
+use dm_table::{Parity, Verity};
+use reed_solomon::add_parity;
+use stack_config::{Config, Lower};
+use stack_lines::tree::{Extent, Tree, covered_extent, parity_start};
+use stack_rules::round_count;
+use tree_shape::Digest;
+
+/// A data block that isn't readable or has another digest, by its number in the line, and the digest that is expected of it.
+#[derive(Clone, Copy)]
+pub(crate) struct LostBlock {
+    pub(crate) index: u64,
+    pub(crate) digest: Digest,
+}
+
+/// The parity of a round: the device, the first sector, and how many there are.
+#[derive(Clone, Copy)]
+pub(crate) struct Stored {
+    pub(crate) lower: Lower,
+    pub(crate) first: u64,
+    pub(crate) sectors: u32,
+}
+
+/// Adds the bytes of a block to the sums. To a sum, a byte is the same as the parity of a codeword that has one byte of it.
+pub(crate) fn add_block(block: &[u8], sums: &mut [u8])
+    requires { length block.now ≡ length sums.old }
+    ensures { sums.new ≡ added_block sums.old block.now }
+{
+    add_parity(block, 1, sums);
+}
+
+/// Adds the parity of a round to the sums of its blocks.
+pub(crate) fn add_stored(stored: &[u8], sums: &mut [u8])
+    requires some { 0 < length sums.old }
+    requires whole { length stored.now % length sums.old ≡ 0 }
+    ensures { sums.new ≡ with_parity (length stored.now / length sums.old) sums.old stored.now }
+{
+    let count = stored.len() / sums.len();
+    add_parity(stored, count, sums);
+}
+
+/// The number of the covered block at a position of the round of a data block, unless it is that block, or there is none.
+fn other_number(parity: &Parity, index: u64, place: u32) -> Option<u64>
+    requires grammar { IsParityOfGrammar parity.now }
+    requires inside { index < parity.now.blocks }
+    ensures { result ≡ other_number parity.now index place }
+{
+    let rounds = round_count(parity);
+    if u64::from(place) == index / rounds {
+        return None;
+    }
+    let number = u128::from(place) * u128::from(rounds) + u128::from(index % rounds);
+    if number < u128::from(parity.blocks) {
+        Some(number as u64)
+    } else {
+        None
+    }
+}
+
+/// Where the block at a position of the round of a data block lies, unless it is that block, or there is none.
+pub(crate) fn other_extent(
+    config: &Config,
+    verity: &Verity,
+    tree: &Tree,
+    index: u64,
+    place: u32,
+) -> Option<Extent>
+    requires loaded { IsLoaded config.now }
+    requires block { HasDataBlock config.now verity.now tree.now index }
+    ensures is { result ≡ other_by (place_in verity.now tree.now index) verity.now.parity place }
+    ensures lies { IfSome result (LiesInsideLower config.now) }
+    ensures few { IfSome result (λ e. e.sectors ≤ 8) }
+{
+    match &verity.parity {
+        None => None,
+        Some(parity) => match other_number(parity, index, place) {
+            None => None,
+            Some(number) => Some(covered_extent(config, verity, parity, tree, number)),
+        },
+    }
+}
+
+/// Where the parity of the round of a data block lies, if the line has parity.
+pub(crate) fn stored_extent(
+    config: &Config,
+    verity: &Verity,
+    tree: &Tree,
+    index: u64,
+) -> Option<Stored>
+    requires loaded { IsLoaded config.now }
+    requires block { HasDataBlock config.now verity.now tree.now index }
+    ensures is { IfSome result (λ at. (q : Parity) × (verity.now.parity ≡ Some q) × IsStoredAt config.now (place_in verity.now tree.now index) q at) }
+    ensures few { IfSome result (λ at. at.sectors ≤ 192) }
+    ensures some { (q : Parity) → verity.now.parity ≡ Some q → IsSome result }
+{
+    match &verity.parity {
+        None => None,
+        Some(parity) => match tree.parity {
+            None => None,
+            Some(lower) => {
+                let round = index % round_count(parity);
+                Some(Stored {
+                    lower,
+                    first: parity_start(config, verity, parity, tree, round),
+                    sectors: verity.data_block / 512 * parity.roots,
+                })
+            }
+        },
+    }
+}

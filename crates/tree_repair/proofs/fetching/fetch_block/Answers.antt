@@ -1,0 +1,66 @@
+use Rattle.std.proofs.Common.{refl, ◌∙◌}
+use Rattle.tree_repair.proofs.MoveLemmas.{lines-none}
+use Rattle.tree_repair.proofs.RunLemmas.{can-read, has-behind, has-none, has-read}
+use Rattle.block_device.specs.Call.{DeviceDoes}
+use Rattle.tree_repair.specs.Jobs.{job}
+use Rattle.tree_repair.specs.Moves.{fetched_line}
+use Rattle.tree_repair.proofs.RepairCallLemmas.{hash-both}
+use Rattle.tree_repair.proofs.RunCallLemmas.{hands-behind, hands-none, hands-read}
+use Rattle.tree_repair.proofs.fetching.fetch_block.Goals as goal
+
+pub returns-then-not-is_place-clause-run : goal.returns-then-not-is_place-clause-run
+returns-then-not-is_place-clause-run g c = has-none
+
+pub returns-then-not-is_place-clause-said : goal.returns-then-not-is_place-clause-said
+returns-then-not-is_place-clause-said g c = lines-none (fetched_line (job c.args.repair.now)) (g.W.Write.contents c.args.writer.now.inner)
+
+pub reach-requires-clause-place : goal.reach-requires-clause-place
+reach-requires-clause-place g c = c.is_place.ensures.some c.if-not-is_place.false
+
+pub returns-then-not-reach-clause-run : goal.returns-then-not-reach-clause-run
+returns-then-not-reach-clause-run g c = has-read c.reach.ensures.read
+
+pub returns-then-not-reach-clause-said : goal.returns-then-not-reach-clause-said
+returns-then-not-reach-clause-said g c = lines-none (fetched_line (job c.args.repair.now)) (g.W.Write.contents c.args.writer.now.inner)
+
+pub put_fetched-requires-clause-can : goal.put_fetched-requires-clause-can
+put_fetched-requires-clause-can g c = can-read c.reach.ensures.read c.requires.can
+
+pub put_fetched-requires-clause-place : goal.put_fetched-requires-clause-place
+put_fetched-requires-clause-place g c = c.is_place.ensures.some c.if-not-is_place.false
+
+pub put_fetched-requires-clause-way : goal.put_fetched-requires-clause-way
+put_fetched-requires-clause-way g c = rw c.if-not-reach.false at c.reach.ensures.way
+
+pub returns-clause-run : goal.returns-clause-run
+returns-clause-run g c = has-behind c.reach.ensures.read c.put_fetched.ensures.run
+
+pub returns-clause-said : goal.returns-clause-said
+returns-clause-said g c = c.put_fetched.ensures.said
+
+pub returns-then-not-is_place-clause-handed : goal.returns-then-not-is_place-clause-handed
+returns-then-not-is_place-clause-handed g c =
+    let asks = DeviceDoes g.D.BlockDev.state g.D.BlockDev.does in
+    let does = DeviceDoes g.H.BlockDev.state g.H.BlockDev.does in
+    hands-none asks does (job c.args.repair.now) c.args.image.now
+
+pub returns-then-not-reach-clause-handed : goal.returns-then-not-reach-clause-handed
+returns-then-not-reach-clause-handed g c =
+    let asks = DeviceDoes g.D.BlockDev.state g.D.BlockDev.does in
+    let does = DeviceDoes g.H.BlockDev.state g.H.BlockDev.does in
+    hands-read asks does (job c.args.repair.now) c.args.image.now c.reach.new.image (hash-both asks does c.args.image.now c.reach.new.image c.reach.ensures.called)
+
+pub returns-clause-handed : goal.returns-clause-handed
+returns-clause-handed g c =
+    let asks = DeviceDoes g.D.BlockDev.state g.D.BlockDev.does in
+    let does = DeviceDoes g.H.BlockDev.state g.H.BlockDev.does in
+    hands-behind asks does (job c.args.repair.now) _ c.args.image.now c.reach.new.image c.put_fetched.new.image (hash-both asks does c.args.image.now c.reach.new.image c.reach.ensures.called) c.put_fetched.ensures.handed
+
+pub returns-then-not-is_place-clause-kept : goal.returns-then-not-is_place-clause-kept
+returns-then-not-is_place-clause-kept g c = refl
+
+pub returns-then-not-reach-clause-kept : goal.returns-then-not-reach-clause-kept
+returns-then-not-reach-clause-kept g c = c.reach.ensures.kept
+
+pub returns-clause-kept : goal.returns-clause-kept
+returns-clause-kept g c = c.put_fetched.ensures.kept ∙ c.reach.ensures.kept

@@ -1,0 +1,28 @@
+use Rattle.block_device.specs.Call.{DeviceDoes}
+use Rattle.tree_repair.specs.Jobs.{job}
+use Rattle.tree_repair.specs.Moves.{fetched_line}
+use Rattle.tree_repair.proofs.MoveLemmas.{lines-none}
+use Rattle.tree_repair.proofs.RunCallLemmas.{hands-none}
+use Rattle.tree_repair.proofs.RunLemmas.{has-none}
+use Rattle.tree_repair.proofs.seeds.copy_if_listed.Goals as goal
+
+pub returns-in-None-clause-run : goal.returns-in-None-clause-run
+returns-in-None-clause-run g c = has-none
+
+pub returns-in-None-clause-said : goal.returns-in-None-clause-said
+returns-in-None-clause-said g c = lines-none (fetched_line (job c.args.repair.now)) (g.W.Write.contents c.args.writer.now.inner)
+
+pub returns-in-None-clause-handed : goal.returns-in-None-clause-handed
+returns-in-None-clause-handed g c =
+    let asks = DeviceDoes g.D.BlockDev.state g.D.BlockDev.does in
+    let does = DeviceDoes g.H.BlockDev.state g.H.BlockDev.does in
+    hands-none asks does (job c.args.repair.now) c.args.image.now
+
+pub returns-in-Some-clause-run : goal.returns-in-Some-clause-run
+returns-in-Some-clause-run g c = c.copy_from_seed.ensures.run
+
+pub returns-in-Some-clause-said : goal.returns-in-Some-clause-said
+returns-in-Some-clause-said g c = c.copy_from_seed.ensures.said
+
+pub returns-in-Some-clause-handed : goal.returns-in-Some-clause-handed
+returns-in-Some-clause-handed g c = c.copy_from_seed.ensures.handed

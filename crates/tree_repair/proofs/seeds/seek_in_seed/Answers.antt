@@ -1,0 +1,67 @@
+use Rattle.std.proofs.Common.{◌≤◌, ap, arith}
+use Rattle.tree_shape.specs.Shape.{levels}
+use Rattle.tree_repair.specs.Moves.{fetched_line}
+use Rattle.tree_repair.proofs.MoveLemmas.{lines-none}
+use Rattle.tree_repair.proofs.RunLemmas.{can-read, has-behind, has-none, has-read}
+use Rattle.block_device.specs.Call.{DeviceDoes}
+use Rattle.tree_repair.specs.Jobs.{job}
+use Rattle.tree_repair.proofs.RepairCallLemmas.{hash-both}
+use Rattle.tree_repair.proofs.RunCallLemmas.{hands-behind, hands-none, hands-read}
+use Rattle.tree_repair.proofs.seeds.seek_in_seed.Goals as goal
+
+pub returns-then-not-is_place-clause-run : goal.returns-then-not-is_place-clause-run
+returns-then-not-is_place-clause-run g c = has-none
+
+pub returns-then-not-is_place-clause-said : goal.returns-then-not-is_place-clause-said
+returns-then-not-is_place-clause-said g c = lines-none (fetched_line (job c.args.repair.now)) (g.W.Write.contents c.args.writer.now.inner)
+
+pub reach-requires-clause-place : goal.reach-requires-clause-place
+reach-requires-clause-place g c = c.is_place.ensures.some c.if-not-is_place.false
+
+pub returns-then-not-reach-clause-run : goal.returns-then-not-reach-clause-run
+returns-then-not-reach-clause-run g c = has-read c.reach.ensures.read
+
+pub returns-then-not-reach-clause-said : goal.returns-then-not-reach-clause-said
+returns-then-not-reach-clause-said g c = lines-none (fetched_line (job c.args.repair.now)) (g.W.Write.contents c.args.writer.now.inner)
+
+pub digest_at-digest-requires : goal.digest_at-digest-requires
+digest_at-digest-requires g c = let way = rw c.if-not-reach.false at c.reach.ensures.way in omega (arith, way.few, ap levels way.is.shape_is)
+
+pub returns-in-None-clause-run : goal.returns-in-None-clause-run
+returns-in-None-clause-run g c = has-read c.reach.ensures.read
+
+pub returns-in-None-clause-said : goal.returns-in-None-clause-said
+returns-in-None-clause-said g c = lines-none (fetched_line (job c.args.repair.now)) (g.W.Write.contents c.args.writer.now.inner)
+
+pub copy_seed_block-requires-clause-can : goal.copy_seed_block-requires-clause-can
+copy_seed_block-requires-clause-can g c = can-read c.reach.ensures.read c.requires.can
+
+pub returns-clause-run : goal.returns-clause-run
+returns-clause-run g c = has-behind c.reach.ensures.read c.copy_seed_block.ensures.run
+
+pub returns-clause-said : goal.returns-clause-said
+returns-clause-said g c = c.copy_seed_block.ensures.said
+
+pub returns-then-not-is_place-clause-handed : goal.returns-then-not-is_place-clause-handed
+returns-then-not-is_place-clause-handed g c =
+    let asks = DeviceDoes g.D.BlockDev.state g.D.BlockDev.does in
+    let does = DeviceDoes g.H.BlockDev.state g.H.BlockDev.does in
+    hands-none asks does (job c.args.repair.now) c.args.image.now
+
+pub returns-then-not-reach-clause-handed : goal.returns-then-not-reach-clause-handed
+returns-then-not-reach-clause-handed g c =
+    let asks = DeviceDoes g.D.BlockDev.state g.D.BlockDev.does in
+    let does = DeviceDoes g.H.BlockDev.state g.H.BlockDev.does in
+    hands-read asks does (job c.args.repair.now) c.args.image.now c.reach.new.image (hash-both asks does c.args.image.now c.reach.new.image c.reach.ensures.called)
+
+pub returns-in-None-clause-handed : goal.returns-in-None-clause-handed
+returns-in-None-clause-handed g c =
+    let asks = DeviceDoes g.D.BlockDev.state g.D.BlockDev.does in
+    let does = DeviceDoes g.H.BlockDev.state g.H.BlockDev.does in
+    hands-read asks does (job c.args.repair.now) c.args.image.now c.reach.new.image (hash-both asks does c.args.image.now c.reach.new.image c.reach.ensures.called)
+
+pub returns-clause-handed : goal.returns-clause-handed
+returns-clause-handed g c =
+    let asks = DeviceDoes g.D.BlockDev.state g.D.BlockDev.does in
+    let does = DeviceDoes g.H.BlockDev.state g.H.BlockDev.does in
+    hands-behind asks does (job c.args.repair.now) _ c.args.image.now c.reach.new.image c.copy_seed_block.new.image (hash-both asks does c.args.image.now c.reach.new.image c.reach.ensures.called) c.copy_seed_block.ensures.handed
