@@ -32,10 +32,16 @@ HOLES = [range(300, 301), range(400, 402), range(900, 1200), range(1900, 1901)]
 
 
 def blocks_of(path):
-    """The state, and of each block of the map its first sector, its sectors and its mark."""
+    """The state, and of each longest run of one mark in the map its first sector, its sectors and its mark."""
     with open(path) as it:
         state, *lines = [line.split() for line in it.read().splitlines() if not line.startswith("#")]
-    return state[1], [(int(at) // SECTOR, int(size) // SECTOR, mark) for at, size, mark in lines]
+    found = []
+    for at, size, mark in lines:
+        if found and found[-1][2] == mark:
+            found[-1] = (found[-1][0], found[-1][1] + int(size) // SECTOR, mark)
+        else:
+            found.append((int(at) // SECTOR, int(size) // SECTOR, mark))
+    return state[1], found
 
 
 def count(blocks, mark):

@@ -4,7 +4,7 @@
 cut_updates.py PROGRAM: older, longer, damaged and missing images, and parts of a disk, are brought to a release. After each cut each
 block must be as it was or as the release has it, and all else as it was. HASH has its old superblock only if no block is changed yet,
 and that of the release only if all blocks are the release's; otherwise it has none. Run again, the update must end with the release,
-and fetch only the blocks that were missing, or copy them within DATA if HASH still has its old superblock. The zeros over the old superblock must be synced before a block is written, also
+and fetch only the blocks that were missing, or take them from another copy, or from DATA if HASH still has its old superblock. The zeros over the old superblock must be synced before a block is written, also
 those of an update that was killed, and all blocks before the new superblock is. Whole files that are longer are shortened last, when the
 new superblock is synced.
 """
@@ -51,6 +51,7 @@ class Update:
 
     def __init__(self, name, release, files, words=("data", "hash"), places=WHOLE, copies=(), moved=0, seeded=0):
         self.name, self.release, self.files, self.moved, self.seeded = name, release, files, moved, seeded
+        self.last_copy = len(copies) // 2 + 1
         self.paths = [it.partition("@")[0] for it in words]
         self.parts = places
         self.words = ["update", "--pin", "pin", *words, "new.data", "new.hash", *copies]
@@ -58,10 +59,7 @@ class Update:
         for path, (first, _), content in zip(self.paths, places, (release.data, release.hash)):
             it = self.wanted[path]
             it.extend(bytes(max(0, first + len(content) - len(it))))
-            # of block 0 of HASH the first sector is the superblock, and the others stay
-            skipped = SECTOR if content is release.data else release.sizes[1]
-            it[first:first + SECTOR] = content[:SECTOR]
-            it[first + skipped:first + len(content)] = content[skipped:]
+            it[first:first + len(content)] = content
             if places == WHOLE:
                 del it[len(content):]
 
@@ -91,8 +89,8 @@ class Update:
                     raise Unlike(f"block {first // size} of {self.paths[at]}")
                 missing[at] += left[part] != wanted[part]
                 changed += left[part] != before[part]
-            if at and left[SECTOR:size] != before[SECTOR:size]:
-                raise Unlike("the rest of hash block 0 is changed")
+            if at and left[SECTOR:size] not in (before[SECTOR:size], wanted[SECTOR:size]):
+                raise Unlike("the rest of hash block 0 is neither as it was nor as wanted")
         old, first, new = (it[:SECTOR] for it in (before, left, wanted))
         if first not in (old, new, NOTHING):
             raise Unlike("another superblock")
@@ -128,16 +126,16 @@ class Update:
         return os.path.exists(path) and read(path)[first:].startswith(b"verity")
 
     def end(self, cutter, missing):
-        """Runs the update to its end, which fetches the missing blocks, or copies data blocks that moved. Returns how many it copied within
+        """Runs the update to its end, which fetches the missing blocks, or takes them from DATA or a copy. Returns how many it copied within
         DATA, and how many data blocks came from the first copy."""
         is_listed = self.has_superblock()
         status, output, _ = cutter.run(self.words)
         tree = Tree(*self.release.sizes, self.release.blocks, 1)
         blocks = self.release.blocks + sum(tree.levels)
-        size = sum(map(int.__mul__, missing, self.release.sizes))
-        moved = int((re.findall(rb" moved (\d+) ", output) or [0])[-1])
+        moved = len(re.findall(rb"^moved data ", output, re.M))
+        fetched = [len(re.findall(rb"^repaired %s [ 0-9]+ copy %d$" % (kind, self.last_copy), output, re.M)) for kind in (b"data", b"hash")]
         line = b"kept %d moved %d fetched %d bytes %d\n" % (
-            blocks - sum(missing), moved, sum(missing) - moved, size - moved * self.release.sizes[0])
+            blocks - sum(missing), sum(missing) - sum(fetched), sum(fetched), sum(map(int.__mul__, fetched, self.release.sizes)))
         if status or not output.endswith(line) or moved and not is_listed:
             raise Unlike(f"run again, it ends with the status {status}, {output[-200:]} and not {line}")
         for path, content in self.wanted.items():

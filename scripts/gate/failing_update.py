@@ -4,7 +4,7 @@ from itertools import takewhile
 from failing_recovery import Unlike, read_file
 from failing_repair import REFUSED, Repair, is_repaired
 from stack import SECTOR
-from updates import told
+from updates import counted, told
 
 CLEARED = bytes(SECTOR)
 
@@ -19,8 +19,20 @@ class Update(Repair):
         self.new = read_file(f"{case.start}/whole.hash")[:SECTOR]
         super().__init__(case, output, [data, hashes, *copies[2:], *copies[:2]])
         self.good = self.plain[-2]
-        if self.plain != told(self.tree, self.mended, False) or self.superblock() != self.new:
+        self.last_copy = b" copy %d" % (len(copies) // 2)
+        if self.plain != self.told(self.mended) or self.superblock() != self.new:
             raise Unlike("without a failure it ends otherwise")
+
+    def told(self, mended):
+        """What is printed if these blocks are written, and each block that is read from the release has its digest."""
+        fetched = [sum(it.startswith(kind) and it.endswith(self.last_copy) for it in mended) for kind in (b"repaired data ", b"repaired hash ")]
+        return told(self.tree, mended, counted(self.tree, mended, fetched), False)
+
+    def is_told(self, lines, mended):
+        """Whether that was printed, or more was read from the release, since a read failed."""
+        wanted = self.told(mended)
+        kept, fetched = ([int(line.split()[at]) for line in (lines[-1], wanted[-1])] for at in (1, 5))
+        return lines[:-1] == wanted[:-1] and kept[0] == kept[1] and fetched[0] >= fetched[1]
 
     def files_before(self):
         before = super().files_before()
@@ -58,7 +70,7 @@ class Update(Repair):
             # is fetched by itself
             unmoved = not any(it.startswith(b"moved ") for it in mended)
             is_same = sorted(mended) == sorted(self.mended)
-            good, states = (unmoved or is_same) and is_whole and lines == told(self.tree, mended, False), {self.new}
+            good, states = (unmoved or is_same) and is_whole and lines == self.told(mended), {self.new}
         elif kind == "memory":
             good = status == 1 and rest == [b"no memory"] and self.mended[:len(mended)] == mended
             states = {self.old, CLEARED} if is_untouched else {CLEARED}
@@ -79,12 +91,12 @@ class Update(Repair):
             return status == 1 and call != b"read" and mended == self.mended, {CLEARED, self.new}
         if call == b"sync" and len(rest) == 3:
             # all is the release's, and a file couldn't be synced after it was shortened
-            is_told = mended + rest[:2] == told(self.tree, self.mended, False)
+            is_told = mended + rest[:2] == self.told(self.mended)
             return status == 1 and is_told and rest[2] in [b"refused 4 OtherFault " + it.encode() for it in self.paths[:2]], {self.new}
         if call != b"read":
             wanted = self.mended if call == b"sync" and mended else self.mended[:len(mended)]
             return status == 1 and rest == [REFUSED] and mended == wanted, {CLEARED}
-        if mended + rest == told(self.tree, mended, False):
+        if rest and rest[-1].startswith(b"kept ") and self.is_told(mended + rest, mended):
             anew = set(map(self.place, mended)) - set(map(self.place, self.mended))
             return status == 0 and len(anew) <= 1, {self.new}
         return self.is_read_around(mended, rest, status), {CLEARED}

@@ -240,15 +240,18 @@ def changed_block(data):
 
 def log_told(size, requests, lost):
     """What the service of the volume has printed by its end, which may be a moment after the client's."""
-    listed = "".join(f"dmstack: export v: sector {sector}: Mismatch\n" for sector in lost)
-    log = f"dmstack: export v {size} bytes ro\n{listed}dmstack: served {requests} requests, {len(lost)} with an input/output error\n"
+    first = list(dict.fromkeys(lost))
+    listed = "".join(f"dmstack: export v: sector {sector}: Mismatch\n" for sector in first)
+    more = f"dmstack: {len(lost) - len(first)} more faulty requests\n" if len(first) < len(lost) else ""
+    log = f"dmstack: export v {size} bytes ro\n{listed}{more}dmstack: served {requests} requests of "
+    lines = 4 + len(first) + bool(more)
     end = f"faults {len(lost)} requests {requests}\n"
     for _ in range(100):
         errors = open("errors").read()
         if errors.endswith(end):
             break
         time.sleep(0.05)
-    say("changed block: standard error", errors.startswith(log) and errors.endswith(end) and errors.count("\n") == 4 + len(lost), errors[:300])
+    say("changed block: standard error", errors.startswith(log) and errors.endswith(end) and errors.count("\n") == lines, errors[:300])
 
 
 def chunks_of(handle, data, offset, length, bad):

@@ -1,11 +1,10 @@
 """Exchanges of the NBD protocol: calls of the system that fail, and services that are refused."""
 import os
-import struct
 import subprocess
 
 from nbd_messages import (
-    DF, EIO, ENOMEM, ERROR_OFFSET, FLUSH, FUA, GREETING, READ, SECTOR, STACK, STATUS, WRITE, ZEROES, begun, begun_in_chunks, chunk, end_of,
-    exports, failed, faults_line, flags, reply, request, start_of, without_log,
+    DF, EIO, ENOMEM, FLUSH, FUA, GREETING, READ, SECTOR, STACK, STATUS, WRITE, ZEROES, begun, begun_in_chunks, counts_of, exports,
+    failed, failed_at, faults_line, flags, log_of, reply, request, start_of, without_log,
 )
 from sentences import without_sentence
 
@@ -31,14 +30,13 @@ def talks(chunked, failing=None, error=EIO):
             answer = reply(error) if fails else reply()
         elif kind == "status":
             sent += request(STATUS, *rest)
-            answer = failed(error) if number == failing else e.status(*rest)
+            answer = failed(error, kind=b"Device") if number == failing else e.status(*rest)
         elif kind == "whole":
             sent += request(READ, *rest, bits=DF)
-            answer = failed(error) if number == failing else e.chunks(*rest, df=True)
+            answer = failed(error, kind=b"Device") if number == failing else e.chunks(*rest, df=True)
         elif kind == "sector":
             sent += request(READ, *rest)
-            place = struct.pack(">IHQ", error, 0, rest[0])
-            answer = chunk(ERROR_OFFSET, place) if number == failing else e.chunks(*rest)
+            answer = failed_at(error, rest[0], kind=b"Device") if number == failing else e.chunks(*rest)
         elif chunked:
             # a piece that failed once is read again, sector by sector
             sent += request(READ, *rest)
@@ -116,7 +114,8 @@ def device_ends(asked, chunked, synced):
         _, told, left, _ = talks(chunked, failing)
         lost = [] if failing is None else lost_by(asked, chunked, failing)
         line = b"fault 3 Device 3\n" if synced else faults_line(1, len(asked)) if lost else b""
-        log = start_of([e]) + end_of("file", len(asked), lost, b"Device")
+        counts = counts_of(talks(chunked)[0], len(e.content), True)
+        log = start_of([e]) + log_of("file", counts, lost, b"Device 3")
         ends.append((told, 3 if line else 0, left, log + line))
     return ends
 

@@ -2,7 +2,7 @@
 import struct
 
 from nbd_messages import (
-    ABORT, ACK, DISC, EINVAL, EPERM, EXPORT_NAME, EXTENDED, FLUSH, GO, GREETING, INFO, INVALID, LIST, LIST_META, RAMP, READ, SERVER,
+    ABORT, ACK, DISC, EINVAL, EPERM, EXPORT_NAME, EXTENDED, FLUSH, GO, GREETING, INFO, INVALID, LIST, LIST_META, MOST_OPTIONS, RAMP, READ, SERVER,
     SET_META, STARTTLS, STATUS, STRUCTURED, TOO_BIG, UNKNOWN, UNSUPPORTED, WRITE, asks, begun, context, exports, failed, flags, option,
     option_reply, queries, reply, request,
 )
@@ -30,9 +30,9 @@ def handshakes(runner):
     for number in (INFO, GO):
         for name in (b"low", b""):
             for facts in ((), (0,), (1,), (3,), (0, 1, 2, 3), (256,), (768,), (1, 3), (3, 1, 1), (2,) * 40):
-                sizes, named = 3 in facts, 1 in facts
+                sizes, named, described = 3 in facts, 1 in facts, 2 in facts
                 tail, end = (request(READ, 0, 4), reply(data=RAMP[:4])) if number == GO else (option(ABORT), option_reply(ABORT, ACK))
-                runner.run(f"{number} {name} {facts}", "low", flags(3) + option(number, asks(name, *facts)) + tail, GREETING + e.told(number, sizes, named=named) + end)
+                runner.run(f"{number} {name} {facts}", "low", flags(3) + option(number, asks(name, *facts)) + tail, GREETING + e.told(number, sizes, named=named, described=described) + end)
         for name in (b"lo", b"loww", b"kept", b"\0" * 3):
             runner.run(f"{number} of {name}", "low", flags(3) + option(number, asks(name)) + option(LIST), GREETING + option_reply(number, UNKNOWN) + listed)
         whole = asks(b"low", 3)
@@ -49,7 +49,18 @@ def handshakes(runner):
         wrong = bytearray(option(LIST))
         wrong[k] ^= 1
         runner.run(f"option magic at {k}", "low", flags(3) + bytes(wrong), GREETING, status=4)
+    opened = option(GO, asks(b"low")) + request(DISC)
+    for count in (MOST_OPTIONS - 1, MOST_OPTIONS):
+        sent, told = flags(3) + option(LIST) * count, GREETING + listed * count
+        good = count < MOST_OPTIONS
+        runner.run(f"{count} options and GO", "low", sent + opened, told + (e.told(GO) if good else b""), status=0 if good else 4)
+        runner.run(f"{count} options", "low", sent, told)
+    sent, answer = option(GO, asks(b"lo")), option_reply(GO, UNKNOWN)
+    runner.run("options that name no export", "low", flags(3) + sent * (MOST_OPTIONS + 1), GREETING + answer * MOST_OPTIONS, status=4)
+    sent, answer = option(99, bytes(65537)), option_reply(99, TOO_BIG)
+    runner.run("options with too much data", "low", flags(3) + sent * (MOST_OPTIONS + 1), GREETING + answer * MOST_OPTIONS, status=4)
     kept = exports()["kept"]
+    runner.run("description", "kept", flags(3) + option(INFO, asks(b"", 2)), GREETING + kept.told(INFO, described=True))
     runner.run("read only", "kept", flags(3) + option(GO, asks(b"kept", 3)), GREETING + kept.told(GO, True))
 
 

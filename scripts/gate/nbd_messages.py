@@ -17,6 +17,12 @@ NONE, OFFSET_DATA, OFFSET_HOLE, BLOCK_STATUS, ERROR, ERROR_OFFSET = 0, 1, 2, 5, 
 HOLE_AND_ZERO = 3
 EPERM, EIO, ENOMEM, EINVAL, ENOSPC, ENOTSUP = 1, 5, 12, 22, 28, 95
 MOST = 32 << 20
+MOST_OPTIONS = 1024
+TEXTS = {
+    EPERM: b"the export is read-only", ENOMEM: b"out of memory", EINVAL: b"the request is invalid", ENOSPC: b"the range ends past the export",
+    ENOTSUP: b"zeros take as long to write as other bytes", b"ErrorTarget": b"the sector is on an error target",
+    b"Mismatch": b"a block fails verification", b"Device": b"a backing device failed",
+}
 # the sectors in bytes that a piece of a READ touches at most that is answered piece by piece, and where what a BLOCK_STATUS reads
 # ends; the blocks of zeros at the ends of a piece that are holes; where what a BLOCK_STATUS reads ends, if it is of one extent
 PIECE, BLOCK, PART = 256 << 10, 4096, 64 << 10
@@ -51,9 +57,21 @@ def chunk(kind, data=b"", cookie=0x1122334455667788, done=1):
     return struct.pack(">IHHQI", CHUNK, done, kind, cookie, len(data)) + data
 
 
-def failed(error, cookie=0x1122334455667788):
-    """The chunk of a request that fails, with no text."""
-    return chunk(ERROR, struct.pack(">IH", error, 0), cookie)
+def error_text(error, kind=b"ErrorTarget"):
+    """What the chunk of an error says to humans: of EIO by the fault's kind, of others by their number."""
+    return TEXTS[kind if error == EIO else error]
+
+
+def failed(error, cookie=0x1122334455667788, kind=b"ErrorTarget"):
+    """The chunk of a request that fails, with its text."""
+    text = error_text(error, kind)
+    return chunk(ERROR, struct.pack(">IH", error, len(text)) + text, cookie)
+
+
+def failed_at(error, at, cookie=0x1122334455667788, kind=b"ErrorTarget"):
+    """The chunk of a READ in parts that fails at a byte."""
+    text = error_text(error, kind)
+    return chunk(ERROR_OFFSET, struct.pack(">IH", error, len(text)) + text + struct.pack(">Q", at), cookie)
 
 
 def queries(name, *wanted):
@@ -87,10 +105,13 @@ class Export:
         own = SEND_TRIM | SEND_WRITE_ZEROES | SEND_FAST_ZERO if self.writable else READ_ONLY | (CAN_MULTI_CONN if self.shared else 0)
         return FLAGS | own | (SEND_DF if structured else 0)
 
-    def told(self, number, sizes=False, structured=False, named=False):
+    def told(self, number, sizes=False, structured=False, named=False, described=False):
         out = option_reply(number, REP_INFO, struct.pack(">HQH", 0, len(self.content), self.bits(structured)))
         if named:
             out += option_reply(number, REP_INFO, struct.pack(">H", 1) + self.name.encode())
+        if described:
+            text = b"mapped device, writable" if self.writable else b"mapped device, read-only"
+            out += option_reply(number, REP_INFO, struct.pack(">H", 2) + text)
         if sizes:
             out += option_reply(number, REP_INFO, struct.pack(">HIII", 3, 1, 4096, MOST))
         return out + option_reply(number, ACK)
@@ -166,7 +187,7 @@ class Export:
             elif step == PIECE and at // SECTOR < (stop - 1) // SECTOR:
                 slow = stop
             else:
-                yield chunk(ERROR_OFFSET, struct.pack(">IHQ", EIO, 0, at), cookie)
+                yield failed_at(EIO, at, cookie)
                 return
 
     def status(self, offset, length, one=False):
@@ -251,8 +272,14 @@ def begins_to_differ(found, wanted):
     return len(wanted) if found == wanted else len(os.path.commonprefix([bytes(found), bytes(wanted)]))
 
 
-# What standard error has of a client that broke the protocol or was lost.
-ENDS = [b"client 1 Lost\n", b"client 2 Magic\n", b"client 3 Flags\n", b"client 4 NoSuchExport\n"]
+# What standard error has of a client that broke the protocol or was lost, and what the last line of the log says of it.
+ENDS = {
+    b"client 1 Lost\n": b"the client disconnected in a message",
+    b"client 2 Magic\n": b"the client broke the protocol",
+    b"client 3 Flags\n": b"the client broke the protocol",
+    b"client 4 NoSuchExport\n": b"there is no such export",
+    b"client 5 TooManyOptions\n": b"the client sent too many options",
+}
 
 
 def faults_line(faults, requests):
@@ -260,9 +287,10 @@ def faults_line(faults, requests):
     return b"faults %d requests %d\n" % (faults, requests)
 
 
-# The lines on standard error on a service, unless it is quiet: one for each export before the greeting, and those at its end.
+# The lines on standard error on a service, unless it is quiet: one for each export before the greeting, one for each sector that a
+# request lost, and those at its end.
 START = re.compile(rb"(?:dmstack: export [!-~]+ [0-9]+ bytes r[ow]\n)+")
-LOG = re.compile(START.pattern + rb"(?:dmstack: export [!-~]+: sector [0-9]+: [A-Za-z]+\n)*(?:dmstack: [0-9]+ more faulty requests\n)?dmstack: served .*\n")
+LOG = re.compile(START.pattern + rb"(?:dmstack: export [!-~]+: sector [0-9]+: [A-Za-z]+(?: [0-9]+)?\n)*(?:dmstack: [0-9]+ more faulty requests\n)?dmstack: served .*\n")
 MOST_LISTED = 60
 
 
@@ -271,11 +299,24 @@ def start_of(served):
     return b"".join(b"dmstack: export %s %d bytes %s\n" % (it.name.encode(), len(it.content), b"rw" if it.writable else b"ro") for it in served)
 
 
-def end_of(name, requests, lost=(), kind=b"ErrorTarget"):
-    """The lines at the end of a service of that export: on the first sectors that were lost, by faults of a kind, and on the requests."""
-    listed = b"".join(b"dmstack: export %s: sector %d: %s\n" % (name.encode(), sector, kind) for sector in lost[:MOST_LISTED])
-    more = b"dmstack: %d more faulty requests\n" % (len(lost) - MOST_LISTED) if len(lost) > MOST_LISTED else b""
-    return listed + more + b"dmstack: served %d requests, %d with an input/output error\n" % (requests, len(lost))
+def log_of(name, counts, lost=(), kind=b"ErrorTarget", reason=b"the client disconnected"):
+    """The lines after the first on a service of that export: on the first sectors that were lost, by faults of a kind, on the requests
+    and their bytes, and why it ended."""
+    listed = list(dict.fromkeys(lost))[:MOST_LISTED]
+    lines = b"".join(b"dmstack: export %s: sector %d: %s\n" % (name.encode(), sector, kind) for sector in listed)
+    more = b"dmstack: %d more faulty requests\n" % (len(lost) - len(listed)) if len(lost) > len(listed) else b""
+    return lines + more + b"dmstack: served %d requests of %d bytes, %d with an input/output error; %s\n" % (*counts, len(lost), reason)
+
+
+def counts_of(sent, size, writable):
+    """How many requests are answered, and the bytes of the READs and WRITEs among them that are within an export."""
+    asked, chunked = requests_of(sent), option(STRUCTURED) in sent
+    return len(asked), sum(length for kind, bits, offset, length in asked if moves(kind, bits, chunked) and (kind == READ or writable) and length <= MOST and offset + length <= size)
+
+
+def moves(kind, bits, chunked):
+    """Whether a request is a READ or WRITE that sets no flags but its own."""
+    return kind == READ and not bits & ~(FUA | (DF if chunked else 0)) or kind == WRITE and not bits & ~FUA
 
 
 def without_log(errors):
@@ -309,6 +350,19 @@ def lost_in(sent, export):
     return found
 
 
+def served_by(sent, name):
+    """The export that a client is served: of several that which it opened, if it opened one."""
+    found, at = exports(), 4
+    while name is None and sent[at : at + 8] == OPTION_MAGIC:
+        number, count = struct.unpack(">II", sent[at + 8 : at + 16])
+        data = sent[at + 16 : at + 16 + count]
+        named = data if number == EXPORT_NAME else data[4 : 4 + int.from_bytes(data[:4], "big")] if number == GO else b""
+        if named.decode("latin-1") in found:
+            return found[named.decode("latin-1")]
+        at += 16 + count
+    return found.get(name)
+
+
 class Runner(Checks):
     """Runs exchanges on the program, and counts those that agree."""
 
@@ -331,8 +385,11 @@ class Runner(Checks):
             problems.append(f"status {done.returncode} and not {status}")
         served = [] if status == 1 else [*exports().values()] if name is None else [exports()[name]]
         lost = lost_in(sent, exports()[name]) if status == 3 else []
-        log = start_of(served) + end_of(name or "", len(requests_of(sent)), lost) if served else b""
-        if without_sentence(b"", done.stderr, done.returncode) not in [log + it for it in (ENDS if status == 4 and not told else [told])]:
+        e = served_by(sent, name) if served else None
+        counts = counts_of(sent, len(e.content), e.writable) if e else (0, 0)
+        ends = ENDS.items() if status == 4 and not told else [(told, b"the client disconnected")]
+        wanted_errors = [(start_of(served) + log_of(name or "", counts, lost, reason=reason) if served else b"") + line for line, reason in ends]
+        if without_sentence(b"", done.stderr, done.returncode) not in wanted_errors:
             problems.append(f"standard error: {done.stderr[:200]!r}")
         if after is not None and open("F", "rb").read() != after:
             problems.append("the image differs")
@@ -342,11 +399,13 @@ class Runner(Checks):
         """The service with these arguments reads what is sent, and then the end of its input. So many requests lose these sectors, by
         faults of a kind. `limited`, if given, is called in the service's process before the program begins."""
         done = subprocess.run([self.program, "nbd", *words], input=sent, capture_output=True, timeout=60, preexec_fn=limited)
-        at, requests, status = begins_to_differ(done.stdout, wanted), len(requests_of(sent)), 3 if lost else 0
+        at, status = begins_to_differ(done.stdout, wanted), 3 if lost else 0
         told = without_sentence(b"", done.stderr, done.returncode) or b""
         start = START.match(told)
         good = done.stdout == wanted and done.returncode == status and start
-        good = good and told[start.end() :] == end_of(words[1], requests, lost, kind) + (faults_line(len(lost), requests) if lost else b"")
+        words_of_start = start[0].split() if start else [b"0", b"bytes", b"ro"]
+        counts = counts_of(sent, int(words_of_start[-3]), words_of_start[-1] == b"rw")
+        good = good and told[start.end() :] == log_of(words[1], counts, lost, kind) + (faults_line(len(lost), counts[0]) if lost else b"")
         self.count(label, good, f"differs at {at} of {len(wanted)}, status {done.returncode}, {done.stderr[:200]!r}")
 
 

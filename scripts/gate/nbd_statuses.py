@@ -5,8 +5,8 @@ import subprocess
 import threading
 
 from nbd_messages import (
-    BLOCK, BLOCK_STATUS, DF, EINVAL, ENOMEM, ERROR_OFFSET, Export, FAST_ZERO, FUA, GREETING, HOLE_AND_ZERO, NO_HOLE, PART, PIECE, READ,
-    REQ_ONE, SECTOR, STATUS, begins_to_differ, begun_in_chunks, chunk, exports, failed, request, without_log,
+    BLOCK, BLOCK_STATUS, DF, EINVAL, ENOMEM, Export, FAST_ZERO, FUA, GREETING, HOLE_AND_ZERO, NO_HOLE, PART, PIECE, READ,
+    REQ_ONE, SECTOR, STATUS, begins_to_differ, begun_in_chunks, chunk, exports, failed, failed_at, request, without_log,
 )
 from verity import Tree, grown
 
@@ -134,7 +134,7 @@ def short_of_memory(runner, label, stack, e):
         done = subprocess.run(words, input=sent + request(STATUS, 0, size) + request(READ, 0, 8), env={**os.environ, **more}, capture_output=True, timeout=60)
         if not os.path.exists("met"):
             break
-        place = chunk(ERROR_OFFSET, struct.pack(">IHQ", ENOMEM, 0, 0))
+        place = failed_at(ENOMEM, 0)
         ends = [told + answer + e.chunks(0, 8) for answer in answers] + [told + answers[0] + place]
         good = done.stdout in ends and done.returncode == 0 or (done.stdout, done.returncode) in ((b"", 1), (GREETING, 1))
         said = b"" if done.stdout else b"no memory\n"

@@ -156,4 +156,4 @@ def full(runner):
             lost += [offset // SECTOR] * (offset + length > limit)
         sent += request(READ, 0, limit) + request(FLUSH)
         wanted += reply(data=b"w" * limit) + reply()
-        runner.serve(f"no space, {target}", ["full", "f", "F=rw:F"], sent, wanted, lost, limited, b"Device")
+        runner.serve(f"no space, {target}", ["full", "f", "F=rw:F"], sent, wanted, lost, limited, b"NoSpace 1")

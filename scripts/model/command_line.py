@@ -1,5 +1,7 @@
 """The commands: what their words invoke, what is opened in which order, what is printed, with which status."""
 
+import re
+
 from configuration import Configuration, Leaf, Refused, check_leaves
 from device_tree import Tree
 from files import WHOLE, Files, Noted, Stop, not_opened
@@ -62,13 +64,15 @@ def opened(name, kind, value, place, files):
 
 
 def opened_mapped(value, place, files):
-    """A file without the sectors that its map, which is read first, doesn't have."""
-    text = bytes(files.text(value.map_file))
-    image = FileImage(files.image(value.path, False), place)
+    """A file, or a part of it, without the sectors that the map of all of it doesn't have. The map is read first, and in use then."""
+    node = files.text(value.map_file)
+    files.take(node, False, WHOLE, value.map_file)
+    content = files.image(value.path, False, value.part)
+    image = FileImage(content, place, value.part if value.part != WHOLE else None)
     try:
-        if len(text) > MOST_OF_A_MAP:
+        if len(node) > MOST_OF_A_MAP:
             raise MapFault
-        marks = marks_of(text, image.sectors)
+        marks = marks_of(bytes(node), len(content) // SECTOR)
     except MapFault:
         raise not_opened("OtherFault", value.map_file) from None
     image.lost = {at for at, had in enumerate(marks) if not had}
@@ -194,7 +198,7 @@ def gone_over(options, name, stack, out, files):
         check_size(device, out)
     unwritten = None
     if b"map" in options:
-        runs, had, unwritten = with_map(stack, device, out, options[b"map"], files)
+        runs, had, unwritten = with_map(stack, device, out, options[b"map"], files, int(options.get(b"retries", b"0")) > 0)
     else:
         runs, had = recovered(stack, device, out)
     if unwritten:
@@ -351,7 +355,7 @@ def forms_of(command, options, words):
         found.add("parts")
     if any(word.partition(b"=")[2].partition(b":")[0].startswith((b"ro#", b"rw#")) for word in words):
         found.add("bound-partitions")
-    if any(word.partition(b"=")[2].startswith(b"ro%") for word in words):
+    if any(re.match(rb"ro(@[^:%]*)?%", word.partition(b"=")[2]) for word in words):
         found.add("bound-maps")
     return found
 

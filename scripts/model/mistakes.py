@@ -89,10 +89,12 @@ MISTAKES = [
 
 # The same of parts that a program may lack: the part's name stands first.
 LATER = [
-    ("bound-maps", "the sector before one that a map lacks", "stack.py", "any(first <= at < first + count", "any(first <= at <= first + count"),
+    ("bound-maps", "the sector before one that a map lacks", "stack.py", "any(first <= at - self.begin < first", "any(first <= at - self.begin <= first"),
     ("bound-maps", "an image opened before its map is read", "command_line.py",
-     '    text = bytes(files.text(value.map_file))\n    image = FileImage(files.image(value.path, False), place)\n',
-     '    image = FileImage(files.image(value.path, False), place)\n    text = bytes(files.text(value.map_file))\n'),
+     '    node = files.text(value.map_file)\n    files.take(node, False, WHOLE, value.map_file)\n    content = files.image(value.path, False, value.part)\n',
+     '    content = files.image(value.path, False, value.part)\n    node = files.text(value.map_file)\n    files.take(node, False, WHOLE, value.map_file)\n'),
+    ("bound-maps", "a map that is overwritten", "command_line.py", "    files.take(node, False, WHOLE, value.map_file)\n", ""),
+    ("bound-maps", "a part's map counted from the part", "stack.py", "first <= at - self.begin < first", "first <= at < first"),
     ("remove", "InUse only of later devices", "configuration.py",
      '        if any(lower is device for other in self.devices.values()',
      '        places = list(self.devices)\n'

@@ -4,6 +4,7 @@ import itertools
 import struct
 
 from stack import IGNORES_ZEROS, SECTOR, ZEROS, Fault
+from tables import Verity
 
 OLD_MAGIC, OPTION_MAGIC, OPTION_REPLY_MAGIC = b"NBDMAGIC", b"IHAVEOPT", 0x3E889045565A9
 REQUEST_MAGIC, SIMPLE_REPLY_MAGIC, CHUNK_MAGIC = 0x25609513, 0x67446698, 0x668E33EF
@@ -12,7 +13,7 @@ EXPORT_NAME, ABORT, LIST, INFO, GO = 1, 2, 3, 6, 7
 STRUCTURED_REPLY, LIST_META_CONTEXT, SET_META_CONTEXT = 8, 9, 10
 ACK, SERVER, INFORMATION, META_CONTEXT = 1, 2, 3, 4
 UNSUPPORTED, INVALID, UNKNOWN, TOO_BIG = (2**31 + kind for kind in (1, 3, 6, 9))
-EXPORT, NAME, BLOCK_SIZE = 0, 1, 3
+EXPORT, NAME, DESCRIPTION, BLOCK_SIZE = range(4)
 HAS_FLAGS, READ_ONLY, SEND_FLUSH, SEND_FUA, SEND_TRIM, SEND_WRITE_ZEROES = 1, 2, 4, 8, 32, 64
 SEND_DF, CAN_MULTI_CONN, SEND_CACHE, SEND_FAST_ZERO = 128, 256, 1024, 2048
 READ, WRITE, DISCONNECT, FLUSH, TRIM, CACHE, WRITE_ZEROES, BLOCK_STATUS = range(8)
@@ -23,12 +24,24 @@ CONTEXT, CONTEXT_NAME, NAMESPACE = 1, b"base:allocation", b"base:"
 HOLE_OF_ZEROS = 3
 MOST_EXTENTS, MOST_RUNS = 1024, 65536
 EPERM, EIO, EINVAL, ENOSPC, ENOTSUP = 1, 5, 22, 28, 95
-MOST_OF_AN_OPTION, MOST_OF_A_REQUEST = 65536, 32 * 1024 * 1024
+# What the chunk of an error says: of a request that isn't allowed by its number, of a fault by its name.
+TEXTS = {
+    EPERM: b"the export is read-only", EINVAL: b"the request is invalid", ENOSPC: b"the range ends past the export",
+    ENOTSUP: b"zeros take as long to write as other bytes", b"ErrorTarget": b"the sector is on an error target",
+    b"Mismatch": b"a block fails verification", b"Device": b"a backing device failed",
+}
+# Why a session ended, by the line on the client.
+REASONS = {
+    b"": b"the client disconnected", b"client 1 Lost": b"the client disconnected in a message", b"client 2 Magic": b"the client broke the protocol",
+    b"client 3 Flags": b"the client broke the protocol", b"client 4 NoSuchExport": b"there is no such export",
+    b"client 5 TooManyOptions": b"the client sent too many options",
+}
+MOST_OF_AN_OPTION, MOST_OF_A_REQUEST, MOST_OPTIONS = 65536, 32 * 1024 * 1024, 1024
 # Where the pieces of a READ end, and the blocks at the ends of one that are holes where they are zeros. A BLOCK_STATUS that
 # reads does so up to the end of a piece, or of a part of one where one extent is asked for, and tells zeros by such blocks.
 PIECE, PART, BLOCK = 256 * 1024, 64 * 1024, 4096
 DONE, FAULTS, BROKEN = 0, 3, 4
-# So many faults are listed at the end.
+# So many faults are listed, each the first of its sector.
 MOST_LISTED = 60
 
 
@@ -74,37 +87,41 @@ class Service:
 
     def __init__(self, stack, devices):
         self.stack, self.devices = stack, devices
-        self.replies, self.requests, self.faults = Replies(), 0, []
+        self.replies, self.requests, self.moved, self.faults, self.listed = Replies(), 0, 0, 0, {}
 
     def serve(self, given, is_quiet=False):
         """The replies to a whole input, and the status."""
         self.given, self.at = given, 0
         self.replies.add("the greeting", OLD_MAGIC + OPTION_MAGIC + struct.pack(">H", FIXED_NEWSTYLE | NO_ZEROES))
         try:
-            self.no_zeroes, self.structured, self.selected = self.client_flags(), False, None
+            self.no_zeroes, self.structured, self.selected, self.left = self.client_flags(), False, None, MOST_OPTIONS
             while not self.option():
                 pass
             while True:
                 self.request()
         except Ended as end:
             status, line = end.status, end.line
+        reason = REASONS[line]
         if status == DONE and self.faults:
-            status, line = FAULTS, b"faults %d requests %d" % (len(self.faults), self.requests)
-        self.replies.warnings = [*([] if is_quiet else self.log()), *([line] if line else [])]
+            status, line = FAULTS, b"faults %d requests %d" % (self.faults, self.requests)
+        self.replies.warnings = [*([] if is_quiet else self.log(reason)), *([line] if line else [])]
         return self.replies, status
 
-    def log(self):
-        """The lines on a service that isn't quiet: one on each device; at the end those on the first faults, and one on the requests."""
+    def log(self, reason):
+        """The lines on a service that isn't quiet: one on each device, those on the first faults, and at the end one on the requests."""
         devices = [b"dmstack: export %s %d bytes %s" % (it.name, it.sectors * SECTOR, b"rw" if it.writable else b"ro") for it in self.devices]
-        left_out = len(self.faults) - MOST_LISTED
+        listed = list(self.listed.values())[:MOST_LISTED]
+        left_out = self.faults - len(listed)
         more = [b"dmstack: %d more faulty requests" % left_out] if left_out > 0 else []
-        served = b"dmstack: served %d requests, %d with an input/output error" % (self.requests, len(self.faults))
-        return [*devices, *self.faults[:MOST_LISTED], *more, served]
+        counts = self.requests, self.moved, self.faults, reason
+        served = b"dmstack: served %d requests of %d bytes, %d with an input/output error; %s" % counts
+        return [*devices, *listed, *more, served]
 
     def lose(self, at, fault):
         """A request ends with a fault at the sector of that byte."""
-        kind = fault.text.encode().split()[2]
-        self.faults.append(b"dmstack: export %s: sector %d: %s" % (self.device.name, at // SECTOR, kind))
+        kind = b" ".join(fault.text.encode().split()[2:])
+        self.faults += 1
+        self.listed.setdefault(at // SECTOR, b"dmstack: export %s: sector %d: %s" % (self.device.name, at // SECTOR, kind))
 
     def begin(self):
         """A message begins: where the input has ended, the client went away between two of them."""
@@ -133,6 +150,9 @@ class Service:
         magic, option, length = struct.unpack(">8sII", self.take(16))
         if magic != OPTION_MAGIC:
             raise Ended(BROKEN, b"client 2 Magic")
+        if not self.left:
+            raise Ended(BROKEN, b"client 5 TooManyOptions")
+        self.left -= 1
         data = self.take(length)
         if option == EXPORT_NAME:
             return self.export_name(data)
@@ -203,6 +223,9 @@ class Service:
         self.tell(option, INFORMATION, struct.pack(">H", EXPORT) + self.fields(device))
         if NAME in facts:
             self.tell(option, INFORMATION, struct.pack(">H", NAME) + device.name)
+        if DESCRIPTION in facts:
+            kind = b"verity" if all(isinstance(line.target, Verity) for line in device.lines) else b"mapped device"
+            self.tell(option, INFORMATION, struct.pack(">H", DESCRIPTION) + kind + (b", writable" if device.writable else b", read-only"))
         if BLOCK_SIZE in facts:
             sizes = struct.pack(">HIII", BLOCK_SIZE, 1, 4096, MOST_OF_A_REQUEST)
             self.tell(option, INFORMATION, sizes)
@@ -240,18 +263,19 @@ class Service:
         asked = "command %d at %d of %d bytes" % (command, offset, length)
         try:
             self.check(flags, command, offset, length)
+            self.moved += length if command in (READ, WRITE) else 0
             if self.structured and command == READ and length and not flags & DF:
                 for last, kind, told in self.pieces(offset, offset + length):
                     self.replies.add(asked, framed(cookie, last, kind, told))
                 return
-            error, answer = 0, self.done(command, flags, offset, length, data)
+            error, answer, text = 0, self.done(command, flags, offset, length, data), b""
         except Refused as refused:
-            error, answer = refused.error, b""
+            error, answer, text = refused.error, b"", TEXTS[refused.error]
         except Fault as fault:
-            error, answer = EIO, b""
+            error, answer, text = EIO, b"", text_of(fault)
             self.lose(offset, fault)
         if self.structured and command in (READ, BLOCK_STATUS):
-            octets = framed(cookie, True, *self.chunk(command, offset, error, answer))
+            octets = framed(cookie, True, *self.chunk(command, offset, answer, error, text))
         else:
             octets = struct.pack(">IIQ", SIMPLE_REPLY_MAGIC, error, cookie) + answer
         self.replies.add(asked, octets)
@@ -274,7 +298,7 @@ class Service:
             except Fault as fault:
                 if at // SECTOR == (behind - 1) // SECTOR:
                     self.lose(at, fault)
-                    yield True, ERROR_OFFSET, struct.pack(">IHQ", EIO, 0, at)
+                    yield True, ERROR_OFFSET, error_told(EIO, text_of(fault)) + struct.pack(">Q", at)
                     return
                 slow = behind
                 continue
@@ -296,10 +320,10 @@ class Service:
             behind += count
         return at if behind == first else min(behind * SECTOR, end)
 
-    def chunk(self, command, offset, error, answer):
+    def chunk(self, command, offset, answer, error, text):
         """The type and the payload of the only chunk of a reply."""
         if error:
-            return ERROR, struct.pack(">IH", error, 0)
+            return ERROR, error_told(error, text)
         if command == BLOCK_STATUS:
             return STATUS, struct.pack(">I", CONTEXT) + answer
         return (OFFSET_DATA, struct.pack(">Q", offset) + answer) if answer else (NONE, b"")
@@ -394,6 +418,16 @@ class Service:
             count = self.stack.piece(self.device, at, end - at)
             self.stack.write_run(self.device, at, sectors[place:place + count * SECTOR])
             at += count
+
+
+def text_of(fault):
+    """What the chunk of an error says of a fault."""
+    return TEXTS[fault.text.encode().split()[2]]
+
+
+def error_told(error, text):
+    """The number of an error, and its text."""
+    return struct.pack(">IH", error, len(text)) + text
 
 
 def extents_told(offset, extents):

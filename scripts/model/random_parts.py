@@ -122,7 +122,7 @@ class Dice:
                 if self.has("forms", "parts") and self.chance(0.3):
                     words[-1:] = self.parts(name, path, len(content) // 512)
                 elif self.has("forms", "bound-maps") and self.chance(0.15):
-                    words[-1] = self.mapped(name, path, len(content) // 512)
+                    words[-1:] = self.mapped(name, path, len(content) // 512)
         if self.chance(0.04):
             self.spoil_bindings(words)
         return words
@@ -141,13 +141,22 @@ class Dice:
         return [b"%s=%s@%d+%d:%s" % (one, kind, *place, path) for one, kind, place in zip(names, kinds, places)]
 
     def mapped(self, name, path, sectors):
-        """A file with a map that lacks some of its sectors, mostly few; seldom one of another size, or none."""
+        """A file, or a part of it, with a map that lacks some of its sectors, mostly few; seldom one of another size, or none. Seldom
+        the map is bound too."""
+        place = b""
+        if self.has("forms", "parts") and self.chance(0.3):
+            place = b"@%d+%d" % (self.below(sectors), self.pick([1, sectors // 2 + 1]))
         sectors += self.pick([-1, 1]) if self.chance(0.05) else 0
         had = self.pick([0.5, 0.9, 1])
         text = text_of([self.chance(had) for _ in range(sectors)], self.chance(0.2))
         if self.chance(0.05):
             text = text[:self.below(len(text))]
-        return b"%s=ro%%%s:%s" % (name, self.new_file(text, b"m"), path)
+        if self.chance(0.9):
+            return [b"%s=ro%s%%%s:%s" % (name, place, self.new_file(text, b"m"), path)]
+        map_file = self.new_file(text + b"\n" + b"#" * 512, b"m")
+        words = [b"%s=ro%s%%%s:%s" % (name, place, map_file, path), b"%s3=%s:%s" % (name[:200], self.pick([b"ro", b"rw"]), map_file)]
+        self.random.shuffle(words)
+        return words
 
     def spoil_bindings(self, words):
         """Puts one binding in that may be refused, or is at the edge of it."""

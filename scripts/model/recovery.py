@@ -3,7 +3,7 @@
 from charts import chart_lines
 from configuration import Refused
 from files import Stop
-from rescue_map import FAULTS, MapFault, is_of_scan, marks_of, text_of
+from rescue_map import FAULTS, MapFault, is_of_scan, lost_runs_of, marks_of, text_of
 from session import SUBMISSION_RULES
 from stack import SECTOR, Fault
 
@@ -73,28 +73,46 @@ def run_facts(first, count, fault):
     return {"first": first, "count": count, "fault": name, **({"leaf": int(leaf[0])} if leaf else {})}
 
 
-def with_map(stack, device, out, path, files):
-    """The same where a map says what was had before: that isn't read again, and the map is as it is then. Where all were
-    had its file stays as it is. A copy takes nothing for copied by a scan's map. Where the map isn't written, its refusal is told
-    too."""
+def known_runs(runs, joins):
+    """The runs of what a map has as lost, with the fault of no binding; a map that is made anew joins them."""
+    found = []
+    for first, count in runs:
+        if joins and found and sum(found[-1][:2]) == first:
+            found[-1][1] += count
+        else:
+            found.append([first, count, "fault 3 Device 0"])
+    return found
+
+
+def with_map(stack, device, out, path, files, again):
+    """The same where a map says what was had before: that isn't read again, nor what is lost, which comes first, unless lost
+    sectors are read again. The map is as it is then. Where nothing was read its file stays as it is. A copy takes nothing for
+    copied by a scan's map. Where the map isn't written, its refusal is told too."""
     of_scan = out is None
     try:
         text = bytes(files.content(path))
         marks = marks_of(text, device.sectors)
+        bad = lost_runs_of(text)
         if is_of_scan(text) and not of_scan:
-            marks = ()
+            marks, bad = (), []
     except MapFault as fault:
         raise Stop(b"refused %d Map%s" % (24 + FAULTS.index(str(fault)), str(fault).encode())) from None
     except Stop as stop:
         if not stop.line.startswith(b"refused 1 "):
             raise
-        marks = ()
+        marks, bad = (), []
     turn = max(LEAST_TURN, device.sectors // MOST_TURNS)
-    runs, had = recovered(stack, device, out, marks, turn)
-    if not marks or not all(marks):
+    lost = {at for first, count in bad for at in range(first, first + count)}
+    settled = [had or not again and at in lost for at, had in enumerate(marks)]
+    runs, had = recovered(stack, device, out, settled, turn)
+    reads = not marks or not all(settled)
+    if not again:
+        had = [it and at not in lost for at, it in enumerate(had)]
+        runs = known_runs(bad, reads) + runs
+    if reads:
         if not files.can_replace(path):
             return runs, had, b"refused 31 MapWrite"
-        files.replace(path, text_of(had, of_scan))
+        files.replace(path, text_of(had, of_scan, lost))
     return runs, had, None
 
 

@@ -51,6 +51,8 @@ class Repair:
 
     def __init__(self, tree, salt, root, first):
         self.tree, self.salt, self.root, self.start = tree, salt, root, first * SECTOR
+        # how many data blocks, and how many hash blocks, were read from the last copy
+        self.last_read = [0, 0]
 
     def place(self, height, index):
         """The first byte and the size of a data block, at height 0, or of a hash block of level `height` - 1."""
@@ -75,7 +77,7 @@ class Repair:
                 at, size = self.place(height, index)
                 block = block_at(whole[at_height], at, size)
                 if digest(self.salt, block) != digests[index]:
-                    number, block = self.sought(copies[at_height], at, size, digests[index])
+                    number, block = self.sought(copies[at_height], at, size, digests[index], at_height)
                     found = "copy %s" % number
                     if number is None:
                         found, block = "remade", self.remade(whole, height, index, digests[index])
@@ -130,6 +132,7 @@ class Repair:
                 run, lacking = lacking[:count], lacking[count:]
                 if block_at(copy, *self.place(0, run[-1])) is None:
                     continue
+                self.last_read[0] += count if number == len(copies) else 0
                 for index in run:
                     at, size = self.place(0, index)
                     block = block_at(copy, at, size)
@@ -174,9 +177,10 @@ class Repair:
         """The number of a block among the covered ones."""
         return index if height == 0 else self.tree.blocks + self.tree.first(height - 1) - self.tree.start + index
 
-    def sought(self, copies, at, size, wanted):
+    def sought(self, copies, at, size, wanted, kind):
         for number, copy in enumerate(copies, 1):
             block = block_at(copy, at, size)
+            self.last_read[kind] += 1 if block is not None and number == len(copies) else 0
             if block is not None and digest(self.salt, block) == wanted:
                 return number, block
         return None, None

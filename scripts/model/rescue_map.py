@@ -64,18 +64,25 @@ def marks_of(text, sectors):
     return marks
 
 
+def lost_runs_of(text):
+    """The blocks of a map that are bad, as [first, count], in sectors."""
+    return [[number_of(words[0]) // SECTOR, number_of(words[1]) // SECTOR] for words in said_lines(text)[1:] if words[2] == b"-"]
+
+
 def blocks_of(marks):
-    """The longest runs of sectors that are alike, as [had, first, count]."""
+    """The longest runs of sectors that are alike, as [mark, first, count]."""
     found = []
-    for at, had in enumerate(marks):
-        if found and found[-1][0] == had:
+    for at, mark in enumerate(marks):
+        if found and found[-1][0] == mark:
             found[-1][2] += 1
         else:
-            found.append([had, at, 1])
+            found.append([mark, at, 1])
     return found
 
 
-def text_of(marks, of_scan):
-    """The map that is written: finished, and of each longest run whether it was had; a scan's is marked."""
-    lines = [b"%d %d %s" % (first * SECTOR, count * SECTOR, b"+" if had else b"-") for had, first, count in blocks_of(marks)]
+def text_of(marks, of_scan, known=()):
+    """The map that is written: finished, and of each longest run whether it was had; what was known to be lost is in runs of its
+    own, and a scan's is marked."""
+    alike = [(had, not had and at in known) for at, had in enumerate(marks)]
+    lines = [b"%d %d %s" % (first * SECTOR, count * SECTOR, b"+" if had else b"-") for (had, _), first, count in blocks_of(alike)]
     return b"\n".join([*[SCAN_MARK] * of_scan, b"0 +", *lines, b""])

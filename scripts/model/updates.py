@@ -84,21 +84,30 @@ def run_update(options, words, files, _given, _features):
     lines += repair.fetches(data, copies[0])
     lines += repair.lines((data, image), copies, True, bad)
     lines = [line.encode() for line in lines]
+    counts = counted(tree, lines, repair.last_read)
     if bad:
         found, status = surveyed(data, image, tree, superblock.salt, pin.root, False)
-        return [] if b"json" in options else lines + found, status
-    image[:SECTOR] = superblock.encode()
+        return [Json(counts)] if b"json" in options else lines + found, status
+    image[:tree.hash_block] = superblock.encode().ljust(tree.hash_block, b"\0")
     for path, sectors in lengths:
         shrink_place(files, path, sectors)
-    return told(tree, lines, b"json" in options), DONE
+    return told(tree, lines, counts, b"json" in options), DONE
 
 
-def told(tree, lines, as_json):
+def counted(tree, lines, fetched):
+    """The counts of an update that wrote the blocks of these lines, and read so many data and hash blocks from the release.
+
+    Blocks that were written and not fetched moved: within DATA at least those whose lines say so."""
+    within = sum(line.startswith(b"moved ") for line in lines)
+    hashes = sum(line.startswith(b"repaired hash ") for line in lines)
+    moved = max(within, len(lines) - hashes - fetched[0]) + max(0, hashes - fetched[1])
+    bytes_read = fetched[0] * tree.data_block + fetched[1] * tree.hash_block
+    return {"kept": tree.blocks + sum(tree.levels) - len(lines), "moved": moved, "fetched": sum(fetched), "fetched_bytes": bytes_read}
+
+
+def told(tree, lines, counts, as_json):
     """What is printed of an update that wrote the blocks of these lines."""
-    fetched = [line for line in lines if not line.startswith(b"moved ")]
-    sizes = [tree.data_block if line.startswith(b"repaired data ") else tree.hash_block for line in fetched]
-    facts = {"kept": tree.blocks + sum(tree.levels) - len(lines), "moved": len(lines) - len(fetched), "fetched": len(fetched), "fetched_bytes": sum(sizes)}
     if as_json:
-        return [Json(facts)]
-    counts = b"kept %d moved %d fetched %d bytes %d" % tuple(facts.values())
-    return [*lines, b"good %d changed 0 unknown 0" % tree.blocks, counts]
+        return [Json(counts)]
+    line = b"kept %d moved %d fetched %d bytes %d" % tuple(counts.values())
+    return [*lines, b"good %d changed 0 unknown 0" % tree.blocks, line]

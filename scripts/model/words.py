@@ -3,6 +3,7 @@
 import re
 from typing import NamedTuple
 
+from files import WHOLE
 from session import Usage
 from stack import SECTOR
 from tables import digits_of, is_device_argument, is_mapped_name, number, salt_of
@@ -141,10 +142,11 @@ def partition_in(kind):
 
 
 class Mapped(NamedTuple):
-    """A file that is bound with its map, which is in another one."""
+    """A file that is bound with its map, which is in another one, or a part of the file."""
 
     path: bytes
     map_file: bytes
+    part: tuple = WHOLE
 
 
 def binding(word):
@@ -156,6 +158,9 @@ def binding(word):
         raise Usage
     if kind.startswith(b"ro%"):
         return name, b"ro", Mapped(value, kind[3:])
+    if kind.startswith(b"ro@") and b"%" in kind:
+        place, _, map_file = kind[3:].partition(b"%")
+        return name, b"ro", Mapped(value, map_file, sectors_of(place))
     if kind.startswith((b"ro#", b"rw#")):
         kind, word = partition_in(kind)
         return name, kind, (value, word)

@@ -51,6 +51,10 @@ IsOfFile file metadata = Unit {0}
 pub WasResized : File → ℕ → File → Type 0
 WasResized old bytes new = Unit {0}
 
+-- the system refused to make the file so many bytes long, for this reason
+pub WasNotResized : File → ℕ → OpenFault → Type 0
+WasNotResized file bytes fault = Unit {0}
+
 -- the system told these numbers of a file
 pub Told : Metadata → FileNumbers → Type 0
 Told metadata numbers = Unit {0}
@@ -96,6 +100,10 @@ was-said-of-file file metadata seal = tt
 pub was-resized : (old : File) (bytes : ℕ) (new : File) → Seal → WasResized old bytes new
 unfolding WasResized
 was-resized old bytes new seal = tt
+
+pub was-not-resized : (file : File) (bytes : ℕ) (fault : OpenFault) → Seal → WasNotResized file bytes fault
+unfolding WasNotResized
+was-not-resized file bytes fault seal = tt
 
 pub was-told : (metadata : Metadata) (numbers : FileNumbers) → Seal → Told metadata numbers
 unfolding Told

@@ -55,7 +55,8 @@ impl FileDev {
     ghost use Rattle.std.specs.declared.fs.attrs.Metadata.{Metadata};
     ghost use Rattle.block_device.specs.FileCalls.{IsOfFile, IsUnlocked, Opened};
     ghost use Rattle.block_device.specs.FileId.{file_id, file_of};
-    ghost use Rattle.block_device.specs.Identity.{IsLongEnough, IsOpenedAs, IsShortEnough};
+    ghost use Rattle.block_device.specs.LostWrites.{has_lost_writes};
+    ghost use Rattle.block_device.specs.Identity.{IsLongEnough, IsNotLengthened, IsNotShortened, IsOpenedAs, IsShortEnough};
     ghost use Rattle.block_device.specs.Unopened.{IsUnopenedImage};
 
     /// Opens the file or block device for reading, and for writing too if `writable` is set. That it is an image, its size and its
@@ -72,7 +73,7 @@ impl FileDev {
     ) -> Result<FileDev, OpenFault>
         ensures state { IfOk result (λ f. IsOpened (⟦<FileDev as BlockDev>⟧.state f) writable) }
         ensures image { IfOk result (λ f. (m : Metadata) × IsOfFile (file_of f) m × IsOpenedAs m (⟦<FileDev as BlockDev>⟧.state f).size (file_id f)) }
-        ensures opened { IfOk result (λ f. Opened path.now writable (file_of f)) }
+        ensures opened { IfOk result (λ f. Opened path.now writable (file_of f) × (has_lost_writes f ≡ false)) }
         ensures err { IfErr result (IsUnopenedImage path.now writable) }
     {
         // Opening a pipe would wait for its other end, so what is no image is refused before.
@@ -100,7 +101,9 @@ impl FileDev {
     /// The fault of what the system answered.
     pub fn lengthen(&mut self, bytes: u64) -> Result<(), OpenFault>
         ensures long { OnOk result (IsLongEnough (file_of self.old) bytes (file_of self.new)) }
+        ensures err { IfErr result (IsNotLengthened (file_of self.old) bytes) }
         ensures same { file_id self.new ≡ file_id self.old }
+        ensures lost { has_lost_writes self.new ≡ has_lost_writes self.old }
     {
         let metadata = metadata_of(&self.file)?;
         if !metadata.is_file() || metadata.len() >= bytes {
@@ -116,7 +119,9 @@ impl FileDev {
     /// The fault of what the system answered.
     pub fn shorten(&mut self, bytes: u64) -> Result<(), OpenFault>
         ensures short { OnOk result (IsShortEnough (file_of self.old) bytes (file_of self.new)) }
+        ensures err { IfErr result (IsNotShortened (file_of self.old) bytes) }
         ensures same { file_id self.new ≡ file_id self.old }
+        ensures lost { has_lost_writes self.new ≡ has_lost_writes self.old }
     {
         let metadata = metadata_of(&self.file)?;
         if !metadata.is_file() || metadata.len() <= bytes {
@@ -173,7 +178,7 @@ fn device_of(file: File, metadata: &Metadata, sectors: u64, writable: bool) -> F
     ensures state { IsOpened (⟦<FileDev as BlockDev>⟧.state result) writable }
     ensures size { result.sectors ≡ sectors }
     ensures id { IsToldId metadata.now result.id }
-    ensures file { result.file ≡ file }
+    ensures file { (result.file ≡ file) × (result.has_lost_writes ≡ false) }
 {
     FileDev {
         file,

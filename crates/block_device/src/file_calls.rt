@@ -2,7 +2,7 @@
 ghost use Rattle.std.specs.Prelude.{◌≡◌, ◌≢◌, ◌<◌, ◌*◌, ◌^◌, length, is_ok, IfErr, IfOk, IfSome, OnOk};
 ghost use Rattle.std.specs.Fs.{metadata_len};
 ghost use Rattle.block_device.specs.Call.{Read, Sync, Write};
-ghost use Rattle.block_device.specs.FileCalls.{Called, WasResized, IsOfFile, IsOfPath, IsOpeningRefused, IsUnsaidOfFile, IsUnsaidOfPath, IsWriteRefused, Opened, OpenedBy, SoughtEnd, Told};
+ghost use Rattle.block_device.specs.FileCalls.{Called, WasNotResized, WasResized, IsOfFile, IsOfPath, IsOpeningRefused, IsUnsaidOfFile, IsUnsaidOfPath, IsWriteRefused, Opened, OpenedBy, SoughtEnd, Told};
 ghost use Rattle.block_device.specs.Space.{is_lack_of_space};
 
 use crate::OpenFault;
@@ -57,7 +57,8 @@ pub fn metadata_of(file: &File) -> Result<Metadata, OpenFault>
 pub(crate) fn resize_file(file: &mut File, metadata: &Metadata, bytes: u64) -> Result<(), OpenFault>
     requires of { IsOfFile file.old metadata.now }
     requires other { metadata_len metadata.now ≢ bytes }
-    ensures { OnOk result (WasResized file.old bytes file.new) }
+    ensures ok { OnOk result (WasResized file.old bytes file.new) }
+    ensures err { IfErr result (WasNotResized file.old bytes) }
 {
     // The caller's conditions are those of the call: nothing more is known of a file's length.
     let _ = metadata;

@@ -20,8 +20,8 @@ pub data BackingRecord : Type 0 where
   part : List ℕ → Bool → PartRecord → BackingRecord
   -- a partition in the partition table of one
   partition : List ℕ → Bool → NamedPartitionRecord → BackingRecord
-  -- a file that is only read, and the file of its map
-  mapped : List ℕ → List ℕ → BackingRecord
+  -- a file that is only read, the file of its map, and the part that is meant, if it isn't all
+  mapped : List ℕ → List ℕ → Option PartRecord → BackingRecord
   -- so many zero sectors
   zeros : ℕ → BackingRecord
   -- so many sectors, of which sector k is filled with the byte k
@@ -43,9 +43,9 @@ part_backing kind rest = option_map (λ found. part rest found.0 found.1) (kind_
 abbrev pub partition_backing : List ℕ → List ℕ → Option BackingRecord
 partition_backing kind rest = option_map (λ found. partition rest found.0 found.1) (kind_partition kind)
 
--- `ro%MAP:FILE`
+-- `ro%MAP:FILE` or `ro@FIRST+COUNT%MAP:FILE`
 abbrev pub mapped_backing : List ℕ → List ℕ → Option BackingRecord
-mapped_backing kind rest = option_map (λ map_file. mapped rest map_file) (kind_map kind)
+mapped_backing kind rest = option_map (λ found. mapped rest found.1 found.0) (kind_map kind)
 
 -- the partition, or else the file with a map
 abbrev pub or_mapped : Option BackingRecord → List ℕ → List ℕ → Option BackingRecord
@@ -89,7 +89,7 @@ abbrev pub backing_record : Backing → BackingRecord
 backing_record (File path writable) = file path.now writable
 backing_record (Part path writable at) = part path.now writable (part_record at)
 backing_record (Partition path writable named) = partition path.now writable (named_partition_record named)
-backing_record (Mapped path map_file) = mapped path.now map_file.now
+backing_record (Mapped path map_file within) = mapped path.now map_file.now (option_map part_record within)
 backing_record (Zeros sectors) = zeros sectors
 backing_record (Ramp sectors) = ramp sectors
 

@@ -28,10 +28,11 @@ pub enum Backing<'a> {
         writable: bool,
         named: NamedPartition<'a>,
     },
-    /// A file that is only read, of which the sectors that a map doesn't have can't be.
+    /// A file that is only read, or a part of it, of which the sectors that a map of the file doesn't have can't be.
     Mapped {
         path: &'a str,
         map_file: &'a str,
+        part: Option<FilePart>,
     },
     Zeros(u32),
     Ramp(u32),
@@ -45,9 +46,9 @@ pub struct Binding<'a> {
 }
 
 /// Returns the binding of a word, or `None` if the word is none: `NAME=rw:FILE`, `NAME=ro:FILE`, `NAME=rw@FIRST+COUNT:FILE`,
-/// `NAME=ro@FIRST+COUNT:FILE`, `NAME=rw#PARTITION:FILE`, `NAME=ro#PARTITION:FILE`, `NAME=ro%MAP:FILE`, `NAME=zero:N` or
-/// `NAME=ramp:N`, split at the first `=`. FIRST, COUNT and N count sectors of 512 bytes; PARTITION is a number, a UUID or a label;
-/// MAP is a path.
+/// `NAME=ro@FIRST+COUNT:FILE`, `NAME=rw#PARTITION:FILE`, `NAME=ro#PARTITION:FILE`, `NAME=ro%MAP:FILE`,
+/// `NAME=ro@FIRST+COUNT%MAP:FILE`, `NAME=zero:N` or `NAME=ramp:N`, split at the first `=`. FIRST, COUNT and N count sectors of 512
+/// bytes; PARTITION is a number, a UUID or a label; MAP is a path.
 pub fn binding_of(word: &str) -> Option<Binding<'_>>
     ensures { option_map binding_record result ≡ binding_of word.now }
 {
@@ -132,14 +133,15 @@ fn partition_backing<'a>(kind: &'a str, rest: &'a str) -> Option<Backing<'a>>
     })
 }
 
-// `ro%MAP` before the colon.
+// `ro%MAP` or `ro@FIRST+COUNT%MAP` before the colon.
 fn mapped_backing<'a>(kind: &'a str, rest: &'a str) -> Option<Backing<'a>>
     ensures { option_map backing_record result ≡ mapped_backing kind.now rest.now }
 {
-    let map_file = kind_map(kind)?;
+    let (part, map_file) = kind_map(kind)?;
     Some(Backing::Mapped {
         path: rest,
         map_file,
+        part,
     })
 }
 

@@ -20,7 +20,7 @@ use Rattle.find_commands.specs.Objects.{finding_json, shown_json}
 at_most : (m n : ℕ) → nat_le m n ≡ true → m ≤ n
 at_most m n h = grind (arith, nat_tests)
 
-header-sizes : (size : ℕ) → is_header_size size ≡ true → (16384 ≤ size) × (size ≤ 4194304)
+pub header-sizes : (size : ℕ) → is_header_size size ≡ true → (16384 ≤ size) × (size ≤ 4194304)
 unfolding is_header_size
 header-sizes size h =
     let sizes = and_parts (is_power_of_two size) (nat_le 16384 size && nat_le size 4194304) h in

@@ -4,4 +4,5 @@ mod FieldLemmas
 mod HeaderLemmas
 mod ObjectLemmas
 mod SearchLemmas
+mod SoundLemmas
 mod TellingLemmas

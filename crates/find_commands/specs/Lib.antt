@@ -10,3 +10,4 @@ pub mod Objects
 pub mod Areas
 pub mod Searches
 pub mod Commands
+pub mod Laws

@@ -9,6 +9,7 @@ mod find;
 mod finding;
 mod header;
 mod kind;
+pub mod laws;
 mod line;
 mod listing;
 mod luks;

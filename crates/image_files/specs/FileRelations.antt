@@ -1,15 +1,16 @@
 -- What a proof sees of images in files: no clause of the library says which file a path leads to, nor what it holds.
-use Rattle.std.specs.Prelude.{◌≡◌, ◌≢◌, ◌⊎◌, ◌*◌, ◌%◌, ◌↔◌, ℕ, Bool, true, IsTrue, List, Option, None, Result, Ok, Err, IfErr, IfOk, OnErr, OnOk, codes}
+use Rattle.std.specs.Prelude.{◌≡◌, ◌≢◌, ◌⊎◌, ◌*◌, ◌%◌, ◌^◌, ◌<◌, ◌↔◌, ℕ, Bool, false, true, IsTrue, List, Option, None, Result, Ok, Err, IfErr, IfOk, OnErr, codes}
 use Rattle.std.specs.Fs.{file_type, metadata_len, IsFile}
 use Rattle.std.specs.declared.fs.File.{File}
 use Rattle.std.specs.declared.fs.attrs.Metadata.{Metadata}
 use Rattle.block_device.specs.declared.file_id.FileId.{FileId}
 use Rattle.block_device.specs.declared.open_fault.OpenFault.{OpenFault}
+use Rattle.block_device.specs.declared.open_fault.OpenFault.TheVariants.{OtherFault, TooLarge}
 use Rattle.block_device.specs.Call.{Sync}
 use Rattle.block_device.specs.Device.{Device}
 use Rattle.block_device.specs.File.{IsOpened}
 use Rattle.block_device.specs.FileCalls.{Called, IsOfFile, IsOfPath, IsUnsaidOfPath, Opened}
-use Rattle.block_device.specs.Identity.{IsLongEnough, IsShortEnough, IsToldId}
+use Rattle.block_device.specs.Identity.{IsLongEnough, IsNotLengthened, IsNotShortened, IsShortEnough, IsToldId}
 use Rattle.device_adapters.specs.declared.part.Part.{Part}
 use Rattle.device_adapters.specs.Parts.{LiesInside}
 use Rattle.device_adapters.specs.Windows.{windowed}
@@ -107,10 +108,27 @@ pub record IsGrownFile {C F : Type 0} (r : FileRelations C F) (old : C) (path : 
   pub opened : Opened path true file
   pub long : IsLongEnough file (sectors * 512) left
 
--- which calls of the file system are made to grow a file: also if it isn't grown, those that make it or fail to, or none
+-- more sectors than a file may have
+abbrev pub IsBeyondFiles : ℕ → OpenFault → Type 0
+IsBeyondFiles sectors fault = (2 ^ 54 < sectors) × (fault ≡ TooLarge)
+
+-- the file was opened, and isn't made longer
+pub record IsOpenUngrown (path : List ℕ) (sectors : ℕ) (fault : OpenFault) : Type 0 where
+  pub file : File
+  pub opened : Opened path true file
+  pub refused : IsNotLengthened file (sectors * 512) fault
+
+-- Why a file isn't grown, and the calls of the file system until then: none if the system refused to say what is there, or there are
+-- too many sectors; else those that failed to make it, or made it, and it wasn't opened or made longer.
+abbrev pub IsUngrown : {C F : Type 0} → FileRelations C F → C → List ℕ → ℕ → OpenFault → C → Type 0
+IsUngrown r old path sectors fault new =
+    ((new ≡ old) × (IsUnsaidOfPath path fault ⊎ IsBeyondFiles sectors fault))
+    ⊎ (FailsToMake r old path fault new ⊎ (Makes r old path new × (IsUnopenedFile path true fault ⊎ IsOpenUngrown path sectors fault)))
+
+-- which calls of the file system are made to grow a file, or why it isn't grown
 abbrev pub Grows : {C F : Type 0} → FileRelations C F → C → List ℕ → ℕ → Result (Unit {0}) OpenFault → C → Type 0
 Grows r old path sectors (Ok done) new = IsOfFixedSize old path new ⊎ IsGrownFile r old path sectors new
-Grows r old path sectors (Err fault) new = (new ≡ old) ⊎ (Makes r old path new ⊎ FailsToMake r old path fault new)
+Grows r old path sectors (Err fault) new = IsUngrown r old path sectors fault new
 
 -- The file that was opened has at most that many sectors, and was synced. It is resized only if it had more bytes.
 pub record IsShrunkFile (path : List ℕ) (sectors : ℕ) : Type 0 where
@@ -121,9 +139,29 @@ pub record IsShrunkFile (path : List ℕ) (sectors : ℕ) : Type 0 where
   pub short : IsShortEnough file (sectors * 512) left
   pub syncs : Called left (Sync true) synced
 
--- a regular file is opened, shortened and synced
-abbrev pub Shrinks : {C : Type 0} → C → List ℕ → ℕ → C → Type 0
-Shrinks old path sectors new = IsOfFixedSize old path new ⊎ IsShrunkFile path sectors
+-- it has at most that many sectors, and the system didn't sync it
+pub record IsUnsyncedShort (file : File) (sectors : ℕ) (fault : OpenFault) : Type 0 where
+  pub left : File
+  pub synced : File
+  pub short : IsShortEnough file (sectors * 512) left
+  pub failed : Called left (Sync false) synced
+  pub is : fault ≡ OtherFault
+
+-- the file was opened, and isn't made shorter, or not synced
+pub record IsOpenUnshrunk (path : List ℕ) (sectors : ℕ) (fault : OpenFault) : Type 0 where
+  pub file : File
+  pub opened : Opened path true file
+  pub refused : IsNotShortened file (sectors * 512) fault ⊎ IsUnsyncedShort file sectors fault
+
+-- Why a file isn't shrunk: the system refused to say what is there, there are too many sectors, or it wasn't opened, made shorter or
+-- synced.
+abbrev pub IsUnshrunk : List ℕ → ℕ → OpenFault → Type 0
+IsUnshrunk path sectors fault = IsUnsaidOfPath path fault ⊎ (IsBeyondFiles sectors fault ⊎ (IsUnopenedFile path true fault ⊎ IsOpenUnshrunk path sectors fault))
+
+-- a regular file is opened, shortened and synced, or there is a reason why not
+abbrev pub Shrinks : {C : Type 0} → C → List ℕ → ℕ → Result (Unit {0}) OpenFault → C → Type 0
+Shrinks old path sectors (Ok done) new = IsOfFixedSize old path new ⊎ IsShrunkFile path sectors
+Shrinks old path sectors (Err fault) new = IsUnshrunk path sectors fault
 
 -- whether a regular file ends inside a sector, by the size that the system said of the path
 abbrev pub EndsInPart : List ℕ → Result Bool OpenFault → Type 0
@@ -142,7 +180,7 @@ file_relations {D = D} view = record {
   takes = λ old path device new. WasMade old (Close path device) new × CallsNothing view old new × LocksNoMore view old new;
   takes_part = λ old path part device new. WasMade old (ClosePart path part device) new × CallsNothing view old new × LocksNoMore view old new;
   grows = λ old path sectors outcome new. WasMade {D = D} old (Grow path sectors outcome) new × LocksAtMost (view.locked old) (view.locked new) × Grows view.relations (view.calls old) path sectors outcome (view.calls new);
-  shrinks = λ old path sectors outcome new. WasMade {D = D} old (Shrink path sectors outcome) new × CallsNothing view old new × LocksAtMost (view.locked old) (view.locked new) × OnOk outcome (Shrinks (view.calls old) path sectors (view.calls new));
+  shrinks = λ old path sectors outcome new. WasMade {D = D} old (Shrink path sectors outcome) new × CallsNothing view old new × LocksAtMost (view.locked old) (view.locked new) × Shrinks (view.calls old) path sectors outcome (view.calls new);
   measures = λ old path outcome new. WasMade {D = D} old (Measure path outcome) new × CallsNothing view old new × LocksNoMore view old new × EndsInPart path outcome × IfErr outcome (IsUnsaidOfPath path);
   compares = λ old path other outcome new. WasMade {D = D} old (Compare path other outcome) new × LocksNoMore view old new × ResolvesAtMost view.relations (view.calls old) path other (view.calls new) × OnErr outcome (IsPlaceUnknown view.relations (view.calls old) path other (view.calls new));
   replaces = λ old path bytes outcome new. WasMade {D = D} old (Replace path bytes outcome) new × LocksNoMore view old new × Replaces view.relations (view.calls old) path bytes outcome (view.calls new);

@@ -1,9 +1,10 @@
 //! Images in files.
-ghost use Rattle.std.specs.Prelude.{◌≡◌, ◌≤◌, ◌↔◌, codes, length, IsTrue, OnErr, OnOk, IfErr, IfOk};
+ghost use Rattle.std.specs.Prelude.{◌≡◌, ◌≤◌, ◌↔◌, codes, false, length, IsTrue, OnErr, OnOk, IfErr, IfOk};
 ghost use Rattle.block_device.specs.Any.{any_id, any_opened};
 ghost use Rattle.block_device.specs.File.{IsOpened};
 ghost use Rattle.block_device.specs.FileCalls.{Opened};
 ghost use Rattle.block_device.specs.FileId.{file_id, file_of};
+ghost use Rattle.block_device.specs.LostWrites.{has_lost_writes};
 ghost use Rattle.image_files.specs.FileLocks.{IsUnopenedFile, Locks, LocksAtMost};
 ghost use Rattle.image_files.specs.Sizes.{IsSized, any_sized};
 
@@ -62,7 +63,7 @@ fn open_file<R: Files<File = File>>(
 ) -> Result<FileDev, OpenFault>
     ensures state { IfOk result (λ f. IsOpened (⟦<FileDev as BlockDev>⟧.state f) writable) }
     ensures size { IfOk result (λ f. IsSized f (⟦<FileDev as BlockDev>⟧.state f).size) }
-    ensures locked { IfOk result (λ f. Locks writable (file_id f) locks.old.files.items locks.new.files.items × Opened path.now writable (file_of f)) }
+    ensures locked { IfOk result (λ f. Locks writable (file_id f) locks.old.files.items locks.new.files.items × Opened path.now writable (file_of f) × (has_lost_writes f ≡ false)) }
     ensures same { OnErr result (locks.new.files.items ≡ locks.old.files.items) }
     ensures err { IfErr result (IsUnopenedFile path.now writable) }
 {

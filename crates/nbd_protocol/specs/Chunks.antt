@@ -31,14 +31,14 @@ hole_chunk done cookie offset count = chunk_head done 2 cookie 12 ++ (bytes64 of
 abbrev pub status_chunk : ℕ → List ℕ → List ℕ
 status_chunk cookie told = chunk_head true 5 cookie (4 + length told) ++ (bytes32 1 ++ told)
 
--- an error number, and the length 0 of its message
-abbrev pub error_told : RequestError → List ℕ
-error_told error = bytes32 (error_number error) ++ bytes16 0
+-- an error number, the length of its message, and the message
+abbrev pub error_told : RequestError → List ℕ → List ℕ
+error_told error text = bytes32 (error_number error) ++ (bytes16 (length text) ++ text)
 
 -- ERROR, the last chunk of a reply
-abbrev pub error_chunk : ℕ → RequestError → List ℕ
-error_chunk cookie error = chunk_head true 0x8001 cookie 6 ++ error_told error
+abbrev pub error_chunk : ℕ → RequestError → List ℕ → List ℕ
+error_chunk cookie error text = chunk_head true 0x8001 cookie (6 + length text) ++ error_told error text
 
 -- ERROR_OFFSET, the last chunk of a reply: the error occurs at that byte
-abbrev pub error_at_chunk : ℕ → ℕ → RequestError → List ℕ
-error_at_chunk cookie offset error = chunk_head true 0x8002 cookie 14 ++ (error_told error ++ bytes64 offset)
+abbrev pub error_at_chunk : ℕ → ℕ → RequestError → List ℕ → List ℕ
+error_at_chunk cookie offset error text = chunk_head true 0x8002 cookie (14 + length text) ++ (error_told error text ++ bytes64 offset)

@@ -1,26 +1,42 @@
 -- An export: a mapped device as a range of bytes.
-use Rattle.std.specs.Prelude.{◌≡◌, ◌⊎◌, ◌<◌, ◌≤◌, ◌&&◌, ◌==◌, not, ℕ, ◌+◌, ◌*◌, ◌^◌, All, Bool, false, List, [], get_or, length, map, position, Option, Some, None, if◌then◌else◌}
+use Rattle.std.specs.Prelude.{◌≡◌, ◌⊎◌, ◌<◌, ◌≤◌, ◌&&◌, ◌==◌, not, ℕ, ◌+◌, ◌*◌, ◌^◌, All, Bool, false, true, List, [], get_or, length, map, position, Option, Some, None, if◌then◌else◌}
 use Rattle.std.specs.List.{list_any}
 use Rattle.std.specs.Str.{bytes_eq}
-use Rattle.stack_rules.specs.Names.{device_named, mapped, may_write, size}
+use Rattle.dm_table.specs.declared.table.Line.{Line}
+use Rattle.dm_table.specs.declared.table.Target.{Target}
+use Rattle.dm_table.specs.declared.table.Target.TheVariants as target
+use Rattle.stack_rules.specs.Names.{device_named, lines_of, mapped, may_write, size}
 use Rattle.stack_rules.specs.Records.{Configuration, LeafRecord}
 use Rattle.nbd_protocol.specs.declared.export.Export.{Export}
 
--- its name, its index among the devices, its size in bytes, whether it is writable, and whether several sessions can open its
--- backing devices at the same time
+-- its name, its index among the devices, its size in bytes, whether it is writable, whether several sessions can open its
+-- backing devices at the same time, and whether all of its lines are `verity` lines
 pub record ExportRecord : Type 0 where
   pub name : List ℕ
   pub device : ℕ
   pub size : ℕ
   pub writable : Bool
   pub shared : Bool
+  pub verity : Bool
 
 abbrev pub export_record : Export → ExportRecord
-export_record e = record { name = e.name.now; device = e.device.0; size = e.size; writable = e.writable; shared = e.shared }
+export_record e = record { name = e.name.now; device = e.device.0; size = e.size; writable = e.writable; shared = e.shared; verity = e.verity }
 
 -- a backing device is writable, so that a session locks it
 abbrev pub has_writable : List LeafRecord → Bool
 has_writable leaves = list_any (λ l. l.writable) leaves
+
+-- a target of another type than `verity`
+abbrev pub is_other_target : Target → Bool
+is_other_target (target.Verity verity) = false
+is_other_target other = true
+
+abbrev pub is_other : Line → Bool
+is_other line = is_other_target line.target
+
+-- a line has another target
+abbrev pub has_other : List Line → Bool
+has_other lines = list_any is_other lines
 
 -- the longest string in bytes that the protocol allows
 abbrev pub most_name : ℕ
@@ -33,6 +49,7 @@ pub record IsExport (c : Configuration) (e : ExportRecord) : Type 0 where
   pub size : e.size ≡ 512 * size c (mapped e.device)
   pub writable : e.writable ≡ may_write c (mapped e.device)
   pub shared : e.shared ≡ not (has_writable c.leaves)
+  pub verity : e.verity ≡ not (has_other (lines_of c e.device))
   pub fits : e.size < 2 ^ 64
   pub short : length e.name ≤ most_name
 
@@ -45,7 +62,7 @@ HasNoExport c name =
 
 -- the value past the last export
 abbrev pub no_export : ExportRecord
-no_export = record { name = []; device = 0; size = 0; writable = false; shared = false }
+no_export = record { name = []; device = 0; size = 0; writable = false; shared = false; verity = false }
 
 abbrev pub export_at : List ExportRecord → ℕ → ExportRecord
 export_at es place = get_or es place no_export

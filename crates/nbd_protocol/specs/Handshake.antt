@@ -1,5 +1,5 @@
 -- The handshake: the greeting, the client flags, and the options.
-use Rattle.std.specs.Prelude.{ℕ, ◌+◌, ◌*◌, ◌==◌, ◌&&◌, ◌||◌, not, nat_le, Bool, false, List, [], ◌∷◌, ◌++◌, flat_map, length, take, drop, replicate, codes, is_some, Option, Some, None, if◌then◌else◌}
+use Rattle.std.specs.Prelude.{ℕ, ◌+◌, ◌-◌, ◌*◌, ◌==◌, ◌&&◌, ◌||◌, not, nat_le, Bool, false, true, List, [], ◌∷◌, ◌++◌, flat_map, length, take, drop, replicate, codes, is_some, Option, Some, None, if◌then◌else◌}
 use Rattle.nbd_protocol.specs.Numbers.{big_endian16, big_endian32, bytes16, bytes32, bytes64}
 use Rattle.nbd_protocol.specs.OptionReplies.{acknowledged, refused, reply_head}
 use Rattle.nbd_protocol.specs.Contexts.{contexts_reply, status_after, list_context, set_context}
@@ -32,6 +32,20 @@ export_info e terms = bytes16 0 ++ (bytes64 e.size ++ bytes16 (transmission_flag
 abbrev pub name_info : ExportRecord → List ℕ
 name_info e = bytes16 1 ++ e.name
 
+-- what an export is, for humans, by whether its lines are `verity` lines, and whether it is writable
+abbrev pub description : Bool → Bool → List ℕ
+description true true = codes "verity, writable"
+description true false = codes "verity, read-only"
+description false true = codes "mapped device, writable"
+description false false = codes "mapped device, read-only"
+
+abbrev pub description_of : ExportRecord → List ℕ
+description_of e = description e.verity e.writable
+
+-- INFO_DESCRIPTION
+abbrev pub description_info : List ℕ → List ℕ
+description_info text = bytes16 2 ++ text
+
 -- INFO_BLOCK_SIZE: the minimum, preferred and maximum size of a request; a request may begin and end at any byte
 abbrev pub size_info : List ℕ
 size_info = bytes16 3 ++ (bytes32 1 ++ (bytes32 4096 ++ bytes32 most_length))
@@ -62,13 +76,24 @@ wants_info kind (a ∷ b ∷ more) = ((a == 0) && (b == kind)) || wants_info kin
 unfoldable pub wanted_name : ExportRecord → ℕ → List ℕ → List ℕ
 wanted_name e option wanted = if wants_info 1 wanted then reply_head option 3 (length e.name + 2) ++ name_info e else []
 
+-- the description, if the client requests it
+unfoldable pub wanted_description : ExportRecord → ℕ → List ℕ → List ℕ
+wanted_description e option wanted = if wants_info 2 wanted then reply_head option 3 (length (description_of e) + 2) ++ description_info (description_of e) else []
+
 -- the block sizes, if the client requests them
 unfoldable pub wanted_sizes : ℕ → List ℕ → List ℕ
 wanted_sizes option wanted = if wants_info 3 wanted then reply_head option 3 14 ++ size_info else []
 
+-- the description and the block sizes, and the name before them, each if the client requests it
+abbrev pub wanted_others : ExportRecord → ℕ → List ℕ → List ℕ
+wanted_others e option wanted = wanted_description e option wanted ++ wanted_sizes option wanted
+
+abbrev pub wanted_facts : ExportRecord → ℕ → List ℕ → List ℕ
+wanted_facts e option wanted = wanted_name e option wanted ++ wanted_others e option wanted
+
 -- the replies to INFO and GO for an existing export
 abbrev pub told : ExportRecord → Terms → ℕ → List ℕ → List ℕ
-told e terms option wanted = reply_head option 3 12 ++ (export_info e terms ++ ((wanted_name e option wanted ++ wanted_sizes option wanted) ++ acknowledged option))
+told e terms option wanted = reply_head option 3 12 ++ (export_info e terms ++ (wanted_facts e option wanted ++ acknowledged option))
 
 -- the replies for the export at an index; without an export the reply is ERR_UNKNOWN
 abbrev pub told_at : List ExportRecord → Terms → ℕ → Option ℕ → List ℕ → List ℕ
@@ -123,9 +148,17 @@ answer_to es terms option content =
 abbrev pub answer_to_long : ℕ → List ℕ
 answer_to_long option = if option == 2 then acknowledged 2 else refused TooBig option
 
+-- the most options of one handshake
+abbrev pub most_options : ℕ
+most_options = 1024
+
+-- the terms after an option that agrees on nothing: one option fewer may follow
+abbrev pub one_fewer : Terms → Terms
+one_fewer terms = record terms { left = terms.left - 1 }
+
 -- the terms after an option whose data are too long: SET_META_CONTEXT deselects the context
 abbrev pub terms_after_long : Terms → ℕ → Terms
-terms_after_long terms option = record terms { status = if option == set_context then None else terms.status }
+terms_after_long terms option = record (one_fewer terms) { status = if option == set_context then None else terms.status }
 
 abbrev pub phase_after_long : Terms → ℕ → Phase
 phase_after_long terms option = if option == 2 then Over else Haggling (terms_after_long terms option)
@@ -138,7 +171,7 @@ is_place None place = false
 -- the transmission begins if the export exists
 abbrev pub serving_at : Terms → Option ℕ → Phase
 serving_at terms (Some place) = Serving (record { place = place; structured = terms.structured; status = is_place terms.status place })
-serving_at terms None = Haggling terms
+serving_at terms None = Haggling (one_fewer terms)
 
 -- The terms after an option that doesn't end the handshake: STRUCTURED_REPLY agrees on chunks, SET_META_CONTEXT selects the
 -- context of an export.
@@ -147,6 +180,7 @@ terms_after es terms option content = record {
   no_zeroes = terms.no_zeroes;
   structured = terms.structured || ((option == 8) && (length content == 0));
   status = status_after es terms option content;
+  left = terms.left - 1;
 }
 
 -- EXPORT_NAME and GO begin the transmission of an existing export, and ABORT ends the session

@@ -120,15 +120,21 @@ pub fn say_status<W: Write>(
     writer.put(told)
 }
 
-// Writes an error number and an empty message.
-fn say_told<W: Write>(writer: &mut Counted<W>, error: RequestError) -> Result<(), WriteFault>
-    ensures { Writes W.contents writer.old writer.new (error_told error) result }
+// Writes an error number and a message.
+fn say_told<W: Write>(
+    writer: &mut Counted<W>,
+    error: RequestError,
+    text: &[u8],
+) -> Result<(), WriteFault>
+    requires { length text.now < 2 ^ 16 }
+    ensures { Writes W.contents writer.old writer.new (error_told error text.now) result }
 {
     put32(writer, error.number())?;
-    put16(writer, 0)
+    put16(writer, text.len() as u16)?;
+    writer.put(text)
 }
 
-/// Writes ERROR, the last chunk of a reply.
+/// Writes ERROR, the last chunk of a reply, with a message in UTF-8.
 ///
 /// # Errors
 ///
@@ -137,14 +143,16 @@ pub fn say_error<W: Write>(
     writer: &mut Counted<W>,
     cookie: u64,
     error: RequestError,
+    text: &[u8],
 ) -> Result<(), WriteFault>
-    ensures { Writes W.contents writer.old writer.new (error_chunk cookie error) result }
+    requires { length text.now < 2 ^ 16 }
+    ensures { Writes W.contents writer.old writer.new (error_chunk cookie error text.now) result }
 {
-    say_head(writer, true, ERROR, cookie, 6)?;
-    say_told(writer, error)
+    say_head(writer, true, ERROR, cookie, 6 + text.len() as u32)?;
+    say_told(writer, error, text)
 }
 
-/// Writes ERROR_OFFSET, the last chunk of a reply: the error occurs at byte `offset` of the export.
+/// Writes ERROR_OFFSET, the last chunk of a reply, with a message in UTF-8: the error occurs at byte `offset` of the export.
 ///
 /// # Errors
 ///
@@ -154,10 +162,12 @@ pub fn say_error_at<W: Write>(
     cookie: u64,
     offset: u64,
     error: RequestError,
+    text: &[u8],
 ) -> Result<(), WriteFault>
-    ensures { Writes W.contents writer.old writer.new (error_at_chunk cookie offset error) result }
+    requires { length text.now < 2 ^ 16 }
+    ensures { Writes W.contents writer.old writer.new (error_at_chunk cookie offset error text.now) result }
 {
-    say_head(writer, true, ERROR_OFFSET, cookie, 14)?;
-    say_told(writer, error)?;
+    say_head(writer, true, ERROR_OFFSET, cookie, 14 + text.len() as u32)?;
+    say_told(writer, error, text)?;
     put64(writer, offset)
 }

@@ -1,7 +1,8 @@
 //! An export: a mapped device as a range of bytes.
 ghost use Rattle.std.specs.Prelude.{◌≡◌, IfNone, IfSome};
-ghost use Rattle.nbd_protocol.specs.Exports.{HasNoExport, IsExport, export_record, has_writable, transmission_flags};
+ghost use Rattle.nbd_protocol.specs.Exports.{HasNoExport, IsExport, export_record, has_other, has_writable, is_other, transmission_flags};
 
+use dm_table::{Line, Target};
 use stack_config::{Config, DevId};
 use stack_rules::Leaf;
 
@@ -38,6 +39,8 @@ pub struct Export<'a> {
     pub writable: bool,
     /// Whether several sessions can open the backing devices at the same time.
     pub shared: bool,
+    /// Whether all lines of the device are `verity` lines.
+    pub verity: bool,
 }
 
 // Whether a backing device is writable.
@@ -45,6 +48,28 @@ fn has_writable(leaves: &[Leaf]) -> bool
     ensures { result ≡ has_writable leaves.now }
 {
     leaves.iter().any(|leaf| leaf.writable())
+}
+
+// Whether a line has another target than `verity`.
+fn is_other(line: &Line) -> bool
+    ensures { result ≡ is_other line.now }
+{
+    match line.target {
+        Target::Verity(_) => false,
+        Target::Linear(_) => true,
+        Target::Striped { .. } => true,
+        Target::Zero => true,
+        Target::Error => true,
+        Target::Crypt(_) => true,
+        Target::Unstriped(_) => true,
+    }
+}
+
+// Whether a line has another target than `verity`.
+fn has_other(lines: &[Line]) -> bool
+    ensures { result ≡ has_other lines.now }
+{
+    lines.iter().any(|line| is_other(line))
 }
 
 impl<'a> Export<'a> {
@@ -65,6 +90,7 @@ impl<'a> Export<'a> {
             size,
             writable: config.writable(device),
             shared: !has_writable(config.leaves()),
+            verity: !has_other(config.table(device).lines()),
         })
     }
 

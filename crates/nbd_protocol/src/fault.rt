@@ -20,12 +20,15 @@ pub enum ServiceFault {
     /// The client requested an export that doesn't exist.
     #[error("the client asked for an export that isn't there")]
     NoSuchExport = 4,
+    /// The client sent another option after 1,024 of them.
+    #[error("the client sent too many options")]
+    TooManyOptions = 5,
     /// The reader failed, or was called 2^64 - 1 times.
     #[error("the reader failed")]
-    ReadFault = 5,
+    ReadFault = 6,
     /// The writer failed.
     #[error("the writer failed")]
-    WriteFault = 6,
+    WriteFault = 7,
 }
 
 impl From<WriteFault> for ServiceFault {

@@ -2,13 +2,14 @@
 ghost use Rattle.std.specs.Prelude.{◌≡◌, true};
 ghost use Rattle.program_io.specs.Counted.{Writes};
 ghost use Rattle.nbd_protocol.specs.Exports.{HaveShortNames, export_records};
-ghost use Rattle.nbd_protocol.specs.Handshake.{answer_by, fields_by, info_by, is_info, is_place, name_in, names_export, phase_after, serving_at, structured_reply, terms_after, terms_after_long, told_in_by, wanted_in};
+ghost use Rattle.nbd_protocol.specs.Handshake.{answer_by, fields_by, info_by, is_info, is_place, name_in, names_export, one_fewer, phase_after, serving_at, structured_reply, terms_after, terms_after_long, told_in_by, wanted_in};
 
 use crate::contexts::{LIST_META_CONTEXT, SET_META_CONTEXT, say_contexts, status_after};
 use crate::export::Export;
 use crate::exports::{asked, export_at};
+use crate::information::say_told;
 use crate::numbers::{number16, number32};
-use crate::option_reply::{LIST, Refusal, acknowledge, refuse, say_export, say_list, say_told};
+use crate::option_reply::{LIST, Refusal, acknowledge, refuse, say_export, say_list};
 use crate::phase::{Agreement, Phase, Terms};
 use program_io::{Counted, WriteFault};
 use std::io::Write;
@@ -185,6 +186,7 @@ fn terms_after(exports: &[Export<'_>], terms: Terms, option: u32, content: &[u8]
         no_zeroes: terms.no_zeroes,
         structured: terms.structured || asks,
         status: status_after(exports, terms, option, content),
+        left: terms.left.saturating_sub(1),
     }
 }
 
@@ -200,6 +202,7 @@ pub fn terms_after_long(terms: Terms, option: u32) -> Terms
         } else {
             terms.status
         },
+        left: terms.left.saturating_sub(1),
     }
 }
 
@@ -210,6 +213,18 @@ fn is_place(selected: Option<usize>, place: usize) -> bool
     match selected {
         Some(selected) => selected == place,
         None => false,
+    }
+}
+
+// The terms after an option that agrees on nothing.
+fn one_fewer(terms: Terms) -> Terms
+    ensures { result ≡ one_fewer terms }
+{
+    Terms {
+        no_zeroes: terms.no_zeroes,
+        structured: terms.structured,
+        status: terms.status,
+        left: terms.left.saturating_sub(1),
     }
 }
 
@@ -225,6 +240,8 @@ fn serving_at(terms: Terms, asked: Option<usize>) -> Phase
                 status: is_place(terms.status, place),
             },
         },
-        None => Phase::Haggling { terms },
+        None => Phase::Haggling {
+            terms: one_fewer(terms),
+        },
     }
 }

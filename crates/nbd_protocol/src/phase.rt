@@ -9,7 +9,12 @@ pub struct Terms {
     pub structured: bool,
     /// The index of the export for which block status is selected.
     pub status: Option<usize>,
+    /// How many more options the client may send.
+    pub left: u32,
 }
+
+/// The most options that a client may send in one handshake.
+pub const MOST_OPTIONS: u32 = 1024;
 
 /// What client and service have agreed on for the transmission phase.
 #[derive(Clone, Copy, Debug, PartialEq, Eq)]

@@ -14,7 +14,7 @@ use Rattle.request_queue.proofs.lemmas.LedLemmas.{led-none, led-then}
 use Rattle.nbd_protocol.specs.Exports.{ExportRecord}
 use Rattle.nbd_server.specs.declared.failure.Failure.{Failure}
 use Rattle.nbd_server.specs.declared.first_faults.SectorFault.{SectorFault}
-use Rattle.nbd_server.specs.Failures.{fault_at, reported_error}
+use Rattle.nbd_server.specs.Failures.{failure_text, fault_at, reported_error}
 use Rattle.nbd_server.specs.Replies.{RequestOutcome}
 use Rattle.nbd_server.specs.Sectors.{IsFetched, FailsToFetch, EndsIn, HasNoBuffer}
 use Rattle.nbd_server.specs.Status.{IsLineStatus, TouchZeros, touched}
@@ -183,7 +183,7 @@ module _ (e : ExportRecord) (d : Delivery) (p : Progress) (w w' : World) (size a
     )
 
     -- it wasn't, and lies in one
-    pub piece-lost : (error : Failure) → ReadsExport e w at size (Err error) w' → touched at size ≤ 1 → (lost : IsLost e d p w (error_at_chunk d.cookie at (reported_error error)) w') × (lost.error ≡ error)
+    pub piece-lost : (error : Failure) → ReadsExport e w at size (Err error) w' → touched at size ≤ 1 → (lost : IsLost e d p w (error_at_chunk d.cookie at (reported_error error) (failure_text error)) w') × (lost.error ≡ error)
     piece-lost error reads few = (
       record {
         size = size;
@@ -191,7 +191,7 @@ module _ (e : ExportRecord) (d : Delivery) (p : Progress) (w w' : World) (size a
         piece = piece;
         one = omega (arith, few, piece.next.bytes.some, place);
         reads = subst (λ (k : ℕ). ReadsExport e w k size (Err error) w') place reads;
-        chunk_is = ap (λ (k : ℕ). error_at_chunk d.cookie k (reported_error error)) place;
+        chunk_is = ap (λ (k : ℕ). error_at_chunk d.cookie k (reported_error error) (failure_text error)) place;
       },
       refl,
     )
@@ -203,7 +203,7 @@ module _ (e : ExportRecord) (d : Delivery) (p : Progress) (w w' : World) (size a
         inl (told.text, record { done = p.done + size; slow = p.slow }, sent-goes size refl content told.text reads told.tells)
 
     pub lost-stuck : (error : Failure) → ReadsExport e w at size (Err error) w' → touched at size ≤ 1 → SendsPiece e d p w w'
-    lost-stuck error reads few = inr (error_at_chunk d.cookie at (reported_error error), (piece-lost error reads few).0)
+    lost-stuck error reads few = inr (error_at_chunk d.cookie at (reported_error error) (failure_text error), (piece-lost error reads few).0)
 
 -- ---- replies
 

@@ -13,3 +13,4 @@ pub mod MessageLemmas
 pub mod RunLemmas
 mod ExtentLemmas
 pub mod LogLemmas
+pub mod FaultLineLemmas

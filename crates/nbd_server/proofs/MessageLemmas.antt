@@ -25,6 +25,7 @@ use Rattle.nbd_protocol.specs.Headers.{command_of, header_of, is_chunked, payloa
 use Rattle.nbd_server.specs.Causes.{Breaks, IsMessageCut, IsCutWithin, IsNaming}
 use Rattle.nbd_protocol.specs.Streaming.{IsShort, Spoken, Stops, TakesInto}
 use Rattle.nbd_server.specs.Replies.{RequestOutcome, agreed_reply}
+use Rattle.nbd_server.specs.Tallies.{moved_bytes}
 use Rattle.nbd_server.specs.Transmission.{ServesRequest}
 use Rattle.nbd_server.specs.Delivery.{DeliversAs, IsStuck, bytes_asked, delivery_of, has_df}
 use Rattle.nbd_server.specs.declared.delivery.Delivery.{Delivery}
@@ -50,6 +51,7 @@ turns-fault es phase w w' old new fault.Lost same part c k cause = broken es pha
 turns-fault es phase w w' old new fault.Magic same part c k cause = broken es phase w w' old new fault.Magic same part c k cause
 turns-fault es phase w w' old new fault.Flags same part c k cause = broken es phase w w' old new fault.Flags same part c k cause
 turns-fault es phase w w' old new fault.NoSuchExport same part c k cause = broken es phase w w' old new fault.NoSuchExport same part c k cause
+turns-fault es phase w w' old new fault.TooManyOptions same part c k cause = broken es phase w w' old new fault.TooManyOptions same part c k cause
 turns-fault es phase w w' old new fault.ReadFault same part c k cause = broken es phase w w' old new fault.ReadFault same part c k cause
 turns-fault es phase w w' old new fault.WriteFault same part c k cause = absurd cause
 
@@ -59,6 +61,7 @@ cut-breaks es phase rest input fault.Lost stops lost failed = (lost refl, stops)
 cut-breaks es phase rest input fault.Magic stops lost failed = absurd stops
 cut-breaks es phase rest input fault.Flags stops lost failed = absurd stops
 cut-breaks es phase rest input fault.NoSuchExport stops lost failed = absurd stops
+cut-breaks es phase rest input fault.TooManyOptions stops lost failed = absurd stops
 cut-breaks es phase rest input fault.ReadFault stops lost failed = failed
 cut-breaks es phase rest input fault.WriteFault stops lost failed = absurd stops
 
@@ -87,6 +90,7 @@ unanswered Is Ends old new none fault.Lost k is = cc
 unanswered Is Ends old new none fault.Magic k is = cc
 unanswered Is Ends old new none fault.Flags k is = cc
 unanswered Is Ends old new none fault.NoSuchExport k is = cc
+unanswered Is Ends old new none fault.TooManyOptions k is = cc
 unanswered Is Ends old new none fault.ReadFault k is = none k.1
 unanswered Is Ends old new none fault.WriteFault k is = cc
 
@@ -145,7 +149,13 @@ module _ (es : List ExportRecord) (terms : Terms) (w : World) (input mid input' 
   pub option-unlike : (output : Option (List ℕ)) → take 8 header ≢ codes "IHAVEOPT" → EndsMessage es (Haggling terms) w w (streams input output) (streams mid output) (Err fault.Magic)
   option-unlike output other = turns-fault es (Haggling terms) w w (streams input output) (streams mid output) fault.Magic refl header first (Keeps-refl output) (size, other)
 
-  module _ (magic : take 8 header ≡ codes "IHAVEOPT") (output output' : Option (List ℕ)) where
+  module _ (magic : take 8 header ≡ codes "IHAVEOPT") where
+    -- no option is left
+    pub option-over : (output : Option (List ℕ)) → terms.left ≡ 0 → EndsMessage es (Haggling terms) w w (streams input output) (streams mid output) (Err fault.TooManyOptions)
+    option-over output none =
+        turns-fault es (Haggling terms) w w (streams input output) (streams mid output) fault.TooManyOptions refl header first (Keeps-refl output) (record { size = size; magic = magic }, none)
+
+  module _ (magic : take 8 header ≡ codes "IHAVEOPT") (allowed : 0 < terms.left) (output output' : Option (List ℕ)) where
     -- the client was lost in an option's data, or the reader failed there
     pub option-lost : (x : ServiceFault) → IsShort (big_endian32 header 12) mid input' x → EndsMessage es (Haggling terms) w w (streams input output) (streams input' output) (Err x)
     option-lost x s =
@@ -154,7 +164,7 @@ module _ (es : List ExportRecord) (terms : Terms) (w : World) (input mid input' 
         (cut-breaks es (Haggling terms) (header ++ s.part) input' x s.cause (λ lost. cut) (inr cut))
 
     option-takes : (content : List ℕ) → length content ≡ big_endian32 header 12 → (next : Phase) (reply : List ℕ) → AnswersOption es terms (big_endian32 header 8) content reply next → TakesOption es terms (header ++ content) reply next
-    option-takes content count next reply answered = record { header = header; content = content; message_is = refl; size = size; magic = magic; count = count; answered = answered }
+    option-takes content count next reply answered = record { header = header; content = content; allowed = allowed; message_is = refl; size = size; magic = magic; count = count; answered = answered }
 
     option-answered : (content : List ℕ) → Consumes mid input' content → length content ≡ big_endian32 header 12 → (next : Phase) (reply : List ℕ) → AnswersOption es terms (big_endian32 header 8) content reply next → Appends output output' reply
         → EndsMessage es (Haggling terms) w w (streams input output) (streams input' output') (Ok (Some next))
@@ -174,6 +184,7 @@ module _ (es : List ExportRecord) (terms : Terms) (w : World) (input mid input' 
     option-ends content c count Is Ends fault.Magic answers breaks k = turns-fault es (Haggling terms) w w (streams input output) (streams input' output') fault.Magic refl (header ++ content) (Consumes-trans input mid input' header content first c) k.0 (breaks k.1)
     option-ends content c count Is Ends fault.Flags answers breaks k = turns-fault es (Haggling terms) w w (streams input output) (streams input' output') fault.Flags refl (header ++ content) (Consumes-trans input mid input' header content first c) k.0 (breaks k.1)
     option-ends content c count Is Ends fault.NoSuchExport answers breaks k = turns-fault es (Haggling terms) w w (streams input output) (streams input' output') fault.NoSuchExport refl (header ++ content) (Consumes-trans input mid input' header content first c) k.0 (breaks k.1)
+    option-ends content c count Is Ends fault.TooManyOptions answers breaks k = turns-fault es (Haggling terms) w w (streams input output) (streams input' output') fault.TooManyOptions refl (header ++ content) (Consumes-trans input mid input' header content first c) k.0 (breaks k.1)
     option-ends content c count Is Ends fault.ReadFault answers breaks k = turns-fault es (Haggling terms) w w (streams input output) (streams input' output') fault.ReadFault refl (header ++ content) (Consumes-trans input mid input' header content first c) k.0 (breaks k.1)
     option-ends content c count Is Ends fault.WriteFault answers breaks k = inl (record {
       message = header ++ content;
@@ -263,13 +274,13 @@ module _ (es : List ExportRecord) (agreed : Agreement) (e : ExportRecord) (at : 
       (replies : GivesReply e agreed w (header_of header) payload found reply w') × (met ≡ request_fault e agreed w (header_of header) payload found reply w' replies)
 
   -- it was taken, has that reply, and is counted
-  request-counts : (t : SessionLog) (met : Option SectorFault) (found : Option Delivery) → delivery_of e agreed (header_of header) ≡ found → (header_of header).kind ≢ 2 → (payload reply : List ℕ) → length payload ≡ payload_len (header_of header)
-      → GivesAs met payload reply found → CountsMessage es (Serving agreed) w t (logged agreed.place met t) (Serving agreed) w' (header ++ payload) reply
-  request-counts t met found is other payload reply count replies =
+  request-counts : (t : SessionLog) (n : ℕ) → n ≡ moved_bytes (command_of e agreed (header_of header)) → (met : Option SectorFault) (found : Option Delivery) → delivery_of e agreed (header_of header) ≡ found → (header_of header).kind ≢ 2 → (payload reply : List ℕ) → length payload ≡ payload_len (header_of header)
+      → GivesAs met payload reply found → CountsMessage es (Serving agreed) w t (logged agreed.place n met t) (Serving agreed) w' (header ++ payload) reply
+  request-counts t n size_is met found is other payload reply count replies =
       let given = subst (λ (f : Option Delivery). GivesAs met payload reply f) (sym is) replies in
       subst
       (λ (x : ExportRecord). (takes : TakesRequest x agreed w (header ++ payload) reply (Serving agreed) w')
-      × (logged agreed.place met t ≡ request_log x agreed w takes.header takes.payload reply (Serving agreed) w' takes.answered t))
+      × (logged agreed.place n met t ≡ request_log x agreed w takes.header takes.payload reply (Serving agreed) w' takes.answered t))
       (sym at) (
         record {
           header = header;
@@ -280,18 +291,18 @@ module _ (es : List ExportRecord) (agreed : Agreement) (e : ExportRecord) (at : 
           count = count;
           answered = inr (other, record { replies = given.0; next_is = refl });
         },
-        ap (λ (m : Option SectorFault). logged agreed.place m t) given.1,
+        ap (λ (m : Option SectorFault). logged agreed.place n m t) given.1 ∙ ap (λ (k : ℕ). logged agreed.place k (request_fault e agreed w (header_of header) payload (delivery_of e agreed (header_of header)) reply w' given.0) t) size_is,
       )
 
   module _ (other : (header_of header).kind ≢ 2) (output output' : Option (List ℕ)) where
-    request-answered : (t : SessionLog) (met : Option SectorFault) (found : Option Delivery) → delivery_of e agreed (header_of header) ≡ found → (payload reply : List ℕ) → length payload ≡ payload_len (header_of header) → Consumes mid input' payload
-        → GivesAs met payload reply found → Appends output output' reply → EndsTurn es (Serving agreed) w w' t (logged agreed.place met t) (streams input output) (streams input' output') (Ok (Some (Serving agreed)))
-    request-answered t met found is payload reply count c replies a = record {
+    request-answered : (t : SessionLog) (n : ℕ) → n ≡ moved_bytes (command_of e agreed (header_of header)) → (met : Option SectorFault) (found : Option Delivery) → delivery_of e agreed (header_of header) ≡ found → (payload reply : List ℕ) → length payload ≡ payload_len (header_of header) → Consumes mid input' payload
+        → GivesAs met payload reply found → Appends output output' reply → EndsTurn es (Serving agreed) w w' t (logged agreed.place n met t) (streams input output) (streams input' output') (Ok (Some (Serving agreed)))
+    request-answered t n size_is met found is payload reply count c replies a = record {
       taken = header ++ payload;
       written = reply;
       consumed = Consumes-trans input mid input' header payload first c;
       appended = a;
-      holds = request-counts t met found is other payload reply count replies;
+      holds = request-counts t n size_is met found is other payload reply count replies;
     }
 
     -- and the writer failed in its reply
@@ -306,9 +317,9 @@ module _ (es : List ExportRecord) (agreed : Agreement) (e : ExportRecord) (at : 
     })
 
     module _ (outcome : RequestOutcome) (none : delivery_of e agreed (header_of header) ≡ None) where
-      pub request-served : (t : SessionLog) → (payload : List ℕ) × (length payload ≡ payload_len (header_of header)) × Consumes mid input' payload × ServesRequest e agreed w (header_of header) payload outcome w'
-          → Appends output output' (agreed_reply agreed (header_of header) outcome) → EndsTurn es (Serving agreed) w w' t (logged agreed.place (outcome_fault ((header_of header).offset / 512) outcome) t) (streams input output) (streams input' output') (Ok (Some (Serving agreed)))
-      request-served t p a = request-answered t (outcome_fault ((header_of header).offset / 512) outcome) None none p.0 (agreed_reply agreed (header_of header) outcome) p.1 p.2 ((outcome, p.3, refl), refl) a
+      pub request-served : (t : SessionLog) (n : ℕ) → n ≡ moved_bytes (command_of e agreed (header_of header)) → (payload : List ℕ) × (length payload ≡ payload_len (header_of header)) × Consumes mid input' payload × ServesRequest e agreed w (header_of header) payload outcome w'
+          → Appends output output' (agreed_reply agreed (header_of header) outcome) → EndsTurn es (Serving agreed) w w' t (logged agreed.place n (outcome_fault ((header_of header).offset / 512) outcome) t) (streams input output) (streams input' output') (Ok (Some (Serving agreed)))
+      request-served t n size_is p a = request-answered t n size_is (outcome_fault ((header_of header).offset / 512) outcome) None none p.0 (agreed_reply agreed (header_of header) outcome) p.1 p.2 ((outcome, p.3, refl), refl) a
 
       pub request-unanswered : (payload : List ℕ) × (length payload ≡ payload_len (header_of header)) × Consumes mid input' payload × ServesRequest e agreed w (header_of header) payload outcome w'
           → EndsMessage es (Serving agreed) w w' (streams input output) (streams input' output') (Err fault.WriteFault)
@@ -322,8 +333,8 @@ module _ (es : List ExportRecord) (agreed : Agreement) (e : ExportRecord) (at : 
       no-payload : 0 ≡ payload_len (header_of header)
       no-payload = chunked-payload agreed (header_of header) (delivery-chunked e agreed (header_of header) d found)
 
-      pub request-delivered : (t : SessionLog) (met : Option SectorFault) → Grows output output' (λ reply. DeliversAs e d w met reply w') → EndsTurn es (Serving agreed) w w' t (logged agreed.place met t) (streams input output) (streams input' output') (Ok (Some (Serving agreed)))
-      request-delivered t met p = request-answered t met (Some d) found [] p.text no-payload nothing p.holds p.written
+      pub request-delivered : (t : SessionLog) (n : ℕ) → n ≡ moved_bytes (command_of e agreed (header_of header)) → (met : Option SectorFault) → Grows output output' (λ reply. DeliversAs e d w met reply w') → EndsTurn es (Serving agreed) w w' t (logged agreed.place n met t) (streams input output) (streams input' output') (Ok (Some (Serving agreed)))
+      request-delivered t n size_is met p = request-answered t n size_is met (Some d) found [] p.text no-payload nothing p.holds p.written
 
       pub request-stuck : IsStuck e d w w' → EndsMessage es (Serving agreed) w w' (streams input output) (streams input' output') (Err fault.WriteFault)
       request-stuck (inl begun) = inr (record {

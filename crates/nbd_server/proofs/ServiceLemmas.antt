@@ -189,6 +189,7 @@ held-ends now' log' new fault.Lost h t = ends-in now' log' new fault.Lost (λ is
 held-ends now' log' new fault.Magic h t = ends-in now' log' new fault.Magic (λ is. (cc)) h t.1 t.0
 held-ends now' log' new fault.Flags h t = ends-in now' log' new fault.Flags (λ is. (cc)) h t.1 t.0
 held-ends now' log' new fault.NoSuchExport h t = ends-in now' log' new fault.NoSuchExport (λ is. (cc)) h t.1 t.0
+held-ends now' log' new fault.TooManyOptions h t = ends-in now' log' new fault.TooManyOptions (λ is. (cc)) h t.1 t.0
 held-ends now' log' new fault.ReadFault h t = ends-in now' log' new fault.ReadFault (λ is. (cc)) h t.1 t.0
 held-ends {old = old} {mid = mid} now' log' new fault.WriteFault h t = held-fails {old = old} {mid = mid} now' log' new h t.1 t.0
 

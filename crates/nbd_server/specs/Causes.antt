@@ -5,7 +5,7 @@ use Rattle.nbd_protocol.specs.Numbers.{big_endian32}
 use Rattle.nbd_protocol.specs.Exports.{ExportRecord, asked}
 use Rattle.nbd_protocol.specs.Headers.{header_of, payload_len, request_magic}
 use Rattle.nbd_protocol.specs.declared.fault.ServiceFault.{ServiceFault}
-use Rattle.nbd_protocol.specs.declared.fault.ServiceFault.TheVariants.{Lost, Magic, Flags, NoSuchExport, ReadFault, WriteFault}
+use Rattle.nbd_protocol.specs.declared.fault.ServiceFault.TheVariants.{Lost, Magic, Flags, NoSuchExport, TooManyOptions, ReadFault, WriteFault}
 use Rattle.nbd_protocol.specs.declared.phase.Phase.{Phase}
 use Rattle.nbd_protocol.specs.declared.phase.Phase.TheVariants.{Greeted, Haggling, Serving, Over}
 
@@ -55,6 +55,11 @@ HasOtherMagic (Haggling terms) rest = (length rest ≡ 16) × (take 8 rest ≢ c
 HasOtherMagic (Serving agreed) rest = (length rest ≡ 28) × (big_endian32 rest 0 ≢ request_magic)
 HasOtherMagic Over rest = ⊥
 
+-- a whole option follows the most options of one handshake
+abbrev pub FollowsMostOptions : Phase → List ℕ → Type 0
+FollowsMostOptions (Haggling terms) rest = IsOptionHeader rest × (terms.left ≡ 0)
+FollowsMostOptions phase rest = ⊥
+
 -- client flags besides the two that the service offers
 abbrev pub HasOtherFlags : Phase → List ℕ → Type 0
 HasOtherFlags Greeted rest = (length rest ≡ 4) × (4 ≤ big_endian32 rest 0)
@@ -80,5 +85,6 @@ Breaks es phase rest input Lost = IsMessageCut phase rest × IsAtEnd input
 Breaks es phase rest input Magic = HasOtherMagic phase rest
 Breaks es phase rest input Flags = HasOtherFlags phase rest
 Breaks es phase rest input NoSuchExport = NamesOther es phase rest
+Breaks es phase rest input TooManyOptions = FollowsMostOptions phase rest
 Breaks es phase rest input ReadFault = (rest ≡ []) ⊎ IsMessageCut phase rest
 Breaks es phase rest input WriteFault = ⊥

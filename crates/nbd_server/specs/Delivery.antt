@@ -19,7 +19,7 @@ use Rattle.nbd_protocol.specs.Chunks.{error_at_chunk, hole_chunk}
 use Rattle.nbd_server.specs.Content.{TellsContent}
 use Rattle.nbd_server.specs.Status.{IsLineStatus, IsOtherKind, TouchZeros, touched}
 use Rattle.nbd_server.specs.declared.extent.ExtentKind.TheVariants as known
-use Rattle.nbd_server.specs.Failures.{fault_at, reported_error}
+use Rattle.nbd_server.specs.Failures.{failure_text, fault_at, reported_error}
 use Rattle.nbd_server.specs.declared.failure.Failure.{Failure}
 use Rattle.nbd_server.specs.declared.first_faults.SectorFault.{SectorFault}
 use Rattle.nbd_server.specs.Transmission.{ReadsExport}
@@ -110,7 +110,7 @@ pub record IsLost (e : ExportRecord) (d : Delivery) (p : Progress) (w : World) (
   pub piece : IsReadPiece w.stack.config e d p size
   pub one : touched (d.offset + p.done) size ≡ 1
   pub reads : ReadsExport e w (d.offset + p.done) size (Err error) w'
-  pub chunk_is : chunk ≡ error_at_chunk d.cookie (d.offset + p.done) (reported_error error)
+  pub chunk_is : chunk ≡ error_at_chunk d.cookie (d.offset + p.done) (reported_error error) (failure_text error)
 
 -- The first bytes of the piece are on `zero` lines, so they are zeros whatever the backing devices hold. Nothing is read, and a
 -- hole of all of them is sent.

@@ -1,5 +1,6 @@
 pub mod Failures
 pub mod Logs
+pub mod FaultLines
 pub mod Sectors
 pub mod Replies
 pub mod Status

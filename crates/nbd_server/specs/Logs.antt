@@ -1,5 +1,7 @@
 -- What a session keeps of its requests: how many were answered, how many of these with a fault, and the first of the faults.
-use Rattle.std.specs.Prelude.{ℕ, nat_lt, true, false, List, [], ◌∷◌, ◌++◌, length, Option, Some, None, Ok, Err, if◌then◌else◌}
+use Rattle.std.specs.Prelude.{ℕ, ◌==◌, ◌&&◌, nat_lt, Bool, true, false, List, [], ◌∷◌, ◌++◌, codes, length, Option, Some, None, Ok, Err, if◌then◌else◌}
+use Rattle.std.specs.List.{list_any}
+use Rattle.stack_meaning.specs.IoFaults.{io_name}
 use Rattle.nbd_server.specs.declared.first_faults.FirstFault.{FirstFault}
 use Rattle.nbd_server.specs.declared.first_faults.SectorFault.{SectorFault}
 use Rattle.nbd_server.specs.declared.session_log.SessionLog.{SessionLog}
@@ -11,9 +13,17 @@ use Rattle.nbd_server.specs.Tallies.{counted, no_requests}
 abbrev pub most_kept : ℕ
 most_kept = 60
 
--- one more fault, if there are fewer than so many
+-- a fault of the same sector of the same export is among them
+abbrev pub has_sector : List FirstFault → FirstFault → Bool
+has_sector first fault = list_any (λ met. (met.place == fault.place) && (met.sector == fault.sector)) first
+
+-- one more fault, if it is the first of its sector and there are fewer than so many
 abbrev pub kept_first : List FirstFault → FirstFault → List FirstFault
-kept_first first fault = if nat_lt (length first) most_kept then first ++ fault ∷ [] else first
+kept_first first fault = if has_sector first fault then first else if nat_lt (length first) most_kept then first ++ fault ∷ [] else first
+
+-- the name that is printed of it
+abbrev pub met_name : FirstFault → List ℕ
+met_name met = if met.full then codes "NoSpace" else io_name met.fault
 
 abbrev pub no_log : SessionLog
 no_log = record { tally = no_requests; first = [] }
@@ -25,9 +35,9 @@ outcome_fault sector (Err error) = fault_at sector error
 
 -- the fault of a request of the export at an index
 abbrev pub first_fault : ℕ → SectorFault → FirstFault
-first_fault place met = record { place = place; sector = met.sector; fault = met.fault }
+first_fault place met = record { place = place; sector = met.sector; fault = met.fault; full = met.full }
 
--- one more request was answered, with that fault or with none
-abbrev pub logged : ℕ → Option SectorFault → SessionLog → SessionLog
-logged place None log = record { tally = counted false log.tally; first = log.first }
-logged place (Some met) log = record { tally = counted true log.tally; first = kept_first log.first (first_fault place met) }
+-- one more request was answered, of so many bytes, and with that fault or with none
+abbrev pub logged : ℕ → ℕ → Option SectorFault → SessionLog → SessionLog
+logged place bytes None log = record { tally = counted bytes false log.tally; first = log.first }
+logged place bytes (Some met) log = record { tally = counted bytes true log.tally; first = kept_first log.first (first_fault place met) }

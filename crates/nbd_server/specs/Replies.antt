@@ -5,7 +5,7 @@ use Rattle.nbd_protocol.specs.Numbers.{bytes32, bytes64}
 use Rattle.nbd_protocol.specs.declared.header.Header.{Header}
 use Rattle.nbd_protocol.specs.declared.phase.Agreement.{Agreement}
 use Rattle.nbd_server.specs.declared.failure.Failure.{Failure}
-use Rattle.nbd_server.specs.Failures.{reported_error}
+use Rattle.nbd_server.specs.Failures.{failure_text, reported_error}
 use Rattle.nbd_protocol.specs.Chunks.{data_chunk, error_chunk, none_chunk, status_chunk}
 
 -- the bytes that answer a request, or why it isn't done
@@ -33,7 +33,7 @@ content_chunk h content = if h.kind == 7 then status_chunk h.cookie content else
 -- a reply that is one chunk: the bytes or the error
 abbrev pub chunked_reply : Header → RequestOutcome → List ℕ
 chunked_reply h (Ok content) = content_chunk h content
-chunked_reply h (Err error) = error_chunk h.cookie (reported_error error)
+chunked_reply h (Err error) = error_chunk h.cookie (reported_error error) (failure_text error)
 
 abbrev pub reply_by : Bool → Header → RequestOutcome → List ℕ
 reply_by true h outcome = chunked_reply h outcome

@@ -10,11 +10,12 @@ use Rattle.program_io.specs.Streams.{Streams, streams}
 use Rattle.nbd_protocol.specs.Numbers.{big_endian32}
 use Rattle.nbd_protocol.specs.Exports.{ExportRecord, asked, export_at, export_records}
 use Rattle.nbd_protocol.specs.declared.export.Export.{Export}
-use Rattle.nbd_protocol.specs.Handshake.{greeting, answer_to, answer_to_long, phase_after, phase_after_long, names_export, most_data}
-use Rattle.nbd_protocol.specs.Headers.{header_of, payload_len, request_magic}
+use Rattle.nbd_protocol.specs.Handshake.{greeting, answer_to, answer_to_long, phase_after, phase_after_long, names_export, most_data, most_options}
+use Rattle.nbd_protocol.specs.Headers.{command_of, header_of, payload_len, request_magic}
 use Rattle.nbd_server.specs.Causes.{Breaks}
 use Rattle.nbd_protocol.specs.Streaming.{Spoken, TakesInto, content_in}
 use Rattle.nbd_server.specs.Replies.{RequestOutcome, agreed_reply}
+use Rattle.nbd_server.specs.Tallies.{moved_bytes}
 use Rattle.nbd_server.specs.Transmission.{ServesRequest}
 use Rattle.nbd_server.specs.Delivery.{IsBegun, IsDelivered, delivery_fault, delivery_of}
 use Rattle.nbd_server.specs.Logs.{logged, no_log, outcome_fault}
@@ -33,7 +34,7 @@ use Rattle.nbd_protocol.specs.declared.phase.Phase.TheVariants.{Greeted, Hagglin
 pub record TakesFlags (message reply : List ℕ) (next : Phase) : Type 0 where
   pub size : length message ≡ 4
   pub offered : big_endian32 message 0 < 4
-  pub next_is : next ≡ Haggling (record { no_zeroes = nat_le 2 (big_endian32 message 0); structured = false; status = None })
+  pub next_is : next ≡ Haggling (record { no_zeroes = nat_le 2 (big_endian32 message 0); structured = false; status = None; left = most_options })
   pub silent : reply ≡ []
 
 -- an option whose data are short enough; its reply depends on its number and its data
@@ -53,10 +54,11 @@ pub record IsTooLong (terms : Terms) (option count : ℕ) (reply : List ℕ) (ne
 abbrev pub AnswersOption : List ExportRecord → Terms → ℕ → List ℕ → List ℕ → Phase → Type 0
 AnswersOption es terms option content reply next = IsAnswered es terms option content reply next ⊎ IsTooLong terms option (length content) reply next
 
--- An option: its magic, its number, the length of its data, and the data.
+-- An option, if another one is allowed: its magic, its number, the length of its data, and the data.
 pub record TakesOption (es : List ExportRecord) (terms : Terms) (message reply : List ℕ) (next : Phase) : Type 0 where
   pub header : List ℕ
   pub content : List ℕ
+  pub allowed : 0 < terms.left
   pub message_is : message ≡ header ++ content
   pub size : length header ≡ 16
   pub magic : take 8 header ≡ codes "IHAVEOPT"
@@ -115,7 +117,7 @@ abbrev pub request_log : (e : ExportRecord) → (agreed : Agreement) → (w : Wo
     → IsLastRequest w header reply next w' ⊎ ((header_of header).kind ≢ 2) × IsServedRequest e agreed w header payload reply next w' → SessionLog → SessionLog
 request_log e agreed w header payload reply next w' (inl last) log = log
 request_log e agreed w header payload reply next w' (inr served) log =
-    logged agreed.place (request_fault e agreed w (header_of header) payload (delivery_of e agreed (header_of header)) reply w' served.1.replies) log
+    logged agreed.place (moved_bytes (command_of e agreed (header_of header))) (request_fault e agreed w (header_of header) payload (delivery_of e agreed (header_of header)) reply w' served.1.replies) log
 
 -- the log after a message
 abbrev pub message_log : (es : List ExportRecord) → (phase : Phase) → (w : World) → (message reply : List ℕ) → (next : Phase) → (w' : World) → TakesMessage es phase w message reply next w' → SessionLog → SessionLog

@@ -226,7 +226,8 @@ fn deliver_piece<D: BlockDev, W: Write>(
                     slow: progress.done + size,
                 }));
             }
-            say_error_at(writer, delivery.cookie, at, error.reported())?;
+            let text = error.text().as_bytes();
+            say_error_at(writer, delivery.cookie, at, error.reported(), text)?;
             Ok(Err(error))
         }
     }

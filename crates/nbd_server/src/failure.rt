@@ -1,13 +1,13 @@
 //! Why a request isn't done.
-ghost use Rattle.std.specs.Prelude.{◌≡◌};
-ghost use Rattle.nbd_server.specs.Failures.{failure_of, fault_at, no_memory, reported_error, write_failure};
+ghost use Rattle.std.specs.Prelude.{◌≡◌, ◌≤◌, length};
+ghost use Rattle.nbd_server.specs.Failures.{failure_of, failure_text, fault_at, fault_text, no_memory, refusal_text, reported_error, write_failure};
 
 use crate::first_faults::SectorFault;
 use allocation::OutOfMemory;
 use block_device::BlockDev;
 use nbd_protocol::RequestError;
 use stack_engine::Stack;
-use stack_meaning::IoFault;
+use stack_meaning::{Fault, IoFault};
 
 /// Why a request isn't done: by an error of its own, or by a fault of the stack.
 #[derive(Clone, Copy, Debug, PartialEq, Eq)]
@@ -20,6 +20,34 @@ pub(crate) enum Failure {
     Full(IoFault),
 }
 
+// What is said of a request that isn't allowed, or for which memory lacks.
+fn refusal_text(error: RequestError) -> &'static str
+    ensures value { result.now ≡ refusal_text error }
+    ensures short { length result.now ≤ 64 }
+{
+    match error {
+        RequestError::NotPermitted => "the export is read-only",
+        RequestError::InputOutput => "input or output failed",
+        RequestError::NoMemory => "out of memory",
+        RequestError::Invalid => "the request is invalid",
+        RequestError::NoSpace => "the range ends past the export",
+        RequestError::NotSupported => "zeros take as long to write as other bytes",
+    }
+}
+
+// What is said of a fault of the stack.
+fn fault_text(fault: IoFault) -> &'static str
+    ensures value { result.now ≡ fault_text fault }
+    ensures short { length result.now ≤ 64 }
+{
+    match fault {
+        IoFault::Stack(Fault::ErrorTarget) => "the sector is on an error target",
+        IoFault::Stack(Fault::Mismatch) => "a block fails verification",
+        IoFault::Device(_) => "a backing device failed",
+        IoFault::NoMemory => "out of memory",
+    }
+}
+
 impl Failure {
     /// Returns the error that the reply reports.
     pub(crate) fn reported(self) -> RequestError
@@ -29,6 +57,18 @@ impl Failure {
             Failure::Refused(error) => error,
             Failure::Faulty(_) => RequestError::InputOutput,
             Failure::Full(_) => RequestError::NoSpace,
+        }
+    }
+
+    /// Returns what the chunk of an error says to humans.
+    pub(crate) fn text(self) -> &'static str
+        ensures value { result.now ≡ failure_text self }
+        ensures short { length result.now ≤ 64 }
+    {
+        match self {
+            Failure::Refused(error) => refusal_text(error),
+            Failure::Faulty(fault) => fault_text(fault),
+            Failure::Full(_) => "a backing device has no space left",
         }
     }
 
@@ -55,7 +95,16 @@ impl Failure {
     {
         match self {
             Failure::Refused(_) => None,
-            Failure::Faulty(fault) | Failure::Full(fault) => Some(SectorFault { sector, fault }),
+            Failure::Faulty(fault) => Some(SectorFault {
+                sector,
+                fault,
+                full: false,
+            }),
+            Failure::Full(fault) => Some(SectorFault {
+                sector,
+                fault,
+                full: true,
+            }),
         }
     }
 }

@@ -1,6 +1,6 @@
 //! The first faults of the requests of a session.
 ghost use Rattle.std.specs.Prelude.{◌≡◌, ◌<◌, ◌++◌, ◌∷◌, [], length};
-ghost use Rattle.nbd_server.specs.Logs.{kept_first};
+ghost use Rattle.nbd_server.specs.Logs.{has_sector, kept_first, met_name};
 
 use stack_meaning::{Fault, IoFault};
 use std::marker::Model;
@@ -13,6 +13,8 @@ const MOST: usize = 60;
 pub struct SectorFault {
     pub sector: u64,
     pub fault: IoFault,
+    /// The device that failed has no space left.
+    pub full: bool,
 }
 
 /// The fault of a request, with the index of its export.
@@ -21,9 +23,31 @@ pub struct FirstFault {
     pub place: usize,
     pub sector: u64,
     pub fault: IoFault,
+    /// The device that failed has no space left.
+    pub full: bool,
 }
 
-/// The first faults of a session, at most 60. No memory is allocated for them.
+impl FirstFault {
+    /// Returns the name that is printed: that of the fault, or `NoSpace`.
+    pub fn name(&self) -> &'static str
+        ensures { result.now ≡ met_name self.now }
+    {
+        if self.full {
+            "NoSpace"
+        } else {
+            self.fault.name()
+        }
+    }
+}
+
+// Whether a fault of the same sector of the same export is among them.
+fn is_known(faults: &[FirstFault], fault: FirstFault) -> bool
+    ensures { result ≡ has_sector faults.now fault }
+{
+    faults.iter().any(|met| met.place == fault.place && met.sector == fault.sector)
+}
+
+/// The first faults of a session, one a sector, at most 60. No memory is allocated for them.
 #[derive(Drop)]
 pub struct FirstFaults {
     faults: [FirstFault; MOST],
@@ -50,6 +74,7 @@ impl FirstFaults {
             place: 0,
             sector: 0,
             fault: IoFault::Stack(Fault::ErrorTarget),
+            full: false,
         };
         FirstFaults {
             faults: [unused; MOST],
@@ -80,10 +105,20 @@ impl FirstFaults {
         self.count += 1;
     }
 
-    /// Appends a fault, if there are fewer than 60.
+    // Whether a fault of the same sector of the same export is among them.
+    fn has(&self, fault: FirstFault) -> bool
+        ensures { result ≡ has_sector self.now fault }
+    {
+        is_known(self.as_slice(), fault)
+    }
+
+    /// Appends a fault, if it is the first of its sector and there are fewer than 60.
     pub(crate) fn keep(&mut self, fault: FirstFault)
         ensures { self.new ≡ kept_first self.old fault }
     {
+        if self.has(fault) {
+            return;
+        }
         if self.len() >= MOST {
             return;
         }

@@ -8,8 +8,9 @@ ghost use Rattle.nbd_protocol.specs.Streaming.{HasRead, HasWritten, IsShort, res
 ghost use Rattle.nbd_protocol.specs.declared.phase.Phase.TheVariants.{Haggling};
 
 use nbd_protocol::{
-    ABORT, EXPORT_NAME, Export, Phase, Refusal, ServiceFault, Terms, acknowledge, fill, fill_part,
-    names_export, number32, phase_after, refuse, say_answer, skip, terms_after_long,
+    ABORT, EXPORT_NAME, Export, MOST_OPTIONS, Phase, Refusal, ServiceFault, Terms, acknowledge,
+    fill, fill_part, names_export, number32, phase_after, refuse, say_answer, skip,
+    terms_after_long,
 };
 use program_io::Counted;
 use std::io::{Read, Write};
@@ -36,6 +37,7 @@ pub(crate) fn take_flags<R: Read>(reader: &mut Counted<R>) -> Result<Option<Phas
             no_zeroes: flags >= 2,
             structured: false,
             status: None,
+            left: MOST_OPTIONS,
         },
     }))
 }
@@ -129,6 +131,9 @@ pub(crate) fn take_option<R: Read, W: Write>(
     }
     if &header[..8] != b"IHAVEOPT".as_slice() {
         return Err(ServiceFault::Magic);
+    }
+    if terms.left == 0 {
+        return Err(ServiceFault::TooManyOptions);
     }
     let option = number32(&header, 8);
     let count = number32(&header, 12);

@@ -6,6 +6,7 @@ mod content;
 mod delivery;
 mod extent;
 mod failure;
+mod fault_lines;
 mod fetch;
 mod first_faults;
 mod haggling;
@@ -24,6 +25,6 @@ mod zeros;
 
 pub use first_faults::{FirstFault, FirstFaults, SectorFault};
 pub use nbd_protocol::{Export, ServiceFault};
-pub use service::serve;
+pub use service::{serve, serve_logged};
 pub use session_log::SessionLog;
 pub use tally::Tally;

@@ -127,7 +127,10 @@ fn say_chunks<W: Write>(
 {
     match outcome {
         Ok(data) => say_content(writer, header, data.part()),
-        Err(error) => say_error(writer, header.cookie, error.reported()),
+        Err(error) => {
+            let text = error.text().as_bytes();
+            say_error(writer, header.cookie, error.reported(), text)
+        }
     }
 }
 

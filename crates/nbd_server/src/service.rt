@@ -2,12 +2,14 @@
 ghost use Rattle.std.specs.Prelude.{◌≡◌, ◌≢◌};
 ghost use Rattle.program_io.specs.Streams.{streams};
 ghost use Rattle.nbd_protocol.specs.Exports.{AreExports, export_records};
+ghost use Rattle.nbd_server.specs.FaultLines.{IsPrinted, fault_lines};
 ghost use Rattle.nbd_server.specs.Premises.{IsGoing};
 ghost use Rattle.nbd_server.specs.Service.{IsService, EndsTurn};
 ghost use Rattle.nbd_server.specs.Logs.{no_log};
 ghost use Rattle.nbd_protocol.specs.Streaming.{HasRead, HasWritten, result_fault};
 ghost use Rattle.nbd_protocol.specs.declared.phase.Phase.TheVariants.{Over};
 
+use crate::fault_lines::tell_faults;
 use crate::haggling::{take_flags, take_option};
 use crate::session_log::SessionLog;
 use crate::session_state::SessionState;
@@ -18,7 +20,7 @@ use program_io::Counted;
 use request_queue::Queue;
 use std::alloc::Global;
 use std::io::{Read, Write};
-use std::mem;
+use std::{io, mem};
 
 const GREETING: [u8; 18] = *b"NBDMAGICIHAVEOPT\0\x03";
 
@@ -48,13 +50,15 @@ fn take_message<D: SyncDev, R: Read, W: Write>(
     }
 }
 
-// Greets a client and answers its messages until the session ends.
-fn converse<D: SyncDev, R: Read, W: Write>(
+// Greets a client and answers its messages until the session ends. A fault that is the first of its sector is printed among the
+// errors when its request ends.
+fn converse<D: SyncDev, R: Read, W: Write, E: Write>(
     state: &mut SessionState,
     queue: &mut Queue<D>,
     exports: &[Export<'_>],
     reader: &mut Counted<R>,
     writer: &mut Counted<W>,
+    errors: &mut Counted<E>,
 ) -> Result<(), ServiceFault>
     requires exports { AreExports queue.old.stack.config exports.now }
     requires log { state.old.log ≡ no_log }
@@ -62,15 +66,20 @@ fn converse<D: SyncDev, R: Read, W: Write>(
         (streams (R.remaining reader.old.inner) (W.contents writer.old.inner)) (streams (R.remaining reader.new.inner) (W.contents writer.new.inner)) state.new.log result }
     ensures reader { HasRead 0 reader.old reader.new (result_fault result) }
     ensures writer { HasWritten writer.old writer.new (result_fault result) }
+    ensures printed { IsPrinted E.contents errors.old errors.new (fault_lines (export_records exports.now) state.new.log.first) }
 {
     writer.put(&GREETING)?;
     let mut phase = Phase::Greeted;
+    let mut told = 0;
     for _turn in 0..u64::MAX {
         writer.flush()?;
         match phase {
             Phase::Over => return Ok(()),
             _ => match take_message(state, queue, exports, phase, reader, writer)? {
-                Some(next) => phase = next,
+                Some(next) => {
+                    told = tell_faults(errors, exports, state.log.first.as_slice(), told);
+                    phase = next;
+                }
                 None => return Ok(()),
             },
         }
@@ -81,7 +90,7 @@ fn converse<D: SyncDev, R: Read, W: Write>(
 /// Serves one of the exports to a client, until the client ends the session or disconnects between two messages.
 ///
 /// Each reply is flushed before the next call of the reader. `log` gets the tally of the requests that were answered, and their first
-/// 60 faults.
+/// 60 faults, one a sector.
 ///
 /// # Errors
 ///
@@ -106,7 +115,35 @@ pub fn serve<D: SyncDev, R: Read, W: Write>(
     ensures writer { HasWritten writer.old writer.new (result_fault result) }
 {
     let mut state = SessionState::new(alloc);
-    let outcome = converse(&mut state, queue, exports, reader, writer);
+    let mut unheard = Counted::new(io::sink());
+    let outcome = converse(&mut state, queue, exports, reader, writer, &mut unheard);
+    mem::swap(log, &mut state.log);
+    outcome
+}
+
+/// Serves as [`serve`] does. When a request ends by one of the faults that the log keeps, a line is printed among the errors:
+/// `dmstack: export NAME: sector S: KIND`.
+///
+/// # Errors
+///
+/// Those of [`serve`]. A failure of the errors' writer stays known and ends nothing.
+pub fn serve_logged<D: SyncDev, R: Read, W: Write, E: Write>(
+    queue: &mut Queue<D>,
+    exports: &[Export<'_>],
+    reader: &mut Counted<R>,
+    writer: &mut Counted<W>,
+    errors: &mut Counted<E>,
+    log: &mut SessionLog,
+) -> Result<(), ServiceFault>
+    requires { AreExports queue.old.stack.config exports.now }
+    ensures service { IsService (export_records exports.now) queue.old queue.new
+        (streams (R.remaining reader.old.inner) (W.contents writer.old.inner)) (streams (R.remaining reader.new.inner) (W.contents writer.new.inner)) log.new result }
+    ensures reader { HasRead 0 reader.old reader.new (result_fault result) }
+    ensures writer { HasWritten writer.old writer.new (result_fault result) }
+    ensures printed { IsPrinted E.contents errors.old errors.new (fault_lines (export_records exports.now) log.new.first) }
+{
+    let mut state = SessionState::new(queue.stack().config().alloc());
+    let outcome = converse(&mut state, queue, exports, reader, writer, errors);
     mem::swap(log, &mut state.log);
     outcome
 }

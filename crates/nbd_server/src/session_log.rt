@@ -5,7 +5,7 @@ ghost use Rattle.nbd_server.specs.Logs.{logged, no_log};
 use crate::first_faults::{FirstFault, FirstFaults, SectorFault};
 use crate::tally::Tally;
 
-/// The tally of the requests that were answered, and the first faults among them.
+/// The tally of the requests that were answered, and the first faults among them, one a sector.
 #[derive(Drop)]
 pub struct SessionLog {
     pub tally: Tally,
@@ -23,18 +23,19 @@ impl SessionLog {
         }
     }
 
-    /// Counts a request of the export at an index, which was answered with that fault, or with none.
-    pub(crate) fn count(&mut self, place: usize, met: Option<SectorFault>)
-        ensures { self.new ≡ logged place met self.old }
+    /// Counts a request of that many bytes of the export at an index, which was answered with that fault, or with none.
+    pub(crate) fn count(&mut self, place: usize, bytes: u32, met: Option<SectorFault>)
+        ensures { self.new ≡ logged place bytes met self.old }
     {
         match met {
-            None => self.tally = self.tally.count(false),
+            None => self.tally = self.tally.count(bytes, false),
             Some(at) => {
-                self.tally = self.tally.count(true);
+                self.tally = self.tally.count(bytes, true);
                 self.first.keep(FirstFault {
                     place,
                     sector: at.sector,
                     fault: at.fault,
+                    full: at.full,
                 });
             }
         }

@@ -25,10 +25,10 @@ impl SessionState {
         }
     }
 
-    /// Counts a request of the export at an index, which was answered with that fault, or with none.
-    pub(crate) fn count(&mut self, place: usize, met: Option<SectorFault>)
-        ensures { self.new.log ≡ logged place met self.old.log }
+    /// Counts a request of that many bytes of the export at an index, which was answered with that fault, or with none.
+    pub(crate) fn count(&mut self, place: usize, bytes: u32, met: Option<SectorFault>)
+        ensures { self.new.log ≡ logged place bytes met self.old.log }
     {
-        self.log.count(place, met);
+        self.log.count(place, bytes, met);
     }
 }

@@ -1,13 +1,17 @@
 //! The counts of the requests of a session.
 ghost use Rattle.std.specs.Prelude.{◌≡◌};
-ghost use Rattle.nbd_server.specs.Tallies.{counted, no_requests, one_more};
+ghost use Rattle.nbd_server.specs.Tallies.{counted, moved_bytes, no_requests, one_more};
 
-/// How many requests were answered, and how many of these with an input/output error.
+use nbd_protocol::{Command, RequestError};
+
+/// How many requests were answered, the lengths of the READs and WRITEs within the export among them, in bytes, and how many were
+/// answered with an input/output error.
 ///
 /// Each number stays at 2^64 - 1 once it is reached.
 #[derive(Clone, Copy, Debug, PartialEq, Eq)]
 pub struct Tally {
     pub requests: u64,
+    pub bytes: u64,
     pub faults: u64,
 }
 
@@ -17,6 +21,21 @@ fn one_more(count: u64) -> u64
     count.saturating_add(1)
 }
 
+/// Returns the length of a READ or WRITE within the export, and 0 for other requests.
+pub(crate) fn moved_bytes(command: Result<Command, RequestError>) -> u32
+    ensures { result ≡ moved_bytes command }
+{
+    match command {
+        Ok(Command::Read { length, .. }) => length,
+        Ok(Command::Write { length, .. }) => length,
+        Ok(Command::Zero { .. }) => 0,
+        Ok(Command::Hint) => 0,
+        Ok(Command::Flush) => 0,
+        Ok(Command::Status { .. }) => 0,
+        Err(_) => 0,
+    }
+}
+
 impl Tally {
     /// Returns the tally of no requests.
     pub fn none() -> Tally
@@ -24,13 +43,14 @@ impl Tally {
     {
         Tally {
             requests: 0,
+            bytes: 0,
             faults: 0,
         }
     }
 
-    /// Counts a request that was answered, with an input/output error if `faulty` is set.
-    pub(crate) fn count(self, faulty: bool) -> Tally
-        ensures { result ≡ counted faulty self }
+    /// Counts a request of that many bytes, which was answered with an input/output error if `faulty` is set.
+    pub(crate) fn count(self, bytes: u32, faulty: bool) -> Tally
+        ensures { result ≡ counted bytes faulty self }
     {
         let faults = if faulty {
             one_more(self.faults)
@@ -39,6 +59,7 @@ impl Tally {
         };
         Tally {
             requests: one_more(self.requests),
+            bytes: self.bytes.saturating_add(u64::from(bytes)),
             faults,
         }
     }

@@ -21,6 +21,7 @@ use crate::read_status::read_status;
 use crate::reply::{Data, say_reply};
 use crate::session_state::SessionState;
 use crate::status::{bytes_at, status_of};
+use crate::tally::moved_bytes;
 use allocation::OutOfMemory;
 use block_device::{BlockDev, SyncDev};
 use nbd_protocol::{
@@ -266,10 +267,11 @@ pub(crate) fn take_request<D: SyncDev, R: Read, W: Write>(
     if header.kind == DISCONNECT {
         return Ok(Some(Phase::Over));
     }
+    let moved = moved_bytes(header.command(export, agreed));
     match Delivery::of(export, agreed, header) {
         Some(delivery) => {
             let lost = deliver(&mut state.room, queue, export, delivery, writer)?;
-            state.count(agreed.place, lost);
+            state.count(agreed.place, moved, lost);
             return Ok(Some(Phase::Serving { agreed }));
         }
         None => {}
@@ -277,6 +279,6 @@ pub(crate) fn take_request<D: SyncDev, R: Read, W: Write>(
     let outcome = serve_request(state.room.alloc, queue, export, agreed, header, reader)?;
     let met = outcome_fault(header.offset / 512, &outcome);
     say_reply(writer, agreed, header, outcome)?;
-    state.count(agreed.place, met);
+    state.count(agreed.place, moved, met);
     Ok(Some(Phase::Serving { agreed }))
 }

@@ -1,4 +1,5 @@
 mod CopyLemmas
+mod CounterLemmas
 mod EndingLemmas
 mod GoingOnLemmas
 mod MendLemmas
@@ -6,3 +7,4 @@ mod PairLemmas
 mod ScanLemmas
 mod TellingLemmas
 mod ValidLemmas
+pub mod lemmas

@@ -14,12 +14,14 @@ use Rattle.tree_repair.specs.declared.fault.RepairFault.{RepairFault}
 use Rattle.tree_repair.specs.declared.outcome.Outcome.{Outcome}
 use Rattle.tree_repair.specs.declared.repair.Plan.{Plan}
 use Rattle.tree_repair.specs.Worlds.{RepairWorld, repair_world}
+use Rattle.repair_commands.specs.declared.counters.Counters.{Counters}
 use Rattle.repair_commands.specs.declared.found_tree.FoundTree.{FoundTree}
 use Rattle.repair_commands.specs.declared.opening.Copies.{Copies}
 use Rattle.repair_commands.specs.declared.opening.Opened.{Opened}
 use Rattle.repair_commands.specs.declared.pair.Pair.{Pair}
 use Rattle.repair_commands.specs.declared.pair.Parts.{Parts}
 use Rattle.repair_commands.specs.declared.pair.RepairPlaces.{RepairPlaces}
+use Rattle.repair_commands.specs.Counters.{counters_of}
 use Rattle.repair_commands.specs.Endings.{ending_fault}
 use Rattle.repair_commands.specs.FoundTrees.{FindsNoTree, FindsTree}
 use Rattle.repair_commands.specs.Mends.{HalfMends, IsOnMedium, MendsInOnePass, ParityUse}
@@ -106,6 +108,15 @@ RepairsDevices plan whole w t' old new = MendsAndTells (MendsOnce plan w old) wh
 abbrev pub EndsOnDevices : Plan → Bool → RepairWorld → SurveyedDevices → Option (List ℕ) → Option (List ℕ) → Bool → TreeFault → Type 0
 EndsOnDevices plan whole w t' old new failed fault = EndsEarly (MendsOnce plan w old) (MendsHalf plan None w old failed) whole plan new failed fault t'
 
+-- that, and what the devices had counted when the repair ended
+abbrev pub RepairsCounted : Plan → Bool → RepairWorld → SurveyedDevices → Option (List ℕ) → Option (List ℕ) → Counters → Type 0
+RepairsCounted plan whole w t' old new counters = (does : RepairsDevices plan whole w t' old new) × (counters ≡ counters_of does.mended)
+
+abbrev pub EndsCounted : Plan → Bool → RepairWorld → SurveyedDevices → Option (List ℕ) → Option (List ℕ) → Bool → Counters → TreeFault → Type 0
+EndsCounted plan whole w t' old new failed counters fault =
+    ((ends : EndsMending (MendsHalf plan None w old failed) new fault t') × (counters ≡ counters_of ends.mid))
+    ⊎ ((ends : EndsTelling (MendsOnce plan w old) whole plan new failed fault t') × (counters ≡ counters_of ends.mended))
+
 -- ---- on files
 
 -- this holds of the two devices as they are closed
@@ -187,13 +198,13 @@ IsRepairEnd w p copies sought old new failed fault =
 
 -- ---- in terms of the devices that are returned, an opener, a writer before and after, and the arguments
 
-abbrev pub AreDevicesRepaired : {D H W : Type 0} → (D → Device) → (H → Device) → RepairWorld → Bool → Plan → D → H → (W → Option (List ℕ)) → CountedRecord W → CountedRecord W → Type 0
-AreDevicesRepaired data_state hash_state w whole plan d h contents before behind =
-    RepairsDevices plan whole w (surveyed_devices (data_state d) (hash_state h)) (contents before.inner) (contents behind.inner)
+abbrev pub AreDevicesRepaired : {D H W : Type 0} → (D → Device) → (H → Device) → RepairWorld → Bool → Plan → D → H → Counters → (W → Option (List ℕ)) → CountedRecord W → CountedRecord W → Type 0
+AreDevicesRepaired data_state hash_state w whole plan d h counters contents before behind =
+    RepairsCounted plan whole w (surveyed_devices (data_state d) (hash_state h)) (contents before.inner) (contents behind.inner) counters
 
-abbrev pub AreDevicesUnrepaired : {D H W : Type 0} → (D → Device) → (H → Device) → RepairWorld → Bool → Plan → D → H → (W → Option (List ℕ)) → CountedRecord W → CountedRecord W → TreeFault → Type 0
-AreDevicesUnrepaired data_state hash_state w whole plan d h contents before behind =
-    EndsOnDevices plan whole w (surveyed_devices (data_state d) (hash_state h)) (contents before.inner) (contents behind.inner) behind.failed
+abbrev pub AreDevicesUnrepaired : {D H W : Type 0} → (D → Device) → (H → Device) → RepairWorld → Bool → Plan → D → H → Counters → (W → Option (List ℕ)) → CountedRecord W → CountedRecord W → TreeFault → Type 0
+AreDevicesUnrepaired data_state hash_state w whole plan d h counters contents before behind =
+    EndsCounted plan whole w (surveyed_devices (data_state d) (hash_state h)) (contents before.inner) (contents behind.inner) behind.failed counters
 
 abbrev pub plan_at : RepairPlaces → FoundTree → Plan
 plan_at places found = plan_of (places_of places) found

@@ -1,6 +1,7 @@
 pub mod ByParity
 pub mod Commands
 pub mod Copies
+pub mod Counters
 pub mod Endings
 pub mod FoundTrees
 pub mod Laws

@@ -3,6 +3,7 @@
 
 mod by_parity;
 mod copies;
+mod counters;
 mod devices;
 mod fault;
 mod found_tree;
@@ -19,6 +20,7 @@ mod syncing;
 mod unused;
 
 pub use by_parity::repair_by_parity;
+pub use counters::{Counters, counters_of};
 pub use devices::{devices_of, repair_devices};
 pub use fault::ParityRepairFault;
 pub use nowhere::Nowhere;

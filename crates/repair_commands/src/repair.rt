@@ -77,7 +77,7 @@ fn mend_opened<'a, I: Images, W: Write>(
         copies,
     } = opened;
     let image = damaged(pair, copies);
-    let (data, hash, told) = repair_devices(alloc, image, found.whole, &plan, writer);
+    let (data, hash, _counters, told) = repair_devices(alloc, image, found.whole, &plan, writer);
     give_back(images, places, parts, data, hash);
     told
 }

@@ -1,6 +1,7 @@
+pub mod lemmas
+mod JoinLemmas
 mod LineLemmas
 mod NumberLemmas
 mod PrintedLemmas
 mod ReadLemmas
-mod RunLemmas
 mod SpliceLemmas

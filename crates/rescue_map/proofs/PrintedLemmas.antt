@@ -18,6 +18,7 @@ use Rattle.dm_table.specs.TableText.{is_skipped}
 use Rattle.dm_table.specs.Words.{Word, is_white, text_lines, words}
 use Rattle.dm_table.proofs.lemmas.ReadLineLemmas.{number-some}
 use Rattle.rescue_map.specs.declared.block.Block.{Block}
+use Rattle.rescue_map.specs.declared.block.Status.{Status}
 use Rattle.rescue_map.specs.declared.fault.MapFault.{MapFault}
 use Rattle.rescue_map.specs.declared.kind.MapKind.{MapKind}
 use Rattle.rescue_map.specs.declared.kind.MapKind.TheVariants.{Copy, Scan}
@@ -25,7 +26,7 @@ use Rattle.rescue_map.specs.declared.map.Run.{Run}
 use Rattle.rescue_map.specs.Blocks.{block_from, map_block, is_status, is_whole_block, run_at, status_of}
 use Rattle.rescue_map.specs.Kinds.{is_mark, kind_in, kind_of, mark_text, scan_mark}
 use Rattle.rescue_map.specs.Maps.{AreRuns, marks}
-use Rattle.rescue_map.specs.MapText.{blocks_text, is_tried, map_of, map_text, map_run_text, run_words, runs_behind, map_runs_from, map_runs_text, said, status_text, status_word}
+use Rattle.rescue_map.specs.MapText.{blocks_text, is_told_lost, is_tried, map_of, map_text, map_run_text, run_words, runs_behind, map_runs_from, map_runs_text, said, status_text, status_word, told_run, told_runs}
 use Rattle.rescue_map.specs.Numbers.{has_base, map_number}
 
 -- ---- words
@@ -122,19 +123,27 @@ map_number-decimal n fits = cond-false (has_base (decimal n)) _ _ (no_base-decim
 
 -- ---- lines
 
-plain-status : (no_scrape had tried : Bool) → IsPlain (status_word no_scrape had tried)
-plain-status no_scrape true tried = (omega arith, All-cons (λ b. is_white b ≡ false) 43 [] refl (All-nil (λ b. is_white b ≡ false)))
-plain-status true false true = (omega arith, All-cons (λ b. is_white b ≡ false) 47 [] refl (All-nil (λ b. is_white b ≡ false)))
-plain-status false false true = (omega arith, All-cons (λ b. is_white b ≡ false) 45 [] refl (All-nil (λ b. is_white b ≡ false)))
-plain-status no_scrape false false = (omega arith, All-cons (λ b. is_white b ≡ false) 63 [] refl (All-nil (λ b. is_white b ≡ false)))
+plain-letter : (b : ℕ) → is_white b ≡ false → IsPlain (b ∷ [])
+plain-letter b other = (omega arith, All-cons (λ b. is_white b ≡ false) b [] other (All-nil (λ b. is_white b ≡ false)))
 
-status-read : (no_scrape had tried : Bool) → status_of (status_word no_scrape had tried) ≡ Some had
-status-read no_scrape true tried = refl
-status-read true false true = refl
-status-read false false true = refl
-status-read no_scrape false false = refl
+plain-status : (no_scrape had lost tried : Bool) → IsPlain (status_word no_scrape had lost tried)
+plain-status no_scrape true lost tried = plain-letter 43 refl
+plain-status no_scrape false true tried = plain-letter 45 refl
+plain-status true false false true = plain-letter 47 refl
+plain-status false false false true = plain-letter 45 refl
+plain-status no_scrape false false false = plain-letter 63 refl
+
+status-read : (no_scrape had lost tried : Bool) → status_of (status_word no_scrape had lost tried) ≡ Some (record { had = had; lost = is_told_lost no_scrape had lost tried })
+status-read no_scrape true lost tried = refl
+status-read no_scrape false true tried = refl
+status-read true false false true = refl
+status-read false false false true = refl
+status-read no_scrape false false false = refl
 
 module _ (no_scrape : Bool) (tried : Option ℕ) (at : ℕ) (run : Run) (few : at + run.count ≤ 2 ^ 54) where
+  abbrev told_status : Status
+  told_status = record { had = run.had; lost = is_told_lost no_scrape run.had run.lost (is_tried tried (at + run.count)) }
+
   low : at * 512 < 2 ^ 64
   low = omega (arith, few)
 
@@ -144,33 +153,33 @@ module _ (no_scrape : Bool) (tried : Option ℕ) (at : ℕ) (run : Run) (few : a
   line-words : words (join_with_byte 32 (run_words no_scrape tried at run)) ≡ run_words no_scrape tried at run
   unfolding run_words
   line-words =
-      words-next (decimal (at * 512)) (decimal (run.count * 512) ++ 32 ∷ status_word no_scrape run.had (is_tried tried (at + run.count))) (plain-decimal (at * 512) low)
-      ∙ ap (λ (ws : List Word). decimal (at * 512) ∷ ws) (words-next (decimal (run.count * 512)) (status_word no_scrape run.had (is_tried tried (at + run.count))) (plain-decimal (run.count * 512) high)
-      ∙ ap (λ (ws : List Word). decimal (run.count * 512) ∷ ws) (words-last (status_word no_scrape run.had (is_tried tried (at + run.count))) (plain-status no_scrape run.had (is_tried tried (at + run.count)))))
+      words-next (decimal (at * 512)) (decimal (run.count * 512) ++ 32 ∷ status_word no_scrape run.had run.lost (is_tried tried (at + run.count))) (plain-decimal (at * 512) low)
+      ∙ ap (λ (ws : List Word). decimal (at * 512) ∷ ws) (words-next (decimal (run.count * 512)) (status_word no_scrape run.had run.lost (is_tried tried (at + run.count))) (plain-decimal (run.count * 512) high)
+      ∙ ap (λ (ws : List Word). decimal (run.count * 512) ∷ ws) (words-last (status_word no_scrape run.had run.lost (is_tried tried (at + run.count))) (plain-status no_scrape run.had run.lost (is_tried tried (at + run.count)))))
 
   line-one : All (λ b. eqb b 10 ≡ false) (join_with_byte 32 (run_words no_scrape tried at run))
   unfolding run_words
   line-one =
       let P = λ (b : ℕ). eqb b 10 ≡ false in
-      All-append P (decimal (at * 512)) (32 ∷ decimal (run.count * 512) ++ 32 ∷ status_word no_scrape run.had (is_tried tried (at + run.count))) (one_line _ (plain-decimal (at * 512) low).1)
-      (All-cons P 32 (decimal (run.count * 512) ++ 32 ∷ status_word no_scrape run.had (is_tried tried (at + run.count))) refl
-      (All-append P (decimal (run.count * 512)) (32 ∷ status_word no_scrape run.had (is_tried tried (at + run.count))) (one_line _ (plain-decimal (run.count * 512) high).1)
-      (All-cons P 32 (status_word no_scrape run.had (is_tried tried (at + run.count))) refl (one_line _ (plain-status no_scrape run.had (is_tried tried (at + run.count))).1))))
+      All-append P (decimal (at * 512)) (32 ∷ decimal (run.count * 512) ++ 32 ∷ status_word no_scrape run.had run.lost (is_tried tried (at + run.count))) (one_line _ (plain-decimal (at * 512) low).1)
+      (All-cons P 32 (decimal (run.count * 512) ++ 32 ∷ status_word no_scrape run.had run.lost (is_tried tried (at + run.count))) refl
+      (All-append P (decimal (run.count * 512)) (32 ∷ status_word no_scrape run.had run.lost (is_tried tried (at + run.count))) (one_line _ (plain-decimal (run.count * 512) high).1)
+      (All-cons P 32 (status_word no_scrape run.had run.lost (is_tried tried (at + run.count))) refl (one_line _ (plain-status no_scrape run.had run.lost (is_tried tried (at + run.count))).1))))
 
   line-said : is_skipped (run_words no_scrape tried at run) ≡ false
   unfolding run_words
   line-said = let numeral = decimal_is_IsNumeral (at * 512) low in digits-no_comment (decimal (at * 512)) numeral.0.0 numeral.0.1
 
-  line-block : map_block (run_words no_scrape tried at run) ≡ Ok (record { first = at * 512; count = run.count * 512; had = run.had })
+  line-block : map_block (run_words no_scrape tried at run) ≡ Ok (record { first = at * 512; count = run.count * 512; status = told_status })
   unfolding run_words
   line-block =
-      ap (λ o. block_from o (map_number (decimal (run.count * 512))) (status_of (status_word no_scrape run.had (is_tried tried (at + run.count))))) (map_number-decimal (at * 512) low)
-      ∙ ap (λ o. block_from (Some (at * 512)) o (status_of (status_word no_scrape run.had (is_tried tried (at + run.count))))) (map_number-decimal (run.count * 512) high)
-      ∙ ap (block_from (Some (at * 512)) (Some (run.count * 512))) (status-read no_scrape run.had (is_tried tried (at + run.count)))
+      ap (λ o. block_from o (map_number (decimal (run.count * 512))) (status_of (status_word no_scrape run.had run.lost (is_tried tried (at + run.count))))) (map_number-decimal (at * 512) low)
+      ∙ ap (λ o. block_from (Some (at * 512)) o (status_of (status_word no_scrape run.had run.lost (is_tried tried (at + run.count))))) (map_number-decimal (run.count * 512) high)
+      ∙ ap (block_from (Some (at * 512)) (Some (run.count * 512))) (status-read no_scrape run.had run.lost (is_tried tried (at + run.count)))
 
-  line-run : (sectors : ℕ) → 1 ≤ run.count → at + run.count ≤ sectors → run_at at sectors (record { first = at * 512; count = run.count * 512; had = run.had }) ≡ Ok run
+  line-run : (sectors : ℕ) → 1 ≤ run.count → at + run.count ≤ sectors → run_at at sectors (record { first = at * 512; count = run.count * 512; status = told_status }) ≡ Ok (told_run no_scrape tried at run)
   line-run sectors some inside =
-      let block : Block = record { first = at * 512; count = run.count * 512; had = run.had } in
+      let block : Block = record { first = at * 512; count = run.count * 512; status = told_status } in
       let whole : is_whole_block block ≡ true = and_from _ _ (and_from _ _ (eq-eqb (at * 512 % 512) 0 (omega arith)) (eq-eqb (run.count * 512 % 512) 0 (omega arith))) (lt-ltb 0 (run.count * 512) (omega (arith, some))) in
       let here : at * 512 / 512 ≡ at = omega arith in
       let same : run.count * 512 / 512 ≡ run.count = omega arith in
@@ -178,7 +187,7 @@ module _ (no_scrape : Bool) (tried : Option ℕ) (at : ℕ) (run : Run) (few : a
       ∙ cond-false (ltb at (at * 512 / 512)) _ _ (le-ltb at (at * 512 / 512) (omega (arith, here)))
       ∙ cond-false (ltb (at * 512 / 512) at) _ _ (le-ltb (at * 512 / 512) at (omega (arith, here)))
       ∙ cond-false (ltb (sectors - at) (run.count * 512 / 512)) _ _ (le-ltb (sectors - at) (run.count * 512 / 512) (omega (arith, same, inside)))
-      ∙ ap (λ (n : ℕ). Ok (record { count = n; had = run.had })) same
+      ∙ ap (λ (n : ℕ). Ok (record { count = n; had = run.had; lost = is_told_lost no_scrape run.had run.lost (is_tried tried (at + run.count)) })) same
 
 -- ---- texts
 
@@ -194,7 +203,7 @@ length-marks : (run : Run) (more : List Run) → length (marks (run ∷ more)) �
 length-marks run more = length-append _ (marks more) ∙ ap (λ (n : ℕ). n + length (marks more)) (length-replicate {A = Bool} run.count run.had)
 
 runs-read : (no_scrape : Bool) (tried : Option ℕ) (sectors at : ℕ) (runs : List Run) → All (λ (r : Run). 1 ≤ r.count) runs → at + length (marks runs) ≡ sectors → sectors ≤ 2 ^ 54
-    → map_runs_from sectors at (said (slice_split (λ b. eqb b 10) (map_runs_text no_scrape tried at runs))) ≡ Ok runs
+    → map_runs_from sectors at (said (slice_split (λ b. eqb b 10) (map_runs_text no_scrape tried at runs))) ≡ Ok (told_runs no_scrape tried at runs)
 unfolding words
 runs-read no_scrape tried sectors at [] each all few = cond-true (eqb at sectors) _ _ (eq-eqb at sectors (omega (arith, all)))
 runs-read no_scrape tried sectors at (run ∷ more) each all few =
@@ -208,7 +217,7 @@ runs-read no_scrape tried sectors at (run ∷ more) each all few =
     ∙ ap (map_runs_from sectors at) (said-line (join_with_byte 32 (run_words no_scrape tried at run)) (run_words no_scrape tried at run) rest (line-words no_scrape tried at run room) (line-said no_scrape tried at run room))
     ∙ ap (λ (r : Result Block MapFault). r >>= (λ (block : Block). run_at at sectors block >>= (λ (run : Run). map_runs_from sectors (at + run.count) (said rest) >>= (λ (runs : List Run). Ok (run ∷ runs))))) (line-block no_scrape tried at run room)
     ∙ ap (λ (r : Result Run MapFault). r >>= (λ (run : Run). map_runs_from sectors (at + run.count) (said rest) >>= (λ (runs : List Run). Ok (run ∷ runs)))) (line-run no_scrape tried at run room sectors some inside)
-    ∙ ap (λ (r : Result (List Run) MapFault). r >>= (λ (runs : List Run). Ok (run ∷ runs))) below
+    ∙ ap (λ (r : Result (List Run) MapFault). r >>= (λ (runs : List Run). Ok (told_run no_scrape tried at run ∷ runs))) below
 
 state-word : Option ℕ → Word
 state-word None = codes "+"
@@ -232,7 +241,7 @@ head-one (Some tried) =
     let P = λ (b : ℕ). eqb b 10 ≡ false in
     All-cons P 48 (32 ∷ 63 ∷ []) refl (All-cons P 32 (63 ∷ []) refl (All-cons P 63 [] refl (All-nil P)))
 
-blocks-read : (no_scrape : Bool) (tried : Option ℕ) (runs : List Run) → AreRuns runs → runs_behind (length (marks runs)) (said (slice_split (λ b. eqb b 10) (blocks_text no_scrape tried runs))) ≡ Ok runs
+blocks-read : (no_scrape : Bool) (tried : Option ℕ) (runs : List Run) → AreRuns runs → runs_behind (length (marks runs)) (said (slice_split (λ b. eqb b 10) (blocks_text no_scrape tried runs))) ≡ Ok (told_runs no_scrape tried 0 runs)
 blocks-read no_scrape tried runs whole =
     let sectors : ℕ = length (marks runs) in
     let rest : List (List ℕ) = slice_split (λ b. eqb b 10) (map_runs_text no_scrape tried 0 runs) in
@@ -285,8 +294,8 @@ kind-blocks no_scrape tried runs whole =
     ∙ kind-line (status_text tried) (codes "0" ∷ state-word tried ∷ []) (slice_split (λ b. eqb b 10) (map_runs_text no_scrape tried 0 runs)) (head-words tried) refl
     ∙ kind-runs no_scrape tried 0 runs (omega (arith, whole.few))
 
--- what was printed gives the runs back
-pub map-read : (kind : MapKind) (no_scrape : Bool) (tried : Option ℕ) (runs : List Run) → AreRuns runs → map_of (length (marks runs)) (map_text kind no_scrape tried runs) ≡ Ok runs
+-- what was printed gives the runs back, by their letters
+pub map-read : (kind : MapKind) (no_scrape : Bool) (tried : Option ℕ) (runs : List Run) → AreRuns runs → map_of (length (marks runs)) (map_text kind no_scrape tried runs) ≡ Ok (told_runs no_scrape tried 0 runs)
 unfolding map_of map_text text_lines words
 map-read Copy no_scrape tried runs whole = blocks-read no_scrape tried runs whole
 map-read Scan no_scrape tried runs whole =

@@ -1,10 +1,18 @@
 -- Sectors that are moved from one map to another, and totals.
 use Rattle.std.proofs.Common.{◌≡◌, ℕ, zero, suc, ◌+◌, ◌-◌, ◌≤◌, Bool, true, false, List, ◌∷◌, ◌++◌, length, take, drop, replicate, sym, ap, ◌∙◌, append_assoc, arith}
-use Rattle.std.proofs.lemmas.List.{drop-drop, length-append, length-drop, length-replicate, length-take-le, take_all}
+use Rattle.std.proofs.lemmas.List.{drop-drop, length-append, length-drop, length-replicate, length-take-le, replicate-append-replicate, take_all}
 use Rattle.rescue_map.specs.declared.map.Run.{Run}
 use Rattle.rescue_map.specs.declared.totals.Totals.{Totals}
 use Rattle.rescue_map.specs.declared.splicing.Span.{Span}
 use Rattle.rescue_map.specs.Maps.{spliced_marks, with_run}
+
+-- the first of some alike sectors
+pub replicate-parts : (n m : ℕ) (h : Bool) (rest : List Bool) → n ≤ m → replicate m h ++ rest ≡ replicate n h ++ (replicate (m - n) h ++ rest)
+replicate-parts n m h rest le =
+    let whole : n + (m - n) ≡ m = omega (arith, le) in
+    ap (λ (k : ℕ). replicate k h ++ rest) (sym whole)
+    ∙ ap (λ (l : List Bool). l ++ rest) (sym (replicate-append-replicate n (m - n) h))
+    ∙ append_assoc (replicate n h) (replicate (m - n) h) rest
 
 take-front : (n m : ℕ) (h : Bool) (rest : List Bool) → n ≤ m → take m (replicate n h ++ rest) ≡ replicate n h ++ take (m - n) rest
 take-front zero m h rest le = let same : m ≡ m - 0 = omega arith in ap (λ (k : ℕ). take k rest) same
@@ -35,12 +43,12 @@ pub length-more : (old new : List Bool) (n : ℕ) (h : Bool) → new ≡ old ++ 
 length-more old new n h e = ap length e ∙ length-append old (replicate n h) ∙ ap (λ (k : ℕ). length old + k) (length-replicate {A = Bool} n h)
 
 -- a run more
-sum-either : (t : Totals) (count : ℕ) (had : Bool) → (with_run t (record { count = count; had = had })).had + (with_run t (record { count = count; had = had })).lost ≡ t.had + t.lost + count
-sum-either t count true = omega arith
-sum-either t count false = omega arith
+sum-either : (t : Totals) (count : ℕ) (had lost : Bool) → (with_run t (record { count = count; had = had; lost = lost })).had + (with_run t (record { count = count; had = had; lost = lost })).lost ≡ t.had + t.lost + count
+sum-either t count true lost = omega arith
+sum-either t count false lost = omega arith
 
 pub sum-more : (t : Totals) (r : Run) → (with_run t r).had + (with_run t r).lost ≡ t.had + t.lost + r.count
-sum-more t r = sum-either t r.count r.had
+sum-more t r = sum-either t r.count r.had r.lost
 
 -- ---- a span of one map in another one
 

@@ -1,8 +1,12 @@
 -- The sectors of a map that remain to be processed.
 use Rattle.std.specs.Prelude.{Bool, List, ◌++◌, replicate}
 use Rattle.rescue_map.specs.declared.ahead.Ahead.{Ahead}
-use Rattle.rescue_map.specs.Maps.{marks}
+use Rattle.rescue_map.specs.Maps.{losts, marks}
 
 -- for each remaining sector, whether it was recovered
 abbrev pub marks_ahead : Ahead → List Bool
 marks_ahead a = replicate a.first.count a.first.had ++ marks a.rest.now
+
+-- and whether a read found it bad
+abbrev pub losts_ahead : Ahead → List Bool
+losts_ahead a = replicate a.first.count a.first.lost ++ losts a.rest.now

@@ -1,9 +1,10 @@
 -- The lines of a map file.
-use Rattle.std.specs.Prelude.{ℕ, ◌-◌, ◌/◌, ◌%◌, Bool, true, false, not, ◌&&◌, ◌||◌, ◌==◌, nat_lt, List, [], ◌∷◌, length, Option, Some, None, Result, Ok, Err, if◌then◌else◌}
+use Rattle.std.specs.Prelude.{ℕ, ◌-◌, ◌/◌, ◌%◌, Bool, false, not, ◌&&◌, ◌||◌, ◌==◌, nat_lt, List, [], ◌∷◌, length, Option, Some, None, Result, Ok, Err, if◌then◌else◌}
 use Rattle.std.specs.List.{slice_index}
 use Rattle.std.specs.Option.{is_some}
 use Rattle.dm_table.specs.Words.{Word}
 use Rattle.rescue_map.specs.declared.block.Block.{Block}
+use Rattle.rescue_map.specs.declared.block.Status.{Status}
 use Rattle.rescue_map.specs.declared.fault.MapFault.{MapFault}
 use Rattle.rescue_map.specs.declared.fault.MapFault.TheVariants as fault
 use Rattle.rescue_map.specs.declared.map.Run.{Run}
@@ -13,11 +14,11 @@ use Rattle.rescue_map.specs.Numbers.{map_number}
 abbrev pub is_unfinished : ℕ → Bool
 is_unfinished b = (b == 45) || (b == 63) || (b == 42) || (b == 47)
 
--- the status of a block: recovered (`+`), or one of the unfinished ones
-abbrev pub status_named : ℕ → Option Bool
-status_named b = if b == 43 then Some true else if is_unfinished b then Some false else None
+-- the status of a block: recovered (`+`), bad (`-`), or one of those that remain to be read
+abbrev pub status_named : ℕ → Option Status
+status_named b = if (b == 43) || is_unfinished b then Some (record { had = b == 43; lost = b == 45 }) else None
 
-abbrev pub status_of : Word → Option Bool
+abbrev pub status_of : Word → Option Status
 status_of word = if length word == 1 then status_named (slice_index word 0) else None
 
 -- the status of the whole: a status of a block, or `F` or `G`
@@ -32,9 +33,9 @@ is_status (pos ∷ state ∷ pass ∷ []) = is_some (map_number pos) && is_whole
 is_status other = false
 
 -- a block from its first byte, its number of bytes and its status
-abbrev pub block_from : Option ℕ → Option ℕ → Option Bool → Result Block MapFault
-block_from (Some first) (Some count) (Some had) = Ok (record { first = first; count = count; had = had })
-block_from first count had = Err fault.Block
+abbrev pub block_from : Option ℕ → Option ℕ → Option Status → Result Block MapFault
+block_from (Some first) (Some count) (Some status) = Ok (record { first = first; count = count; status = status })
+block_from first count status = Err fault.Block
 
 -- the line of a block: its position, size and status
 abbrev pub map_block : List Word → Result Block MapFault
@@ -52,4 +53,4 @@ run_at at sectors block =
     else if nat_lt at (block.first / 512) then Err fault.Gap
     else if nat_lt (block.first / 512) at then Err fault.Overlap
     else if nat_lt (sectors - at) (block.count / 512) then Err fault.Size
-    else Ok (record { count = block.count / 512; had = block.had })
+    else Ok (record { count = block.count / 512; had = block.status.had; lost = block.status.lost })

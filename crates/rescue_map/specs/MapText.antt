@@ -1,5 +1,5 @@
 -- Map files: their value for a device, or their first fault, and the text that is written.
-use Rattle.std.specs.Prelude.{◌≡◌, ℕ, ◌+◌, ◌*◌, Bool, true, not, nat_le, ◌==◌, Option, Some, None, List, [], ◌∷◌, ◌++◌, codes, decimal, filter, map, Result, Ok, Err, if◌then◌else◌}
+use Rattle.std.specs.Prelude.{◌≡◌, ℕ, ◌+◌, ◌*◌, Bool, true, not, ◌&&◌, ◌||◌, nat_le, ◌==◌, Option, Some, None, List, [], ◌∷◌, ◌++◌, codes, decimal, filter, map, Result, Ok, Err, if◌then◌else◌}
 use Rattle.std.specs.List.{join_with_byte}
 use Rattle.allocation.specs.Refusal.{IsOutOfMemory}
 use Rattle.dm_table.specs.Reading.{◌>>=◌}
@@ -43,12 +43,12 @@ is_tried None end = true
 is_tried (Some tried) end = nat_le end tried
 
 -- recovered, bad, or not scraped if the pass doesn't scrape, or not tried
-abbrev pub status_word : Bool → Bool → Bool → Word
-status_word no_scrape had tried = if had then codes "+" else if tried then (if no_scrape then codes "/" else codes "-") else codes "?"
+abbrev pub status_word : Bool → Bool → Bool → Bool → Word
+status_word no_scrape had lost tried = if had then codes "+" else if lost then codes "-" else if tried then (if no_scrape then codes "/" else codes "-") else codes "?"
 
 -- positions and sizes are in bytes and decimal
 unfoldable pub run_words : Bool → Option ℕ → ℕ → Run → List Word
-run_words no_scrape tried at run = decimal (at * 512) ∷ decimal (run.count * 512) ∷ status_word no_scrape run.had (is_tried tried (at + run.count)) ∷ []
+run_words no_scrape tried at run = decimal (at * 512) ∷ decimal (run.count * 512) ∷ status_word no_scrape run.had run.lost (is_tried tried (at + run.count)) ∷ []
 
 abbrev pub map_run_text : Bool → Option ℕ → ℕ → Run → List ℕ
 map_run_text no_scrape tried at run = join_with_byte 32 (run_words no_scrape tried at run) ++ 10 ∷ []
@@ -56,6 +56,18 @@ map_run_text no_scrape tried at run = join_with_byte 32 (run_words no_scrape tri
 abbrev pub map_runs_text : Bool → Option ℕ → ℕ → List Run → List ℕ
 map_runs_text no_scrape tried at [] = []
 map_runs_text no_scrape tried at (run ∷ more) = map_run_text no_scrape tried at run ++ map_runs_text no_scrape tried (at + run.count) more
+
+-- its letter is `-`
+abbrev pub is_told_lost : Bool → Bool → Bool → Bool → Bool
+is_told_lost no_scrape had lost tried = not had && (lost || (tried && not no_scrape))
+
+-- the runs by their letters
+abbrev pub told_run : Bool → Option ℕ → ℕ → Run → Run
+told_run no_scrape tried at run = record { count = run.count; had = run.had; lost = is_told_lost no_scrape run.had run.lost (is_tried tried (at + run.count)) }
+
+abbrev pub told_runs : Bool → Option ℕ → ℕ → List Run → List Run
+told_runs no_scrape tried at [] = []
+told_runs no_scrape tried at (run ∷ more) = told_run no_scrape tried at run ∷ told_runs no_scrape tried (at + run.count) more
 
 -- the status of the whole: finished, or copying
 abbrev pub status_text : Option ℕ → List ℕ

@@ -1,5 +1,5 @@
--- Which sectors of a device were recovered.
-use Rattle.std.specs.Prelude.{ℕ, ◌+◌, ◌^◌, ◌≤◌, ◌&&◌, ◌||◌, nat_le, Bool, true, List, [], ◌∷◌, ◌++◌, length, replicate, take, drop, All, if◌then◌else◌}
+-- Which sectors of a device were recovered, and which were found bad.
+use Rattle.std.specs.Prelude.{ℕ, ◌+◌, ◌^◌, ◌≤◌, ◌&&◌, ◌||◌, not, nat_le, Bool, true, List, [], ◌∷◌, ◌++◌, length, replicate, take, drop, All, if◌then◌else◌}
 use Rattle.std.specs.List.{flat_map}
 use Rattle.rescue_map.specs.declared.map.Run.{Run}
 use Rattle.rescue_map.specs.declared.splicing.Span.{Span}
@@ -8,6 +8,31 @@ use Rattle.rescue_map.specs.declared.totals.Totals.{Totals}
 -- for each sector, whether it was recovered
 abbrev pub marks : List Run → List Bool
 marks runs = flat_map (λ r. replicate r.count r.had) runs
+
+-- and whether a read found it bad
+abbrev pub losts : List Run → List Bool
+losts runs = flat_map (λ r. replicate r.count r.lost) runs
+
+-- the sectors of a run were recovered, or are bad and not read again
+abbrev pub is_settled : Bool → Run → Bool
+is_settled again r = r.had || (r.lost && not again)
+
+-- for each sector, whether it is so
+abbrev pub settled_marks : Bool → List Run → List Bool
+settled_marks again runs = flat_map (λ r. replicate r.count (is_settled again r)) runs
+
+-- two lists, element by element
+abbrev pub joined : (Bool → Bool → Bool) → List Bool → List Bool → List Bool
+joined f (a ∷ as_) (b ∷ bs) = f a b ∷ joined f as_ bs
+joined f as_ bs = []
+
+-- a bad sector stays bad, but not if bad ones were read again and it was recovered
+abbrev pub kept_lost : Bool → Bool → Bool → Bool
+kept_lost again lost had = lost && not (again && had)
+
+-- a sector that stays bad doesn't count as recovered
+abbrev pub kept_had : Bool → Bool → Bool → Bool
+kept_had again lost had = had && not (kept_lost again lost had)
 
 -- no run is empty, and all together have at most 2^54 sectors
 pub record AreRuns (runs : List Run) : Type 0 where
@@ -30,7 +55,7 @@ totals_from t (r ∷ more) = totals_from (with_run t r) more
 abbrev pub map_totals : List Run → Totals
 map_totals runs = totals_from (record { had = 0; lost = 0 }) runs
 
--- each run that ends after sector `from` was recovered; the first run begins at sector `at`
-abbrev pub is_had_from : ℕ → ℕ → List Run → Bool
-is_had_from from at [] = true
-is_had_from from at (r ∷ more) = (r.had || nat_le (at + r.count) from) && is_had_from from (at + r.count) more
+-- each run that ends after sector `from` was recovered or is bad; the first run begins at sector `at`
+abbrev pub is_settled_from : ℕ → ℕ → List Run → Bool
+is_settled_from from at [] = true
+is_settled_from from at (r ∷ more) = (r.had || (r.lost || nat_le (at + r.count) from)) && is_settled_from from (at + r.count) more

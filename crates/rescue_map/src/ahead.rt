@@ -1,7 +1,7 @@
 //! The sectors of a map that remain to be processed.
 ghost use Rattle.std.specs.Prelude.{◌≡◌, ◌≤◌, ◌++◌, [], replicate, false, length};
-ghost use Rattle.rescue_map.specs.Aheads.{marks_ahead};
-ghost use Rattle.rescue_map.specs.Maps.{marks};
+ghost use Rattle.rescue_map.specs.Aheads.{losts_ahead, marks_ahead};
+ghost use Rattle.rescue_map.specs.Maps.{losts, marks};
 
 use crate::map::{Map, Run};
 
@@ -15,24 +15,30 @@ pub struct Ahead<'a> {
 impl<'a> Ahead<'a> {
     /// Returns all sectors of a map.
     pub fn of_map(map: &'a Map) -> Ahead<'a>
-        ensures { marks_ahead result ≡ marks map.now }
+        ensures marks { marks_ahead result ≡ marks map.now }
+        ensures lost { losts_ahead result ≡ losts map.now }
     {
         Ahead {
             first: Run {
                 count: 0,
                 had: false,
+                lost: false,
             },
             rest: map.runs(),
         }
     }
 
-    /// Returns `count` sectors that weren't recovered.
+    /// Returns `count` sectors that remain to be read.
     pub fn unread(count: u64) -> Ahead<'a>
         ensures marks { marks_ahead result ≡ replicate count false }
         ensures single { result.rest.now ≡ [] }
     {
         Ahead {
-            first: Run { count, had: false },
+            first: Run {
+                count,
+                had: false,
+                lost: false,
+            },
             rest: &[],
         }
     }
@@ -41,6 +47,7 @@ impl<'a> Ahead<'a> {
     pub fn next_run(&mut self) -> Run
         requires { 1 ≤ length (marks_ahead self.old) }
         ensures same { marks_ahead self.new ≡ marks_ahead self.old }
+        ensures lost { losts_ahead self.new ≡ losts_ahead self.old }
         ensures first { result ≡ self.new.first }
         ensures some { 1 ≤ result.count }
         ensures single { self.old.rest.now ≡ [] → self.new.rest.now ≡ [] }
@@ -56,6 +63,7 @@ impl<'a> Ahead<'a> {
     pub fn pass(&mut self, count: u64)
         requires { count ≤ self.old.first.count }
         ensures marks { marks_ahead self.old ≡ replicate count self.old.first.had ++ marks_ahead self.new }
+        ensures lost { losts_ahead self.old ≡ replicate count self.old.first.lost ++ losts_ahead self.new }
         ensures rest { self.new.rest.now ≡ self.old.rest.now }
     {
         self.first.count -= count;

@@ -9,12 +9,19 @@ use crate::map::Run;
 use crate::numbers::map_number;
 use table_text::Words;
 
-/// A block of `count` bytes from `first` on, and whether it was recovered.
+/// A block of `count` bytes from `first` on, and its status.
 #[derive(Clone, Copy)]
 pub(crate) struct Block {
     pub(crate) first: u64,
     pub(crate) count: u64,
+    pub(crate) status: Status,
+}
+
+/// Whether the sectors of a block were recovered, or a read found them bad.
+#[derive(Clone, Copy)]
+pub(crate) struct Status {
     pub(crate) had: bool,
+    pub(crate) lost: bool,
 }
 
 // Returns whether the status is bad, not tried, not trimmed or not scraped.
@@ -24,18 +31,19 @@ fn is_unfinished(status: u8) -> bool
     status == b'-' || status == b'?' || status == b'*' || status == b'/'
 }
 
-// Returns whether a block was recovered, or `None` for an unknown status.
-fn status_of(word: &[u8]) -> Option<bool>
+// Returns the status of a block, or `None` for an unknown one.
+fn status_of(word: &[u8]) -> Option<Status>
     ensures { result ≡ status_of word.now }
 {
     if word.len() != 1 {
         return None;
     }
-    if word[0] == b'+' {
-        return Some(true);
-    }
-    if is_unfinished(word[0]) {
-        return Some(false);
+    let letter = word[0];
+    if letter == b'+' || is_unfinished(letter) {
+        return Some(Status {
+            had: letter == b'+',
+            lost: letter == b'-',
+        });
     }
     None
 }
@@ -82,8 +90,12 @@ pub(crate) fn read_block(line: &[u8]) -> Result<Block, MapFault>
     }
     let first = map_number(pos).ok_or(MapFault::Block)?;
     let count = map_number(size).ok_or(MapFault::Block)?;
-    let had = status_of(status).ok_or(MapFault::Block)?;
-    Ok(Block { first, count, had })
+    let status = status_of(status).ok_or(MapFault::Block)?;
+    Ok(Block {
+        first,
+        count,
+        status,
+    })
 }
 
 // Returns whether the block consists of whole sectors, at least one.
@@ -124,6 +136,7 @@ pub(crate) fn run_at(at: u64, sectors: u64, block: Block) -> Result<Run, MapFaul
     }
     Ok(Run {
         count,
-        had: block.had,
+        had: block.status.had,
+        lost: block.status.lost,
     })
 }

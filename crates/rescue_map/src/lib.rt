@@ -1,25 +1,29 @@
-//! Map files of GNU ddrescue: which sectors of a device were recovered, and which remain to be read.
+//! Map files of GNU ddrescue: which sectors of a device were recovered, are bad, or remain to be read.
 #![tactic(auto)]
 
 mod ahead;
 mod block;
 mod fault;
+mod keeping;
 mod kind;
 mod lines;
 mod lost;
 mod map;
 mod numbers;
 mod print;
+mod settling;
 mod splicing;
 mod text;
 mod totals;
 
 pub use ahead::Ahead;
 pub use fault::MapFault;
+pub use keeping::keep_lost;
 pub use kind::{MapKind, kind_of};
 pub use lost::lost_parts;
 pub use map::{Map, Run};
 pub use print::print_map;
+pub use settling::settled;
 pub use splicing::{Span, splice};
 pub use text::parse_map;
-pub use totals::{Totals, is_had, is_had_from, sectors_of, totals_of};
+pub use totals::{Totals, is_had, is_settled_from, sectors_of, totals_of};

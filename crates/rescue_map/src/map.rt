@@ -1,24 +1,33 @@
-//! Which sectors of a device were recovered.
-ghost use Rattle.std.specs.Prelude.{◌≡◌, ◌+◌, ◌^◌, ◌≤◌, [], ◌∷◌, ◌++◌, length, replicate, MatchResult};
+//! Which sectors of a device were recovered, and which were found bad.
+ghost use Rattle.std.specs.Prelude.{◌≡◌, ◌+◌, ◌^◌, ◌≤◌, [], ◌∷◌, ◌++◌, false, length, replicate, IfOk, IsTrue, MatchResult, OnOk};
 ghost use Rattle.allocation.specs.Asked.{asked};
-ghost use Rattle.rescue_map.specs.Maps.{AreRuns, marks};
+ghost use Rattle.rescue_map.specs.Maps.{AreRuns, losts, marks};
 
 use allocation::{OutOfMemory, push};
 use std::alloc::Global;
 use std::marker::Model;
 
-/// A run of sectors, and whether they were recovered.
+/// A run of sectors: they were recovered (`had`), a read found them bad (`lost`), or they remain to be read.
 #[derive(Clone, Copy, Debug, PartialEq, Eq)]
 pub struct Run {
     pub count: u64,
     pub had: bool,
+    pub lost: bool,
 }
 
-/// Which sectors were recovered, as non-empty runs from the first sector on.
+/// Which sectors were recovered or found bad, as non-empty runs from the first sector on.
 #[derive(Drop)]
 pub struct Map {
     runs: Vec<Run>,
     ghost whole: { AreRuns runs.items },
+}
+
+// Returns whether the sectors of two runs are in the same state.
+fn is_alike(a: Run, b: Run) -> bool
+    ensures had { IsTrue result → a.had ≡ b.had }
+    ensures lost { IsTrue result → a.lost ≡ b.lost }
+{
+    a.had == b.had && a.lost == b.lost
 }
 
 impl Model for Map {
@@ -41,20 +50,25 @@ impl Map {
         }
     }
 
-    /// Returns a map of `count` sectors that all were recovered, or all weren't.
+    /// Returns a map of `count` sectors that all were recovered, or all remain to be read.
     ///
     /// # Errors
     ///
     /// `OutOfMemory` if the allocation of room for one run fails.
     pub fn filled(alloc: Global, count: u64, had: bool) -> Result<Map, OutOfMemory>
         requires { count ≤ 2 ^ 54 }
-        ensures { MatchResult result
+        ensures marks { MatchResult result
             (λ map. marks map ≡ replicate count had)
             (λ e. asked e ≡ 1) }
+        ensures lost { IfOk result (λ map. losts map ≡ replicate count false) }
     {
         let mut map = Map::new(alloc);
         if count > 0 {
-            map.push(Run { count, had })?;
+            map.push(Run {
+                count,
+                had,
+                lost: false,
+            })?;
         }
         Ok(map)
     }
@@ -87,12 +101,13 @@ impl Map {
     pub fn push(&mut self, run: Run) -> Result<(), OutOfMemory>
         requires some { 1 ≤ run.count }
         requires room { length (marks self.old) + run.count ≤ 2 ^ 54 }
-        ensures { MatchResult result
+        ensures marks { MatchResult result
             (λ _. marks self.new ≡ marks self.old ++ replicate run.count run.had)
             (λ e. (self.new ≡ self.old) × (asked e ≡ 1)) }
+        ensures lost { OnOk result (losts self.new ≡ losts self.old ++ replicate run.count run.lost) }
     {
         let end = self.runs.len();
-        if end > 0 && self.runs[end - 1].had == run.had {
+        if end > 0 && is_alike(self.runs[end - 1], run) {
             self.runs[end - 1].count += run.count;
             return Ok(());
         }

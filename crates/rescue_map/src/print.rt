@@ -4,7 +4,7 @@ ghost use Rattle.allocation.specs.Asked.{asked};
 ghost use Rattle.allocation.specs.Refusal.{IsOutOfMemory};
 ghost use Rattle.rescue_map.specs.Kinds.{kind_of, mark_text};
 ghost use Rattle.rescue_map.specs.Maps.{marks};
-ghost use Rattle.rescue_map.specs.MapText.{is_tried, map_of, map_text, map_run_text, status_text, status_word};
+ghost use Rattle.rescue_map.specs.MapText.{is_tried, map_of, map_text, map_run_text, status_text, status_word, told_runs};
 
 use crate::kind::MapKind;
 use crate::map::{Map, Run};
@@ -14,8 +14,8 @@ use std::alloc::Global;
 
 /// Returns the text of a map: the mark of a scan, a status line, and a line for each run, in bytes. If `tried` is
 /// `None`, all sectors were tried, and the status is finished. Otherwise only the sectors before `tried` were tried,
-/// the status is copying, and a run of sectors that weren't recovered is `-` if it ends there or before, and `?` if
-/// it doesn't. With `no_scrape` it is `/` in place of `-`.
+/// the status is copying. A run of bad sectors is `-`; one that remains to be read is `-` too, or `/` with `no_scrape`, if it
+/// ends at `tried` or before, and else `?`.
 ///
 /// # Errors
 ///
@@ -29,7 +29,7 @@ pub fn print_map(
 ) -> Result<Vec<u8>, OutOfMemory>
     ensures text { IfOk result (λ text. text.items ≡ map_text kind no_scrape tried map.now) }
     ensures kind { IfOk result (λ text. kind_of text.items ≡ kind) }
-    ensures reads_back { IfOk result (λ text. map_of (length (marks map.now)) text.items ≡ Ok map.now) }
+    ensures reads_back { IfOk result (λ text. map_of (length (marks map.now)) text.items ≡ Ok (told_runs no_scrape tried 0 map.now)) }
     ensures err { OnErr result (IsOutOfMemory 40) }
 {
     let mut text = copied(alloc, mark_line(kind))?;
@@ -79,7 +79,7 @@ fn print_run(
     push(text, b' ')?;
     append(
         text,
-        status_word(no_scrape, run.had, is_tried(tried, at + run.count)),
+        status_word(no_scrape, run, is_tried(tried, at + run.count)),
     )?;
     push(text, b'\n')?;
     Ok(())
@@ -103,12 +103,15 @@ fn is_tried(tried: Option<u64>, end: u64) -> bool
     }
 }
 
-fn status_word(no_scrape: bool, had: bool, tried: bool) -> &'static [u8]
-    ensures value { result.now ≡ status_word no_scrape had tried }
+fn status_word(no_scrape: bool, run: Run, tried: bool) -> &'static [u8]
+    ensures value { result.now ≡ status_word no_scrape run.had run.lost tried }
     ensures short { length result.now ≤ 40 }
 {
-    if had {
+    if run.had {
         return b"+";
+    }
+    if run.lost {
+        return b"-";
     }
     if !tried {
         return b"?";

@@ -66,6 +66,7 @@ fn move_marks(map: &mut Map, ahead: &mut Ahead<'_>, count: u64) -> Result<(), Ou
         map.push(Run {
             count,
             had: run.had,
+            lost: run.lost,
         })?;
         ahead.pass(count);
         left -= count;

@@ -1,7 +1,7 @@
 //! The numbers of recovered and other sectors of a map.
 ghost use Rattle.std.specs.Prelude.{◌≡◌, ◌+◌, ◌<◌, ◌^◌, ◌||◌, length, nat_le};
 ghost use Rattle.std.specs.List.{list_all};
-ghost use Rattle.rescue_map.specs.Maps.{is_had_from, map_totals, marks, with_run};
+ghost use Rattle.rescue_map.specs.Maps.{is_settled_from, map_totals, marks, with_run};
 
 use crate::map::{Map, Run};
 
@@ -19,9 +19,9 @@ pub fn is_had(map: &Map) -> bool
     map.runs().iter().all(|run| run.had)
 }
 
-/// Returns whether each run of a map that ends after sector `from` was recovered, so that none is left to be read there.
-pub fn is_had_from(map: &Map, from: u64) -> bool
-    ensures { result ≡ is_had_from from 0 map.now }
+/// Returns whether each run of a map that ends after sector `from` was recovered or is bad, so that none remains to be read there.
+pub fn is_settled_from(map: &Map, from: u64) -> bool
+    ensures { result ≡ is_settled_from from 0 map.now }
 {
     let mut at = 0;
     for run in map.runs() {
@@ -34,11 +34,11 @@ pub fn is_had_from(map: &Map, from: u64) -> bool
     true
 }
 
-// Whether a run that ends before sector `end` was recovered or ends before sector `from`.
+// Whether a run that ends before sector `end` was recovered, is bad or ends before sector `from`.
 fn is_done(run: Run, end: u64, from: u64) -> bool
-    ensures { result ≡ (run.had || nat_le end from) }
+    ensures { result ≡ (run.had || (run.lost || nat_le end from)) }
 {
-    run.had || end <= from
+    run.had || run.lost || end <= from
 }
 
 fn with_run(totals: Totals, run: Run) -> Totals

@@ -2,6 +2,7 @@ pub mod OpeningLemmas
 mod PassLemmas
 pub mod ReportLemmas
 mod ChartLemmas
+mod KnownLemmas
 mod MapFileLemmas
 mod TurnLemmas
 mod RetryTurnLemmas

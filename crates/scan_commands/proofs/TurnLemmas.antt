@@ -133,7 +133,7 @@ refused-skim by_map before d old new short = refused short.refused
     refused (inr map) = out_of_memory-more 1 largest_allocation (omega arith) map
 
 pub stops-reading : {S : Type 0} (k : Kept S) (phase : Phase) (now : Progressed S) (span : Span) (end : ℕ) (before : List Bool) (new : Sides) (fault : RecoveryFault)
-    → IsSpan k.sectors now.at span end → before ≡ asked_marks span k.sectors now.runs → EndsSectors phase before k.scan now.sides new fault → StopsIn k phase now now.images new (recovery_ending fault)
+    → IsSpan k.sectors now.at span end → before ≡ asked_marks phase span k.sectors now.runs → EndsSectors phase before k.scan now.sides new fault → StopsIn k phase now now.images new (recovery_ending fault)
 stops-reading k Skim now span end before new recovery.NoMemory next wanted e = (
   refl,
   e.0.unfailed,

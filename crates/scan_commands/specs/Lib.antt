@@ -4,6 +4,7 @@ pub mod Reports
 pub mod Scans
 pub mod Passes
 pub mod PassesInTurns
+pub mod Known
 pub mod MapFiles
 pub mod MapTexts
 pub mod Turns

@@ -10,7 +10,7 @@ use Rattle.rescue_map.specs.declared.kind.MapKind.{MapKind}
 use Rattle.rescue_map.specs.declared.kind.MapKind.TheVariants.{Copy, Scan}
 use Rattle.rescue_map.specs.declared.map.Run.{Run}
 use Rattle.rescue_map.specs.Kinds.{kind_of}
-use Rattle.rescue_map.specs.Maps.{marks}
+use Rattle.rescue_map.specs.Maps.{losts, marks}
 use Rattle.rescue_map.specs.MapText.{IsMapAnswer, map_of}
 use Rattle.scan_commands.specs.declared.rescue_fault.PassFault.{PassFault}
 use Rattle.scan_commands.specs.declared.map_file.MapPath.{MapPath}
@@ -37,15 +37,19 @@ abbrev pub continues : MapKind → MapKind → Bool
 continues Copy Scan = false
 continues kind read = true
 
--- for each sector, whether it was read before: by the runs of a text, if they are continued
+-- for each sector, whether it was read before, and whether it is bad: by the runs of a text, if they are continued
 abbrev pub marks_before : MapKind → List ℕ → ℕ → List Run → List Bool
 marks_before kind text sectors runs = if continues kind (kind_of text) then marks runs else replicate sectors false
+
+abbrev pub losts_before : MapKind → List ℕ → ℕ → List Run → List Bool
+losts_before kind text sectors runs = if continues kind (kind_of text) then losts runs else replicate sectors false
 
 -- the runs that a map of a kind begins with, if a text is a map of a device of so many sectors
 pub record IsMapOfText (kind : MapKind) (text : List ℕ) (sectors : ℕ) (runs : List Run) : Type 0 where
   pub read : List Run
   pub says : map_of sectors text ≡ Ok read
   pub before : marks runs ≡ marks_before kind text sectors read
+  pub bad : losts runs ≡ losts_before kind text sectors read
 
 -- the path of a map file, and the kind of map that is kept there
 pub record MapPathRecord : Type 0 where
@@ -68,10 +72,15 @@ pub record IsMapTold {S D : Type 0} (w : Calls S D) (file : MapPathRecord) (sect
   pub told : TellsMap w file.path text
   pub says : IsMapOfText file.kind text.bytes.items sectors runs
 
+-- no sector was read before or is bad
+pub record IsUnread (sectors : ℕ) (runs : List Run) : Type 0 where
+  pub marks_is : marks runs ≡ replicate sectors false
+  pub losts_is : losts runs ≡ replicate sectors false
+
 -- there is no file, and no sector was read before
 pub record IsMapNew {S D : Type 0} (w : Calls S D) (path : List ℕ) (sectors : ℕ) (runs : List Run) : Type 0 where
   pub missing : w.relations.tells w.old path most_map (Err NotFound) w.new
-  pub unread : marks runs ≡ replicate sectors false
+  pub unread : IsUnread sectors runs
 
 abbrev pub IsMapRead : {S D : Type 0} → Calls S D → MapPathRecord → ℕ → List Run → Type 0
 IsMapRead w file sectors runs = IsMapTold w file sectors runs ⊎ IsMapNew w file.path sectors runs

@@ -6,9 +6,11 @@ use Rattle.rescue_map.specs.Maps.{map_totals}
 use Rattle.rescue_map.specs.declared.totals.Totals.{Totals}
 use Rattle.stack_engine.specs.Stacks.{StackRecord}
 use Rattle.stack_recovery.specs.declared.recovery.Counts.{Counts}
-use Rattle.stack_recovery.specs.Listings.{Listed}
+use Rattle.stack_recovery.specs.Listings.{Listed, Tells}
 use Rattle.stack_recovery.specs.Recoveries.{Sides, sides}
 use Rattle.stack_recovery.specs.Retries.{AfterPass, IsEnough, Steps, after_pass}
+use Rattle.stack_recovery.specs.Texts.{lost_text}
+use Rattle.scan_commands.specs.Known.{known_lost}
 use Rattle.scan_commands.specs.declared.phase.Phase.{Phase}
 use Rattle.scan_commands.specs.declared.phase.Phase.TheVariants.{Rescue, Retry, Skim}
 use Rattle.scan_commands.specs.declared.rescue_fault.PassFault.{PassFault}
@@ -44,15 +46,18 @@ IsSilentTurns k n old new = (before : Listed) × (after : Listed) × (untried : 
 abbrev pub RetriesInTurns : {S : Type 0} → Kept S → ℕ → AfterTurns S → ℕ → AfterTurns S → Type 0
 RetriesInTurns k retries old passes new = Steps (IsSilentTurns k) old passes new × IsEnough retries passes new.left.map
 
--- The first pass, those that report nothing, and the last one, with a map between them. The counts are those of the last pass.
+-- The first pass, those that report nothing, and the last one, with a map between them. Before the last pass bad sectors that it doesn't
+-- read again were reported. The counts are those of the last pass.
 pub record RescuesInTurns {S : Type 0} (k : Kept S) (retries : ℕ) (first : Progressed S) (images : S) (sides : Sides) (counts : Counts) : Type 0 where
   pub between : Progressed S
   pub passes : ℕ
   pub left : AfterTurns S
   pub made : ReadMap
+  pub told : Listed
   pub skims : ReadsInTurns k Skim first between.images between.sides (made_map between.runs between.untried)
   pub again : RetriesInTurns k retries (after_turns between.images between.sides.stack between.sides.out between.runs) passes left
-  pub rescues : ReadsInTurns k (phase_after passes) (pass_from left between.sides.printed) images sides made
+  pub known : Tells between.sides.printed told (lost_text (known_lost passes left.left.map))
+  pub rescues : ReadsInTurns k (phase_after passes) (pass_from left told) images sides made
   pub counted : counts ≡ counts_of (map_totals made.map) made.untried
 
 -- ---- a pass that ended early
@@ -67,12 +72,14 @@ pub record EndsRetries {S : Type 0} (k : Kept S) (retries : ℕ) (old : AfterTur
   pub few : passes < retries
   pub ends : IsPassTurnsEnd k (phase_after passes) (pass_from left before) images (sides stack out after) fault
 
--- the last pass ended early
+-- the last pass ended early, before which bad sectors that it doesn't read again were reported
 pub record EndsLastTurns {S : Type 0} (k : Kept S) (retries : ℕ) (old : AfterTurns S) (printed : Listed) (images : S) (new : Sides) (fault : PassFault) : Type 0 where
   pub left : AfterTurns S
   pub passes : ℕ
+  pub told : Listed
   pub again : RetriesInTurns k retries old passes left
-  pub ends : IsPassTurnsEnd k (phase_after passes) (pass_from left printed) images new fault
+  pub known : Tells printed told (lost_text (known_lost passes left.left.map))
+  pub ends : IsPassTurnsEnd k (phase_after passes) (pass_from left told) images new fault
 
 abbrev pub EndsLaterTurns : {S : Type 0} → Kept S → ℕ → AfterTurns S → Listed → S → Sides → PassFault → Type 0
 EndsLaterTurns k retries old printed images new fault =

@@ -69,7 +69,7 @@ abbrev pub backing_text : BackingRecord → List ℕ
 backing_text (file path writable) = codes " file " ++ shown_path path
 backing_text (part path writable at) = codes " file " ++ shown_path path
 backing_text (partition path writable named) = codes " file " ++ shown_path path
-backing_text (mapped path map_file) = codes " file " ++ shown_path path
+backing_text (mapped path map_file within) = codes " file " ++ shown_path path
 backing_text (zeros sectors) = []
 backing_text (ramp sectors) = []
 

@@ -1,11 +1,11 @@
 -- A device that is read by a pass in turns, with its map file replaced after each turn.
-use Rattle.std.specs.Prelude.{◌≡◌, ◌⊎◌, ℕ, ◌+◌, ◌-◌, ◌*◌, ◌/◌, ◌<◌, ◌≤◌, max, min, Bool, true, IsTrue, List, length, replicate, Option, Some, None, Result, Ok, Err, if◌then◌else◌}
+use Rattle.std.specs.Prelude.{◌≡◌, ◌⊎◌, ℕ, ◌+◌, ◌-◌, ◌*◌, ◌/◌, ◌<◌, ◌≤◌, max, min, Bool, true, false, IsTrue, List, length, replicate, Option, Some, None, Result, Ok, Err, if◌then◌else◌}
 use Rattle.std.specs.List.{list_all}
 use Rattle.allocation.specs.Refusal.{IsOutOfMemory}
 use Rattle.block_device.specs.Device.{Device, HasFailed, IsUnsynced, capped, synced}
 use Rattle.rescue_map.specs.declared.map.Run.{Run}
 use Rattle.rescue_map.specs.declared.splicing.Span.{Span}
-use Rattle.rescue_map.specs.Maps.{is_had_from, marks, spliced_marks}
+use Rattle.rescue_map.specs.Maps.{is_settled_from, joined, kept_had, kept_lost, losts, marks, settled_marks, spliced_marks}
 use Rattle.rescue_map.specs.MapText.{map_text}
 use Rattle.stack_recovery.specs.declared.deadline.Deadline.{Deadline}
 use Rattle.stack_recovery.specs.declared.deadline.DevicePass.{DevicePass}
@@ -64,15 +64,28 @@ made_map runs untried = record { map = runs; untried = untried }
 unfoldable pub turn_len : ℕ → ℕ
 turn_len sectors = max 131072 ((sectors / 524288 + 1) * 8)
 
--- the marks that a turn reads by: those of the map in the span; all other sectors count as read before, so that they aren't
--- read
-abbrev pub asked_marks : Span → ℕ → List Run → List Bool
-asked_marks span sectors runs = spliced_marks span (replicate sectors true) (marks runs)
+-- whether a pass reads bad sectors again
+abbrev pub is_again : Phase → Bool
+is_again Skim = false
+is_again Rescue = false
+is_again Retry = true
+
+-- the marks that a turn reads by: those of the map in the span, where bad sectors that the pass doesn't read again count as read;
+-- all other sectors count as read before, so that they aren't read
+abbrev pub asked_marks : Phase → Span → ℕ → List Run → List Bool
+asked_marks phase span sectors runs = spliced_marks span (replicate sectors true) (settled_marks (is_again phase) runs)
+
+-- the marks after a turn that made a map of the span, and which sectors are bad: those before it, but not those that were read again
+abbrev pub left_marks : Phase → Span → List Run → List Run → List Bool
+left_marks phase span runs made = joined (kept_had (is_again phase)) (losts runs) (spliced_marks span (marks runs) (marks made))
+
+abbrev pub left_losts : Phase → Span → List Run → List Run → List Bool
+left_losts phase span runs made = joined (kept_lost (is_again phase)) (losts runs) (spliced_marks span (marks runs) (marks made))
 
 -- The status of a map file after the sectors before `end` were read in a pass: those before some sector were tried, or all, if
 -- none is left to be read from there on. Before a retry all were tried.
 abbrev pub tried_from : ℕ → List Run → Option ℕ
-tried_from from runs = if is_had_from from 0 runs then None else Some from
+tried_from from runs = if is_settled_from from 0 runs then None else Some from
 
 abbrev pub tried_before : Phase → List Run → ℕ → Option ℕ
 tried_before Skim runs end = tried_from 0 runs
@@ -100,7 +113,7 @@ ReadsSectors later before scan old made new = ReadsLeft before scan old made new
 abbrev pub span_between : ℕ → ℕ → Span
 span_between first end = record { first = first; count = end - first }
 
--- A turn, of the next sectors or the first of them. Those that weren't read before were read, and the readable ones were copied to the
+-- A turn, of the next sectors or the first of them. Those that weren't read before, nor are bad and not read again, were read, and the readable ones were copied to the
 -- other device, which was synced. Then the map file was replaced by the new map.
 pub record IsTurn {S : Type 0} (k : Kept S) (phase : Phase) (old new : Progressed S) : Type 0 where
   pub span : Span
@@ -108,27 +121,28 @@ pub record IsTurn {S : Type 0} (k : Kept S) (phase : Phase) (old new : Progresse
   pub next : IsSpan k.sectors old.at span end
   pub left : Sides
   pub made : ReadMap
-  pub reads : ReadsSectors phase (asked_marks span k.sectors old.runs) k.scan old.sides made left
+  pub reads : ReadsSectors phase (asked_marks phase span k.sectors old.runs) k.scan old.sides made left
   pub on_medium : new.sides ≡ sides left.stack (synced left.out) left.printed
   pub some : old.at < new.at
   pub here : new.at ≡ min end (length (marks made.map))
-  pub map : marks new.runs ≡ spliced_marks (span_between old.at new.at) (marks old.runs) (marks made.map)
+  pub map : marks new.runs ≡ left_marks phase (span_between old.at new.at) old.runs made.map
+  pub bad : losts new.runs ≡ left_losts phase (span_between old.at new.at) old.runs made.map
   pub untried : new.untried ≡ capped (old.untried + made.untried)
   pub written : k.replaces old.images k.file.path (map_text k.file.kind k.scan.no_scrape (tried_before phase new.runs new.at) new.runs) (Ok tt) new.images
 
--- all of the next sectors were read before, so that nothing is done
-pub record IsSkipped {S : Type 0} (k : Kept S) (old new : Progressed S) : Type 0 where
+-- all of the next sectors were read before or are bad and not read again, so that nothing is done
+pub record IsSkipped {S : Type 0} (k : Kept S) (phase : Phase) (old new : Progressed S) : Type 0 where
   pub span : Span
   pub next : IsSpan k.sectors old.at span new.at
   pub runs : List Run
-  pub asked : marks runs ≡ asked_marks span k.sectors old.runs
+  pub asked : marks runs ≡ asked_marks phase span k.sectors old.runs
   pub none : list_all (λ run. run.had) runs ≡ true
   pub same : new ≡ record old { at = new.at }
 
 pub data Turns {S : Type 0} (k : Kept S) (phase : Phase) (first : Progressed S) : Progressed S → Type 0 where
   begins : Turns k phase first first
   goes_on : {now next : Progressed S} → Turns k phase first now → IsTurn k phase now next → Turns k phase first next
-  passes : {now next : Progressed S} → Turns k phase first now → IsSkipped k now next → Turns k phase first next
+  passes : {now next : Progressed S} → Turns k phase first now → IsSkipped k phase now next → Turns k phase first next
 
 -- the turns of a whole pass, which result in this map
 abbrev pub ReadsInTurns : {S : Type 0} → Kept S → Phase → Progressed S → S → Sides → ReadMap → Type 0
@@ -152,7 +166,7 @@ IsUnfailed old new = new.out.failures ≡ old.out.failures
 pub record FailsToSyncTurn {S : Type 0} (k : Kept S) (phase : Phase) (span : Span) (now : Progressed S) (new : Sides) : Type 0 where
   pub left : Sides
   pub made : ReadMap
-  pub reads : ReadsSectors phase (asked_marks span k.sectors now.runs) k.scan now.sides made left
+  pub reads : ReadsSectors phase (asked_marks phase span k.sectors now.runs) k.scan now.sides made left
   pub unsynced : IsUnsynced left.out new.out
   pub stack : new.stack ≡ left.stack
   pub printed : new.printed ≡ left.printed
@@ -167,7 +181,7 @@ pub record FailsInTurn {S : Type 0} (k : Kept S) (phase : Phase) (now : Progress
   pub span : Span
   pub end : ℕ
   pub next : IsSpan k.sectors now.at span end
-  pub fails : FailsToWrite phase (asked_marks span k.sectors now.runs) k.scan now.sides new ⊎ FailsToSyncTurn k phase span now new
+  pub fails : FailsToWrite phase (asked_marks phase span k.sectors now.runs) k.scan now.sides new ⊎ FailsToSyncTurn k phase span now new
 
 -- memory ran out for a read of the pass or for its map; the lines printed are the first of those of the pass
 abbrev pub RunsOut : Phase → List Bool → Scanned → Sides → Sides → Type 0
@@ -179,7 +193,7 @@ pub record RunsOutInTurn {S : Type 0} (k : Kept S) (phase : Phase) (now : Progre
   pub span : Span
   pub end : ℕ
   pub next : IsSpan k.sectors now.at span end
-  pub short : RunsOut phase (asked_marks span k.sectors now.runs) k.scan now.sides new
+  pub short : RunsOut phase (asked_marks phase span k.sectors now.runs) k.scan now.sides new
 
 -- The sectors of the next turn were done, and the output device was synced.
 pub record EndsUnmapped {S : Type 0} (k : Kept S) (phase : Phase) (now : Progressed S) (new : Sides) : Type 0 where
@@ -188,7 +202,7 @@ pub record EndsUnmapped {S : Type 0} (k : Kept S) (phase : Phase) (now : Progres
   pub next : IsSpan k.sectors now.at span end
   pub left : Sides
   pub made : ReadMap
-  pub reads : ReadsSectors phase (asked_marks span k.sectors now.runs) k.scan now.sides made left
+  pub reads : ReadsSectors phase (asked_marks phase span k.sectors now.runs) k.scan now.sides made left
   pub on_medium : new ≡ sides left.stack (synced left.out) left.printed
 
 -- the next turn wasn't begun, was ended by a read, or lacks its map alone

@@ -6,6 +6,7 @@ mod chart;
 mod copy;
 mod device_lines;
 mod devices;
+mod known;
 mod lost_json;
 mod map_file;
 mod map_texts;
@@ -20,6 +21,7 @@ mod scan;
 mod tree;
 mod tree_place;
 mod tree_rows;
+mod turn_map;
 mod turns;
 
 pub use copy::{CopyPlan, copy_device};

@@ -3,7 +3,7 @@ ghost use Rattle.std.specs.Prelude.{◌≡◌, ◌^◌, ◌≤◌, false, length
 ghost use Rattle.allocation.specs.Refusal.{IsOutOfMemory};
 ghost use Rattle.image_files.specs.Opener.{calls};
 ghost use Rattle.rescue_map.specs.Maps.{marks};
-ghost use Rattle.scan_commands.specs.MapFiles.{IsMapOfText, IsMapUnread, IsTextUnread, ReadsMap, continues, is_missing, map_at, map_path_of};
+ghost use Rattle.scan_commands.specs.MapFiles.{IsMapOfText, IsMapUnread, IsTextUnread, IsUnread, ReadsMap, continues, is_missing, map_at, map_path_of};
 ghost use Rattle.scan_commands.specs.declared.rescue_fault.PassFault.TheVariants as pass_fault;
 
 use crate::phase::Phase;
@@ -114,10 +114,10 @@ fn is_missing(fault: OpenFault) -> bool
     }
 }
 
-// A map of so many sectors, none of which was read before.
+// A map of so many sectors, none of which was read before or is bad.
 fn new_map<'a>(alloc: Global, sectors: u64) -> Result<Map, PassFault<'a>>
     requires { sectors ≤ 2 ^ 54 }
-    ensures ok { IfOk result (λ map. marks map ≡ replicate sectors false) }
+    ensures ok { IfOk result (IsUnread sectors) }
     ensures err { IfErr result (λ fault. (fault ≡ pass_fault.NoMemory) × IsOutOfMemory 1) }
 {
     Ok(Map::filled(alloc, sectors, false)?)

@@ -3,6 +3,7 @@ ghost use Rattle.std.specs.Prelude.{◌≡◌, IfOk, IfErr};
 ghost use Rattle.scan_commands.specs.Passes.{CanPass, PassesBy, PassesMapBy, StopsBy, StopsMapBy};
 ghost use Rattle.scan_commands.specs.PassesInTurns.{counts_of};
 
+use crate::known::tell_known;
 use crate::map_file::{MapFile, MapPath, read_map};
 use crate::phase::{Phase, phase_after};
 use crate::rescue_fault::PassFault;
@@ -33,7 +34,8 @@ pub struct Passing<D: BlockDev, O> {
 /// what the first one left. Then sectors that are lost are read again, at most as many times as the retries. Only the last pass
 /// reports.
 ///
-/// With a map file, only sectors that the map doesn't mark as read are read. Each pass goes in turns; after each turn the other
+/// With a map file, only sectors that the map doesn't mark as read are read, and bad ones only in the passes that read lost
+/// sectors again; without these, bad sectors are reported before the others. Each pass goes in turns; after each turn the other
 /// device is synced and the map file replaced. Without a map file the opener isn't called, and nothing is synced.
 ///
 /// # Errors
@@ -84,8 +86,7 @@ fn pass_by_map<'a, I: Images, D: BlockDev, O: SyncDev, L: Listing, P: Progress>(
     ensures ok { IfOk result (PassesMapBy I.relations I.Dev.state O.state L.told images.old images.new passing.old passing.new listing.old listing.new file.entry) }
     ensures err { IfErr result (StopsMapBy I.relations I.Dev.state O.state L.told images.old images.new passing.old passing.new listing.old listing.new file.entry) }
 {
-    // The call provides the bound on a device's sectors.
-    let _most = passing.out.sectors();
+    let _most = passing.out.sectors(); // the bound on a device's sectors
     let device = passing.device;
     let no_scrape = passing.no_scrape;
     let sectors = passing.stack.config().sectors(device);
@@ -107,6 +108,7 @@ fn pass_by_map<'a, I: Images, D: BlockDev, O: SyncDev, L: Listing, P: Progress>(
         progress,
     )?;
     let tried = retry_in_turns(alloc, images, passing, file, skimmed.map, progress)?;
+    tell_known(listing, tried.passes, &tried.map);
     let last = MapFile {
         file,
         map: tried.map,

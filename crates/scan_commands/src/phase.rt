@@ -1,6 +1,7 @@
 //! The passes over a device.
 ghost use Rattle.std.specs.Prelude.{◌≡◌};
 ghost use Rattle.scan_commands.specs.PassesInTurns.{phase_after};
+ghost use Rattle.scan_commands.specs.Turns.{is_again};
 
 /// A pass over a device.
 #[derive(Clone, Copy, Debug, PartialEq, Eq)]
@@ -9,7 +10,7 @@ pub enum Phase {
     Skim,
     /// The second pass, which reads what the first one left.
     Rescue,
-    /// A later pass, which reads lost sectors again.
+    /// A later pass, which reads lost sectors again, also those that the map has as bad.
     Retry,
 }
 
@@ -21,5 +22,16 @@ pub(crate) fn phase_after(passes: u64) -> Phase
         Phase::Rescue
     } else {
         Phase::Retry
+    }
+}
+
+/// Returns whether a pass reads bad sectors again.
+pub(crate) fn is_again(phase: Phase) -> bool
+    ensures { result ≡ is_again phase }
+{
+    match phase {
+        Phase::Skim => false,
+        Phase::Rescue => false,
+        Phase::Retry => true,
     }
 }

@@ -147,7 +147,7 @@ pub(crate) fn say_file<W: Write>(
                 part: _,
             } => say_path_of(path, writer),
             Backing::Partition { path, .. } => say_path_of(path, writer),
-            Backing::Mapped { path, map_file: _ } => say_path_of(path, writer),
+            Backing::Mapped { path, .. } => say_path_of(path, writer),
             Backing::Zeros(_) => Ok(()),
             Backing::Ramp(_) => Ok(()),
         },

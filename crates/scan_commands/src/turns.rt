@@ -1,6 +1,5 @@
 //! Reads a mapped device in turns. After each turn its map file is replaced.
-ghost use Rattle.std.specs.Prelude.{◌≡◌, ◌+◌, ◌≤◌, ◌<◌, length, true, IsTrue, IfOk, IfErr, OnErr, OnOk};
-ghost use Rattle.allocation.specs.Refusal.{IsOutOfMemory};
+ghost use Rattle.std.specs.Prelude.{◌≡◌, ◌+◌, ◌≤◌, ◌<◌, length, true, IsTrue, IfOk, IfErr, OnOk};
 ghost use Rattle.rescue_map.specs.Maps.{marks};
 ghost use Rattle.rescue_map.specs.MapText.{map_text};
 ghost use Rattle.stack_rules.specs.Names.{mapped, size};
@@ -11,11 +10,11 @@ ghost use Rattle.scan_commands.specs.Turns.{EndsTurnRead, GoesOn, IsSpan, Leaves
 use crate::map_file::{MapFile, MapPath};
 use crate::phase::Phase;
 use crate::rescue_fault::PassFault;
-use allocation::OutOfMemory;
+use crate::turn_map::{asked, left_map};
 use block_device::{BlockDev, SyncDev};
 use device_adapters::Progress;
 use image_files::Images;
-use rescue_map::{Map, Span, is_had, is_had_from, print_map, sectors_of, splice};
+use rescue_map::{Map, Span, is_had, is_settled_from, print_map, sectors_of};
 use stack_config::DevId;
 use stack_engine::Stack;
 use stack_recovery::{Deadline, DevicePass, Listing, RecoveryFault, Rescued, rescue, skim};
@@ -40,19 +39,6 @@ fn turn_len(sectors: u64) -> u64
     LEAST_TURN.max((sectors / (MOST_TURNS * GROUP) + 1) * GROUP)
 }
 
-// The map that a turn reads by: all sectors outside the span count as read before.
-fn asked(alloc: Global, map: &Map, span: Span, sectors: u64) -> Result<Map, OutOfMemory>
-    requires map { length (marks map.now) ≡ sectors }
-    requires inside { span.first + span.count ≤ sectors }
-    ensures ok { IfOk result (λ runs. marks runs ≡ asked_marks span sectors map.now) }
-    ensures err { OnErr result (IsOutOfMemory 1) }
-{
-    // The call provides the bound on a map's sectors.
-    let _runs = map.runs();
-    let all = Map::filled(alloc, sectors, true)?;
-    splice(alloc, &all, map, span, sectors)
-}
-
 // The sector before which all were tried, after the sectors before `end` were read in a pass; `None` if no sector from there on
 // is left to be read, or all were tried before the pass.
 fn tried_before(phase: Phase, map: &Map, end: u64) -> Option<u64>
@@ -63,7 +49,7 @@ fn tried_before(phase: Phase, map: &Map, end: u64) -> Option<u64>
         Phase::Rescue => end,
         Phase::Retry => return None,
     };
-    if is_had_from(map, from) {
+    if is_settled_from(map, from) {
         None
     } else {
         Some(from)
@@ -211,7 +197,7 @@ fn take_turn<'a, I: Images, D: BlockDev, O: SyncDev, L: Listing, P: Progress>(
     requires next { IsSpan turn.sectors turn.span.first turn.span (turn.span.first + turn.span.count) }
     requires all { turn.sectors ≡ size stack.old.config (mapped d.0) }
     requires map { length (marks turn.map.now) ≡ turn.sectors }
-    requires wanted { marks turn.wanted.now ≡ asked_marks turn.span turn.sectors turn.map.now }
+    requires wanted { marks turn.wanted.now ≡ asked_marks turn.phase turn.span turn.sectors turn.map.now }
     requires room { size stack.old.config (mapped d.0) ≤ (O.state out.old).size }
     requires allowed { IsTrue (O.state out.old).may_write }
     ensures ok { IfOk result (TakesTurn I.relations.replaces O.state L.told d.0 turn.entry images.old (parties stack.old out.old listing.old) images.new (parties stack.new out.new listing.new)) }
@@ -224,14 +210,15 @@ fn take_turn<'a, I: Images, D: BlockDev, O: SyncDev, L: Listing, P: Progress>(
     let made = &read.map;
     let at = (first + turn.span.count).min(sectors_of(made));
     let count = at - first;
-    let map = splice(alloc, turn.map, made, Span { first, count }, turn.sectors)?;
+    let span = Span { first, count };
+    let map = left_map(alloc, turn.phase, turn.map, made, span, turn.sectors)?;
     let untried = turn.untried.saturating_add(read.untried);
     let tried = tried_before(turn.phase, &map, at);
     write_map(alloc, images, turn.file, &map, tried, turn.no_scrape)?;
     Ok(TurnEnd { map, at, untried })
 }
 
-/// Reads the sectors of a mapped device that a map doesn't mark as read, by one pass in turns of at most 64 MiB, or about a
+/// Reads the sectors of a mapped device that a map doesn't mark as read or, before a retry, as bad, by one pass in turns of at most 64 MiB, or about a
 /// 65,536th of a device above 4 TiB, and returns the new map and how many sectors are unscraped. A turn ends before a further piece once it has taken 30 seconds, but in
 /// the first pass not after a failed read.
 ///
@@ -276,7 +263,7 @@ pub fn read_in_turns<'a, I: Images, D: BlockDev, O: SyncDev, L: Listing, P: Prog
     'turns: while at < sectors {
         let count = turn_len(sectors).min(sectors - at);
         let span = Span { first: at, count };
-        let wanted = asked(alloc, &map, span, sectors)?;
+        let wanted = asked(alloc, phase, &map, span, sectors)?;
         if is_had(&wanted) {
             at += count;
         } else {

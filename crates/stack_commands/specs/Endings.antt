@@ -62,6 +62,7 @@ ending_status (Service service.Lost) = 4
 ending_status (Service service.Magic) = 4
 ending_status (Service service.Flags) = 4
 ending_status (Service service.NoSuchExport) = 4
+ending_status (Service service.TooManyOptions) = 4
 ending_status (Faults tally) = 3
 ending_status fault = 1
 

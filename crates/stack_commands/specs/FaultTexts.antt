@@ -44,6 +44,7 @@ service_text service.Lost = codes "client 1 Lost\n"
 service_text service.Magic = codes "client 2 Magic\n"
 service_text service.Flags = codes "client 3 Flags\n"
 service_text service.NoSuchExport = codes "client 4 NoSuchExport\n"
+service_text service.TooManyOptions = codes "client 5 TooManyOptions\n"
 service_text service.ReadFault = []
 service_text service.WriteFault = []
 

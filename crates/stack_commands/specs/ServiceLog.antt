@@ -1,15 +1,15 @@
 -- What `nbd` prints among the errors while it serves a client.
-use Rattle.std.specs.Prelude.{◌≡◌, ℕ, ◌-◌, ◌==◌, Bool, true, false, List, ◌++◌, codes, decimal, flat_map, length, Result, if◌then◌else◌}
-use Rattle.nbd_protocol.specs.Exports.{ExportRecord, export_at}
+use Rattle.std.specs.Prelude.{◌≡◌, ℕ, ◌-◌, ◌==◌, Bool, true, false, List, ◌++◌, codes, decimal, flat_map, length, Result, Ok, Err, if◌then◌else◌}
+use Rattle.nbd_protocol.specs.Exports.{ExportRecord}
 use Rattle.nbd_protocol.specs.declared.fault.ServiceFault.{ServiceFault}
+use Rattle.nbd_protocol.specs.declared.fault.ServiceFault.TheVariants as service
+use Rattle.nbd_server.specs.FaultLines.{fault_lines}
 use Rattle.nbd_server.specs.Service.{IsService}
-use Rattle.nbd_server.specs.declared.first_faults.FirstFault.{FirstFault}
 use Rattle.nbd_server.specs.declared.session_log.SessionLog.{SessionLog}
 use Rattle.nbd_server.specs.declared.tally.Tally.{Tally}
 use Rattle.partition_commands.specs.Warnings.{IsNoted, Notes}
 use Rattle.program_io.specs.Streams.{Streams}
 use Rattle.request_queue.specs.World.{World}
-use Rattle.stack_meaning.specs.IoFaults.{io_name}
 
 -- ---- the lines
 
@@ -33,29 +33,25 @@ export_line e = codes "dmstack: export " ++ named_facts e
 abbrev pub start_text : List ExportRecord → List ℕ
 start_text exports = flat_map export_line exports
 
--- the sector of a request's fault, and the fault's name
-unfoldable pub fault_facts : FirstFault → List ℕ
-fault_facts f = codes ": sector " ++ (decimal f.sector ++ (codes ": " ++ (io_name f.fault ++ codes "\n")))
-
--- with the name of its export before them
-unfoldable pub named_fault : List ExportRecord → FirstFault → List ℕ
-named_fault exports f = (export_at exports f.place).name ++ fault_facts f
-
--- a line for it
-unfoldable pub fault_line : List ExportRecord → FirstFault → List ℕ
-fault_line exports f = codes "dmstack: export " ++ named_fault exports f
-
 -- so many more requests had faults; nothing if there are none
 unfoldable pub more_text : ℕ → List ℕ
 more_text count = if count == 0 then codes "" else codes "dmstack: " ++ (decimal count ++ codes " more faulty requests\n")
 
--- a line for each of the first faults, and one with the number left out
-unfoldable pub first_text : List ExportRecord → SessionLog → List ℕ
-first_text exports log = flat_map (fault_line exports) log.first ++ more_text (log.tally.faults - length log.first)
+-- why a session ended
+abbrev pub end_reason : Result Unit ServiceFault → List ℕ
+end_reason (Ok done) = codes "the client disconnected"
+end_reason (Err service.Lost) = codes "the client disconnected in a message"
+end_reason (Err service.Magic) = codes "the client broke the protocol"
+end_reason (Err service.Flags) = codes "the client broke the protocol"
+end_reason (Err service.NoSuchExport) = codes "there is no such export"
+end_reason (Err service.TooManyOptions) = codes "the client sent too many options"
+end_reason (Err service.ReadFault) = codes "the input failed"
+end_reason (Err service.WriteFault) = codes "the output failed"
 
--- how many requests were answered, and how many of these with an input/output error
-unfoldable pub served_line : Tally → List ℕ
-served_line t = codes "dmstack: served " ++ (decimal t.requests ++ (codes " requests, " ++ (decimal t.faults ++ codes " with an input/output error\n")))
+-- how many requests were answered, of how many bytes, how many of these with an input/output error, and why the session ended
+unfoldable pub served_line : Tally → List ℕ → List ℕ
+served_line t reason =
+    codes "dmstack: served " ++ (decimal t.requests ++ (codes " requests of " ++ (decimal t.bytes ++ (codes " bytes, " ++ (decimal t.faults ++ (codes " with an input/output error; " ++ (reason ++ codes "\n")))))))
 
 -- ---- what was printed
 
@@ -74,14 +70,18 @@ pub record Exchange : Type 0 where
 abbrev pub exchange : Streams → Streams → Bool → Notes → Exchange
 exchange old new quiet notes = record { old = old; new = new; quiet = quiet; notes = notes }
 
--- what is printed after a session: of its first faults, and of its tally
-abbrev pub end_text : List ExportRecord → SessionLog → List ℕ
-end_text exports log = first_text exports log ++ served_line log.tally
+-- what is printed after a session: how many requests had faults that weren't printed, and its tally
+abbrev pub ended_text : SessionLog → List ℕ → List ℕ
+ended_text log reason = more_text (log.tally.faults - length log.first) ++ served_line log.tally reason
 
--- a client was served these exports; a line for each was printed before, and those on the log of the requests after
+abbrev pub end_text : SessionLog → Result Unit ServiceFault → List ℕ
+end_text log outcome = ended_text log (end_reason outcome)
+
+-- a client was served these exports; a line for each was printed before, one for each of the first faults when its request ended,
+-- and those on the tally after
 pub record ServesNoted (x : Exchange) (exports : List ExportRecord) (begin last : World) (log : SessionLog) (outcome : Result Unit ServiceFault) : Type 0 where
   pub service : IsService exports begin last x.old x.new log outcome
-  pub noted : IsNotedUnless x.quiet x.notes (start_text exports ++ end_text exports log)
+  pub noted : IsNotedUnless x.quiet x.notes (start_text exports ++ (fault_lines exports log.first ++ end_text log outcome))
 
 -- nothing was read, written or printed
 abbrev pub IsUnbegun : Exchange → Type 0

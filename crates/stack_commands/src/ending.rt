@@ -116,7 +116,8 @@ fn status_of(fault: CommandFault<'_>) -> u8
             ServiceFault::Lost
             | ServiceFault::Magic
             | ServiceFault::Flags
-            | ServiceFault::NoSuchExport,
+            | ServiceFault::NoSuchExport
+            | ServiceFault::TooManyOptions,
         ) => BROKEN_CLIENT,
         CommandFault::Faults(_) => FAULT,
         _ => REFUSED,

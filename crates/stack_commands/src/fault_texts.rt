@@ -61,6 +61,7 @@ pub fn say_service_fault<W: Write>(
         ServiceFault::Magic => writer.put(b"client 2 Magic\n"),
         ServiceFault::Flags => writer.put(b"client 3 Flags\n"),
         ServiceFault::NoSuchExport => writer.put(b"client 4 NoSuchExport\n"),
+        ServiceFault::TooManyOptions => writer.put(b"client 5 TooManyOptions\n"),
         ServiceFault::ReadFault => Ok(()),
         ServiceFault::WriteFault => Ok(()),
     }
@@ -74,7 +75,7 @@ pub fn say_service_fault<W: Write>(
 pub fn say_faults<W: Write>(writer: &mut Counted<W>, tally: Tally) -> Result<(), WriteFault>
     ensures { Writes W.contents writer.old writer.new (faults_text tally) result }
 {
-    let Tally { requests, faults } = tally;
+    let (requests, faults) = (tally.requests, tally.faults);
     writer.print(format_args!("faults {faults} requests {requests}\n"))
 }
 

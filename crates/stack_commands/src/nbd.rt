@@ -12,7 +12,7 @@ use block_device::{BlockDev, SyncDev};
 use command_line::{Binding, ExportsWords, NbdWords, ServedDevice};
 use image_files::Images;
 use nbd_protocol::{Export, exports_of, names_of};
-use nbd_server::{ServiceFault, SessionLog, serve};
+use nbd_server::{ServiceFault, SessionLog, serve, serve_logged};
 use request_queue::Queue;
 use stack_files::{StackFault, StackFile, open_loaded, sync_and_close};
 use std::alloc::Global;
@@ -133,7 +133,8 @@ fn serve_exports<'a, I: Images, R: Read, W: Write, E: Write>(
     Err(CommandFault::Faults(tally))
 }
 
-// Serves the exports. Among the errors a line for each of them is printed before, and those on the log after.
+// Serves the exports. Among the errors a line for each of them is printed before, those of the faults when they occur, and those on
+// the tally after.
 fn serve_noted<D: SyncDev, R: Read, W: Write, E: Write>(
     alloc: Global,
     queue: &mut Queue<D>,
@@ -151,8 +152,11 @@ fn serve_noted<D: SyncDev, R: Read, W: Write, E: Write>(
         errors,
         quiet,
     } = client;
-    note_start(errors, exports, quiet);
-    let outcome = serve(alloc, queue, exports, reader, writer, log);
-    note_end(errors, exports, log, quiet);
+    if quiet {
+        return serve(alloc, queue, exports, reader, writer, log);
+    }
+    note_start(errors, exports);
+    let outcome = serve_logged(queue, exports, reader, writer, errors, log);
+    note_end(errors, log, &outcome);
     outcome
 }

@@ -1,41 +1,48 @@
 //! The lines of `nbd` on its service, printed among the errors. A failure of the errors' writer stays known and ends nothing.
-ghost use Rattle.std.specs.Prelude.{◌≡◌, true, flat_map};
-ghost use Rattle.nbd_protocol.specs.Exports.{export_at, export_record, export_records};
-ghost use Rattle.partition_commands.specs.Warnings.{notes_of};
+ghost use Rattle.std.specs.Prelude.{◌≡◌, ◌-◌, flat_map, length};
+ghost use Rattle.nbd_protocol.specs.Exports.{export_record, export_records};
+ghost use Rattle.nbd_server.specs.FaultLines.{IsPrinted};
 ghost use Rattle.program_io.specs.Counted.{Writes};
-ghost use Rattle.stack_commands.specs.ServiceLog.{IsNotedUnless, end_text, export_facts, export_line, fault_facts, fault_line, first_text, more_text, named_fault, named_facts, rights_text, served_line, start_text};
+ghost use Rattle.stack_commands.specs.ServiceLog.{end_reason, end_text, ended_text, export_facts, export_line, more_text, named_facts, rights_text, served_line, start_text};
 
-use nbd_protocol::{Export, export_at};
-use nbd_server::{FirstFault, SessionLog, Tally};
+use nbd_protocol::Export;
+use nbd_server::{ServiceFault, SessionLog, Tally};
 use program_io::{Counted, WriteFault};
 use std::io::Write;
 
-/// Prints a line for each export, unless `quiet` is set.
-pub(crate) fn note_start<E: Write>(errors: &mut Counted<E>, exports: &[Export<'_>], quiet: bool)
-    ensures noted { IsNotedUnless quiet (notes_of E.contents errors.old errors.new) (start_text (export_records exports.now)) }
-    ensures failed { errors.old.failed ≡ true → errors.new.failed ≡ true }
+/// Prints a line for each export.
+pub(crate) fn note_start<E: Write>(errors: &mut Counted<E>, exports: &[Export<'_>])
+    ensures { IsPrinted E.contents errors.old errors.new (start_text (export_records exports.now)) }
 {
-    if quiet {
-        return;
-    }
     let _said = say_start(errors, exports);
 }
 
-/// Prints the first faults of a session, how many requests were answered, and how many of these with an input/output error, unless
-/// `quiet` is set.
+/// Prints how many requests had faults that weren't printed, how many requests were answered, of how many bytes, how many of them
+/// with an input/output error, and why the session ended.
 pub(crate) fn note_end<E: Write>(
     errors: &mut Counted<E>,
-    exports: &[Export<'_>],
     log: &SessionLog,
-    quiet: bool,
+    outcome: &Result<(), ServiceFault>,
 )
-    ensures noted { IsNotedUnless quiet (notes_of E.contents errors.old errors.new) (end_text (export_records exports.now) log.now) }
-    ensures failed { errors.old.failed ≡ true → errors.new.failed ≡ true }
+    ensures { IsPrinted E.contents errors.old errors.new (end_text log.now outcome.now) }
 {
-    if quiet {
-        return;
+    let _said = say_end(errors, log, end_reason(outcome));
+}
+
+// Why a session ended.
+fn end_reason(outcome: &Result<(), ServiceFault>) -> &'static str
+    ensures { result.now ≡ end_reason outcome.now }
+{
+    match outcome {
+        Ok(()) => "the client disconnected",
+        Err(ServiceFault::Lost) => "the client disconnected in a message",
+        Err(ServiceFault::Magic) => "the client broke the protocol",
+        Err(ServiceFault::Flags) => "the client broke the protocol",
+        Err(ServiceFault::NoSuchExport) => "there is no such export",
+        Err(ServiceFault::TooManyOptions) => "the client sent too many options",
+        Err(ServiceFault::ReadFault) => "the input failed",
+        Err(ServiceFault::WriteFault) => "the output failed",
     }
-    let _said = say_end(errors, exports, log);
 }
 
 // A line for each export.
@@ -84,105 +91,36 @@ fn rights_text(writable: bool) -> &'static str
     if writable { "rw" } else { "ro" }
 }
 
-// `dmstack: served R requests, F with an input/output error`
+// `dmstack: served R requests of B bytes, F with an input/output error; REASON`
 #[tactic(auto, unfolding(crate::specs::ServiceLog::served_line))]
-fn say_served<W: Write>(writer: &mut Counted<W>, tally: Tally) -> Result<(), WriteFault>
-    ensures { Writes W.contents writer.old writer.new (served_line tally) result }
+fn say_served<W: Write>(
+    writer: &mut Counted<W>,
+    tally: Tally,
+    reason: &str,
+) -> Result<(), WriteFault>
+    ensures { Writes W.contents writer.old writer.new (served_line tally reason.now) result }
 {
-    let Tally { requests, faults } = tally;
+    let Tally {
+        requests,
+        bytes,
+        faults,
+    } = tally;
     writer.print(format_args!(
-        "dmstack: served {requests} requests, {faults} with an input/output error\n"
+        "dmstack: served {requests} requests of {bytes} bytes, {faults} with an input/output error; {reason}\n"
     ))
 }
 
 // What is printed after a session.
 fn say_end<W: Write>(
     writer: &mut Counted<W>,
-    exports: &[Export<'_>],
     log: &SessionLog,
+    reason: &str,
 ) -> Result<(), WriteFault>
-    ensures { Writes W.contents writer.old writer.new (end_text (export_records exports.now) log.now) result }
+    ensures { Writes W.contents writer.old writer.new (ended_text log.now reason.now) result }
 {
-    say_first(writer, exports, log)?;
-    say_served(writer, log.tally)
-}
-
-// A line for each of the first faults, and one with the number left out.
-#[tactic(auto, unfolding(crate::specs::ServiceLog::first_text))]
-fn say_first<W: Write>(
-    writer: &mut Counted<W>,
-    exports: &[Export<'_>],
-    log: &SessionLog,
-) -> Result<(), WriteFault>
-    ensures { Writes W.contents writer.old writer.new (first_text (export_records exports.now) log.now) result }
-{
-    let first = log.first.as_slice();
-    say_fault_lines(writer, exports, first)?;
-    say_more(writer, log.tally.faults.saturating_sub(first.len() as u64))
-}
-
-// A line for each fault.
-fn say_fault_lines<W: Write>(
-    writer: &mut Counted<W>,
-    exports: &[Export<'_>],
-    faults: &[FirstFault],
-) -> Result<(), WriteFault>
-    ensures { Writes W.contents writer.old writer.new (flat_map (fault_line (export_records exports.now)) faults.now) result }
-{
-    for fault in faults {
-        say_fault_line(writer, exports, fault)?;
-    }
-    Ok(())
-}
-
-// `dmstack: export NAME: sector S: KIND`
-#[tactic(auto, unfolding(crate::specs::ServiceLog::fault_line))]
-fn say_fault_line<W: Write>(
-    writer: &mut Counted<W>,
-    exports: &[Export<'_>],
-    fault: &FirstFault,
-) -> Result<(), WriteFault>
-    ensures { Writes W.contents writer.old writer.new (fault_line (export_records exports.now) fault.now) result }
-{
-    writer.put(b"dmstack: export ")?;
-    say_named_fault(writer, exports, fault)
-}
-
-// `NAME: sector S: KIND`
-#[tactic(auto, unfolding(crate::specs::ServiceLog::named_fault))]
-fn say_named_fault<W: Write>(
-    writer: &mut Counted<W>,
-    exports: &[Export<'_>],
-    fault: &FirstFault,
-) -> Result<(), WriteFault>
-    ensures { Writes W.contents writer.old writer.new (named_fault (export_records exports.now) fault.now) result }
-{
-    say_name(writer, exports, fault.place)?;
-    say_fault_facts(writer, fault)
-}
-
-// `: sector S: KIND`
-#[tactic(auto, unfolding(crate::specs::ServiceLog::fault_facts))]
-fn say_fault_facts<W: Write>(writer: &mut Counted<W>, fault: &FirstFault) -> Result<(), WriteFault>
-    ensures { Writes W.contents writer.old writer.new (fault_facts fault.now) result }
-{
-    let (sector, kind) = (fault.sector, fault.fault.name());
-    writer.print(format_args!(": sector {sector}: {kind}\n"))
-}
-
-// The name of the export at an index, if there is one.
-fn say_name<W: Write>(
-    writer: &mut Counted<W>,
-    exports: &[Export<'_>],
-    place: usize,
-) -> Result<(), WriteFault>
-    ensures { Writes W.contents writer.old writer.new (export_at (export_records exports.now) place).name result }
-{
-    let count = exports.len();
-    if count <= place {
-        return Ok(());
-    }
-    writer.put(export_at(exports, place).name)
+    let shown = log.first.as_slice().len() as u64;
+    say_more(writer, log.tally.faults.saturating_sub(shown))?;
+    say_served(writer, log.tally, reason)
 }
 
 // `dmstack: N more faulty requests`, if there are some

@@ -1,5 +1,5 @@
 -- Calls of reads of whole data blocks of a `verity` line: what those of a block say of all.
-use Rattle.std.proofs.Common.{◌≡◌, ◌⊎◌, ℕ, zero, suc, ◌+◌, ◌-◌, ◌*◌, ◌/◌, ◌<◌, ◌≤◌, max, Bool, true, false, List, [], ◌∷◌, ◌++◌, length, take, drop, replicate, None, Result, Ok, Err, inl, inr, refl, sym, ap, ◌∙◌, subst, arith}
+use Rattle.std.proofs.Common.{◌≡◌, ◌⊎◌, ℕ, zero, suc, ◌+◌, ◌-◌, ◌*◌, ◌/◌, ◌<◌, ◌≤◌, max, Bool, true, false, List, [], ◌∷◌, ◌++◌, length, take, drop, replicate, Result, Ok, Err, inl, inr, refl, sym, ap, ◌∙◌, subst, arith}
 use Rattle.std.proofs.lemmas.Bool.{cases_lt}
 use Rattle.std.proofs.lemmas.List.{append-nil, drop-drop, drop-take, drop_all, length-drop, length-replicate, length-take-le, take-append-drop, take_all}
 use Rattle.std.proofs.lemmas.Slice.{drop-put_mid, take-put_mid, take-put_mid_below, between-put_mid}
@@ -20,8 +20,9 @@ use Rattle.stack_lines.specs.declared.source.VerityPart.{VerityPart}
 use Rattle.stack_lines.specs.declared.tree.Extent.{Extent}
 use Rattle.verified_cache.specs.Cache.{CachedBlock}
 use Rattle.stack_engine.specs.declared.backing.Backing.{Backing}
+use Rattle.stack_engine.specs.Healing.{unhealed}
 use Rattle.stack_engine.specs.ReadSteps.{GivesAny}
-use Rattle.stack_engine.specs.SectorCalls.{AreReadTogether, DataPlace, DataRead, Gives, LeadsTo, ReadsBy, blocks_of, bytes_before, data_of, last_bytes, next_place, blocks_left, place_at, whole_data, blocks_read, next_ignored, next_checked, next_differs, together_read, together_unread, blocks_end, blocks_next, blocks_full}
+use Rattle.stack_engine.specs.SectorCalls.{AreReadTogether, DataPlace, DataRead, Gives, LeadsTo, ReadsBy, blocks_of, bytes_before, data_of, last_bytes, next_place, blocks_left, place_at, whole_data, blocks_read, next_ignored, next_checked, next_healed, next_differs, spare_of, together_read, together_unread, blocks_end, blocks_next, blocks_full}
 use Rattle.stack_engine.proofs.LeafCallLemmas.{makes-none, makes-as, makes-then}
 use Rattle.stack_engine.proofs.SectorCallLemmas.{before-none, before-before}
 
@@ -222,21 +223,24 @@ module _ {D : Type 0} {does : D → Call → D → Type 0} {c : Configuration} {
     starts : j * block_size x ≤ length out
     starts = omega (arith, end)
 
-    pub block-unlike : is_ignored x.verity.now way.0 ≡ false → j < r → (digest x.verity.now.salt stood ≡ way.0 → ⊥) → x.verity.now.parity ≡ None → Gives does c (Blocks x) n old new (Err (io.Stack why.Mismatch))
-    block-unlike used low other plain =
-        let first : stood ++ drop (block_size x) (ahead (block_size x) r j out) ≡ ahead (block_size x) r j out = ap (λ (l : List ℕ). l ++ drop (block_size x) (ahead (block_size x) r j out)) (sym stood-is) ∙ ahead-first (block_size x) r j out low in
-        h.later new (Err (io.Stack why.Mismatch)) (subst (λ (l : List ℕ). ReadsBy does c (data_of (nth_place x j) 0 way.0 way.1 (blocks_left (blocks_in x n - j) l)) new new (Err (io.Stack why.Mismatch))) first
-        (makes-none (next_differs (blocks_in x n - j) stood (drop (block_size x) (ahead (block_size x) r j out)) way.1 used (stood-wide ∙ whole) other plain)))
+    stood-first : j < r → stood ++ drop (block_size x) (ahead (block_size x) r j out) ≡ ahead (block_size x) r j out
+    stood-first low = ap (λ (l : List ℕ). l ++ drop (block_size x) (ahead (block_size x) r j out)) (sym stood-is) ∙ ahead-first (block_size x) r j out low
 
-    block-on : (block : List ℕ) → length block ≡ block_size x
-        → ((end : List D) (answer : Result (List ℕ) IoFault) → ReadsBy does c (blocks_of (next_place (nth_place x j)) (blocks_in x n - (j + 1)) (drop (block_size x) (ahead (block_size x) r j out))) new end answer → ReadsBy does c (data_of (nth_place x j) 0 way.0 way.1 (blocks_left (suc (blocks_in x n - (j + 1))) (ahead (block_size x) r j out))) new end (bytes_before block answer))
-        → BlocksUpTo does c x n r (j + 1) (put_mid (j * block_size x) w out block) old new
-    block-on block wide step = record {
+    -- it has another digest, and its spare can't be read
+    pub block-unhealed : is_ignored x.verity.now way.0 ≡ false → j < r → (digest x.verity.now.salt stood ≡ way.0 → ⊥) → {to : List D} (vain : IoFault) → ReadsBy does c (spare_of (nth_place x j) way.0) new to (Err vain) → Gives does c (Blocks x) n old to (Err (unhealed why.Mismatch vain))
+    block-unhealed used low other {to = to} vain got =
+        h.later to (Err (unhealed why.Mismatch vain)) (subst (λ (l : List ℕ). ReadsBy does c (data_of (nth_place x j) 0 way.0 way.1 (blocks_left (blocks_in x n - j) l)) new to (Err (unhealed why.Mismatch vain))) (stood-first low)
+        (makes-as (λ calls a. next_differs (blocks_in x n - j) stood (drop (block_size x) (ahead (block_size x) r j out)) way.1 used (stood-wide ∙ whole) other a) got))
+
+    block-on : {to : List D} (block : List ℕ) → length block ≡ block_size x
+        → ((end : List D) (answer : Result (List ℕ) IoFault) → ReadsBy does c (blocks_of (next_place (nth_place x j)) (blocks_in x n - (j + 1)) (drop (block_size x) (ahead (block_size x) r j out))) to end answer → ReadsBy does c (data_of (nth_place x j) 0 way.0 way.1 (blocks_left (suc (blocks_in x n - (j + 1))) (ahead (block_size x) r j out))) new end (bytes_before block answer))
+        → BlocksUpTo does c x n r (j + 1) (put_mid (j * block_size x) w out block) old to
+    block-on {to = to} block wide step = record {
       later = λ end answer rest.
           let left : blocks_in x n - j ≡ suc (blocks_in x n - (j + 1)) = omega (arith, more) in
           let at : x.first / block_sectors x.verity.now + (j + 1) ≡ x.first / block_sectors x.verity.now + j + 1 = omega arith in
-          let later = subst (λ (k : ℕ). ReadsBy does c (blocks_of (place_at x k) (blocks_in x n - (j + 1)) (drop (block_size x) (ahead (block_size x) r j out))) new end answer) at
-          (subst (λ (l : List ℕ). ReadsBy does c (blocks_of (nth_place x (j + 1)) (blocks_in x n - (j + 1)) l) new end answer) (sym (ahead-rest (block_size x) j w out block starts w_is wide r)) rest) in
+          let later = subst (λ (k : ℕ). ReadsBy does c (blocks_of (place_at x k) (blocks_in x n - (j + 1)) (drop (block_size x) (ahead (block_size x) r j out))) to end answer) at
+          (subst (λ (l : List ℕ). ReadsBy does c (blocks_of (nth_place x (j + 1)) (blocks_in x n - (j + 1)) l) to end answer) (sym (ahead-rest (block_size x) j w out block starts w_is wide r)) rest) in
           let all = h.later end (bytes_before block answer) (subst (λ (k : ℕ). ReadsBy does c (data_of (nth_place x j) 0 way.0 way.1 (blocks_left k (ahead (block_size x) r j out))) new end (bytes_before block answer)) (sym left) (step end answer later)) in
           subst (λ (a : Result (List ℕ) IoFault). Gives does c (Blocks x) n old end a) (before-before (take (j * block_size x) out) block answer ∙ ap (λ (l : List ℕ). bytes_before l answer) (block-front (block_size x) j w out block starts w_is wide)) all;
     }
@@ -248,8 +252,15 @@ module _ {D : Type 0} {does : D → Call → D → Type 0} {c : Configuration} {
         subst (λ (b : List ℕ). BlocksUpTo does c x n r (j + 1) (put_mid (j * block_size x) w out b) old new) (sym (zeros refl ∙ ap (λ (k : ℕ). replicate k 0) stood-wide))
         (block-on (zero_block x.verity.now) (length-replicate (block_size x) 0) (λ end answer rest. makes-as (λ calls a. next_ignored way.1 (sym is) a) rest))
     block-settled false block is low zeros good =
-        let first : stood ++ drop (block_size x) (ahead (block_size x) r j out) ≡ ahead (block_size x) r j out = ap (λ (l : List ℕ). l ++ drop (block_size x) (ahead (block_size x) r j out)) (sym stood-is) ∙ ahead-first (block_size x) r j out (low refl) in
         subst (λ (b : List ℕ). BlocksUpTo does c x n r (j + 1) (put_mid (j * block_size x) w out b) old new) (sym (good refl).1)
         (block-on stood stood-wide (λ end answer rest.
-        subst (λ (l : List ℕ). ReadsBy does c (data_of (nth_place x j) 0 way.0 way.1 (blocks_left (suc (blocks_in x n - (j + 1))) l)) new end (bytes_before stood answer)) first
+        subst (λ (l : List ℕ). ReadsBy does c (data_of (nth_place x j) 0 way.0 way.1 (blocks_left (suc (blocks_in x n - (j + 1))) l)) new end (bytes_before stood answer)) (stood-first (low refl))
         (makes-as (λ calls a. next_checked stood way.1 (sym is) (stood-wide ∙ whole, (good refl).0) a) rest)))
+
+    -- or its spare is in its place
+    pub block-mended : is_ignored x.verity.now way.0 ≡ false → j < r → (digest x.verity.now.salt stood ≡ way.0 → ⊥) → {to : List D} (spare : List ℕ) → length spare ≡ block_size x → ReadsBy does c (spare_of (nth_place x j) way.0) new to (Ok spare)
+        → BlocksUpTo does c x n r (j + 1) (put_mid (j * block_size x) w out spare) old to
+    block-mended used low other {to = to} spare wide got =
+        block-on spare wide (λ end answer rest.
+        subst (λ (l : List ℕ). ReadsBy does c (data_of (nth_place x j) 0 way.0 way.1 (blocks_left (suc (blocks_in x n - (j + 1))) l)) new end (bytes_before spare answer)) (stood-first low)
+        (makes-then (λ calls later a b. next_healed stood way.1 used (stood-wide ∙ whole) other a b) got rest))

@@ -1,10 +1,10 @@
 -- Whole data blocks of a verity line of a configuration, which are read at once.
-use Rattle.std.proofs.Common.{None, ◌≡◌, ℕ, zero, suc, ◌+◌, ◌*◌, ◌/◌, ◌%◌, ◌<◌, ◌≤◌, IsTrue, Bool, true, false, List, [], ◌∷◌, ◌++◌, length, get_or, take, drop, Some, Result, Ok, Err, inl, inr, refl, sym, ap, ◌∙◌, subst, arith}
+use Rattle.std.proofs.Common.{◌≡◌, ℕ, zero, suc, ◌+◌, ◌*◌, ◌/◌, ◌%◌, ◌<◌, ◌≤◌, IsTrue, Bool, List, [], ◌∷◌, ◌++◌, length, get_or, take, drop, Some, Result, Ok, Err, inl, inr, refl, sym, ap, ◌∙◌, subst, arith}
 use Rattle.std.proofs.lemmas.Bool.{cases_lt}
 use Rattle.std.proofs.lemmas.List.{take_all, length-take-le, length-drop}
 use Rattle.std.proofs.lemmas.List.Elements.{All-cons, All-nil, All-append, Contains-push}
 use Rattle.std.proofs.lemmas.Nat.{div-add-mod', div-mul-add, mod-mul-add}
-use Rattle.std.proofs.Math.Nat.{add-mul, mul_comm, mul_assoc, mul-le-mul_left, mul-le-mul_right}
+use Rattle.std.proofs.Math.Nat.{add-mul, mul-add, mul_assoc, mul-le-mul_left, mul-le-mul_right}
 use Rattle.hash_tree.specs.Chain.{ChainRecord}
 use Rattle.tree_shape.specs.Digests.{digest}
 use Rattle.tree_shape.specs.Shape.{levels}
@@ -16,19 +16,21 @@ use Rattle.stack_rules.specs.Records.{Configuration}
 use Rattle.stack_rules.specs.Names.{mapped, named, size as lower_size}
 use Rattle.stack_rules.specs.Descend.{by_name, read_cost, line_read_cost}
 use Rattle.stack_rules.specs.Rules.{IsLoaded}
-use Rattle.stack_rules.specs.Trees.{tree_of, block_sectors, zero_block}
+use Rattle.stack_rules.specs.Trees.{tree_of, block_sectors}
 use Rattle.stack_config.proofs.lemmas.LoadedLineLemmas.{line-read-cost}
 use Rattle.stack_meaning.specs.declared.fault.IoFault.{IoFault}
 use Rattle.stack_meaning.specs.declared.fault.IoFault.TheVariants as io
 use Rattle.stack_lines.specs.declared.source.VerityPart.{VerityPart}
 use Rattle.stack_lines.specs.declared.source.Source.TheVariants.{Blocks}
-use Rattle.stack_meaning.specs.Outcomes.{Images, Outcome, mismatch, span, then_outcome}
-use Rattle.stack_meaning.specs.Blocks.{hash_sectors, checked, is_ignored}
+use Rattle.stack_meaning.specs.Outcomes.{Images, mismatch, span}
+use Rattle.stack_meaning.specs.Blocks.{hash_sectors}
 use Rattle.stack_meaning.specs.Found.{FoundRecord, Entry, found_entry}
 use Rattle.stack_meaning.specs.Beneath.{below}
 use Rattle.stack_meaning.specs.Meaning.{line_said, none_said, said_by_name}
 use Rattle.stack_meaning.specs.Places.{Place, place_of, run_expected, LeafRead}
 use Rattle.stack_meaning.specs.Reading.{Gets, Finds, MeetVerity}
+use Rattle.stack_meaning.specs.declared.fault.Fault.{Fault}
+use Rattle.stack_engine.specs.Healing.{unhealed}
 use Rattle.stack_meaning.specs.Kept.{target_leaves, verity_block, LineKeeps, IsOfVerity, AllKept}
 use Rattle.stack_meaning.specs.Leaves.{steady_images, AreSteady, AreRead}
 use Rattle.stack_lines.specs.AtOnce.{AreBefore, GoAtOnce}
@@ -38,18 +40,13 @@ use Rattle.stack_lines.specs.Sources.{AreWholeBlocks, source_said, ReadsSource}
 use Rattle.stack_lines.proofs.lemmas.BudgetLemmas.{chain-cost as priced}
 use Rattle.stack_lines.proofs.lemmas.TouchLemmas.{verity-leaves, verity-names}
 use Rattle.stack_lines.specs.Touches.{leaves_of}
-use Rattle.stack_lines.specs.Walks.{HasVerity, block_in, checked_expected, chain_expected, GetsChain, IsWalked}
+use Rattle.stack_lines.specs.Walks.{HasVerity, block_in, chain_expected, spare_cost, spare_expected, GetsChain}
 use Rattle.stack_meaning.proofs.lemmas.LeafListLemmas.{AreRead-none, AreRead-more, AreSteady-kept, AreSteady-within, images-kept, failed_later}
 use Rattle.stack_meaning.proofs.lemmas.FoundLemmas.{Grown-none, kept-later}
 use Rattle.stack_meaning.proofs.lemmas.RunLemmas.{Passes, pass, AllMono, run_ok, run_err}
 use Rattle.stack_lines.proofs.lemmas.VerityLineLemmas.{IsWholeSectors, data-whole, blocks-below}
-use Rattle.stack_meaning.proofs.lemmas.CheckedLemmas.{checked-same}
-use Rattle.stack_engine.proofs.HealLemmas.{checked-other}
-use Rattle.stack_engine.proofs.lemmas.MendLemmas.{spare-none}
-use Rattle.stack_engine.proofs.lemmas.WalkLemmas.{data_zeros, data_read, data_healed, walk_ends, walk_fails}
 use Rattle.stack_engine.proofs.lemmas.BlockLemmas.{block_place, chain_fills, block_fails, AllKept-push, Grown-push}
 use Rattle.stack_engine.specs.Premises.{CanRead}
-use Rattle.stack_engine.proofs.PathLemmas.{checked-at}
 use Rattle.allocation.specs.Refusal.{IsOutOfMemory}
 use Rattle.stack_meaning.specs.Memory.{largest_allocation}
 
@@ -61,12 +58,12 @@ blocks_place c p n = record { said = source_said c (Blocks p); cost = n * read_c
 abbrev pub path_cost : Configuration → Verity → ℕ
 path_cost c v = levels (tree_of v) * (hash_sectors v * (block_in c v 0).on_hash.cost)
 
--- what n sectors and the ways to so many blocks cost
-abbrev pub read_cost_so_far : Configuration → Verity → ℕ → ℕ → ℕ
-read_cost_so_far c v n blocks = n * (block_in c v 0).on_data.cost + blocks * path_cost c v
+-- what n sectors, so many ways to blocks, and so many spares cost
+abbrev pub read_cost_so_far : Configuration → Verity → ℕ → ℕ → ℕ → ℕ
+read_cost_so_far c v n ways spares = n * (block_in c v 0).on_data.cost + ways * path_cost c v + spares * spare_cost (block_in c v 0)
 
 -- leaves that were read twice have the same images
-same-images : {old a b : List Device} {q r : ℕ} → AreRead old q a → AreRead old r b → {these : ℕ → Bool} → AreSteady these b → AreSteady these a × (steady_images b ≡ steady_images a)
+pub same-images : {old a b : List Device} {q r : ℕ} → AreRead old q a → AreRead old r b → {these : ℕ → Bool} → AreSteady these b → AreSteady these a × (steady_images b ≡ steady_images a)
 same-images {old = old} {a = a} {b = b} x y {these = these} steady =
     let before : AreSteady these old = AreSteady-kept b old (sym y.moved.fixed) steady in
     (AreSteady-kept old a x.moved.fixed before, images-kept y ∙ sym (images-kept x))
@@ -90,7 +87,6 @@ pub record BlocksAt (c : Configuration) (p : VerityPart) (n : ℕ) (found : List
   pub some : 0 < n / block_sectors p.verity.now
   pub few : n ≤ 128
   pub clear : IsClear c p.data
-  pub plain : p.verity.now.parity ≡ None
   pub before : AreBefore p.device.0 p.line (p.first / block_sectors p.verity.now) found
   pub below : p.first + n ≤ lower_size c p.data
   pub there : (j : ℕ) → j < n / block_sectors p.verity.now → p.first / block_sectors p.verity.now + j < p.verity.now.blocks
@@ -115,7 +111,6 @@ blocks-at {c = c} {p = p} {found = found} {out = out} can =
       some = quotient-some (n / block_sectors v) (block_sectors v) n count some;
       few = go.few;
       clear = go.clear;
-      plain = go.plain;
       before = go.before;
       below = blocks-below c p n loaded blocks;
       there = λ j inside.
@@ -142,7 +137,7 @@ module _ {c : Configuration} {p : VerityPart} {n : ℕ} {found : List FoundRecor
   abbrev pub index : ℕ
   index = p.first / block_sectors p.verity.now
 
-  start : index * block_sectors p.verity.now ≡ p.first
+  pub start : index * block_sectors p.verity.now ≡ p.first
   start = omega (arith, div-add-mod' p.first (block_sectors p.verity.now), b.aligned)
 
   -- block j begins where it does
@@ -165,8 +160,6 @@ module _ {c : Configuration} {p : VerityPart} {n : ℕ} {found : List FoundRecor
     leaves = λ i is. verity-names c p.device.0 p.line 0 p.verity.now b.loaded b.line i (subst IsTrue (sym (verity-leaves c p.verity.now 0 i)) is);
   }
 
-  -- ---- a block that was read with others
-
   fits : (j : ℕ) → j < m → j * block_sectors p.verity.now + block_sectors p.verity.now ≤ n
   fits j inside =
       let below : (j + 1) * block_sectors p.verity.now ≤ m * block_sectors p.verity.now = mul-le-mul_right (block_sectors p.verity.now) (omega (arith, inside)) in
@@ -174,52 +167,6 @@ module _ {c : Configuration} {p : VerityPart} {n : ℕ} {found : List FoundRecor
 
   pub block-length : (j : ℕ) (bytes : List ℕ) → j < m → length bytes ≡ 512 * n → length (take (512 * block_sectors p.verity.now) (drop (512 * (j * block_sectors p.verity.now)) bytes)) ≡ 512 * block_sectors p.verity.now
   block-length j bytes inside len = length-take-le (512 * block_sectors p.verity.now) (drop (512 * (j * block_sectors p.verity.now)) bytes) (omega (arith, fits j inside, len, length-drop (512 * (j * block_sectors p.verity.now)) bytes))
-
-  module _ (j : ℕ) {old mid now : List Device} {r : ℕ} (later : AreRead old r now) {expected : List ℕ} {path : List (List ℕ)} (walked : IsWalked (block_in c p.verity.now (index + j)) 0 expected path mid now)
-      (block made : List ℕ) where
-    here : IsRead c p old j block made → AreSteady (leaves_of c p.data) now → span (λ s. ((place_of c p.data).said s).means (steady_images now)) (p.first + j * block_sectors p.verity.now) (block_sectors p.verity.now) ≡ Ok block
-    here was steady =
-        let same = same-images was.first later steady in
-        ap (λ (i : Images). span (λ s. ((place_of c p.data).said s).means i) (p.first + j * block_sectors p.verity.now) (block_sectors p.verity.now)) same.1 ∙ was.means same.0
-
-    at-place : (result : Result (List ℕ) IoFault) → Gets (checked_expected (λ (x : List ℕ). x) (place_of c p.data) (p.first + j * block_sectors p.verity.now) (block_sectors p.verity.now) p.verity.now.salt expected) now now result
-        → Gets (checked_expected (λ (x : List ℕ). x) (block_in c p.verity.now (index + j)).on_data (block_sectors p.verity.now * (index + j)) (block_sectors p.verity.now) p.verity.now.salt expected) now now result
-    at-place result one =
-        let e : p.first + j * block_sectors p.verity.now ≡ block_sectors p.verity.now * (index + j) = omega (arith, start, add-mul index j (block_sectors p.verity.now), mul_comm (block_sectors p.verity.now) (index + j)) in
-        checked-at c p.verity.now.data p.data (block_sectors p.verity.now * (index + j)) (block_sectors p.verity.now) p.verity.now.salt expected result (record { lower = p.data; first = block_sectors p.verity.now * (index + j); sectors = block_sectors p.verity.now }) b.is refl
-        (subst (λ (k : ℕ). Gets (checked_expected (λ (x : List ℕ). x) (place_of c p.data) k (block_sectors p.verity.now) p.verity.now.salt expected) now now result) e one)
-
-    -- it has the digest
-    pub block-had : is_ignored p.verity.now expected ≡ false → IsRead c p old j block made → length block ≡ 512 * block_sectors p.verity.now → index + j < p.verity.now.blocks → made ≡ expected
-        → GetsChain (block_in c p.verity.now (index + j)) mid now (Ok (record { index = index + j; content = block; path = path }))
-    block-had taken was len there same =
-        let good : digest p.verity.now.salt block ≡ expected = sym was.made_is ∙ same in
-        walk_ends (λ (x : List ℕ). x) (block_in c p.verity.now (index + j)) b.size.whole walked block there
-        (data_read (λ (x : List ℕ). x) (block_in c p.verity.now (index + j)) expected block taken
-        (at-place (Ok block) (record {
-          moved = AreRead-none _ now;
-          may = (len, good);
-          exact = λ steady. ap (λ (s : Outcome). then_outcome s (checked p.verity.now.salt expected)) (here was steady) ∙ checked-same p.verity.now.salt expected block good;
-        })))
-
-    -- it is ignored
-    pub block-zeros : is_ignored p.verity.now expected ≡ true → block ≡ zero_block p.verity.now → index + j < p.verity.now.blocks → GetsChain (block_in c p.verity.now (index + j)) mid now (Ok (record { index = index + j; content = block; path = path }))
-    block-zeros ignored zeros there =
-        walk_ends (λ (x : List ℕ). x) (block_in c p.verity.now (index + j)) b.size.whole walked block there
-        (data_zeros (λ (x : List ℕ). x) (block_in c p.verity.now (index + j)) expected now block b.size.whole ignored zeros)
-
-    -- it has another one
-    pub block-other : is_ignored p.verity.now expected ≡ false → IsRead c p old j block made → (made ≡ expected → ⊥) → GetsChain (block_in c p.verity.now (index + j)) mid now (Err (io.Stack mismatch))
-    block-other taken was different =
-        let other : digest p.verity.now.salt block ≡ expected → ⊥ = λ good. different (was.made_is ∙ good) in
-        walk_fails (λ (x : List ℕ). x) (block_in c p.verity.now (index + j)) b.size.whole walked (io.Stack mismatch)
-        (data_healed (λ (x : List ℕ). x) (block_in c p.verity.now (index + j)) expected mismatch taken
-        (at-place (Err (io.Stack mismatch)) (record {
-          moved = AreRead-none _ now;
-          may = inl refl;
-          exact = λ steady. ap (λ (s : Outcome). then_outcome s (checked p.verity.now.salt expected)) (here was steady) ∙ checked-other p.verity.now.salt expected block other;
-        }))
-        (Err (io.Stack mismatch)) (spare-none (block_in c p.verity.now (index + j)) expected now b.plain))
 
   mono : AllMono (blocks_place c p n)
   mono s = λ u w more b h. (h.0, record { given = more h.0 h.1.given; at = h.1.at; good = h.1.good }, h.2)
@@ -231,19 +178,22 @@ module _ {c : Configuration} {p : VerityPart} {n : ℕ} {found : List FoundRecor
       let line : line_read_cost (by_name c 0 (read_cost c)) (verity_target p.verity.now) ≤ read_cost c (mapped p.device.0) = subst (λ (t : Target). line_read_cost (by_name c 0 (read_cost c)) t ≤ read_cost c (mapped p.device.0)) b.line.has (line-read-cost c p.device.0 p.line b.line.line b.loaded.valid b.line.is) in
       omega (arith, line, priced c p.verity.now i)
 
-  pub total-cost : (r j : ℕ) → r ≤ m → j ≤ m → read_cost_so_far c p.verity.now (r * block_sectors p.verity.now) j ≤ n * read_cost c (mapped p.device.0)
-  total-cost r j read most =
+  pub total-cost : (r j s : ℕ) → r ≤ m → j ≤ m → s ≤ m → read_cost_so_far c p.verity.now (r * block_sectors p.verity.now) j s ≤ n * read_cost c (mapped p.device.0)
+  total-cost r j s read most healed =
       let dc : ℕ = (block_in c p.verity.now 0).on_data.cost in
       let path : ℕ = path_cost c p.verity.now in
-      let one : block_sectors p.verity.now * dc + path ≤ read_cost c (mapped p.device.0) = omega (arith, chain-cost 0, mul_assoc (levels (tree_of p.verity.now)) (hash_sectors p.verity.now) (block_in c p.verity.now 0).on_hash.cost) in
-      let all : n * (block_sectors p.verity.now * dc + path) ≤ n * read_cost c (mapped p.device.0) = mul-le-mul_left n one in
+      let mend : ℕ = spare_cost (block_in c p.verity.now 0) in
+      let one : block_sectors p.verity.now * dc + path + mend ≤ read_cost c (mapped p.device.0) = omega (arith, chain-cost 0, mul_assoc (levels (tree_of p.verity.now)) (hash_sectors p.verity.now) (block_in c p.verity.now 0).on_hash.cost) in
+      let all : n * (block_sectors p.verity.now * dc + path + mend) ≤ n * read_cost c (mapped p.device.0) = mul-le-mul_left n one in
+      let apart : n * (block_sectors p.verity.now * dc + path + mend) ≡ n * (block_sectors p.verity.now * dc) + n * path + n * mend = mul-add n (block_sectors p.verity.now * dc + path) mend ∙ ap (λ (k : ℕ). k + n * mend) (mul-add n (block_sectors p.verity.now * dc) path) in
       let once : 1 * dc ≤ block_sectors p.verity.now * dc = mul-le-mul_right dc b.size.some in
       let blocks_cost : n * dc ≤ n * (block_sectors p.verity.now * dc) = mul-le-mul_left n (omega (arith, once)) in
       let few : r * block_sectors p.verity.now ≤ m * block_sectors p.verity.now = mul-le-mul_right (block_sectors p.verity.now) read in
       let read_cost : r * block_sectors p.verity.now * dc ≤ n * dc = mul-le-mul_right dc (omega (arith, few, b.count)) in
       let each : m * 1 ≤ m * block_sectors p.verity.now = mul-le-mul_left m b.size.some in
       let ways : j * path ≤ n * path = mul-le-mul_right path (omega (arith, most, each, b.count)) in
-      omega (arith, all, blocks_cost, read_cost, ways)
+      let spares : s * mend ≤ n * mend = mul-le-mul_right mend (omega (arith, healed, each, b.count)) in
+      omega (arith, all, apart, blocks_cost, read_cost, ways, spares)
 
   -- ---- the read goes on
 
@@ -326,6 +276,13 @@ module _ {c : Configuration} {p : VerityPart} {n : ℕ} {found : List FoundRecor
     pub blocks-differ : {now : List Device} → GetsChain (block_in c p.verity.now (index + j)) mid now (Err (io.Stack mismatch)) → Finds (blocks_place c p n) c 0 n (record { old = old; new = new; before = u; after = w }) (Err (io.Stack mismatch))
     blocks-differ got = let end = block-stops (io.Stack mismatch) got in stops (io.Stack mismatch) (record { moved = AreRead-more step-cost moved; may = end.may; exact = end.exact })
 
+    -- of its digest, and its spare's
+    pub heal-stops : {now at : List Device} {q : ℕ} (expected : List ℕ) (vain : IoFault) → ((fault : Fault) → vain ≡ io.Stack fault → GetsChain (block_in c p.verity.now (index + j)) mid now (Err (io.Stack mismatch))) → AreRead mid q at
+        → Gets (spare_expected (λ (x : List ℕ). x) (block_in c p.verity.now (index + j)) expected) at new (Err vain) → Finds (blocks_place c p n) c 0 n (record { old = old; new = new; before = u; after = w }) (Err (unhealed mismatch vain))
+    heal-stops expected (io.Stack fault) other walked got = blocks-differ (other fault refl)
+    heal-stops expected (io.Device i) other walked got = stops (io.Device i) (record { moved = AreRead-more step-cost moved; may = (got.may.0, failed_later walked.moved got.moved.moved got.may.1); exact = λ steady. tt })
+    heal-stops expected io.NoMemory other walked got = stops io.NoMemory (record { moved = AreRead-more step-cost moved; may = got.may; exact = λ steady. tt })
+
     -- of the data, beneath which no fault of a line is met
     pub row-stops : {at : List Device} {q first rows : ℕ} (chains : List FoundRecord) (fault : IoFault) → AreRead mid q at
         → Gets (run_expected (place_of c p.data) chains first rows) at new (Err fault) → Finds (blocks_place c p n) c 0 n (record { old = old; new = new; before = u; after = w }) (Err fault)
@@ -339,9 +296,9 @@ module _ {c : Configuration} {p : VerityPart} {n : ℕ} {found : List FoundRecor
 
   -- ---- the whole read
 
-  pub blocks-read : (did : LeafRead) (answer : Result (List ℕ) IoFault) (r j : ℕ) → r ≤ m → j ≤ m → AreRead did.old (read_cost_so_far c p.verity.now (r * block_sectors p.verity.now) j) did.new → Finds (blocks_place c p n) c 0 n did answer → ReadsSource c (Blocks p) n did answer
-  blocks-read did answer r j read most moved found = record {
-    got = record { moved = AreRead-more (total-cost r j read most) moved; may = found.got.may; exact = found.got.exact };
+  pub blocks-read : (did : LeafRead) (answer : Result (List ℕ) IoFault) (r j s : ℕ) → r ≤ m → j ≤ m → s ≤ m → AreRead did.old (read_cost_so_far c p.verity.now (r * block_sectors p.verity.now) j s) did.new → Finds (blocks_place c p n) c 0 n did answer → ReadsSource c (Blocks p) n did answer
+  blocks-read did answer r j s read most healed moved found = record {
+    got = record { moved = AreRead-more (total-cost r j s read most healed) moved; may = found.got.may; exact = found.got.exact };
     grown = found.grown;
     kept = found.kept;
   }

@@ -15,11 +15,13 @@ use Rattle.stack_meaning.specs.Memory.{largest_allocation}
 use Rattle.stack_meaning.specs.Outcomes.{mismatch}
 use Rattle.stack_meaning.specs.Reading.{Gets}
 use Rattle.stack_meaning.proofs.lemmas.LeafListLemmas.{AreRead-none}
+use Rattle.stack_lines.proofs.lemmas.AskLemmas.{asks-as}
+use Rattle.stack_lines.specs.Touches.{AsksOnly}
 use Rattle.stack_lines.specs.Walks.{DataBlock, block_in, spare_expected}
 use Rattle.stack_engine.specs.declared.backing.Backing.{Backing}
 use Rattle.stack_engine.specs.declared.spare.LostBlock.{LostBlock}
 use Rattle.stack_engine.specs.Backings.{leaves_in}
-use Rattle.stack_engine.specs.Healing.{healed_result}
+use Rattle.stack_engine.specs.Healing.{healed_result, unhealed}
 use Rattle.stack_engine.specs.ReadSteps.{ReadsOn}
 use Rattle.stack_engine.specs.SectorCalls.{DataPlace, spare_full, spare_of}
 use Rattle.stack_engine.specs.Spares.{HealsBy}
@@ -31,6 +33,12 @@ checked-other salt expected block other = go (bytes_eq (digest salt block) expec
     go : (t : Bool) → bytes_eq (digest salt block) expected ≡ t → cond t (Ok block) (Err mismatch) ≡ Err mismatch
     go true same = absurd (other ((bytes_eq-Decides (digest salt block) expected).0 same))
     go false e = refl
+
+-- the leaves that were accessed, for the fault that is answered
+pub asks-unhealed : {A B : Type 0} {these : ℕ → Bool} {old new : List Device} (own : Fault) (vain : IoFault) → AsksOnly {A = A} these old new (Err vain) → AsksOnly {A = B} these old new (Err (unhealed own vain))
+asks-unhealed own (io.Stack fault) p = asks-as (Err (io.Stack own)) tt (λ failures. refl) p
+asks-unhealed own (io.Device i) p = asks-as (Err (io.Device i)) p.fault (λ failures. refl) p
+asks-unhealed own io.NoMemory p = asks-as (Err io.NoMemory) tt (λ failures. refl) p
 
 abbrev bytes : Vec ℕ Global → List ℕ
 bytes = λ block. block.items

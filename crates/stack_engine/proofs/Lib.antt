@@ -6,7 +6,10 @@ pub mod WriteStepLemmas
 pub mod PathLemmas
 pub mod TouchedLemmas
 pub mod BlocksLemmas
+pub mod ReadBlockLemmas
 pub mod NextBlockLemmas
+pub mod NextSettledLemmas
+pub mod SettledLemmas
 pub mod SpentLemmas
 pub mod UncutLemmas
 pub mod PaidLemmas

@@ -1,11 +1,11 @@
 -- Whole data blocks that were read at once, gone through one after another.
-use Rattle.std.proofs.Common.{◌≡◌, ℕ, ◌+◌, ◌-◌, ◌*◌, ◌/◌, ◌%◌, ◌<◌, ◌≤◌, ◌^◌, max, ◌⊎◌, All, Bool, true, false, replicate, List, [], ◌∷◌, ◌++◌, length, get_or, map, take, drop, Result, Ok, Err, inl, inr, refl, sym, ap, ◌∙◌, subst, arith}
+use Rattle.std.proofs.Common.{◌≡◌, ℕ, ◌+◌, ◌-◌, ◌*◌, ◌/◌, ◌%◌, ◌<◌, ◌≤◌, ◌^◌, max, ◌⊎◌, All, Bool, false, List, [], ◌++◌, length, get_or, map, take, drop, Result, Ok, Err, inl, inr, refl, sym, ap, ◌∙◌, subst, arith}
 use Rattle.std.proofs.lemmas.Bool.{cases_lt}
 use Rattle.std.proofs.lemmas.List.{take_all, length-map, length-take, length-take-le, length-drop, drop-drop, drop-append-le, take-append-le, get_or-drop, get_or-map}
 use Rattle.std.proofs.lemmas.List.Elements.{All-nil}
 use Rattle.std.proofs.lemmas.Slice.{drop-put_mid, take-put_mid_below, between-put_mid}
 use Rattle.std.proofs.Math.ListN.{get_or-append}
-use Rattle.std.proofs.Math.Seq.{take-add, drop-append_seam}
+use Rattle.std.proofs.Math.Seq.{drop-append_seam}
 use Rattle.std.proofs.Math.Nat.{add-mul, mul_comm, mul_assoc, mul-le-mul_left, mul-le-mul_right, mul-mod_left, mul-div_cancel}
 use Rattle.std.proofs.lemmas.Nat.{div-add-mod'}
 use borrow.Rule.Slice.PartMut.{put_mid, same_len_mid}
@@ -21,12 +21,10 @@ use Rattle.stack_rules.specs.Names.{mapped, size}
 use Rattle.stack_rules.specs.Descend.{read_cost}
 use Rattle.stack_rules.specs.Trees.{tree_of, block_sectors}
 use Rattle.stack_meaning.specs.declared.fault.IoFault.{IoFault}
-use Rattle.stack_meaning.specs.declared.fault.IoFault.TheVariants as io
 use Rattle.stack_lines.specs.declared.source.VerityPart.{VerityPart}
 use Rattle.stack_lines.specs.declared.source.Source.TheVariants.{Blocks}
 use Rattle.stack_meaning.specs.Changes.{AllWhole}
-use Rattle.stack_meaning.specs.Blocks.{is_ignored}
-use Rattle.stack_meaning.specs.Outcomes.{Outcome, mismatch, span}
+use Rattle.stack_meaning.specs.Outcomes.{Outcome, span}
 use Rattle.stack_meaning.specs.Found.{FoundRecord, AreDistinct}
 use Rattle.stack_meaning.specs.Kept.{AllKept}
 use Rattle.stack_meaning.specs.Leaves.{steady_images, AreRead}
@@ -38,7 +36,7 @@ use Rattle.stack_lines.specs.Budgets.{ReadsAtMost, part_budget}
 use Rattle.stack_lines.specs.Caches.{IsCached}
 use Rattle.stack_lines.specs.Extents.{IsExtent}
 use Rattle.stack_lines.specs.Sources.{ReadsSource}
-use Rattle.stack_lines.specs.Walks.{block_in, GetsChain, IsWalked}
+use Rattle.stack_lines.specs.Walks.{block_in, spare_cost, GetsChain, IsWalked}
 use Rattle.verified_cache.specs.Cache.{CachedBlock}
 use Rattle.stack_meaning.proofs.lemmas.LeafListLemmas.{AreRead-none, AreRead-more, AreRead-then}
 use Rattle.stack_meaning.proofs.lemmas.LoadedLemmas.{size-small}
@@ -50,11 +48,8 @@ use Rattle.stack_engine.specs.declared.path.Chains.{Chains}
 use Rattle.stack_engine.specs.Bytes.{GetsBytes}
 use Rattle.stack_engine.specs.Keeping.{AreHandedOut, ReadsSourceAs}
 use Rattle.stack_engine.proofs.KeepingLemmas.{finds-as, none-out}
-use Rattle.stack_engine.proofs.BlocksLemmas.{blocks_place, path_cost, read_cost_so_far, BlocksAt, IsRead, block-had, block-zeros, block-other, total-cost, before-more, none-more, none-read, blocks-more, blocks-stop, blocks-differ, blocks-full, row-stops, blocks-read}
-use Rattle.stack_engine.proofs.lemmas.BlockLemmas.{distinct-push}
+use Rattle.stack_engine.proofs.BlocksLemmas.{blocks_place, path_cost, read_cost_so_far, BlocksAt, IsRead, total-cost, none-read, blocks-stop, row-stops, blocks-read}
 use Rattle.stack_engine.proofs.SpentLemmas.{way-spent, row-spent}
-use Rattle.allocation.specs.Refusal.{IsOutOfMemory}
-use Rattle.stack_meaning.specs.Memory.{largest_allocation}
 
 -- ---- digests of blocks that are one after another
 
@@ -97,7 +92,7 @@ module _ (bytes : List ℕ) (u m : ℕ) (some : 0 < u) (len : length bytes ≡ 5
 -- the blocks before block j were had, where data were read as far as block r
 pub record WereHad (c : Configuration) (p : VerityPart) (n r j : ℕ) (bytes : List ℕ) (did : LeafRead) : Type 0 where
   pub so_far : Finds (blocks_place c p n) c 0 (j * block_sectors p.verity.now) did (Ok (take (512 * (j * block_sectors p.verity.now)) bytes))
-  pub moved : AreRead did.old (read_cost_so_far c p.verity.now (r * block_sectors p.verity.now) j) did.new
+  pub moved : AreRead did.old (read_cost_so_far c p.verity.now (r * block_sectors p.verity.now) j j) did.new
   pub before : AreBefore p.device.0 p.line (p.first / block_sectors p.verity.now + j) did.after
   pub distinct : AreDistinct did.before → AreDistinct did.after
 
@@ -106,16 +101,17 @@ abbrev pub AreReadAhead : Configuration → VerityPart → ℕ → ℕ → List 
 AreReadAhead c p j r bytes made old = (k : ℕ) → j ≤ k → k < r → (x : List ℕ)
     → IsRead c p old k (take (512 * block_sectors p.verity.now) (drop (512 * (k * block_sectors p.verity.now)) bytes)) (get_or made k x)
 
--- block j is the next one: those before it were had, the way to it was walked, and data were read as far as block r
-pub record IsNext (c : Configuration) (p : VerityPart) (n r j : ℕ) (bytes expected : List ℕ) (path : List (List ℕ)) (did : LeafRead) : Type 0 where
+-- Block j is the next one: those before it were had, the way to it was walked, and data were read as far as block r, and so many
+-- spares at most.
+pub record IsNext (c : Configuration) (p : VerityPart) (n r j spares : ℕ) (bytes expected : List ℕ) (path : List (List ℕ)) (did : LeafRead) : Type 0 where
   pub mid : List Device
   pub here : List Device
   pub ways : ℕ
   pub so_far : Finds (blocks_place c p n) c 0 (j * block_sectors p.verity.now) (record { old = did.old; new = mid; before = did.before; after = did.after }) (Ok (take (512 * (j * block_sectors p.verity.now)) bytes))
   pub walked : IsWalked (block_in c p.verity.now (p.first / block_sectors p.verity.now + j)) 0 expected path mid here
   pub later : AreRead did.old ways here
-  pub moved : AreRead did.old (read_cost_so_far c p.verity.now (r * block_sectors p.verity.now) (j + 1)) did.new
-  pub rest : AreRead mid (read_cost_so_far c p.verity.now (r * block_sectors p.verity.now) (j + 1)) did.new
+  pub moved : AreRead did.old (read_cost_so_far c p.verity.now (r * block_sectors p.verity.now) (j + 1) spares) did.new
+  pub rest : AreRead mid (read_cost_so_far c p.verity.now (r * block_sectors p.verity.now) (j + 1) spares) did.new
   pub before : AreBefore p.device.0 p.line (p.first / block_sectors p.verity.now + j) did.after
   pub distinct : AreDistinct did.before → AreDistinct did.after
 
@@ -129,14 +125,14 @@ cost-row r many to u dc more =
     let split : (r + many) * u * dc ≡ r * u * dc + many * u * dc = ap (λ (k : ℕ). k * dc) (add-mul r many u) ∙ add-mul (r * u) (many * u) dc in
     omega (arith, all, split)
 
-sum-row : (a b x path j cost : ℕ) → a + b ≤ x → cost ≡ b → a + j * path + (path + cost) ≤ x + (j + 1) * path
-sum-row a b x path j cost most same = omega (arith, most, same, add-mul j 1 path)
+sum-row : (a b x path j cost healed : ℕ) → a + b ≤ x → cost ≡ b → a + j * path + healed + (path + cost) ≤ x + (j + 1) * path + healed
+sum-row a b x path j cost healed most same = omega (arith, most, same, add-mul j 1 path)
 
 le-sum : (a b x : ℕ) → a + b ≤ x → b ≤ x
 le-sum a b x h = omega (arith, h)
 
-sum-way : (a path j : ℕ) → a + j * path + path ≡ a + (j + 1) * path
-sum-way a path j = omega (arith, add-mul j 1 path)
+sum-way : (a path j healed : ℕ) → a + j * path + healed + path ≡ a + (j + 1) * path + healed
+sum-way a path j healed = omega (arith, add-mul j 1 path)
 
 pub sub-same : (a b : ℕ) → a + b - a ≡ b
 sub-same a b = omega arith
@@ -159,7 +155,7 @@ module _ {X : Type 0} (a w : ℕ) (xs ys : List X) (fits : a ≤ length xs) wher
   item-put n d inside = sym (get_or-drop a (put_mid a w xs ys) n d) ∙ ap (λ (l : List X). get_or l n d) behind-put ∙ get_or-append ys (drop (a + w) xs) d n inside
 
   -- what follows the written part stays
-  rest-put : (n m : ℕ) → a + w ≤ n → length ys ≡ w → take m (drop n (put_mid a w xs ys)) ≡ take m (drop n xs)
+  pub rest-put : (n m : ℕ) → a + w ≤ n → length ys ≡ w → take m (drop n (put_mid a w xs ys)) ≡ take m (drop n xs)
   rest-put n m past same = ap (take m) (drop-put_mid a w xs ys n past fits same)
 
   item-rest : (n : ℕ) (d : X) → a + w ≤ n → length ys ≡ w → get_or (put_mid a w xs ys) n d ≡ get_or xs n d
@@ -187,7 +183,7 @@ module _ {c : Configuration} {p : VerityPart} {n : ℕ} {found : List FoundRecor
   few-blocks : m ≤ n
   few-blocks = let each : m * 1 ≤ m * block_sectors p.verity.now = mul-le-mul_left m b.size.some in omega (arith, each, b.count)
 
-  block-size : block_sectors p.verity.now * 512 ≡ p.verity.now.data_block
+  pub block-size : block_sectors p.verity.now * 512 ≡ p.verity.now.data_block
   block-size = omega (arith, b.size.whole)
 
   pub digest-count : (bytes : List ℕ) → length bytes ≡ 512 * n → length bytes / p.verity.now.data_block ≡ n / block_sectors p.verity.now
@@ -340,7 +336,7 @@ module _ {c : Configuration} {p : VerityPart} {found : List FoundRecord} {start 
       let count : j * block_sectors p.verity.now ≡ (length start / 512) = ap (λ (k : ℕ). k * block_sectors p.verity.now) all ∙ b.count in
       let front : take (512 * (j * block_sectors p.verity.now)) bytes ≡ bytes = take_all (512 * (j * block_sectors p.verity.now)) bytes (omega (arith, inv.size, whole, count)) in
       let did : LeafRead = record { old = old; new = new; before = before; after = inv.after } in
-      finds-as chains (blocks-read b did (Ok bytes) r j inv.most inv.within inv.had.moved
+      finds-as chains (blocks-read b did (Ok bytes) r j j inv.most inv.within inv.within inv.had.moved
       (subst (λ (k : ℕ). Finds (blocks_place c p (length start / 512)) c 0 k did (Ok bytes)) count (subst (λ (l : List ℕ). Finds (blocks_place c p (length start / 512)) c 0 (j * block_sectors p.verity.now) did (Ok l)) front inv.had.so_far)))
       inv.out inv.had.distinct
 
@@ -368,12 +364,14 @@ module _ {c : Configuration} {p : VerityPart} {found : List FoundRecord} {start 
         → ReadsSource c (Blocks p) (length start / 512) (record { old = did.old; new = new; before = did.before; after = did.after }) (Err fault)
     way-fails {did = did} {new = new} fault had moved got =
         let next : j + 1 ≤ (length start / 512) / block_sectors p.verity.now = omega (arith, turn.inside) in
-        let most = total-cost b r (j + 1) turn.read next in
-        let way = sum-way (r * block_sectors p.verity.now * (block_in c p.verity.now 0).on_data.cost) (path_cost c p.verity.now) j in
+        let below : j ≤ (length start / 512) / block_sectors p.verity.now = omega (arith, turn.inside) in
+        let healed : ℕ = j * spare_cost (block_in c p.verity.now 0) in
+        let most = total-cost b r (j + 1) j turn.read next below in
+        let way = sum-way (r * block_sectors p.verity.now * (block_in c p.verity.now 0).on_data.cost) (path_cost c p.verity.now) j healed in
         let few : path_cost c p.verity.now ≤ (length start / 512) * read_cost c (mapped p.device.0) =
-        le-sum (r * block_sectors p.verity.now * (block_in c p.verity.now 0).on_data.cost + j * path_cost c p.verity.now) (path_cost c p.verity.now) ((length start / 512) * read_cost c (mapped p.device.0)) (subst (λ (k : ℕ). k ≤ (length start / 512) * read_cost c (mapped p.device.0)) (sym way) most) in
-        let both : AreRead did.old (read_cost_so_far c p.verity.now (r * block_sectors p.verity.now) (j + 1)) new = subst (λ (k : ℕ). AreRead did.old k new) way (AreRead-then had.moved moved) in
-        blocks-read b (record { old = did.old; new = new; before = did.before; after = did.after }) (Err fault) r (j + 1) turn.read next both
+        le-sum (r * block_sectors p.verity.now * (block_in c p.verity.now 0).on_data.cost + j * path_cost c p.verity.now + healed) (path_cost c p.verity.now) ((length start / 512) * read_cost c (mapped p.device.0)) (subst (λ (k : ℕ). k ≤ (length start / 512) * read_cost c (mapped p.device.0)) (sym way) most) in
+        let both : AreRead did.old (read_cost_so_far c p.verity.now (r * block_sectors p.verity.now) (j + 1) j) new = subst (λ (k : ℕ). AreRead did.old k new) way (AreRead-then had.moved moved) in
+        blocks-read b (record { old = did.old; new = new; before = did.before; after = did.after }) (Err fault) r (j + 1) j turn.read next below both
         (blocks-stop b j turn.inside had.so_far moved few fault (subst (λ (k : ℕ). GetsChain (block_in c p.verity.now k) did.new new (Err fault)) turn.index got))
 
     pub way-costs : {did : LeafRead} {new : List Device} → WereHad c p (length start / 512) r j bytes did → AreRead did.new (path_cost c p.verity.now) new → ReadsAtMost (part_budget c p (length start / 512)) did.old new
@@ -421,28 +419,28 @@ module _ {c : Configuration} {p : VerityPart} {found : List FoundRecord} {start 
         pub far : next_read ≤ (length start / 512) / block_sectors p.verity.now
         far = omega (arith, turn.read, row.most)
 
-        both-cost : read_cost_so_far c p.verity.now (r * block_sectors p.verity.now) j + (path_cost c p.verity.now + many * block_sectors p.verity.now * read_cost c p.data) ≤ read_cost_so_far c p.verity.now (next_read * block_sectors p.verity.now) (j + 1)
+        both-cost : read_cost_so_far c p.verity.now (r * block_sectors p.verity.now) j j + (path_cost c p.verity.now + many * block_sectors p.verity.now * read_cost c p.data) ≤ read_cost_so_far c p.verity.now (next_read * block_sectors p.verity.now) (j + 1) j
         both-cost =
-            sum-row (r * block_sectors p.verity.now * (block_in c p.verity.now 0).on_data.cost) (many * block_sectors p.verity.now * (block_in c p.verity.now 0).on_data.cost) (next_read * block_sectors p.verity.now * (block_in c p.verity.now 0).on_data.cost) (path_cost c p.verity.now) j (many * block_sectors p.verity.now * read_cost c p.data)
+            sum-row (r * block_sectors p.verity.now * (block_in c p.verity.now 0).on_data.cost) (many * block_sectors p.verity.now * (block_in c p.verity.now 0).on_data.cost) (next_read * block_sectors p.verity.now * (block_in c p.verity.now 0).on_data.cost) (path_cost c p.verity.now) j (many * block_sectors p.verity.now * read_cost c p.data) (j * spare_cost (block_in c p.verity.now 0))
             (cost-row r many next_read (block_sectors p.verity.now) (block_in c p.verity.now 0).on_data.cost more) (ap (λ (k : ℕ). many * block_sectors p.verity.now * k) (sym (cost b)))
 
-        rest-cost : path_cost c p.verity.now + many * block_sectors p.verity.now * read_cost c p.data ≤ read_cost_so_far c p.verity.now (next_read * block_sectors p.verity.now) (j + 1)
-        rest-cost = le-sum (read_cost_so_far c p.verity.now (r * block_sectors p.verity.now) j) (path_cost c p.verity.now + many * block_sectors p.verity.now * read_cost c p.data) (read_cost_so_far c p.verity.now (next_read * block_sectors p.verity.now) (j + 1)) both-cost
+        rest-cost : path_cost c p.verity.now + many * block_sectors p.verity.now * read_cost c p.data ≤ read_cost_so_far c p.verity.now (next_read * block_sectors p.verity.now) (j + 1) j
+        rest-cost = le-sum (read_cost_so_far c p.verity.now (r * block_sectors p.verity.now) j j) (path_cost c p.verity.now + many * block_sectors p.verity.now * read_cost c p.data) (read_cost_so_far c p.verity.now (next_read * block_sectors p.verity.now) (j + 1) j) both-cost
 
-        all-moved : AreRead did.old (read_cost_so_far c p.verity.now (next_read * block_sectors p.verity.now) (j + 1)) new
+        all-moved : AreRead did.old (read_cost_so_far c p.verity.now (next_read * block_sectors p.verity.now) (j + 1) j) new
         all-moved = AreRead-more both-cost (AreRead-then had.moved (AreRead-then moved gets.got.moved))
 
-        rest-moved : AreRead did.new (read_cost_so_far c p.verity.now (next_read * block_sectors p.verity.now) (j + 1)) new
+        rest-moved : AreRead did.new (read_cost_so_far c p.verity.now (next_read * block_sectors p.verity.now) (j + 1) j) new
         rest-moved = AreRead-more rest-cost (AreRead-then moved gets.got.moved)
 
         pub row-costs : ReadsAtMost (part_budget c p (length start / 512)) did.old new
         row-costs = row-spent b r j many turn.read turn.inside row.most fresh had.moved moved gets.got.moved
 
-        pub row-next : IsNext c p (length start / 512) next_read j bytes expected way (record { old = did.old; new = new; before = did.before; after = did.after })
+        pub row-next : IsNext c p (length start / 512) next_read j j bytes expected way (record { old = did.old; new = new; before = did.before; after = did.after })
         row-next = record {
           mid = did.new;
           here = walk;
-          ways = read_cost_so_far c p.verity.now (r * block_sectors p.verity.now) j + path_cost c p.verity.now;
+          ways = read_cost_so_far c p.verity.now (r * block_sectors p.verity.now) j j + path_cost c p.verity.now;
           so_far = had.so_far;
           walked = subst (λ (k : ℕ). IsWalked (block_in c p.verity.now k) 0 expected way did.new walk) turn.index walked;
           later = AreRead-then had.moved moved;
@@ -460,8 +458,9 @@ module _ {c : Configuration} {p : VerityPart} {found : List FoundRecord} {start 
           let to : ℕ = max r (j + many) in
           let next : j + 1 ≤ (length start / 512) / block_sectors p.verity.now = omega (arith, turn.inside) in
           let end = far fresh had moved walked gets in
-          blocks-read b (record { old = did.old; new = new; before = did.before; after = did.after }) (Err fault) to (j + 1) end next (all-moved fresh had moved walked gets)
-          (row-stops b j turn.inside had.so_far (rest-moved fresh had moved walked gets) (total-cost b to (j + 1) end next) gets.chains fault moved gets.got)
+          let below : j ≤ (length start / 512) / block_sectors p.verity.now = omega (arith, turn.inside) in
+          blocks-read b (record { old = did.old; new = new; before = did.before; after = did.after }) (Err fault) to (j + 1) j end next below (all-moved fresh had moved walked gets)
+          (row-stops b j turn.inside had.so_far (rest-moved fresh had moved walked gets) (total-cost b to (j + 1) j end next below) gets.chains fault moved gets.got)
 
       -- the blocks as far as that are stored there as they were read
       module _ (fresh : (many ≡ 0) ⊎ (r ≤ j)) {did : LeafRead} {walk new : List Device} {content_of : List ℕ} {digests : List (List ℕ)} (made : List (List ℕ)) (had : WereHad c p (length start / 512) r j bytes did) (moved : AreRead did.new (path_cost c p.verity.now) walk)
@@ -535,104 +534,3 @@ module _ {c : Configuration} {p : VerityPart} {found : List FoundRecord} {start 
           | inl near ↦ of-row k low near x
           | inr high ↦ of-before k high below x
         ]
-
--- ---- the block itself
-
-module _ {c : Configuration} {p : VerityPart} {n : ℕ} {found : List FoundRecord} (b : BlocksAt c p n found) where
-  -- what settles it: the bytes that were there, and those that are written there
-  module _ {r j : ℕ} {bytes expected : List ℕ} {path : List (List ℕ)} {did : LeafRead} (out : List ℕ) (inside : j < n / block_sectors p.verity.now) (read : r ≤ n / block_sectors p.verity.now) (next : IsNext c p n r j bytes expected path did)
-      (len : length out ≡ 512 * n) (end : j * p.verity.now.data_block + p.verity.now.data_block ≤ length out) where
-    few : read_cost_so_far c p.verity.now (r * block_sectors p.verity.now) (j + 1) ≤ n * read_cost c (mapped p.device.0)
-    few = total-cost b r (j + 1) read (omega (arith, inside))
-
-    width : j * p.verity.now.data_block + p.verity.now.data_block - j * p.verity.now.data_block ≡ 512 * block_sectors p.verity.now
-    width = sub-same (j * p.verity.now.data_block) p.verity.now.data_block ∙ sym (block-size b) ∙ mul_comm (block_sectors p.verity.now) 512
-
-    part-is : (l : List ℕ) → take (j * p.verity.now.data_block + p.verity.now.data_block - j * p.verity.now.data_block) (drop (j * p.verity.now.data_block) l) ≡ take (512 * block_sectors p.verity.now) (drop (512 * (j * block_sectors p.verity.now)) l)
-    part-is l = ap (λ (k : ℕ). take k (drop (j * p.verity.now.data_block) l)) width ∙ ap (λ (k : ℕ). take (512 * block_sectors p.verity.now) (drop k l)) (block-begin b j)
-
-    stood-len : length (take (j * p.verity.now.data_block + p.verity.now.data_block - j * p.verity.now.data_block) (drop (j * p.verity.now.data_block) out)) ≡ j * p.verity.now.data_block + p.verity.now.data_block - j * p.verity.now.data_block
-    stood-len = length-take-le (j * p.verity.now.data_block + p.verity.now.data_block - j * p.verity.now.data_block) (drop (j * p.verity.now.data_block) out) (omega (arith, end, length-drop (j * p.verity.now.data_block) out))
-
-    -- it was read, unless the line ignores it
-    was-read : (made : List (List ℕ)) (x : List ℕ) → AreReadAhead c p j r out made did.old → j < r → IsRead c p did.old j (take (j * p.verity.now.data_block + p.verity.now.data_block - j * p.verity.now.data_block) (drop (j * p.verity.now.data_block) out)) (get_or made j x)
-    was-read made x ahead within = subst (λ (l : List ℕ). IsRead c p did.old j l (get_or made j x)) (sym (part-is out)) (ahead j (omega arith) within x)
-
-    -- the digest that was made of the bytes that are stored there
-    pub digest-made : (made : List (List ℕ)) (x : List ℕ) → AreReadAhead c p j r out made did.old → j < r → get_or made j x ≡ digest p.verity.now.salt (take (j * p.verity.now.data_block + p.verity.now.data_block - j * p.verity.now.data_block) (drop (j * p.verity.now.data_block) out))
-    digest-made made x ahead within = (was-read made x ahead within).made_is
-
-    -- it has another digest
-    pub block-differs : {ignored : Bool} (made : List (List ℕ)) (x : List ℕ) → ignored ≡ is_ignored p.verity.now expected → AreReadAhead c p j r out made did.old → (ignored ≡ false → j < r) → (ignored ≡ false) × (get_or made j x ≡ expected → ⊥)
-        → ReadsSource c (Blocks p) n did (Err (io.Stack mismatch))
-    block-differs made x same ahead within other =
-        blocks-read b did (Err (io.Stack mismatch)) r (j + 1) read (omega (arith, inside)) next.moved
-        (blocks-differ b j inside next.so_far next.rest few (block-other b j next.later next.walked _ _ (sym same ∙ other.0) (was-read made x ahead (within other.0)) other.1))
-
-    -- no memory for its chain
-    pub block-full : IsOutOfMemory largest_allocation → ReadsSource c (Blocks p) n did (Err io.NoMemory)
-    block-full refused = blocks-read b did (Err io.NoMemory) r (j + 1) read (omega (arith, inside)) next.moved (blocks-full b j inside next.so_far next.rest few refused)
-
-    -- it is ignored, or has the digest: its chain is there
-    module _ {ignored : Bool} (made : List (List ℕ)) (block x : List ℕ) (front : take (512 * (j * block_sectors p.verity.now)) out ≡ take (512 * (j * block_sectors p.verity.now)) bytes)
-        (same : ignored ≡ is_ignored p.verity.now expected) (ahead : AreReadAhead c p j r out made did.old) (within : ignored ≡ false → j < r)
-        (wide : length block ≡ length (take (j * p.verity.now.data_block + p.verity.now.data_block - j * p.verity.now.data_block) (drop (j * p.verity.now.data_block) out)))
-        (zeros : ignored ≡ true → block ≡ replicate (length (take (j * p.verity.now.data_block + p.verity.now.data_block - j * p.verity.now.data_block) (drop (j * p.verity.now.data_block) out))) 0)
-        (good : ignored ≡ false → (get_or made j x ≡ expected) × (block ≡ take (j * p.verity.now.data_block + p.verity.now.data_block - j * p.verity.now.data_block) (drop (j * p.verity.now.data_block) out))) where
-      abbrev written : List ℕ
-      written = put_mid (j * p.verity.now.data_block) (j * p.verity.now.data_block + p.verity.now.data_block - j * p.verity.now.data_block) out block
-
-      abbrev content : List ℕ
-      content = take (j * p.verity.now.data_block + p.verity.now.data_block - j * p.verity.now.data_block) (drop (j * p.verity.now.data_block) written)
-
-      block-fits : j * p.verity.now.data_block ≤ length out
-      block-fits = omega (arith, end)
-
-      content-is : content ≡ block
-      content-is = between-put_mid (j * p.verity.now.data_block) (j * p.verity.now.data_block + p.verity.now.data_block - j * p.verity.now.data_block) out block (j * p.verity.now.data_block + p.verity.now.data_block) block-fits (wide ∙ stood-len)
-
-      content-len : length content ≡ 512 * block_sectors p.verity.now
-      content-len = ap (λ (l : List ℕ). length l) content-is ∙ wide ∙ stood-len ∙ width
-
-      got : (i : Bool) → ignored ≡ i → GetsChain (block_in c p.verity.now (p.first / block_sectors p.verity.now + j)) next.mid next.here (Ok (record { index = p.first / block_sectors p.verity.now + j; content = block; path = path }))
-      got true is = block-zeros b j next.later next.walked block (get_or made j x) (sym same ∙ is) (zeros is ∙ ap (λ (k : ℕ). replicate k 0) (stood-len ∙ sub-same (j * p.verity.now.data_block) p.verity.now.data_block)) (b.there j inside)
-      got false is =
-          let own = good is in
-          subst (λ (l : List ℕ). GetsChain (block_in c p.verity.now (p.first / block_sectors p.verity.now + j)) next.mid next.here (Ok (record { index = p.first / block_sectors p.verity.now + j; content = l; path = path }))) (sym own.1)
-          (block-had b j next.later next.walked _ _ (sym same ∙ is) (was-read made x ahead (within is)) (stood-len ∙ width) (b.there j inside) own.0)
-
-      got-content : GetsChain (block_in c p.verity.now (p.first / block_sectors p.verity.now + j)) next.mid next.here (Ok (record { index = p.first / block_sectors p.verity.now + j; content = content; path = path }))
-      got-content = subst (λ (l : List ℕ). GetsChain (block_in c p.verity.now (p.first / block_sectors p.verity.now + j)) next.mid next.here (Ok (record { index = p.first / block_sectors p.verity.now + j; content = l; path = path }))) (sym content-is) (got ignored refl)
-
-      pub block-checked : {number : ℕ} {way : List (List ℕ)} → number ≡ p.first / block_sectors p.verity.now + j → way ≡ path
-          → WereHad c p n r (j + 1) written (record { old = did.old; new = did.new; before = did.before; after = did.after ++ (record { device = p.device.0; line = p.line; chain = record { index = number; content = content; path = way } } ∷ []) })
-      block-checked {number = number} {way = way} here goes =
-          let u : ℕ = block_sectors p.verity.now in
-          let more = blocks-more b j inside next.so_far next.rest few content path content-len got-content in
-          let count : j * u + u ≡ (j + 1) * u = omega (arith, add-mul j 1 u) in
-          let one : FoundRecord = record { device = p.device.0; line = p.line; chain = record { index = p.first / u + j; content = content; path = path } } in
-          let own : record { device = p.device.0; line = p.line; chain = record { index = number; content = content; path = way } } ≡ one =
-          ap {B = FoundRecord} (λ (i : ℕ). record { device = p.device.0; line = p.line; chain = record { index = i; content = content; path = way } }) here
-          ∙ ap {B = FoundRecord} (λ (l : List (List ℕ)). record { device = p.device.0; line = p.line; chain = record { index = p.first / u + j; content = content; path = l } }) goes in
-          let after : LeafRead = record { old = did.old; new = did.new; before = did.before; after = did.after ++ (one ∷ []) } in
-          let before : take (512 * (j * u)) written ≡ take (512 * (j * u)) bytes =
-          take-put_mid_below (j * p.verity.now.data_block) (j * p.verity.now.data_block + p.verity.now.data_block - j * p.verity.now.data_block) out block (512 * (j * u)) (omega (arith, block-begin b j)) block-fits ∙ front in
-          let e : 512 * (j * u) + 512 * u ≡ 512 * (j * u + u) = omega arith in
-          let longer : take (512 * (j * u)) bytes ++ content ≡ take (512 * (j * u + u)) written =
-          ap (λ (l : List ℕ). l ++ content) (sym before) ∙ ap (λ (l : List ℕ). take (512 * (j * u)) written ++ l) (part-is written) ∙ sym (take-add (512 * (j * u)) (512 * u) written) ∙ ap (λ (k : ℕ). take k written) e in
-          subst (λ (y : FoundRecord). WereHad c p n r (j + 1) written (record { old = did.old; new = did.new; before = did.before; after = did.after ++ (y ∷ []) })) (sym own) (record {
-            so_far = subst (λ (k : ℕ). Finds (blocks_place c p n) c 0 k after (Ok (take (512 * k) written))) count
-                (subst (λ (l : List ℕ). Finds (blocks_place c p n) c 0 (j * u + u) after (Ok l)) longer more);
-            moved = next.moved;
-            before = before-more b did.after j content path next.before;
-            distinct = λ d. distinct-push did.after one (none-more b did.after j next.before) (next.distinct d);
-          })
-
-      -- those after it stay
-      pub rest-ahead : AreReadAhead c p (j + 1) r written made did.old
-      rest-ahead k low below y =
-          let u : ℕ = block_sectors p.verity.now in
-          let up : (j + 1) * u ≤ k * u = mul-le-mul_right u low in
-          let past : j * p.verity.now.data_block + (j * p.verity.now.data_block + p.verity.now.data_block - j * p.verity.now.data_block) ≤ 512 * (k * u) = omega (arith, block-begin b j, block-size b, up, add-mul j 1 u) in
-          subst (λ (l : List ℕ). IsRead c p did.old k l (get_or made k y)) (sym (rest-put (j * p.verity.now.data_block) (j * p.verity.now.data_block + p.verity.now.data_block - j * p.verity.now.data_block) out block block-fits (512 * (k * u)) (512 * u) past (wide ∙ stood-len)))
-          (ahead k (omega (arith, low)) below y)

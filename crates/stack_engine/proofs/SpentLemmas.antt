@@ -26,7 +26,7 @@ use Rattle.stack_lines.specs.declared.source.Source.TheVariants.{Units, UnitPart
 use Rattle.stack_lines.specs.declared.units.WholeUnit.{WholeUnit}
 use Rattle.stack_lines.specs.Budgets.{ReadsAtMost, budget, crypt_budget, part_budget, source_budget}
 use Rattle.stack_lines.specs.Sources.{AreUnits, LieInUnit, IsWholeOf, from_unit, IsServed, EndsRun}
-use Rattle.stack_lines.specs.Walks.{block_in, chain_expected}
+use Rattle.stack_lines.specs.Walks.{block_in, chain_expected, spare_cost}
 use Rattle.stack_lines.proofs.lemmas.BudgetLemmas.{chain-cost as priced, budget-leaf, budget-apart, served-budget, units-budget, unit-budget, blocks-budget, block-budget}
 use Rattle.stack_lines.proofs.lemmas.UnitSourceLemmas.{units-of}
 use Rattle.stack_lines.proofs.lemmas.VerityLineLemmas.{place-named}
@@ -94,22 +94,24 @@ pub block-spent : {c : Configuration} {p : VerityPart} {n : ℕ} (i : ℕ) {old 
 block-spent {c = c} {p = p} {n = n} i {old = old} {new = new} b read =
     omega (arith, read.moved.reads.sum, priced c p.verity.now i, block-budget c p n b.some b.within)
 
--- what r blocks and many more cost, with the ways to j of m blocks
-rows-cost : (m u price way r j many : ℕ) → r + many ≤ m → j ≤ m → r * u * price + many * u * price + j * way ≤ m * (u * price + way)
-rows-cost m u price way r j many rows ways =
+-- what r blocks and many more cost, with the ways to j of m blocks and s spares
+rows-cost : (m u price way mend r j s many : ℕ) → r + many ≤ m → j ≤ m → s ≤ m → r * u * price + many * u * price + j * way + s * mend ≤ m * (u * price + way + mend)
+rows-cost m u price way mend r j s many rows ways spares =
     let sectors : (r + many) * u ≤ m * u = mul-le-mul_right u rows in
     let all : (r + many) * u * price ≤ m * u * price = mul-le-mul_right price sectors in
     let split : (r + many) * u * price ≡ r * u * price + many * u * price = ap (λ (k : ℕ). k * price) (add-mul r many u) ∙ add-mul (r * u) (many * u) price in
     let each : j * way ≤ m * way = mul-le-mul_right way ways in
-    omega (arith, all, split, each, mul-add m (u * price) way, mul_assoc m u price)
+    let mended : s * mend ≤ m * mend = mul-le-mul_right mend spares in
+    omega (arith, all, split, each, mended, mul-add m (u * price + way) mend, mul-add m (u * price) way, mul_assoc m u price)
 
 -- and of none more
-few-cost : (m u price way r j : ℕ) → r ≤ m → j ≤ m → r * u * price + j * way ≤ m * (u * price + way)
-few-cost m u price way r j read ways =
+few-cost : (m u price way mend r j s : ℕ) → r ≤ m → j ≤ m → s ≤ m → r * u * price + j * way + s * mend ≤ m * (u * price + way + mend)
+few-cost m u price way mend r j s read ways spares =
     let sectors : r * u ≤ m * u = mul-le-mul_right u read in
     let all : r * u * price ≤ m * u * price = mul-le-mul_right price sectors in
     let each : j * way ≤ m * way = mul-le-mul_right way ways in
-    omega (arith, all, each, mul-add m (u * price) way, mul_assoc m u price)
+    let mended : s * mend ≤ m * mend = mul-le-mul_right mend spares in
+    omega (arith, all, each, mended, mul-add m (u * price + way) mend, mul-add m (u * price) way, mul_assoc m u price)
 
 module _ {c : Configuration} {p : VerityPart} {n : ℕ} {found : List FoundRecord} (b : BlocksAt c p n found) where
   abbrev m : ℕ
@@ -118,28 +120,31 @@ module _ {c : Configuration} {p : VerityPart} {n : ℕ} {found : List FoundRecor
   abbrev data_cost : ℕ
   data_cost = (block_in c p.verity.now 0).on_data.cost
 
-  all-is : m * (block_sectors p.verity.now * data_cost + path_cost c p.verity.now) ≤ part_budget c p n
+  abbrev mend : ℕ
+  mend = spare_cost (block_in c p.verity.now 0)
+
+  all-is : m * (block_sectors p.verity.now * data_cost + path_cost c p.verity.now + mend) ≤ part_budget c p n
   all-is =
       let line : ℕ = line_read_cost (by_name c 0 (read_cost c)) (verity_target p.verity.now) in
       let way = mul_assoc (levels (tree_of p.verity.now)) (hash_sectors p.verity.now) (block_in c p.verity.now 0).on_hash.cost in
-      let each : block_sectors p.verity.now * data_cost + path_cost c p.verity.now ≤ line = omega (arith, priced c p.verity.now 0, way) in
-      let all : m * (block_sectors p.verity.now * data_cost + path_cost c p.verity.now) ≤ m * line = mul-le-mul_left m each in
+      let each : block_sectors p.verity.now * data_cost + path_cost c p.verity.now + mend ≤ line = omega (arith, priced c p.verity.now 0, way) in
+      let all : m * (block_sectors p.verity.now * data_cost + path_cost c p.verity.now + mend) ≤ m * line = mul-le-mul_left m each in
       omega (arith, all, blocks-budget c p n m b.size.some b.aligned b.count)
 
   -- so many blocks, of which data were read as far as block r
-  pub had-spent : (r j : ℕ) {old mid : List Device} → r ≤ n / block_sectors p.verity.now → j ≤ n / block_sectors p.verity.now → AreRead old (read_cost_so_far c p.verity.now (r * block_sectors p.verity.now) j) mid → ReadsAtMost (part_budget c p n) old mid
-  had-spent r j read ways had = omega (arith, had.moved.reads.sum, all-is, few-cost m (block_sectors p.verity.now) data_cost (path_cost c p.verity.now) r j read ways)
+  pub had-spent : (r j s : ℕ) {old mid : List Device} → r ≤ n / block_sectors p.verity.now → j ≤ n / block_sectors p.verity.now → s ≤ n / block_sectors p.verity.now → AreRead old (read_cost_so_far c p.verity.now (r * block_sectors p.verity.now) j s) mid → ReadsAtMost (part_budget c p n) old mid
+  had-spent r j s read ways spares had = omega (arith, had.moved.reads.sum, all-is, few-cost m (block_sectors p.verity.now) data_cost (path_cost c p.verity.now) mend r j s read ways spares)
 
   -- and the way to one more
-  pub way-spent : (r j : ℕ) {old mid walk : List Device} → r ≤ n / block_sectors p.verity.now → j < n / block_sectors p.verity.now → AreRead old (read_cost_so_far c p.verity.now (r * block_sectors p.verity.now) j) mid → AreRead mid (path_cost c p.verity.now) walk → ReadsAtMost (part_budget c p n) old walk
+  pub way-spent : (r j : ℕ) {old mid walk : List Device} → r ≤ n / block_sectors p.verity.now → j < n / block_sectors p.verity.now → AreRead old (read_cost_so_far c p.verity.now (r * block_sectors p.verity.now) j j) mid → AreRead mid (path_cost c p.verity.now) walk → ReadsAtMost (part_budget c p n) old walk
   way-spent r j read inside had moved =
-      omega (arith, had.moved.reads.sum, moved.moved.reads.sum, all-is, add-mul j 1 (path_cost c p.verity.now), few-cost m (block_sectors p.verity.now) data_cost (path_cost c p.verity.now) r (j + 1) read (omega (arith, inside)))
+      omega (arith, had.moved.reads.sum, moved.moved.reads.sum, all-is, add-mul j 1 (path_cost c p.verity.now), few-cost m (block_sectors p.verity.now) data_cost (path_cost c p.verity.now) mend r (j + 1) j read (omega (arith, inside)) (omega (arith, inside)))
 
   -- and the data of some more
-  pub row-spent : (r j many : ℕ) {old mid walk new : List Device} → r ≤ n / block_sectors p.verity.now → j < n / block_sectors p.verity.now → j + many ≤ n / block_sectors p.verity.now → (many ≡ 0) ⊎ (r ≤ j) → AreRead old (read_cost_so_far c p.verity.now (r * block_sectors p.verity.now) j) mid → AreRead mid (path_cost c p.verity.now) walk
+  pub row-spent : (r j many : ℕ) {old mid walk new : List Device} → r ≤ n / block_sectors p.verity.now → j < n / block_sectors p.verity.now → j + many ≤ n / block_sectors p.verity.now → (many ≡ 0) ⊎ (r ≤ j) → AreRead old (read_cost_so_far c p.verity.now (r * block_sectors p.verity.now) j j) mid → AreRead mid (path_cost c p.verity.now) walk
       → AreRead walk (many * block_sectors p.verity.now * read_cost c p.data) new → ReadsAtMost (part_budget c p n) old new
   row-spent r j many read inside most fresh had moved got =
       let rows : r + many ≤ m = elim fresh [ inl none ↦ omega (arith, none, read) | inr behind ↦ omega (arith, behind, most) ] in
       let one : data_cost ≡ read_cost c p.data = ap (λ (q : Place). q.cost) (place-named c p.verity.now.data p.data b.is) in
       let same : many * block_sectors p.verity.now * data_cost ≡ many * block_sectors p.verity.now * read_cost c p.data = ap (λ (k : ℕ). many * block_sectors p.verity.now * k) one in
-      omega (arith, had.moved.reads.sum, moved.moved.reads.sum, got.moved.reads.sum, same, all-is, add-mul j 1 (path_cost c p.verity.now), rows-cost m (block_sectors p.verity.now) data_cost (path_cost c p.verity.now) r (j + 1) many rows (omega (arith, inside)))
+      omega (arith, had.moved.reads.sum, moved.moved.reads.sum, got.moved.reads.sum, same, all-is, add-mul j 1 (path_cost c p.verity.now), rows-cost m (block_sectors p.verity.now) data_cost (path_cost c p.verity.now) mend r (j + 1) j many rows (omega (arith, inside)) (omega (arith, inside)))

@@ -1,5 +1,5 @@
 -- A verity line with parity that has lost data blocks.
-use Rattle.std.specs.Prelude.{◌≡◌, ◌⊎◌, ℕ, ◌-◌, ◌*◌, ◌/◌, ◌%◌, ◌<◌, List, [], ◌++◌, Some, Ok}
+use Rattle.std.specs.Prelude.{◌≡◌, ◌⊎◌, ℕ, ◌-◌, ◌*◌, ◌/◌, ◌%◌, List, [], ◌++◌, Some, Ok}
 use Rattle.std.specs.List.{slice_index_or, concat}
 use Rattle.hash_tree.specs.Laws.{AreBlocks}
 use Rattle.hash_tree.specs.Tree.{root, area}
@@ -28,30 +28,30 @@ pub record IsTreeOnHash (c : Configuration) (images : Images) (v : Verity) (bloc
   pub on_hash : span (named_sector c images v.hash) (hash_sectors v * v.start) (hash_sectors v * area_blocks (tree_of v)) ≡ Ok (concat (area v.hash_block v.salt (verity_digests v blocks)))
   pub root_is : v.root ≡ root v.hash_block v.salt (verity_digests v blocks)
 
--- The parity of each round was made of the blocks that it covers, of which the first are the data blocks. Each data block is
--- as it was, or the other blocks of its round are and the round's parity is readable.
-pub record HaveLostOne (v : Verity) (p : Parity) (from : BlockSources) (blocks : List (List ℕ)) : Type 0 where
+-- The parity of the round of data block i was made of the blocks that the round covers, of which block i is one. Block i is as it was,
+-- or the other blocks of its round are and the round's parity is readable.
+pub record HasLostOne (v : Verity) (p : Parity) (from : BlockSources) (blocks : List (List ℕ)) (i : ℕ) : Type 0 where
   pub former : ℕ → List ℕ
-  pub first : (j : ℕ) → j < v.blocks → former j ≡ slice_index_or blocks j []
-  pub parity : ℕ → List ℕ
-  pub rounds : (j : ℕ) → j < v.blocks → IsFormerRound v p former (j % round_count p) (parity (j % round_count p))
-  pub one : (j : ℕ) → j < v.blocks → (covered_block v from j ≡ Ok (former j)) ⊎ IsWholeBeside v p from former j (parity (j % round_count p))
+  pub own : former i ≡ slice_index_or blocks i []
+  pub parity : List ℕ
+  pub round : IsFormerRound v p former (i % round_count p) parity
+  pub one : (covered_block v from i ≡ Ok (former i)) ⊎ IsWholeBeside v p from former i parity
 
--- the line has this parity, its tree is whole, and of each round at most one data block is lost
-pub record AreDamaged (c : Configuration) (images : Images) (v : Verity) (p : Parity) (blocks : List (List ℕ)) : Type 0 where
+-- the line has this parity, its tree is whole, and of the round of data block i at most one block is lost
+pub record IsDamaged (c : Configuration) (images : Images) (v : Verity) (p : Parity) (blocks : List (List ℕ)) (i : ℕ) : Type 0 where
   pub has : v.parity ≡ Some p
   pub tree : IsTreeOnHash c images v blocks
-  pub lost : HaveLostOne v p (line_sources c images v) blocks
+  pub lost : HasLostOne v p (line_sources c images v) blocks i
 
 -- another block has the digest of this one
 pub record BlockCollides (v : Verity) (block : List ℕ) : Type 0 where
   pub other : List ℕ
   pub collision : IsSha256Collision (v.salt ++ other) (v.salt ++ block)
 
--- each sector of such a line is as it was, or its data block is one of two different inputs of one digest
+-- a sector of such a line, in data block i, is as it was, or block i is one of two different inputs of one digest
 abbrev pub DamagedDataIsRead : Type 0
 DamagedDataIsRead = (c : Configuration) → IsLoaded c → (images : Images) → AreWhole images
     → (d s l : ℕ) (line : Line) (v : Verity) → LiesInVerity c d s l line v
-    → (p : Parity) (blocks : List (List ℕ)) → AreDamaged c images v p blocks
+    → (p : Parity) (blocks : List (List ℕ)) → IsDamaged c images v p blocks ((s - line.start) / block_sectors v)
     → (sector c images (mapped d) s ≡ Ok (formatted_sector v blocks (s - line.start)))
     ⊎ BlockCollides v (slice_index_or blocks ((s - line.start) / block_sectors v) [])

@@ -10,9 +10,13 @@ IsSettled (io.Stack fault) = ⊥
 IsSettled (io.Device i) = Unit {0}
 IsSettled io.NoMemory = Unit {0}
 
+-- the fault of a block whose own read ended in the first fault, and that of its spare in the other one
+abbrev pub unhealed : Fault → IoFault → IoFault
+unhealed own (io.Stack vain) = io.Stack own
+unhealed own (io.Device i) = io.Device i
+unhealed own io.NoMemory = io.NoMemory
+
 -- what is answered of a block whose read ended in that fault, after its spare
 abbrev pub healed_result : {A : Type 0} → Fault → Result A IoFault → Result A IoFault
 healed_result fault (Ok x) = Ok x
-healed_result fault (Err (io.Stack vain)) = Err (io.Stack fault)
-healed_result fault (Err (io.Device i)) = Err (io.Device i)
-healed_result fault (Err io.NoMemory) = Err io.NoMemory
+healed_result fault (Err vain) = Err (unhealed fault vain)

@@ -32,7 +32,7 @@ use Rattle.stack_lines.specs.Runs.{IsRunAt}
 use Rattle.stack_lines.specs.Sources.{from_unit}
 use Rattle.stack_lines.specs.Walks.{IsBlockOfDigest}
 use Rattle.stack_lines.specs.Writing.{SomeEncrypt}
-use Rattle.stack_engine.specs.Healing.{IsSettled, healed_result}
+use Rattle.stack_engine.specs.Healing.{IsSettled, healed_result, unhealed}
 use Rattle.stack_engine.specs.LeafCalls.{LeafCall, MakesCalls}
 use Rattle.verified_cache.specs.Cache.{CachedBlock}
 
@@ -208,13 +208,14 @@ pub data ReadCalls (c : Configuration) : ReadOf → List LeafCall → Result (Li
   one_read : {p : DataPlace} {expected : List ℕ} (last : List ℕ) {calls : List LeafCall} {answer : Result (List ℕ) IoFault} → is_ignored p.verity expected ≡ false → IfErr answer IsSettled → ReadCalls c (block_of (expected_data p expected)) calls answer → ReadCalls c (data_of p zero expected last one_block) calls answer
   one_healed : {p : DataPlace} {expected : List ℕ} (last : List ℕ) {calls later : List LeafCall} {fault : Fault} {spare : Result (List ℕ) IoFault} → is_ignored p.verity expected ≡ false → ReadCalls c (block_of (expected_data p expected)) calls (Err (io.Stack fault)) → ReadCalls c (spare_of p expected) later spare
       → ReadCalls c (data_of p zero expected last one_block) (calls ++ later) (healed_result fault spare)
-  -- whole data blocks, the next of which was read before: it is ignored, or has the digest, and those after it are read; or it
-  -- differs, and the line has no parity
+  -- whole data blocks, the next of which was read before: it is ignored, or has the digest, or differs and its spare is read, and
+  -- those after it are read; or it differs, and its spare can't be read
   next_ignored : {p : DataPlace} {left : ℕ} {expected ahead : List ℕ} (last : List ℕ) {calls : List LeafCall} {answer : Result (List ℕ) IoFault} → is_ignored p.verity expected ≡ true → ReadCalls c (blocks_of (next_place p) left (drop p.verity.data_block ahead)) calls answer
       → ReadCalls c (data_of p zero expected last (blocks_left (suc left) ahead)) calls (bytes_before (zero_block p.verity) answer)
   next_checked : {p : DataPlace} {left : ℕ} {expected ahead : List ℕ} (block last : List ℕ) {calls : List LeafCall} {answer : Result (List ℕ) IoFault} → is_ignored p.verity expected ≡ false → IsBlockOfDigest (block_sectors p.verity) p.verity.salt expected block → ReadCalls c (blocks_of (next_place p) left ahead) calls answer
       → ReadCalls c (data_of p zero expected last (blocks_left (suc left) (block ++ ahead))) calls (bytes_before block answer)
-  next_differs : {p : DataPlace} {expected : List ℕ} (left : ℕ) (block ahead last : List ℕ) → is_ignored p.verity expected ≡ false → length block ≡ 512 * block_sectors p.verity → (digest p.verity.salt block ≡ expected → ⊥) → p.verity.parity ≡ None → ReadCalls c (data_of p zero expected last (blocks_left left (block ++ ahead))) [] (Err (io.Stack why.Mismatch))
+  next_healed : {p : DataPlace} {left : ℕ} {expected ahead spare : List ℕ} (block last : List ℕ) {calls later : List LeafCall} {answer : Result (List ℕ) IoFault} → is_ignored p.verity expected ≡ false → length block ≡ 512 * block_sectors p.verity → (digest p.verity.salt block ≡ expected → ⊥) → ReadCalls c (spare_of p expected) calls (Ok spare) → ReadCalls c (blocks_of (next_place p) left ahead) later answer → ReadCalls c (data_of p zero expected last (blocks_left (suc left) (block ++ ahead))) (calls ++ later) (bytes_before spare answer)
+  next_differs : {p : DataPlace} {expected : List ℕ} (left : ℕ) (block ahead last : List ℕ) {calls : List LeafCall} {vain : IoFault} → is_ignored p.verity expected ≡ false → length block ≡ 512 * block_sectors p.verity → (digest p.verity.salt block ≡ expected → ⊥) → ReadCalls c (spare_of p expected) calls (Err vain) → ReadCalls c (data_of p zero expected last (blocks_left left (block ++ ahead))) calls (Err (unhealed why.Mismatch vain))
   -- it wasn't read before: it is read together with later ones
   together_read : {p : DataPlace} {left many : ℕ} {expected last bytes : List ℕ} {calls later : List LeafCall} {answer : Result (List ℕ) IoFault} → is_ignored p.verity expected ≡ false → AreReadTogether p last left many → ReadCalls c (sectors_of (Below p.on_data (block_sectors p.verity * p.index)) (many * block_sectors p.verity)) calls (Ok bytes)
       → ReadCalls c (data_of p zero expected last (blocks_left left bytes)) later answer → ReadCalls c (data_of p zero expected last (blocks_left left [])) (calls ++ later) answer
@@ -224,8 +225,7 @@ pub data ReadCalls (c : Configuration) : ReadOf → List LeafCall → Result (Li
   blocks_end : (p : DataPlace) (ahead : List ℕ) → ReadCalls c (blocks_of p zero ahead) [] (Ok [])
   blocks_next : {p : DataPlace} {left : ℕ} {ahead : List ℕ} {calls : List LeafCall} {answer : Result (List ℕ) IoFault} → ReadCalls c (whole_data p (blocks_left (suc left) ahead)) calls answer → ReadCalls c (blocks_of p (suc left) ahead) calls answer
   blocks_full : (p : DataPlace) (left : ℕ) (ahead : List ℕ) → ReadCalls c (blocks_of p left ahead) [] (Err io.NoMemory)
-  -- the spare of a data block: none without parity, or if memory runs out before it; or the sum of the other blocks of its round and of their parity, which has the
-  -- digest, or another one, or can't be read
+  -- the spare of a data block: none without parity, or if memory runs out before it; or the sum of the other blocks of its round and of their parity, if it is read and has the digest
   spare_none : (p : DataPlace) (expected : List ℕ) → p.verity.parity ≡ None → ReadCalls c (spare_of p expected) [] (Err (io.Stack why.Mismatch))
   spare_full : (p : DataPlace) (expected : List ℕ) → ReadCalls c (spare_of p expected) [] (Err io.NoMemory)
   spare_checked : {p : DataPlace} {q : Parity} {expected bytes : List ℕ} {calls : List LeafCall} → p.verity.parity ≡ Some q → ReadCalls c (sums_of p q 0 (zero_block p.verity)) calls (Ok bytes) → digest p.verity.salt bytes ≡ expected → ReadCalls c (spare_of p expected) calls (Ok bytes)

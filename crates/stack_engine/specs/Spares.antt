@@ -1,5 +1,5 @@
 -- What the steps of a read of a data block's spare say: of a position of its round, of the round's parity, and of the whole.
-use Rattle.std.specs.Prelude.{◌≡◌, ℕ, suc, ◌+◌, ◌-◌, ◌*◌, ◌/◌, ◌%◌, ◌==◌, ◌≤◌, if◌then◌else◌, List, ◌∷◌, [], Vec, Some, Result, Ok, Err}
+use Rattle.std.specs.Prelude.{◌≡◌, ◌⊎◌, ℕ, suc, ◌+◌, ◌*◌, ◌/◌, ◌%◌, ◌==◌, ◌≤◌, true, false, if◌then◌else◌, List, ◌∷◌, [], length, replicate, Vec, Some, Result, Ok, Err}
 use Rattle.std.specs.Global.{Global}
 use Rattle.block_device.specs.Call.{Call}
 use Rattle.block_device.specs.Device.{Device}
@@ -11,11 +11,12 @@ use Rattle.stack_rules.specs.TargetRules.{greatest}
 use Rattle.stack_rules.specs.Trees.{block_sectors, round_count}
 use Rattle.stack_meaning.specs.declared.fault.Fault.{Fault}
 use Rattle.stack_meaning.specs.declared.fault.IoFault.{IoFault}
-use Rattle.stack_meaning.specs.Outcomes.{then_outcome}
+use Rattle.stack_meaning.specs.Outcomes.{mismatch, then_outcome}
 use Rattle.stack_meaning.specs.Places.{Expected}
 use Rattle.stack_meaning.specs.Spares.{added_block, round_block, round_parity, with_parity}
 use Rattle.stack_lines.specs.Walks.{DataBlock, block_in, block_leaves, sources_of, spare_expected}
 use Rattle.stack_engine.specs.declared.backing.Backing.{Backing}
+use Rattle.stack_engine.specs.declared.rows.JudgedBlock.{JudgedBlock}
 use Rattle.stack_engine.specs.declared.spare.LostBlock.{LostBlock}
 use Rattle.stack_engine.specs.declared.spare.Stored.{Stored}
 use Rattle.stack_engine.specs.Healing.{healed_result}
@@ -70,3 +71,22 @@ pub record HealsBy {D : Type 0} (state : D → Device) (does : D → Call → D 
   pub is : result ≡ healed_result fault spare
   pub got : GetsBy state (spare_expected (λ block. block.items) (block_in c p.verity lost.index) lost.digest) old new spare
   pub given : ReadsOn does c (spare_of p lost.digest) old new (block_answer spare)
+
+-- ---- a data block that was read together with others
+
+-- it is ignored, and is zeros; or it has the digest, and stays as it was
+pub record IsAnswered (judged : JudgedBlock) (block : List ℕ) (answer : Result (List ℕ) IoFault) : Type 0 where
+  pub zeros : judged.ignored ≡ true → answer ≡ Ok (replicate (length block) 0)
+  pub same : judged.ignored ≡ false → (judged.made ≡ judged.lost.digest) × (answer ≡ Ok block)
+
+-- it has another one: its spare, and the calls that read it; or the fault
+pub record HealsRead {D : Type 0} (state : D → Device) (does : D → Call → D → Type 0) (c : Configuration) (p : DataPlace) (judged : JudgedBlock) (old new : Backing D) (answer : Result (List ℕ) IoFault) : Type 0 where
+  pub used : judged.ignored ≡ false
+  pub differs : judged.made ≡ judged.lost.digest → ⊥
+  pub spare : Result (List ℕ) IoFault
+  pub is : answer ≡ healed_result mismatch spare
+  pub got : GetsBy state (spare_wanted c p.verity judged.lost) old new spare
+  pub given : ReadsOn does c (spare_of p judged.lost.digest) old new spare
+
+abbrev pub SettlesBy : {D : Type 0} → (D → Device) → (D → Call → D → Type 0) → Configuration → DataPlace → JudgedBlock → List ℕ → Backing D → Backing D → Result (List ℕ) IoFault → Type 0
+SettlesBy state does c p judged block old new answer = ((new ≡ old) × IsAnswered judged block answer) ⊎ HealsRead state does c p judged old new answer

@@ -15,9 +15,9 @@ pub fn formatted_data_is_read()
     formed_chains_are_good();
 }
 
-/// If a line has parity, its tree is whole and each round has lost at most one data block, a sector of the line is as it was,
-/// even if its data block is lost; or another block has the digest of that one, and the two, each after the salt, are two
-/// different inputs of one SHA-256 digest.
+/// If a line has parity, its tree is whole and the round of a data block has lost at most one block, a sector of that block is as
+/// it was, even if the block is the lost one; or another block has the digest of that one, and the two, each after the salt, are
+/// two different inputs of one SHA-256 digest.
 pub fn damaged_data_is_read()
     ensures { DamagedDataIsRead }
 {

@@ -18,14 +18,14 @@ ghost use Rattle.stack_engine.specs.LeafCalls.{IsLeafCall};
 ghost use Rattle.stack_engine.specs.Backings.{leaves_in, IsBacking, Asks, StaysSound, did};
 ghost use Rattle.stack_engine.specs.SectorCalls.{block_of, hash_of, one_block, place_in, spare_of, sums_of, whole_data};
 ghost use Rattle.stack_engine.specs.ReadSteps.{CanFill, ReadsLeaf, StepFrom, StepAt, ReadsOn, GivesFrom, GivesAt, GivesAny, GivesData, GivesOnWay, WalksTo, GotAt, GetsBy, extent_wanted, data_wanted, way_wanted, ChainBy, WalkedBy, ReadsWay, expected_in, block_answer, content_answer};
-ghost use Rattle.stack_engine.specs.Spares.{AddsTo, HealsBy, other_wanted, spare_wanted, stored_wanted};
+ghost use Rattle.stack_engine.specs.Spares.{AddsTo, HealsBy, SettlesBy, other_wanted, spare_wanted, stored_wanted};
 ghost use Rattle.stack_engine.specs.Keeping.{ReadsAs, ReadsSourceAs};
 
 use crate::backing::Backing;
 use crate::buffer::{fill_zeros, zero_block, zero_sectors};
 use crate::path::{Chains, PathBlock, WantedBlock, put, stands};
-use crate::rows::{NextBlock, read_as_far, row_len, settle};
-use crate::spare::{LostBlock, add_block, add_stored, other_extent, stored_extent};
+use crate::rows::{JudgedBlock, NextBlock, judge, read_as_far, row_len, settle};
+use crate::spare::{LostBlock, add_block, add_stored, other_extent, stored_extent, unhealed};
 use allocation::push;
 use block_device::BlockDev;
 use dm_table::Verity;
@@ -250,7 +250,6 @@ fn read_blocks<D: BlockDev>(
 {
     let verity = part.verity;
     let tree = tree_of(config, &part);
-    let levels = tree.shape.levels() as usize;
     let size = verity.data_block as usize;
     let first = part.first / u64::from(verity.data_block / 512);
     let count = out.len() / size;
@@ -265,14 +264,13 @@ fn read_blocks<D: BlockDev>(
             Err(first) => return Err(first),
             Ok(expected) => expected,
         };
-        let way = &path.as_slice()[..levels];
-        let ignored = is_ignored(config, verity, &tree, &expected);
+        let way = &path.as_slice()[..tree.shape.levels() as usize];
         let next = NextBlock {
             block: index,
             at,
             read,
             count,
-            ignored,
+            ignored: is_ignored(config, verity, &tree, &expected),
         };
         let many = row_len(config, verity, &tree, way, next);
         let from = at * size;
@@ -285,9 +283,11 @@ fn read_blocks<D: BlockDev>(
         let row = &out[from..from + many * size];
         digest_blocks(&verity.salt, size, row, &mut made[at..at + many]);
         read = read_as_far(next, many);
-        let digest = &made[at];
-        if !settle(ignored, digest, &expected, &mut out[from..from + size]) {
-            return Err(IoFault::Stack(Fault::Mismatch));
+        let judged = judge(next, &expected, &made[at]);
+        let block = &mut out[from..from + size];
+        match settle_block(config, backing, verity, &tree, &judged, block) {
+            Err(vain) => return Err(vain),
+            Ok(()) => {}
         }
         match chains.keep(&part, index, way, &out[from..from + size], found) {
             Err(_) => return Err(IoFault::NoMemory),
@@ -430,9 +430,35 @@ fn heal<D: BlockDev>(
     };
     match mend(config, backing, verity, tree, lost, block.as_mut_slice()) {
         Ok(()) => Ok(block),
-        Err(IoFault::Stack(_)) => Err(IoFault::Stack(fault)),
-        Err(IoFault::Device(failed)) => Err(IoFault::Device(failed)),
-        Err(IoFault::NoMemory) => Err(IoFault::NoMemory),
+        Err(vain) => Err(unhealed(fault, vain)),
+    }
+}
+
+/// Settles a data block that was read together with others: one that is ignored is replaced by zeros, one of another digest by its
+/// spare.
+#[cycle(read)]
+fn settle_block<D: BlockDev>(
+    config: &Config,
+    backing: &mut Backing<D>,
+    verity: &Verity,
+    tree: &Tree,
+    one: &JudgedBlock,
+    block: &mut [u8],
+) -> Result<(), IoFault>
+    requires stack { IsBacking D.state config.now backing.old }
+    requires block { HasDataBlock config.now verity.now tree.now one.now.lost.index }
+    requires size { length block.old ≡ verity.now.data_block }
+    ensures reads { SettlesBy D.state (DeviceDoes D.state D.does) config.now (place_in verity.now tree.now one.now.lost.index) one.now block.old backing.old backing.new (buffer_answer result block.new) }
+    ensures cached { StaysSound D.state config.now backing.old backing.new }
+    ensures touches { Asks D.state (leaves_of config.now (mapped tree.now.device.0)) backing.old backing.new result }
+{
+    let lost = &one.lost;
+    if settle(one.ignored, &one.made, &lost.digest, block) {
+        return Ok(());
+    }
+    match mend(config, backing, verity, tree, lost, block) {
+        Ok(()) => Ok(()),
+        Err(vain) => Err(unhealed(Fault::Mismatch, vain)),
     }
 }
 

@@ -4,6 +4,7 @@ ghost use Rattle.stack_lines.specs.Walks.{IsTreeOf};
 ghost use Rattle.stack_engine.specs.SectorCalls.{AreReadTogether, last_bytes, place_in};
 
 use crate::path::PathBlock;
+use crate::spare::LostBlock;
 use dm_table::Verity;
 use stack_config::Config;
 use stack_lines::tree::{Tree, is_ignored};
@@ -18,6 +19,29 @@ pub(crate) struct NextBlock {
     pub(crate) read: usize,
     pub(crate) count: usize,
     pub(crate) ignored: bool,
+}
+
+/// A data block that was read together with others, with the digest that is expected of it: whether the line ignores it, and the
+/// digest that was made of its bytes.
+#[derive(Clone, Copy)]
+pub(crate) struct JudgedBlock {
+    pub(crate) lost: LostBlock,
+    pub(crate) ignored: bool,
+    pub(crate) made: Digest,
+}
+
+/// The next data block, after those two digests are known.
+pub(crate) fn judge(next: NextBlock, expected: &Digest, made: &Digest) -> JudgedBlock
+    ensures { result ≡ record { lost = record { index = next.block; digest = expected.now }; ignored = next.ignored; made = made.now } }
+{
+    JudgedBlock {
+        lost: LostBlock {
+            index: next.block,
+            digest: *expected,
+        },
+        ignored: next.ignored,
+        made: *made,
+    }
 }
 
 /// How many data blocks are taken in a row, at least one and so many at most: those that the line doesn't ignore, as far as

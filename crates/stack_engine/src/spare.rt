@@ -7,12 +7,14 @@ ghost use Rattle.stack_meaning.specs.Spares.{added_block, with_parity};
 ghost use Rattle.stack_lines.specs.Extents.{LiesInsideLower};
 ghost use Rattle.stack_lines.specs.Walks.{HasDataBlock};
 ghost use Rattle.stack_engine.specs.SectorCalls.{other_by, other_number, place_in};
+ghost use Rattle.stack_engine.specs.Healing.{unhealed};
 ghost use Rattle.stack_engine.specs.Spares.{IsStoredAt};
 
 use dm_table::{Parity, Verity};
 use reed_solomon::add_parity;
 use stack_config::{Config, Lower};
 use stack_lines::tree::{Extent, Tree, covered_extent, parity_start};
+use stack_meaning::{Fault, IoFault};
 use stack_rules::round_count;
 use tree_shape::Digest;
 
@@ -29,6 +31,18 @@ pub(crate) struct Stored {
     pub(crate) lower: Lower,
     pub(crate) first: u64,
     pub(crate) sectors: u32,
+}
+
+/// The fault of a data block whose own read ended in a fault, and the read of its spare in another one: its own fault, unless a
+/// device or an allocation failed.
+pub(crate) fn unhealed(own: Fault, vain: IoFault) -> IoFault
+    ensures { result ≡ unhealed own vain }
+{
+    match vain {
+        IoFault::Stack(_) => IoFault::Stack(own),
+        IoFault::Device(failed) => IoFault::Device(failed),
+        IoFault::NoMemory => IoFault::NoMemory,
+    }
 }
 
 /// Adds the bytes of a block to the sums. To a sum, a byte is the same as the parity of a codeword that has one byte of it.

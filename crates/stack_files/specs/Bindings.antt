@@ -1,6 +1,6 @@
 -- The backing devices that names are bound to.
 use Rattle.std.specs.Global.{Global}
-use Rattle.std.specs.Prelude.{◌≡◌, ℕ, Bool, false, true, List, [], ◌∷◌, ◌++◌, map, Vec}
+use Rattle.std.specs.Prelude.{◌≡◌, ℕ, Bool, false, true, List, [], ◌∷◌, ◌++◌, map, Option, None, option_map, Vec}
 use Rattle.block_device.specs.Device.{Device, in_memory, zeros_image, ramp_image}
 use Rattle.command_line.specs.Bindings.{BackingRecord, BindingRecord, backing_record, binding_record, file, mapped, part, partition, ramp, zeros}
 use Rattle.command_line.specs.declared.bindings.Backing.{Backing}
@@ -12,11 +12,14 @@ use Rattle.image_files.specs.declared.images.OpenImage.{OpenImage}
 use Rattle.image_files.specs.FileUses.{image_use, part_use}
 use Rattle.image_files.specs.Opener.{Calls, Opener, calls}
 use Rattle.image_files.specs.OpenParts.{OpensPart}
+use Rattle.image_files.specs.OpenPlaces.{ClosesAt}
 use Rattle.image_files.specs.Places.{device_part}
 use Rattle.stack_rules.specs.Records.{LeafRecord}
 use Rattle.stack_meaning.specs.Leaves.{ServeLeaves}
 use Rattle.stack_files.specs.declared.leaves.OpenLeaves.{OpenLeaves}
+use Rattle.stack_files.specs.declared.mapped_file.MappedImage.{MappedImage}
 use Rattle.stack_files.specs.MappedFiles.{OpensMapped}
+use Rattle.stack_files.specs.WholeFiles.{read_use}
 
 -- an image was opened at its path, doesn't conflict with any open file, and is one of the open files now
 pub record OpensBackingFile {S D : Type 0} (w : Calls S D) (files : List FileUse) (path : List ℕ) (writable : Bool) (device : D) (files' : List FileUse) : Type 0 where
@@ -32,12 +35,12 @@ pub record OpensPartOf {S D : Type 0} (w : Calls S D) (files : List FileUse) (pa
   pub is : device ≡ image.device
   pub more : files' ≡ files ++ part_use writable at image ∷ []
 
--- an image was opened to be read, without the sectors that a map doesn't have, and is one of the open files now
-pub record OpensMappedFile {S D : Type 0} (w : Calls S D) (files : List FileUse) (path map_file : List ℕ) (device : D) (files' : List FileUse) : Type 0 where
-  pub image : OpenImage D
-  pub opened : OpensMapped w files path map_file image
+-- an image, or a part of it, was opened to be read, without the sectors that a map doesn't have; the map and it are open files now
+pub record OpensMappedFile {S D : Type 0} (w : Calls S D) (files : List FileUse) (path map_file : List ℕ) (at : Option Part) (device : D) (files' : List FileUse) : Type 0 where
+  pub image : MappedImage D
+  pub opened : OpensMapped w files path map_file at image
   pub is : device ≡ image.device
-  pub more : files' ≡ files ++ image_use false image ∷ []
+  pub more : files' ≡ files ++ read_use image.map_id None ∷ read_use image.id at ∷ []
 
 -- a device in memory was made, with that image
 pub record MakesMemory {S D : Type 0} (w : Calls S D) (image : List (List ℕ)) (device : D) : Type 0 where
@@ -49,7 +52,7 @@ abbrev pub OpensBacking : {S D : Type 0} → Calls S D → List FileUse → Back
 OpensBacking w files (file path writable) device files' = OpensBackingFile w files path writable device files'
 OpensBacking w files (part path writable at) device files' = OpensPartOf w files path writable (device_part at) device files'
 OpensBacking w files (partition path writable named) device files' = ⊥
-OpensBacking w files (mapped path map_file) device files' = OpensMappedFile w files path map_file device files'
+OpensBacking w files (mapped path map_file at) device files' = OpensMappedFile w files path map_file (option_map device_part at) device files'
 OpensBacking w files (zeros n) device files' = MakesMemory w (zeros_image n) device × (files' ≡ files)
 OpensBacking w files (ramp n) device files' = MakesMemory w (ramp_image n) device × (files' ≡ files)
 
@@ -78,7 +81,7 @@ abbrev pub ClosesBacking : {S D : Type 0} → Calls S D → BackingRecord → D 
 ClosesBacking w (file path writable) device = w.relations.takes w.old path device w.new
 ClosesBacking w (part path writable at) device = w.relations.takes_part w.old path (device_part at) device w.new
 ClosesBacking w (partition path writable named) device = w.new ≡ w.old
-ClosesBacking w (mapped path map_file) device = w.relations.takes w.old path device w.new
+ClosesBacking w (mapped path map_file at) device = ClosesAt w path (option_map device_part at) device
 ClosesBacking w (zeros n) device = w.new ≡ w.old
 ClosesBacking w (ramp n) device = w.new ≡ w.old
 
@@ -98,6 +101,10 @@ names_in leaves = map (λ leaf. leaf.name) leaves
 -- the device of a binding is opened next to some files, and its file is one of them then
 abbrev pub Backs : {S D : Type 0} → Opener S D → (D → Device) → S → S → Vec FileUse Global → Vec FileUse Global → Backing → D → Type 0
 Backs relations state old new files files' backing = λ device. OpensBacking (calls relations state old new) files.items (backing_record backing) device files'.items
+
+-- so is that of one that is known
+abbrev pub BacksAs : {S D : Type 0} → Opener S D → (D → Device) → S → S → Vec FileUse Global → Vec FileUse Global → BackingRecord → D → Type 0
+BacksAs relations state old new files files' backing = λ device. OpensBacking (calls relations state old new) files.items backing device files'.items
 
 -- the backing devices of the bindings, and their devices
 abbrev pub BindsAll : {S D : Type 0} → Opener S D → (D → Device) → S → S → List FileUse → List Binding → OpenLeaves D → Type 0

@@ -1,3 +1,4 @@
+pub mod WholeFiles
 pub mod MappedFiles
 pub mod Bindings
 pub mod Openings

@@ -1,6 +1,6 @@
 -- How a command ends if a file can't be opened or read.
 use Rattle.std.specs.Global.{Global}
-use Rattle.std.specs.Prelude.{◌≡◌, ◌⊎◌, ℕ, ◌+◌, ◌*◌, ◌^◌, ◌<◌, ◌≤◌, Bool, List, [], ◌∷◌, ◌++◌, length, map, Vec}
+use Rattle.std.specs.Prelude.{◌≡◌, ◌⊎◌, ℕ, ◌+◌, ◌*◌, ◌^◌, ◌<◌, ◌≤◌, Bool, List, [], ◌∷◌, ◌++◌, length, map, option_map, Vec}
 use Rattle.std.specs.List.{sum_by}
 use Rattle.allocation.specs.Refusal.{IsOutOfMemory}
 use Rattle.block_device.specs.declared.open_fault.OpenFault.TheVariants.{NotFound}
@@ -69,7 +69,7 @@ RefusesBacking w files (file path writable) (Open unopened) = RefusesApart w fil
 RefusesBacking w files (part path writable at) (Open unopened) = RefusesPart w files path writable (device_part at) (unopened_part.File unopened)
 RefusesBacking w files (part path writable at) (Outside of) = RefusesPart w files path writable (device_part at) (unopened_part.Outside of)
 RefusesBacking w files (partition path writable named) (Open unopened) = IsUnresolved w path unopened
-RefusesBacking w files (mapped path map_file) (Open unopened) = RefusesMapped w files path map_file unopened
+RefusesBacking w files (mapped path map_file at) fault = RefusesMapped w files path map_file (option_map device_part at) fault
 RefusesBacking w files backing fault = ⊥
 
 -- the most elements that one allocation requests for a binding's device: its sectors in memory, or one more open file
@@ -77,7 +77,7 @@ abbrev pub backing_room : BackingRecord → ℕ
 backing_room (file path writable) = 1
 backing_room (part path writable at) = 1
 backing_room (partition path writable named) = 0
-backing_room (mapped path map_file) = 1
+backing_room (mapped path map_file at) = 1
 backing_room (zeros n) = n * 512
 backing_room (ramp n) = n * 512
 
@@ -133,6 +133,10 @@ RefusesSource relations state old new path = RefusesText (calls relations state 
 -- the device of a binding can't be opened
 abbrev pub FailsToBack : {S D : Type 0} → Opener S D → (D → Device) → S → S → Vec FileUse Global → Backing → OpeningFault → Type 0
 FailsToBack relations state old new files backing = IsBackingEnd (calls relations state old new) files.items (backing_record backing)
+
+-- nor that of one that is known
+abbrev pub FailsToBackAs : {S D : Type 0} → Opener S D → (D → Device) → S → S → Vec FileUse Global → BackingRecord → OpeningFault → Type 0
+FailsToBackAs relations state old new files backing = IsBackingEnd (calls relations state old new) files.items backing
 
 -- one of the bindings can't be opened
 abbrev pub FailsToBindAll : {S D : Type 0} → Opener S D → (D → Device) → S → S → List FileUse → List Binding → OpeningFault → Type 0

@@ -1,9 +1,10 @@
 //! Closes what was opened.
 ghost use Rattle.stack_files.specs.Bindings.{ClosesAll, ClosesBy};
 
+use crate::whole_file::named_part;
 use block_device::BlockDev;
 use command_line::{Backing, Binding};
-use image_files::{Images, device_part};
+use image_files::{Images, Place, close_place, device_part};
 
 // Closes the image of a binding. A device in memory has no path, and no device is opened of a partition that isn't resolved.
 fn close_backing<I: Images>(images: &mut I, backing: Backing<'_>, device: I::Dev)
@@ -17,7 +18,14 @@ fn close_backing<I: Images>(images: &mut I, backing: Backing<'_>, device: I::Dev
             part,
         } => images.close_part(path, device_part(part), device),
         Backing::Partition { .. } => drop(device),
-        Backing::Mapped { path, map_file: _ } => images.close(path, device),
+        Backing::Mapped {
+            path,
+            map_file: _,
+            part,
+        } => {
+            let part = named_part(part);
+            close_place(images, Place { path, part }, device)
+        }
         Backing::Zeros(_) | Backing::Ramp(_) => drop(device),
     }
 }

@@ -1,15 +1,18 @@
 //! The backing devices of a command line's bindings, opened in order.
-ghost use Rattle.std.specs.Prelude.{◌≡◌, ◌≤◌, ◌+◌, ◌++◌, [], ◌∷◌, length, map, IfOk, IfErr, OnOk};
+ghost use Rattle.std.specs.Prelude.{◌≡◌, ◌≤◌, ◌+◌, ◌++◌, [], ◌∷◌, length, map, option_map, IfOk, IfErr, OnOk};
 ghost use Rattle.allocation.specs.Asked.{asked};
+ghost use Rattle.command_line.specs.Bindings.{mapped};
+ghost use Rattle.command_line.specs.PartBindings.{part_record};
 ghost use Rattle.stack_meaning.specs.Leaves.{ServeLeaves};
-ghost use Rattle.stack_files.specs.Bindings.{Backs, BindsAll, names_in};
-ghost use Rattle.stack_files.specs.Openings.{FailsToBack, FailsToBindAll};
+ghost use Rattle.stack_files.specs.Bindings.{Backs, BacksAs, BindsAll, names_in};
+ghost use Rattle.stack_files.specs.Openings.{FailsToBack, FailsToBackAs, FailsToBindAll};
 
 use crate::mapped_file::open_mapped;
 use crate::opening_fault::OpeningFault;
+use crate::whole_file::{named_part, read_use};
 use allocation::{OutOfMemory, copied, push};
 use block_device::{BlockDev, MemoryDev, OpenFault};
-use command_line::{Backing, Binding};
+use command_line::{Backing, Binding, FilePart};
 use image_files::{FileUse, Images, UnopenedFile, device_part, open_apart, open_part};
 use stack_config::Leaf;
 use std::alloc::Global;
@@ -90,19 +93,33 @@ fn open_backing<'a, I: Images>(
             let fault = OpenFault::NotFound;
             Err(OpeningFault::Open(UnopenedFile { fault, path }))
         }
-        Backing::Mapped { path, map_file } => {
-            let image = open_mapped(alloc, images, files.as_slice(), path, map_file)?;
-            let file = FileUse {
-                id: image.id,
-                writable: false,
-                part: None,
-            };
-            push(files, file)?;
-            Ok(image.device)
-        }
+        Backing::Mapped {
+            path,
+            map_file,
+            part,
+        } => open_with_map(alloc, images, files, path, map_file, part),
         Backing::Zeros(sectors) => Ok(I::of_memory(MemoryDev::zeros(alloc, sectors, true)?)),
         Backing::Ramp(sectors) => Ok(I::of_memory(MemoryDev::ramp(alloc, sectors, true)?)),
     }
+}
+
+// Opens the image of a binding with a map, or a part of it. Then the map is in use too: nothing may overwrite it.
+fn open_with_map<'a, I: Images>(
+    alloc: Global,
+    images: &mut I,
+    files: &mut Vec<FileUse>,
+    path: &'a str,
+    map_file: &'a str,
+    part: Option<FilePart>,
+) -> Result<I::Dev, OpeningFault<'a>>
+    ensures ok { IfOk result (BacksAs I.relations I.Dev.state images.old images.new files.old files.new (mapped path.now map_file.now (option_map part_record part))) }
+    ensures err { IfErr result (FailsToBackAs I.relations I.Dev.state images.old images.new files.old (mapped path.now map_file.now (option_map part_record part))) }
+{
+    let part = named_part(part);
+    let image = open_mapped(alloc, images, files.as_slice(), path, map_file, part)?;
+    push(files, read_use(image.map_id, None))?;
+    push(files, read_use(image.id, part))?;
+    Ok(image.device)
 }
 
 /// Opens the bindings' backing devices in order, next to these open files.

@@ -17,6 +17,7 @@ mod source;
 mod stack;
 mod stack_fault;
 mod stack_file;
+mod whole_file;
 
 pub use closing::{close_stack, sync_and_close};
 pub use configuration::{configuration_of, open_configuration};

@@ -1,5 +1,5 @@
 -- Data blocks of a verity line that can be read at once.
-use Rattle.std.specs.Prelude.{◌≡◌, ℕ, ◌/◌, ◌<◌, ◌≤◌, List, None, All}
+use Rattle.std.specs.Prelude.{◌≡◌, ℕ, ◌/◌, ◌<◌, ◌≤◌, List, All}
 use Rattle.stack_rules.specs.Records.{Configuration}
 use Rattle.stack_rules.specs.Trees.{block_sectors}
 use Rattle.stack_meaning.specs.Found.{FoundRecord}
@@ -12,11 +12,10 @@ use Rattle.stack_lines.specs.declared.source.Source.TheVariants.{Below, Units, U
 abbrev pub AreBefore : ℕ → ℕ → ℕ → List FoundRecord → Type 0
 AreBefore d l i found = All (λ x. x.device ≡ d → x.line ≡ l → x.chain.index < i) found
 
--- the first n sectors of a part of a verity line without parity, which are whole data blocks: no sector of the data device
--- meets a fault, and no chain of them or of later ones was found
+-- the first n sectors of a part of a verity line, which are whole data blocks: no sector of the data device meets a fault, and
+-- no chain of them or of later ones was found
 pub record GoAtOnce (c : Configuration) (x : VerityPart) (n : ℕ) (found : List FoundRecord) : Type 0 where
   pub few : n ≤ 128
-  pub plain : x.verity.now.parity ≡ None
   pub clear : IsClear c x.data
   pub before : AreBefore x.device.0 x.line (x.first / block_sectors x.verity.now) found
 

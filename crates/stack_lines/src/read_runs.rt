@@ -29,8 +29,7 @@ fn are_before(found: &[Found], device: u32, line: u32, index: u64) -> bool
     true
 }
 
-/// Whether whole data blocks can be read at once. Those of a line with parity are read one by one, since each of them may
-/// be restored.
+/// Whether whole data blocks can be read at once.
 fn go_at_once(
     config: &Config,
     cache: &Cache,
@@ -44,9 +43,6 @@ fn go_at_once(
 {
     let _config = config;
     if count > MOST {
-        return false;
-    }
-    if part.verity.parity.is_some() {
         return false;
     }
     let sectors = u64::from(part.verity.data_block / 512);

@@ -16,4 +16,3 @@ mod SkimPieceLemmas
 mod SurveyLemmas
 mod UnderwayLemmas
 mod VerityLossLemmas
-mod WritingLemmas

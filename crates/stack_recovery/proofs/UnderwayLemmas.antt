@@ -36,7 +36,7 @@ use Rattle.runs.proofs.lemmas.RunLemmas.{IsTallied, tallied-all, tallied-had, ta
 use Rattle.stack_recovery.proofs.LostRunLemmas.{is_same-equality, lost_in-append, lost_in-had, lost_in-lost, lost_in-most, untried_in-append, untried_in-had, untried_in-lost}
 use Rattle.stack_recovery.proofs.PieceLemmas.{calls-push, limit-push, pieces-push}
 use Rattle.stack_recovery.proofs.SurveyLemmas.{states-push, survey-push}
-use Rattle.stack_recovery.proofs.WritingLemmas.{runs-then, tells_nothing}
+use Rattle.stack_recovery.proofs.lemmas.WritingLemmas.{runs-then, tells_nothing}
 
 -- The sectors before that one were had or are lost, and of their runs all but the last were printed. The next piece has that
 -- limit, and those calls are the writes of the pieces.

@@ -1,3 +1,4 @@
 -- What callers may cite.
 pub mod LostLemmas
 pub mod StepLemmas
+pub mod WritingLemmas

@@ -60,7 +60,7 @@ impl Listing for KeptRuns {
 
     ghost told = { λ kept. listed (Some (lost_text kept.runs.items)) (is_some kept.refused) };
 
-    #[tactic(auto, using(crate::proofs::WritingLemmas::runs_text_last))]
+    #[tactic(auto, using(crate::proofs::lemmas::WritingLemmas::runs_text_last))]
     fn tell(&mut self, run: LostRun) {
         if self.refused.is_some() {
             return;

@@ -38,5 +38,9 @@ pub(crate) fn mark(map: &mut Map, count: u64, had: bool) -> Result<(), RecoveryF
     ensures ok { OnOk result (marks map.new ≡ marks map.old ++ replicate count had) }
     ensures err { IfErr result (λ fault. (fault ≡ recovery_fault.NoMemory) × IsOutOfMemory 1) }
 {
-    Ok(map.push(Run { count, had })?)
+    Ok(map.push(Run {
+        count,
+        had,
+        lost: false,
+    })?)
 }

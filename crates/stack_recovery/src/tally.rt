@@ -43,7 +43,7 @@ impl Tally {
     }
 
     /// Reports the open run, and closes it.
-    #[tactic(auto, using(crate::proofs::WritingLemmas::tells_nothing))]
+    #[tactic(auto, using(crate::proofs::lemmas::WritingLemmas::tells_nothing))]
     pub(crate) fn close<L: Listing>(&mut self, listing: &mut L)
         ensures text { Tells (L.told listing.old) (L.told listing.new) (lost_text (listed self.old.last)) }
         ensures last { self.new.last ≡ None }
@@ -56,7 +56,7 @@ impl Tally {
     }
 
     /// Adds a run that begins where the sectors so far end.
-    #[tactic(auto, using(crate::proofs::WritingLemmas::tells_nothing))]
+    #[tactic(auto, using(crate::proofs::lemmas::WritingLemmas::tells_nothing))]
     pub(crate) fn lose<L: Listing>(&mut self, listing: &mut L, run: LostRun)
         requires ends { EndsAt self.old.last run.first }
         requires lost { self.old.lost + self.old.untried ≤ run.first }

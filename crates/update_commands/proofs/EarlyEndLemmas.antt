@@ -5,9 +5,11 @@ use Rattle.std.proofs.Math.Nat.{mul-le-mul_right}
 use Rattle.std.proofs.lemmas.List.{append-nil}
 use Rattle.block_device.specs.Device.{Device}
 use Rattle.image_commands.specs.Clearing.{IsCleared, begins_super}
+use Rattle.repair_commands.specs.declared.counters.Counters.{Counters}
 use Rattle.repair_commands.specs.Commands.{EndsOnDevices, MendsOnce, devices_in}
 use Rattle.repair_commands.specs.Mends.{HalfMends, IsCutBy, IsRestOfUse, IsRunTo, IsWholeOrCut, ParityUse}
 use Rattle.repair_commands.specs.Rest.{IsRestEnd, known_by}
+use Rattle.repair_commands.proofs.lemmas.CountedLemmas.{counted-ends}
 use Rattle.tree_repair.specs.declared.fault.RepairFault.{RepairFault}
 use Rattle.tree_repair.specs.declared.fault.RepairFault.TheVariants.{Write}
 use Rattle.tree_repair.specs.declared.outcome.Outcome.{Outcome}
@@ -28,7 +30,8 @@ use Rattle.update_commands.specs.declared.release.Release.{Release}
 use Rattle.update_commands.specs.Laws.{EndsOnce, EndsTwice, EndsUnrepaired, EndsUnsealedEarly, HasNoSuper}
 use Rattle.update_commands.specs.Moving.{MovesListed}
 use Rattle.update_commands.specs.Releases.{plan_of}
-use Rattle.update_commands.specs.Updates.{EndsAloud, EndsMoving, begun_world}
+use Rattle.update_commands.specs.Repaired.{EndsAloud}
+use Rattle.update_commands.specs.Updates.{EndsMoving, begun_world}
 
 -- ---- the cleared sector
 
@@ -139,10 +142,10 @@ module _ (law : OtherSectorsStay) (plan : Plan) (one : plan.tree.shape.start ≡
   kept-early whole w t' old new failed fault (inr ends) kept =
       kept-told (known_by whole ends.found) ends.mended t' ends.between new failed fault ends.ends (kept-once w ends.mended old ends.between ends.found ends.mends kept)
 
-  kept-aloud : (json : Bool) (w : RepairWorld) (t' : SurveyedDevices) (old new : Option (List ℕ)) (failed : Bool) (fault : TreeFault) → EndsAloud json plan w t' old new failed fault
+  kept-aloud : (json : Bool) (w : RepairWorld) (t' : SurveyedDevices) (old new : Option (List ℕ)) (failed : Bool) (n : Counters) (fault : TreeFault) → EndsAloud json plan w t' old new failed n fault
       → Kept w → KeptOn t'
-  kept-aloud true w t' old new failed fault ((unheard, ends), quiet) kept = kept-early true w t' None None unheard fault ends kept
-  kept-aloud false w t' old new failed fault ends kept = kept-early true w t' old new failed fault ends kept
+  kept-aloud true w t' old new failed n fault ((unheard, ends), quiet) kept = kept-early true w t' None None unheard fault (counted-ends plan true w t' None None unheard n fault ends) kept
+  kept-aloud false w t' old new failed n fault ends kept = kept-early true w t' old new failed fault (counted-ends plan true w t' old new failed n fault ends) kept
 
   -- with the moves before it
   kept-blocks : (w w' : RepairWorld) (old new : Option (List ℕ)) → MovesBlocks plan w w' old new → Kept w → Kept w'
@@ -158,7 +161,7 @@ kept-ends : OtherSectorsStay → (r : Release) (json : Bool) (w : RepairWorld) (
 kept-ends law r json w t' fault (inl ends) kept =
     subst (λ (t : SurveyedDevices). KeptOn t) (sym ends.same) (kept-unrepaired law (plan_of r) refl true w ends.behind None None ends.cause ends.fails kept)
 kept-ends law r json w t' fault (inr ends) kept =
-    kept-aloud law (plan_of r) refl json ends.moved t' ends.between ends.new ends.failed fault ends.ends (kept-moved law (plan_of r) refl json w ends.moved ends.old ends.between ends.moves kept)
+    kept-aloud law (plan_of r) refl json ends.moved t' ends.between ends.new ends.failed ends.counters fault ends.ends (kept-moved law (plan_of r) refl json w ends.moved ends.old ends.between ends.moves kept)
 
 -- the second attempt begins with the hash device that the first one left
 kept-again : OtherSectorsStay → (r : Release) (json : Bool) (w again : RepairWorld) (cause : TreeFault) → EndsOnce r json w again cause → Kept w → Kept again

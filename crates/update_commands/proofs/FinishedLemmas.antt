@@ -1,12 +1,14 @@
 -- After an update that succeeded, the images hold the release of the pin.
-use Rattle.std.proofs.Common.{◌≡◌, ◌≤◌, ◌<◌, ◌+◌, ◌*◌, ◌/◌, ◌==◌, ℕ, Bool, true, false, cond, IsTrue, List, [], ◌∷◌, All, length, take, drop, Option, None, ap, arith, inl, inr, refl, subst, sym, ◌∙◌, ◌⊎◌}
+use Rattle.std.proofs.Common.{◌≡◌, ◌≤◌, ◌<◌, ◌+◌, ◌*◌, ◌/◌, ◌==◌, ℕ, zero, suc, Bool, true, false, cond, IsTrue, List, [], ◌∷◌, All, length, take, drop, Option, None, ap, arith, inl, inr, refl, subst, sym, ◌∙◌, ◌⊎◌}
 use Rattle.std.specs.List.{concat, slice_index_or}
 use Rattle.std.proofs.Math.Nat.{mul-le-mul_right}
-use Rattle.std.proofs.lemmas.List.{length-replicate, take_all}
+use Rattle.std.proofs.lemmas.List.{length-replicate, take_at}
 use Rattle.std.proofs.lemmas.List.Elements.{All-cons, All-tail}
 use Rattle.block_device.specs.Device.{Device, IsSector, IsWhole, filled_sector, sectors_of, spliced, zeros_image}
+use Rattle.block_device.specs.Whole.{length-sectors_of}
 use Rattle.image_commands.specs.Clearing.{IsCleared}
 use Rattle.image_files.specs.Opener.{Opener}
+use Rattle.repair_commands.specs.declared.counters.Counters.{Counters}
 use Rattle.repair_commands.specs.Commands.{RepairsDevices, opened_world}
 use Rattle.repair_commands.specs.Laws.{IsRepaired, RepairedImagesAreValid}
 use Rattle.tree_path.specs.Laws.{Collide}
@@ -21,6 +23,7 @@ use Rattle.tree_shape.specs.Shape.{IsShape, ancestor, levels, position, slot}
 use Rattle.tree_survey.specs.Surveys.{IsContentStoredAs, Tree}
 use Rattle.verity_commands.specs.Surveyed.{SurveyedDevices, surveyed_devices}
 use Rattle.verity_format.specs.Blocks.{IsOnlyRead, block_at}
+use Rattle.verity_format.specs.Image.{first_block}
 use Rattle.verity_format.specs.Superblock.{IsSuperblock, SuperRecord, shape_of, spelling}
 use Rattle.verity_format.proofs.lemmas.DeviceLemmas.{drop-same, steady-then}
 use Rattle.verity_format.proofs.lemmas.SizeLemmas.{block-size}
@@ -31,7 +34,8 @@ use Rattle.update_commands.specs.Beginnings.{Begins}
 use Rattle.update_commands.specs.Finished.{HoldsRelease, UpdatedImagesHoldTheRelease, release_tree}
 use Rattle.update_commands.specs.Moving.{MovesListed}
 use Rattle.update_commands.specs.Releases.{plan_of}
-use Rattle.update_commands.specs.Updates.{RepairsAloud, UpdatesBegun, UpdatesDevices, UpdatesMoved, begun_world, tally_from}
+use Rattle.update_commands.specs.Repaired.{RepairsAloud}
+use Rattle.update_commands.specs.Updates.{UpdatesBegun, UpdatesDevices, UpdatesMoved, begun_world, tally_from}
 use Rattle.update_commands.proofs.BeginningLemmas.{image-some}
 use Rattle.update_commands.proofs.EarlyEndLemmas.{cleared-steady}
 
@@ -90,21 +94,21 @@ listed-steady : (json : Bool) (plan : Plan) (w w' : RepairWorld) (old new : Opti
 listed-steady true plan w w' old new (moves, quiet) steady = moved-steady plan w w' None None moves steady
 listed-steady false plan w w' old new moves steady = moved-steady plan w w' old new moves steady
 
--- ---- blocks of a tree after the superblock stay when it is written
+-- ---- blocks of a tree after hash block 0 stay when it is written
 
-block-behind : (a b : List (List ℕ)) (size n : ℕ) → drop 1 b ≡ drop 1 a → 1 ≤ size / 512 → 1 ≤ n → block_at b size n ≡ block_at a size n
+block-behind : (a b : List (List ℕ)) (size n : ℕ) → drop (size / 512) b ≡ drop (size / 512) a → 1 ≤ n → block_at b size n ≡ block_at a size n
 unfolding block_at
-block-behind a b size n same least some =
+block-behind a b size n same some =
     let whole : 1 * (size / 512) ≤ n * (size / 512) = mul-le-mul_right (size / 512) some in
-    let from : 1 ≤ n * (size / 512) = omega (arith, whole, least) in
-    ap (λ (l : List (List ℕ)). concat (take (size / 512) l)) (drop-same 1 (n * (size / 512)) b a from same)
+    let from : size / 512 ≤ n * (size / 512) = omega (arith, whole) in
+    ap (λ (l : List (List ℕ)). concat (take (size / 512) l)) (drop-same (size / 512) (n * (size / 512)) b a from same)
 
-module _ (t : Tree) (one : t.shape.start ≡ 1) (valid : IsShape t.shape) (a b : List (List ℕ)) (same : drop 1 b ≡ drop 1 a) where
+module _ (t : Tree) (one : t.shape.start ≡ 1) (a b : List (List ℕ)) (same : drop (t.shape.hash_block / 512) b ≡ drop (t.shape.hash_block / 512) a) where
   stored-behind : (l i : ℕ) → stored_block t.shape b l i ≡ stored_block t.shape a l i
   unfolding position
   stored-behind l i =
       let some : 1 ≤ position t.shape l (ancestor t.shape (l + 1) i) = omega (arith, one) in
-      block-behind a b t.shape.hash_block (position t.shape l (ancestor t.shape (l + 1) i)) same (block-size t.shape.hash_block valid.hash_size).least some
+      block-behind a b t.shape.hash_block (position t.shape l (ancestor t.shape (l + 1) i)) same some
 
   digest-behind : (i m : ℕ) → stored_digest t.shape t.root b i m ≡ stored_digest t.shape t.root a i m
   unfolding stored_digest
@@ -116,38 +120,46 @@ module _ (t : Tree) (one : t.shape.start ≡ 1) (valid : IsShape t.shape) (a b :
     good ∙ sym (digest-behind i 0),
   )
 
--- the first sector is the superblock then
-sealed-first : (s : SuperRecord) → IsSuperblock s → (image : List (List ℕ)) → slice_index_or (spliced image 0 (sectors_of 1 (spelling s))) 0 [] ≡ spelling s
+-- hash block 0 is as `format` writes it then, and the first sector is the superblock
+sealed-block : (image : List (List ℕ)) (n : ℕ) (bytes : List ℕ) → take n (spliced image 0 (sectors_of n bytes)) ≡ sectors_of n bytes
+sealed-block image n bytes = take_at (sectors_of n bytes) _ n (length-sectors_of n bytes)
+
+sealed-first : (s : SuperRecord) → IsSuperblock s → (image : List (List ℕ)) (n : ℕ) → 1 ≤ n → slice_index_or (spliced image 0 (sectors_of n (first_block s))) 0 [] ≡ spelling s
 unfolding sectors_of
-sealed-first s valid image = take_all 512 (spelling s) (let size : length (spelling s) ≡ 512 = (carried-spelling s valid).size in omega (arith, size))
+sealed-first s valid image zero some = absurd (omega (arith, some))
+sealed-first s valid image (suc n) some = take_at (spelling s) _ 512 (carried-spelling s valid).size
 
 -- ---- an update
 
 -- a repair whose lines were printed or not
-aloud-repairs : (json : Bool) (plan : Plan) (w : RepairWorld) (t : SurveyedDevices) (old new : Option (List ℕ)) → RepairsAloud json plan w t old new
+aloud-repairs : (json : Bool) (plan : Plan) (w : RepairWorld) (t : SurveyedDevices) (old new : Option (List ℕ)) (n : Counters) → RepairsAloud json plan w t old new n
     → (a : Option (List ℕ)) × ((b : Option (List ℕ)) × RepairsDevices plan true w t a b)
-aloud-repairs true plan w t old new (silent, quiet) = (None, (None, silent))
-aloud-repairs false plan w t old new aloud = (old, (new, aloud))
+aloud-repairs true plan w t old new n (silent, quiet) = (None, (None, silent.0))
+aloud-repairs false plan w t old new n aloud = (old, (new, aloud.0))
 
 module _ (law : RepairedImagesAreValid) (r : Release) (super : IsSuperblock r.superblock) where
   moved-held : (json : Bool) (tally : Tally) (w : RepairWorld) (t' : SurveyedDevices) (old new : Option (List ℕ)) → UpdatesMoved r json tally w t' old new → IsWorldSteady w → HoldsRelease r t' ⊎ Collide r.superblock.salt
   moved-held json tally w t' old new begun steady =
       let t = begun.mended in
-      let done = aloud-repairs json (plan_of r) w t old begun.between begun.repairs in
+      let done = aloud-repairs json (plan_of r) w t old begun.between begun.counters begun.repairs in
       let repairs : RepairsDevices (plan_of r) true w t done.0 done.1.0 = done.1.1 in
       let repaired : IsRepaired (plan_of r) t = law (plan_of r) true w t done.0 done.1.0 repairs steady in
       let sealed = begun.finishes.sealed in
-      let after : drop 1 sealed.written_dev.image ≡ drop 1 t.hash_dev.image = sealed.written.after repaired.hash_steady in
-      let behind : drop 1 t'.hash_dev.image ≡ drop 1 t.hash_dev.image = ap (λ (d : Device). drop 1 d.image) sealed.kept ∙ after in
+      let n : ℕ = r.superblock.hash_block / 512 in
+      let after : drop n sealed.written_dev.image ≡ drop n t.hash_dev.image = drop-same (0 + n) n _ _ (omega arith) (sealed.written.after repaired.hash_steady) in
+      let behind : drop n t'.hash_dev.image ≡ drop n t.hash_dev.image = ap (λ (d : Device). drop n d.image) sealed.kept ∙ after in
       elim repaired.valid [
         | inr clash ↦ inr clash
         | inl each ↦ inl (record {
           valid = λ i inside.
               subst (λ (d : Device). IsContentStoredAs (release_tree r) d.image t'.hash_dev.image i None) (sym begun.data_is)
-              (valid-behind (release_tree r) refl super.shape t.hash_dev.image t'.hash_dev.image behind t.data_dev.image i (each i inside));
+              (valid-behind (release_tree r) refl t.hash_dev.image t'.hash_dev.image behind t.data_dev.image i (each i inside));
           superblock = ap (λ (d : Device). slice_index_or d.image 0 []) sealed.kept
               ∙ ap (λ (l : List (List ℕ)). slice_index_or l 0 []) (sealed.image repaired.hash_steady)
-              ∙ sealed-first r.superblock super t.hash_dev.image;
+              ∙ sealed-first r.superblock super t.hash_dev.image n (block-size r.superblock.hash_block super.shape.hash_size).least;
+          first = ap (λ (d : Device). take n d.image) sealed.kept
+              ∙ ap (λ (l : List (List ℕ)). take n l) (sealed.image repaired.hash_steady)
+              ∙ sealed-block t.hash_dev.image n (first_block r.superblock);
           data_clean = ap (λ (d : Device). d.dirty) begun.data_is ∙ repairs.on_medium.data_clean refl;
           hash_clean = ap (λ (d : Device). d.dirty) sealed.kept;
         })

@@ -1,44 +1,51 @@
 -- How many blocks an update kept, moved and fetched.
-use Rattle.std.specs.Prelude.{◌≡◌, ◌⊎◌, ℕ, ◌+◌, ◌-◌, ◌*◌, Bool, true, false, List, ◌++◌, codes, decimal, None, Option}
+use Rattle.std.specs.Prelude.{◌≡◌, ◌⊎◌, ℕ, ◌+◌, ◌-◌, ◌*◌, ◌&&◌, Bool, true, false, List, ◌++◌, codes, decimal, None, Option}
 use Rattle.std.specs.Io.KnownBytes.{Appends}
-use Rattle.block_device.specs.Device.{Device, capped}
+use Rattle.block_device.specs.Device.{capped}
 use Rattle.program_io.specs.Counted.{CountedRecord}
 use Rattle.program_io.specs.JsonLines.{json_line}
+use Rattle.repair_commands.specs.declared.counters.Counters.{Counters}
 use Rattle.serde_json.specs.Data.{Data, member, no_members, number, object, unsigned}
 use Rattle.tree_shape.specs.Shape.{ShapeRecord, area_blocks}
 use Rattle.tree_survey.specs.declared.fault.SurveyFault.TheVariants.{Image}
 use Rattle.verity_commands.specs.declared.tree_fault.TreeFault.{TreeFault}
-use Rattle.verity_commands.specs.declared.tree_fault.TreeFault.TheVariants.{Survey, Write}
+use Rattle.verity_commands.specs.declared.tree_fault.TreeFault.TheVariants.{Damaged, Survey, Write}
 use Rattle.verity_format.specs.declared.verifying.VerifyFault.TheVariants.{NoMemory}
 use Rattle.verity_format.specs.Formatting.{given_blocks}
+use Rattle.update_commands.specs.declared.counts.Blocks.{Blocks}
 use Rattle.update_commands.specs.declared.counts.Counts.{Counts}
 use Rattle.update_commands.specs.declared.counts.Tally.{Tally}
-use Rattle.update_commands.specs.declared.counts.Written.{Written}
-
--- the sectors that two devices count as written
-abbrev pub written_to : Device → Device → Written
-written_to data_dev hash_dev = record { of_data = data_dev.writes; of_hash = hash_dev.writes }
 
 -- the data blocks and the hash blocks
 abbrev pub all_blocks : ShapeRecord → ℕ
 all_blocks shape = capped (shape.blocks + area_blocks shape)
 
--- the blocks that were written between two states of the counters
-abbrev pub written_blocks : ShapeRecord → Written → Written → ℕ
-written_blocks shape a b = capped (given_blocks None shape.data_block (b.of_data - a.of_data) + given_blocks None shape.hash_block (b.of_hash - a.of_hash))
+-- the data blocks and the hash blocks of so many sectors
+abbrev pub blocks_in : ShapeRecord → ℕ → ℕ → Blocks
+blocks_in shape data_sectors hash_sectors = record { «data» = given_blocks None shape.data_block data_sectors; hash = given_blocks None shape.hash_block hash_sectors }
 
--- the bytes that were written
-abbrev pub written_bytes : Written → Written → ℕ
-written_bytes a b = capped (capped ((b.of_data - a.of_data) + (b.of_hash - a.of_hash)) * 512)
+-- the blocks that were written between two states of the counters, and those that were read from the last copy, which is the release
+abbrev pub blocks_written : ShapeRecord → Counters → Counters → Blocks
+blocks_written shape a b = blocks_in shape (b.data_written - a.data_written) (b.hash_written - a.hash_written)
 
--- The blocks that weren't written were kept. Those that were written were fetched, without the data blocks that were copied within the
--- data device.
-abbrev pub counts_of : ShapeRecord → Tally → Written → Counts
+abbrev pub blocks_read : ShapeRecord → Counters → Counters → Blocks
+blocks_read shape a b = blocks_in shape (b.data_read - a.data_read) (b.hash_read - a.hash_read)
+
+abbrev pub both : Blocks → ℕ
+both blocks = capped (blocks.«data» + blocks.hash)
+
+-- Of the data blocks that were written, some were copied within the data device. Those that are neither these nor read from the release
+-- are from another copy. Hash blocks that weren't read from the release are from another copy, or computed.
+abbrev pub moved_blocks : ℕ → Blocks → Blocks → ℕ
+moved_blocks within written read = capped (capped (within + (written.«data» - read.«data» - within)) + (written.hash - read.hash))
+
+-- The blocks that weren't written were kept. What was read from the release was fetched.
+abbrev pub counts_of : ShapeRecord → Tally → Counters → Counts
 counts_of shape tally b = record {
-  kept = all_blocks shape - written_blocks shape tally.before b;
-  moved = tally.moved;
-  fetched = written_blocks shape tally.before b - tally.moved;
-  bytes = written_bytes tally.before b - capped (tally.moved * shape.data_block);
+  kept = all_blocks shape - both (blocks_written shape tally.before b);
+  moved = moved_blocks tally.moved (blocks_written shape tally.before b) (blocks_read shape tally.before b);
+  fetched = both (blocks_read shape tally.before b);
+  bytes = capped (capped ((b.data_read - tally.before.data_read) + (b.hash_read - tally.before.hash_read)) * 512);
 }
 
 -- `kept N moved N fetched N bytes N`
@@ -63,7 +70,32 @@ counts_said false counts = counts_text counts
 abbrev pub IsUncounted : Bool → Bool → TreeFault → Type 0
 IsUncounted json failed fault = ((fault ≡ Write) × (failed ≡ true)) ⊎ ((fault ≡ Survey (Image NoMemory)) × (json ≡ true))
 
+-- ---- lost blocks
+
+abbrev pub is_damaged : TreeFault → Bool
+is_damaged Damaged = true
+is_damaged fault = false
+
+-- no block is lost, or no object is wanted: nothing was printed, and the fault stays
+pub record StaysQuiet (json : Bool) (cause : TreeFault) (old new : Option (List ℕ)) (was failed : Bool) (fault : TreeFault) : Type 0 where
+  pub other : (json && is_damaged cause) ≡ false
+  pub quiet : new ≡ old
+  pub same : failed ≡ was
+  pub is : fault ≡ cause
+
+-- blocks are lost, and the object was printed, or couldn't be
+pub record CountsLosses (counts : Counts) (json : Bool) (cause : TreeFault) (old new : Option (List ℕ)) (failed : Bool) (fault : TreeFault) : Type 0 where
+  pub lost : (json && is_damaged cause) ≡ true
+  pub counted : (Appends old new (counts_said json counts) × (fault ≡ cause)) ⊎ IsUncounted json failed fault
+
+abbrev pub EndsWithCounts : Counts → Bool → TreeFault → Option (List ℕ) → Option (List ℕ) → Bool → Bool → TreeFault → Type 0
+EndsWithCounts counts json cause old new was failed fault = StaysQuiet json cause old new was failed fault ⊎ CountsLosses counts json cause old new failed fault
+
 -- ---- in terms of a writer before and after
 
 abbrev pub SaysCounts : {W : Type 0} → (W → Option (List ℕ)) → CountedRecord W → CountedRecord W → Bool → Counts → Type 0
 SaysCounts contents before behind json counts = Appends (contents before.inner) (contents behind.inner) (counts_said json counts)
+
+abbrev pub SaysLosses : {W : Type 0} → (W → Option (List ℕ)) → Counts → Bool → TreeFault → CountedRecord W → CountedRecord W → TreeFault → Type 0
+SaysLosses contents counts json cause before behind fault =
+    EndsWithCounts counts json cause (contents before.inner) (contents behind.inner) before.failed behind.failed fault

@@ -1,7 +1,7 @@
 -- What the two images store after an update.
-use Rattle.std.specs.Prelude.{◌≡◌, ◌⊎◌, ℕ, false, List, [], None, Option, Some}
+use Rattle.std.specs.Prelude.{◌≡◌, ◌⊎◌, ◌/◌, ℕ, false, List, [], None, Option, Some, take}
 use Rattle.std.specs.List.{slice_index_or}
-use Rattle.block_device.specs.Device.{Device}
+use Rattle.block_device.specs.Device.{Device, sectors_of}
 use Rattle.command_line.specs.declared.image_copies.ImageCopy.{ImageCopy}
 use Rattle.image_files.specs.Opener.{Opener, calls}
 use Rattle.image_pin.specs.declared.pin.Pin.{Pin}
@@ -14,6 +14,7 @@ use Rattle.tree_repair.specs.Valid.{AreAllValid, HoldsTreeOver}
 use Rattle.tree_survey.specs.Passes.{tree_under}
 use Rattle.tree_survey.specs.Surveys.{Tree}
 use Rattle.verity_commands.specs.Surveyed.{SurveyedDevices, surveyed_devices}
+use Rattle.verity_format.specs.Image.{first_block}
 use Rattle.verity_format.specs.Superblock.{IsSuperblock, spelling}
 use Rattle.verity_format.specs.Trees.{superblock_tree}
 use Rattle.update_commands.specs.declared.release.Release.{Release}
@@ -29,10 +30,12 @@ pub record IsReleaseOf (pin : Pin) (r : Release) : Type 0 where
   pub pinned : mismatch_of (Some pin) r.superblock ≡ None
   pub root_is : r.root ≡ pin.root
 
--- All blocks are valid under the root hash of the release, the first sector of the hash device is its superblock, and all is synced.
+-- All blocks are valid under the root hash of the release, the first sector of the hash device is its superblock, zeros follow up to hash
+-- block 1, as `format` writes them, and all is synced.
 pub record HoldsRelease (r : Release) (t : SurveyedDevices) : Type 0 where
   pub valid : AreAllValid (release_tree r) t.data_dev.image t.hash_dev.image
   pub superblock : slice_index_or t.hash_dev.image 0 [] ≡ spelling r.superblock
+  pub first : take (r.superblock.hash_block / 512) t.hash_dev.image ≡ sectors_of (r.superblock.hash_block / 512) (first_block r.superblock)
   pub data_clean : t.data_dev.dirty ≡ false
   pub hash_clean : t.hash_dev.dirty ≡ false
 

@@ -3,6 +3,7 @@ use Rattle.std.specs.Prelude.{true, ◌≡◌, ◌⊎◌, ℕ, Bool, false, IsTr
 use Rattle.std.specs.List.{slice_index_or}
 use Rattle.block_device.specs.Device.{Device}
 use Rattle.image_commands.specs.Clearing.{begins_super}
+use Rattle.repair_commands.specs.declared.counters.Counters.{Counters}
 use Rattle.tree_repair.specs.Worlds.{RepairWorld}
 use Rattle.verity_commands.specs.declared.tree_fault.TreeFault.{TreeFault}
 use Rattle.verity_commands.specs.Surveyed.{SurveyedDevices}
@@ -11,7 +12,8 @@ use Rattle.update_commands.specs.declared.release.Release.{Release}
 use Rattle.update_commands.specs.Beginnings.{Begins}
 use Rattle.update_commands.specs.Moving.{MovesListed}
 use Rattle.update_commands.specs.Releases.{plan_of}
-use Rattle.update_commands.specs.Updates.{EndsAloud, EndsMoving, begun_world}
+use Rattle.update_commands.specs.Repaired.{EndsAloud}
+use Rattle.update_commands.specs.Updates.{EndsMoving, begun_world}
 
 -- the first sector of the device doesn't begin as a superblock does
 abbrev pub HasNoSuper : Device → Type 0
@@ -24,8 +26,9 @@ pub record EndsUnrepaired (r : Release) (json : Bool) (w : RepairWorld) (t' : Su
   pub between : Option (List ℕ)
   pub new : Option (List ℕ)
   pub failed : Bool
+  pub counters : Counters
   pub moves : MovesListed json (plan_of r) w moved old between
-  pub ends : EndsAloud json (plan_of r) moved t' between new failed fault
+  pub ends : EndsAloud json (plan_of r) moved t' between new failed counters fault
 
 -- the moves, or what came after them, ended early, and the update went on from these devices
 pub record EndsOnce (r : Release) (json : Bool) (w again : RepairWorld) (cause : TreeFault) : Type 0 where

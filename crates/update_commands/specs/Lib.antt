@@ -8,5 +8,6 @@ pub mod Listings
 pub mod Moving
 pub mod Orders
 pub mod Releases
+pub mod Repaired
 pub mod Seals
 pub mod Updates

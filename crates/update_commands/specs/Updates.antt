@@ -3,11 +3,12 @@ use Rattle.std.specs.Prelude.{◌≡◌, ◌⊎◌, ℕ, Bool, true, false, List
 use Rattle.std.specs.Io.KnownBytes.{Appends}
 use Rattle.block_device.specs.Device.{Device}
 use Rattle.program_io.specs.Counted.{CountedRecord}
-use Rattle.repair_commands.specs.Commands.{EndsOnDevices, RepairsDevices, devices_in}
+use Rattle.repair_commands.specs.declared.counters.Counters.{Counters}
+use Rattle.repair_commands.specs.Commands.{devices_in}
+use Rattle.repair_commands.specs.Counters.{counters_of}
 use Rattle.repair_commands.specs.Endings.{ending_fault}
 use Rattle.tree_repair.specs.declared.fault.RepairFault.{RepairFault}
 use Rattle.tree_repair.specs.declared.fault.RepairFault.TheVariants as repair_fault
-use Rattle.tree_repair.specs.declared.repair.Plan.{Plan}
 use Rattle.tree_repair.specs.Moves.{MovesBlocks}
 use Rattle.tree_repair.specs.Worlds.{RepairWorld, repair_world}
 use Rattle.tree_survey.specs.declared.fault.SurveyFault.TheVariants.{Image}
@@ -21,36 +22,16 @@ use Rattle.update_commands.specs.declared.counts.Tally.{Tally}
 use Rattle.update_commands.specs.declared.devices.Target.{Target}
 use Rattle.update_commands.specs.declared.release.Release.{Release}
 use Rattle.update_commands.specs.Beginnings.{Begins, IsUnbegun}
-use Rattle.update_commands.specs.Counts.{IsUncounted, counts_of, counts_said, written_to}
+use Rattle.update_commands.specs.Counts.{EndsWithCounts, IsUncounted, counts_of, counts_said}
 use Rattle.update_commands.specs.Listings.{ListsBlocks}
 use Rattle.update_commands.specs.Moving.{FailsToMove, MovesListed}
 use Rattle.update_commands.specs.Releases.{plan_of}
+use Rattle.update_commands.specs.Repaired.{EndsAloud, EndsSilently, RepairsAloud, RepairsSilently}
 use Rattle.update_commands.specs.Seals.{IsSealed, IsUnsealed}
 
 -- the devices of the image and of its copies
 abbrev pub target_world : {D H C : Type 0} → (D → Device) → (H → Device) → (C → Device) → Target D H C → RepairWorld
 target_world data_state hash_state copy_state t = repair_world (data_state t.data_dev) (hash_state t.hash_dev) (map copy_state t.copies.data_copies.items) (map copy_state t.copies.hash_copies.items)
-
--- ---- the repair
-
--- The image was repaired by the tree of the release, all blocks are valid in the end, and what was written is synced; nothing was
--- printed. The pin fixes the tree, so no scan is needed for entries after the last used ones.
-abbrev pub RepairsSilently : Plan → RepairWorld → SurveyedDevices → Type 0
-RepairsSilently plan w t' = RepairsDevices plan true w t' None None
-
--- what `repair` prints was printed, or nothing with `--json`
-abbrev pub RepairsAloud : Bool → Plan → RepairWorld → SurveyedDevices → Option (List ℕ) → Option (List ℕ) → Type 0
-RepairsAloud true plan w t' old new = RepairsSilently plan w t' × (new ≡ old)
-RepairsAloud false plan w t' old new = RepairsDevices plan true w t' old new
-
--- it ended early, or not all blocks are valid
-abbrev pub EndsSilently : Plan → RepairWorld → SurveyedDevices → TreeFault → Type 0
-EndsSilently plan w t' fault = (unheard : Bool) × EndsOnDevices plan true w t' None None unheard fault
-
--- what `repair` prints was printed, or nothing with `--json`
-abbrev pub EndsAloud : Bool → Plan → RepairWorld → SurveyedDevices → Option (List ℕ) → Option (List ℕ) → Bool → TreeFault → Type 0
-EndsAloud true plan w t' old new failed fault = EndsSilently plan w t' fault × (new ≡ old)
-EndsAloud false plan w t' old new failed fault = EndsOnDevices plan true w t' old new failed fault
 
 -- ---- the end
 
@@ -60,8 +41,8 @@ pub record Finishes (s : SuperRecord) (counts : Counts) (json : Bool) (hash_dev 
   pub counted : Appends old new (counts_said json counts)
 
 -- the superblock couldn't be written or synced, and nothing was printed
-pub record EndsUnsealed (hash_dev hash_dev' : Device) (old new : Option (List ℕ)) (fault : TreeFault) : Type 0 where
-  pub unsealed : IsUnsealed hash_dev hash_dev'
+pub record EndsUnsealed (s : SuperRecord) (hash_dev hash_dev' : Device) (old new : Option (List ℕ)) (fault : TreeFault) : Type 0 where
+  pub unsealed : IsUnsealed s hash_dev hash_dev'
   pub is : fault ≡ Survey (Image DeviceFailed)
   pub quiet : new ≡ old
 
@@ -71,7 +52,7 @@ pub record EndsUncounted (s : SuperRecord) (json : Bool) (hash_dev hash_dev' : D
   pub uncounted : IsUncounted json failed fault
 
 abbrev pub IsUnfinished : SuperRecord → Bool → Device → Device → Option (List ℕ) → Option (List ℕ) → Bool → TreeFault → Type 0
-IsUnfinished s json hash_dev hash_dev' old new failed fault = EndsUnsealed hash_dev hash_dev' old new fault ⊎ EndsUncounted s json hash_dev hash_dev' failed fault
+IsUnfinished s json hash_dev hash_dev' old new failed fault = EndsUnsealed s hash_dev hash_dev' old new fault ⊎ EndsUncounted s json hash_dev hash_dev' failed fault
 
 -- ---- after the writer failed
 
@@ -85,7 +66,7 @@ pub record EndsMoving (r : Release) (w : RepairWorld) (t' : SurveyedDevices) (fa
 
 -- the superblock was written and synced, and `Write` is the fault; or it couldn't be
 abbrev pub SealsUnheard : SuperRecord → Device → Device → TreeFault → Type 0
-SealsUnheard s hash_dev hash_dev' fault = ((fault ≡ Write) × IsSealed s hash_dev hash_dev') ⊎ ((fault ≡ Survey (Image DeviceFailed)) × IsUnsealed hash_dev hash_dev')
+SealsUnheard s hash_dev hash_dev' fault = ((fault ≡ Write) × IsSealed s hash_dev hash_dev') ⊎ ((fault ≡ Survey (Image DeviceFailed)) × IsUnsealed s hash_dev hash_dev')
 
 -- without a writer all blocks were found or written valid, and synced; then that was done
 pub record EndsSealing (r : Release) (w : RepairWorld) (t' : SurveyedDevices) (fault : TreeFault) : Type 0 where
@@ -128,50 +109,58 @@ pub record UpdatesAgain (r : Release) (t t' : SurveyedDevices) (fault : TreeFaul
 abbrev pub IsUpdatedAgain : Release → SurveyedDevices → SurveyedDevices → TreeFault → TreeFault → Type 0
 IsUpdatedAgain r t t' cause fault = ((fault ≡ cause) × (t' ≡ t)) ⊎ UpdatesAgain r t t' fault
 
--- the second only if the writer failed
-abbrev pub IsRepairEnd : Release → Bool → SurveyedDevices → SurveyedDevices → TreeFault → TreeFault → Type 0
-IsRepairEnd r failed t t' cause fault = ((fault ≡ cause) × (t' ≡ t)) ⊎ ((failed ≡ true) × UpdatesAgain r t t' fault)
-
 -- ---- after the moves
 
--- the counts of the blocks that were written, up to a state of two devices
-abbrev pub counts_since : Release → Tally → SurveyedDevices → Counts
-counts_since r tally t = counts_of (shape_of r.superblock) tally (written_to t.data_dev t.hash_dev)
+-- the counts, by the counters at the end of the repair
+abbrev pub counts_since : Release → Tally → Counters → Counts
+counts_since r tally counters = counts_of (shape_of r.superblock) tally counters
 
 -- All blocks were found or written valid, and synced. Then the superblock was written and synced, and the counts were printed.
 pub record UpdatesMoved (r : Release) (json : Bool) (tally : Tally) (w : RepairWorld) (t' : SurveyedDevices) (old new : Option (List ℕ)) : Type 0 where
   pub mended : SurveyedDevices
+  pub counters : Counters
   pub between : Option (List ℕ)
-  pub repairs : RepairsAloud json (plan_of r) w mended old between
-  pub finishes : Finishes r.superblock (counts_since r tally mended) json mended.hash_dev t'.hash_dev between new
+  pub repairs : RepairsAloud json (plan_of r) w mended old between counters
+  pub finishes : Finishes r.superblock (counts_since r tally counters) json mended.hash_dev t'.hash_dev between new
   pub data_is : t'.data_dev ≡ mended.data_dev
 
 -- all blocks were found or written valid, and the rest couldn't be done
 pub record EndsRepaired (r : Release) (json : Bool) (w : RepairWorld) (t' : SurveyedDevices) (old new : Option (List ℕ)) (failed : Bool) (fault : TreeFault) : Type 0 where
   pub mended : SurveyedDevices
+  pub counters : Counters
   pub between : Option (List ℕ)
-  pub repairs : RepairsAloud json (plan_of r) w mended old between
+  pub repairs : RepairsAloud json (plan_of r) w mended old between counters
   pub unfinished : IsUnfinished r.superblock json mended.hash_dev t'.hash_dev between new failed fault
   pub data_is : t'.data_dev ≡ mended.data_dev
 
--- the repair ended early, the writer had failed, and the update went on without it
+-- The repair ended early, or not all blocks are valid, and the superblock wasn't written. If blocks are lost, the object of the counts
+-- was printed, if it is wanted.
+pub record EndsUnsound (r : Release) (json : Bool) (tally : Tally) (w : RepairWorld) (t' : SurveyedDevices) (old new : Option (List ℕ)) (failed : Bool) (fault : TreeFault) : Type 0 where
+  pub counters : Counters
+  pub between : Option (List ℕ)
+  pub was : Bool
+  pub cause : TreeFault
+  pub ends : EndsAloud json (plan_of r) w t' old between was counters cause
+  pub counted : EndsWithCounts (counts_since r tally counters) json cause between new was failed fault
+
+-- the repair ended early, the writer had failed, and the update went on without it, or a device may not be written
 pub record EndsRepairedAgain (r : Release) (json : Bool) (w : RepairWorld) (t' : SurveyedDevices) (old new : Option (List ℕ)) (failed : Bool) (fault : TreeFault) : Type 0 where
   pub mended : SurveyedDevices
+  pub counters : Counters
   pub cause : TreeFault
-  pub cut : EndsAloud json (plan_of r) w mended old new failed cause
+  pub cut : EndsAloud json (plan_of r) w mended old new failed counters cause
   pub told : failed ≡ true
-  pub goes_on : UpdatesAgain r mended t' fault
+  pub goes_on : IsUpdatedAgain r mended t' cause fault
 
--- one of these, or the repair ended early, or not all blocks are valid, and the superblock wasn't written
-abbrev pub EndsMoved : Release → Bool → RepairWorld → SurveyedDevices → Option (List ℕ) → Option (List ℕ) → Bool → TreeFault → Type 0
-EndsMoved r json w t' old new failed fault =
-    EndsAloud json (plan_of r) w t' old new failed fault ⊎ (EndsRepaired r json w t' old new failed fault ⊎ EndsRepairedAgain r json w t' old new failed fault)
+abbrev pub EndsMoved : Release → Bool → Tally → RepairWorld → SurveyedDevices → Option (List ℕ) → Option (List ℕ) → Bool → TreeFault → Type 0
+EndsMoved r json tally w t' old new failed fault =
+    EndsUnsound r json tally w t' old new failed fault ⊎ (EndsRepaired r json w t' old new failed fault ⊎ EndsRepairedAgain r json w t' old new failed fault)
 
 -- ---- after the superblock was cleared
 
 -- what was counted of an update from some state on, when so many blocks were copied
 abbrev pub tally_from : RepairWorld → ℕ → Tally
-tally_from w moved = record { before = written_to w.data_dev w.hash_dev; moved = moved }
+tally_from w moved = record { before = counters_of w; moved = moved }
 
 -- data blocks that moved were copied, and then the image was brought to the release
 pub record UpdatesBegun (r : Release) (json : Bool) (w : RepairWorld) (t' : SurveyedDevices) (old new : Option (List ℕ)) : Type 0 where
@@ -184,9 +173,10 @@ pub record UpdatesBegun (r : Release) (json : Bool) (w : RepairWorld) (t' : Surv
 -- the moves were made, and what came after them ended early
 pub record EndsBehindMoves (r : Release) (json : Bool) (w : RepairWorld) (t' : SurveyedDevices) (old new : Option (List ℕ)) (failed : Bool) (fault : TreeFault) : Type 0 where
   pub moved : RepairWorld
+  pub count : ℕ
   pub between : Option (List ℕ)
   pub moves : MovesListed json (plan_of r) w moved old between
-  pub ends : EndsMoved r json moved t' between new failed fault
+  pub ends : EndsMoved r json (tally_from w count) moved t' between new failed fault
 
 -- the moves ended early because the writer failed, and the update went on without it
 pub record EndsCutMoves (r : Release) (w : RepairWorld) (t' : SurveyedDevices) (fault : TreeFault) : Type 0 where
@@ -244,20 +234,6 @@ FinishesOf state s counts json h h' contents before behind = Finishes s counts j
 abbrev pub IsUnfinishedOf : {H W : Type 0} → (H → Device) → SuperRecord → Bool → H → H → (W → Option (List ℕ)) → CountedRecord W → CountedRecord W → TreeFault → Type 0
 IsUnfinishedOf state s json h h' contents before behind = IsUnfinished s json (state h) (state h') (contents before.inner) (contents behind.inner) behind.failed
 
-abbrev pub AreRepairedAloud : {D H W : Type 0} → (D → Device) → (H → Device) → RepairWorld → Plan → Bool → D → H → (W → Option (List ℕ)) → CountedRecord W → CountedRecord W → Type 0
-AreRepairedAloud data_state hash_state w plan json d h contents before behind =
-    RepairsAloud json plan w (surveyed_devices (data_state d) (hash_state h)) (contents before.inner) (contents behind.inner)
-
-abbrev pub AreUnrepairedAloud : {D H W : Type 0} → (D → Device) → (H → Device) → RepairWorld → Plan → Bool → D → H → (W → Option (List ℕ)) → CountedRecord W → CountedRecord W → TreeFault → Type 0
-AreUnrepairedAloud data_state hash_state w plan json d h contents before behind =
-    EndsAloud json plan w (surveyed_devices (data_state d) (hash_state h)) (contents before.inner) (contents behind.inner) behind.failed
-
-abbrev pub AreRepairedSilently : {D H : Type 0} → (D → Device) → (H → Device) → RepairWorld → Plan → D → H → Type 0
-AreRepairedSilently data_state hash_state w plan d h = RepairsSilently plan w (surveyed_devices (data_state d) (hash_state h))
-
-abbrev pub AreUnrepairedSilently : {D H : Type 0} → (D → Device) → (H → Device) → RepairWorld → Plan → D → H → TreeFault → Type 0
-AreUnrepairedSilently data_state hash_state w plan d h fault = EndsSilently plan w (surveyed_devices (data_state d) (hash_state h)) fault
-
 abbrev pub EndsMovedUnheardOf : {D H : Type 0} → (D → Device) → (H → Device) → RepairWorld → Release → D → H → TreeFault → Type 0
 EndsMovedUnheardOf data_state hash_state w r d h fault = EndsMovedUnheard r w (surveyed_devices (data_state d) (hash_state h)) fault
 
@@ -271,17 +247,13 @@ abbrev pub IsUpdatedAgainOf : {D H : Type 0} → (D → Device) → (H → Devic
 IsUpdatedAgainOf data_state hash_state d h r cause d' h' fault =
     IsUpdatedAgain r (surveyed_devices (data_state d) (hash_state h)) (surveyed_devices (data_state d') (hash_state h')) cause fault
 
-abbrev pub IsRepairEndOf : {D H : Type 0} → (D → Device) → (H → Device) → D → H → Release → Bool → TreeFault → D → H → TreeFault → Type 0
-IsRepairEndOf data_state hash_state d h r failed cause d' h' fault =
-    IsRepairEnd r failed (surveyed_devices (data_state d) (hash_state h)) (surveyed_devices (data_state d') (hash_state h')) cause fault
-
 abbrev pub AreMovedUpdated : {D H W : Type 0} → (D → Device) → (H → Device) → RepairWorld → Tally → Release → Bool → D → H → (W → Option (List ℕ)) → CountedRecord W → CountedRecord W → Type 0
 AreMovedUpdated data_state hash_state w tally r json d h contents before behind =
     UpdatesMoved r json tally w (surveyed_devices (data_state d) (hash_state h)) (contents before.inner) (contents behind.inner)
 
-abbrev pub AreMovedUnupdated : {D H W : Type 0} → (D → Device) → (H → Device) → RepairWorld → Release → Bool → D → H → (W → Option (List ℕ)) → CountedRecord W → CountedRecord W → TreeFault → Type 0
-AreMovedUnupdated data_state hash_state w r json d h contents before behind =
-    EndsMoved r json w (surveyed_devices (data_state d) (hash_state h)) (contents before.inner) (contents behind.inner) behind.failed
+abbrev pub AreMovedUnupdated : {D H W : Type 0} → (D → Device) → (H → Device) → RepairWorld → Tally → Release → Bool → D → H → (W → Option (List ℕ)) → CountedRecord W → CountedRecord W → TreeFault → Type 0
+AreMovedUnupdated data_state hash_state w tally r json d h contents before behind =
+    EndsMoved r json tally w (surveyed_devices (data_state d) (hash_state h)) (contents before.inner) (contents behind.inner) behind.failed
 
 abbrev pub AreBegunUpdated : {D H C W : Type 0} → (D → Device) → (H → Device) → (C → Device) → Target D H C → Release → Bool → D → H → (W → Option (List ℕ)) → CountedRecord W → CountedRecord W → Type 0
 AreBegunUpdated data_state hash_state copy_state t r json d h contents before behind =

@@ -3,10 +3,10 @@ ghost use Rattle.std.specs.Prelude.{◌≡◌, string_bytes, true, IfErr, IfOk, 
 ghost use Rattle.program_io.specs.Counted.{Writes};
 ghost use Rattle.program_io.specs.JsonLines.{json_line};
 ghost use Rattle.serde_json.specs.View.{view};
-ghost use Rattle.update_commands.specs.Counts.{IsUncounted, SaysCounts, counts_json, counts_of, counts_text, written_to};
+ghost use Rattle.update_commands.specs.Counts.{IsUncounted, SaysCounts, SaysLosses, blocks_in, counts_json, counts_of, counts_text, is_damaged};
 
-use block_device::BlockDev;
 use program_io::{Counted, WriteFault, line_of};
+use repair_commands::Counters;
 use serde_json::{Value, json};
 use std::alloc::{AllocError, Global};
 use std::io::Write;
@@ -15,23 +15,23 @@ use tree_survey::SurveyFault;
 use verity_commands::TreeFault;
 use verity_format::{VerifyFault, given_blocks};
 
-/// How many sectors a data device and a hash device count as written.
-#[derive(Clone, Copy)]
-pub(crate) struct Written {
-    pub of_data: u64,
-    pub of_hash: u64,
-}
-
-/// What was counted before blocks were sought in the copies: the sectors that were written before the update, and the data blocks that
-/// were copied within the data device.
+/// What the devices had counted when the update began, and the data blocks that were copied within the data device since.
 #[derive(Clone, Copy)]
 pub(crate) struct Tally {
-    pub before: Written,
+    pub before: Counters,
     pub moved: u64,
 }
 
-/// How many blocks of an image were valid where they are stored, how many were copied from another place of it, how many were fetched,
-/// and how many bytes these have. Data blocks and hash blocks are counted.
+/// How many data blocks, and how many hash blocks.
+#[derive(Clone, Copy)]
+pub(crate) struct Blocks {
+    pub data: u64,
+    pub hash: u64,
+}
+
+/// How many blocks of an image weren't written, how many were fetched, which is read from the release, and how many bytes these have;
+/// and how many were written but not fetched, so moved: copied within the data device, from another copy, or computed. Data blocks and
+/// hash blocks are counted.
 #[derive(Clone, Copy)]
 pub(crate) struct Counts {
     pub kept: u64,
@@ -40,33 +40,37 @@ pub(crate) struct Counts {
     pub bytes: u64,
 }
 
-/// Returns the current values of the counters.
-pub(crate) fn written_to<D: BlockDev, H: BlockDev>(data_dev: &D, hash_dev: &H) -> Written
-    ensures { result ≡ written_to (D.state data_dev.now) (H.state hash_dev.now) }
-{
-    let of_data = data_dev.writes();
-    let of_hash = hash_dev.writes();
-    Written { of_data, of_hash }
-}
-
-/// Returns the counts of an image of that shape, of which all blocks are valid, by the counters before and after.
-pub(crate) fn counts_of(shape: &Shape, tally: &Tally, after: &Written) -> Counts
+/// Returns the counts of an image of that shape, by the counters before and after.
+pub(crate) fn counts_of(shape: &Shape, tally: &Tally, after: &Counters) -> Counts
     ensures { result ≡ counts_of shape.now tally.now after.now }
 {
-    let of_data = after.of_data.saturating_sub(tally.before.of_data);
-    let of_hash = after.of_hash.saturating_sub(tally.before.of_hash);
-    let data_blocks = given_blocks(None, shape.data_block(), of_data);
-    let hash_blocks = given_blocks(None, shape.hash_block(), of_hash);
-    let written = data_blocks.saturating_add(hash_blocks);
+    let data_written = after.data_written.saturating_sub(tally.before.data_written);
+    let hash_written = after.hash_written.saturating_sub(tally.before.hash_written);
+    let data_read = after.data_read.saturating_sub(tally.before.data_read);
+    let hash_read = after.hash_read.saturating_sub(tally.before.hash_read);
+    let written = blocks_in(shape, data_written, hash_written);
+    let read = blocks_in(shape, data_read, hash_read);
     let all = shape.blocks().saturating_add(shape.area_blocks());
-    let bytes = of_data.saturating_add(of_hash).saturating_mul(512);
-    let size = u64::from(shape.data_block());
+    let others = written
+        .data
+        .saturating_sub(read.data)
+        .saturating_sub(tally.moved);
+    let hashes = written.hash.saturating_sub(read.hash);
     Counts {
-        kept: all.saturating_sub(written),
-        moved: tally.moved,
-        fetched: written.saturating_sub(tally.moved),
-        bytes: bytes.saturating_sub(tally.moved.saturating_mul(size)),
+        kept: all.saturating_sub(written.data.saturating_add(written.hash)),
+        moved: tally.moved.saturating_add(others).saturating_add(hashes),
+        fetched: read.data.saturating_add(read.hash),
+        bytes: data_read.saturating_add(hash_read).saturating_mul(512),
     }
+}
+
+// Returns how many blocks so many sectors have.
+fn blocks_in(shape: &Shape, data_sectors: u64, hash_sectors: u64) -> Blocks
+    ensures { result ≡ blocks_in shape.now data_sectors hash_sectors }
+{
+    let data = given_blocks(None, shape.data_block(), data_sectors);
+    let hash = given_blocks(None, shape.hash_block(), hash_sectors);
+    Blocks { data, hash }
 }
 
 /// Prints the counts: `kept N moved N fetched N bytes N`, or as a JSON object.
@@ -89,6 +93,36 @@ pub(crate) fn say_counts<'a, W: Write>(
     }
     say_line(writer, counts)?;
     Ok(())
+}
+
+/// Prints the counts as a JSON object, if that is wanted and blocks are lost, and returns the fault that ends the update: the cause, or
+/// that the counts can't be printed.
+pub(crate) fn say_losses<'a, W: Write>(
+    alloc: Global,
+    counts: &Counts,
+    json: bool,
+    cause: TreeFault<'a>,
+    writer: &mut Counted<W>,
+) -> TreeFault<'a>
+    ensures { SaysLosses W.contents counts.now json cause.entry writer.old writer.new result }
+{
+    if !json {
+        return cause;
+    }
+    if !is_damaged(cause) {
+        return cause;
+    }
+    match say_counts(alloc, counts, true, writer) {
+        Ok(()) => cause,
+        Err(fault) => fault,
+    }
+}
+
+// Whether blocks are lost.
+fn is_damaged(fault: TreeFault<'_>) -> bool
+    ensures { result ≡ is_damaged fault.entry }
+{
+    matches!(fault, TreeFault::Damaged)
 }
 
 #[tactic(auto, unfolding(crate::specs::Counts::counts_text))]

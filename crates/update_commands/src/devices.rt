@@ -1,18 +1,19 @@
 //! Brings an image on two open devices to a release.
 ghost use Rattle.std.specs.Prelude.{◌≡◌, ◌≤◌, ◌^◌, IfErr, OnOk, true};
 ghost use Rattle.tree_repair.specs.Repairs.{IsAllowed};
-ghost use Rattle.update_commands.specs.Updates.{AreBegunUnupdated, AreBegunUpdated, AreMovedUnupdated, AreMovedUpdated, AreRepairedAloud, AreRepairedSilently, AreUnrepairedAloud, AreUnrepairedSilently, AreUnupdated, AreUpdated, FinishesOf, IsUnfinishedOf, target_world};
+ghost use Rattle.update_commands.specs.Repaired.{AreRepairedAloud, AreRepairedSilently, AreUnrepairedAloud, AreUnrepairedSilently};
+ghost use Rattle.update_commands.specs.Updates.{AreBegunUnupdated, AreBegunUpdated, AreMovedUnupdated, AreMovedUpdated, AreUnupdated, AreUpdated, FinishesOf, IsUnfinishedOf, target_world};
 
 use crate::beginning::begin;
-use crate::counts::{Counts, Tally, counts_of, say_counts, written_to};
+use crate::counts::{Counts, Tally, counts_of, say_counts, say_losses};
 use crate::listing::list_all;
 use crate::moving::move_listed;
 use crate::release::{Release, plan_of};
 use crate::sealing::seal;
-use crate::unheard::{end_moving, end_repairing};
+use crate::unheard::{end_moving, update_again};
 use block_device::{BlockDev, SyncDev};
 use program_io::Counted;
-use repair_commands::{Copies, Nowhere, repair_devices};
+use repair_commands::{Copies, Counters, Nowhere, counters_of, repair_devices};
 use std::alloc::Global;
 use std::io::Write;
 use tree_repair::{BlockLists, DamagedImage, Plan};
@@ -103,8 +104,8 @@ fn update_begun<'a, D: SyncDev + Drop, H: SyncDev + Drop, C: BlockDev + Drop, W:
     ensures err { IfErr result.2 (AreBegunUnupdated D.state H.state C.state target release.now json result.0 result.1 W.contents writer.old writer.new) }
 {
     let plan = plan_of(release);
-    let before = written_to(&target.data_dev, &target.hash_dev);
     let mut image = image_of(target);
+    let before = counters_of(&image);
     match move_listed(alloc, &mut image, lists, &plan, json, writer) {
         Ok(moved) => {
             let tally = Tally { before, moved };
@@ -128,24 +129,26 @@ fn update_moved<'a, D: SyncDev + Drop, H: SyncDev + Drop, C: BlockDev + Drop, W:
 ) -> (D, H, Result<(), TreeFault<'a>>)
     requires { IsAllowed true image.world.data_dev image.world.hash_dev }
     ensures ok { OnOk result.2 (AreMovedUpdated D.state H.state image.world tally.now release.now json result.0 result.1 W.contents writer.old writer.new) }
-    ensures err { IfErr result.2 (AreMovedUnupdated D.state H.state image.world release.now json result.0 result.1 W.contents writer.old writer.new) }
+    ensures err { IfErr result.2 (AreMovedUnupdated D.state H.state image.world tally.now release.now json result.0 result.1 W.contents writer.old writer.new) }
 {
     let plan = plan_of(release);
-    let (data_dev, hash_dev, repaired) = repair_aloud(alloc, image, &plan, json, writer);
+    let (data_dev, hash_dev, after, repaired) = repair_aloud(alloc, image, &plan, json, writer);
+    let counts = counts_of(&plan.tree.shape, tally, &after);
     match repaired {
         Ok(()) => {
-            let after = written_to(&data_dev, &hash_dev);
-            let counts = counts_of(&plan.tree.shape, tally, &after);
             let mut sealed = hash_dev;
             let superblock = &release.superblock;
             let ended = finish(alloc, &mut sealed, superblock, &counts, json, writer);
             (data_dev, sealed, ended)
         }
         Err(fault) => {
-            let unprinted = writer.failed();
-            let (data_dev, hash_dev, ended) = end_repairing(
-                alloc, data_dev, hash_dev, release, unprinted, fault,
-            );
+            if writer.failed() {
+                let (data_again, hash_again, ended) = update_again(
+                    alloc, data_dev, hash_dev, release, fault,
+                );
+                return (data_again, hash_again, Err(ended));
+            }
+            let ended = say_losses(alloc, &counts, json, fault, writer);
             (data_dev, hash_dev, Err(ended))
         }
     }
@@ -174,18 +177,18 @@ pub(crate) fn image_of<D: BlockDev, H: BlockDev, C: BlockDev>(
     }
 }
 
-// Repairs the image, and prints what `repair` prints. For a JSON object nothing is printed.
+// Repairs the image, prints what `repair` prints, and returns what the devices counted. For a JSON object nothing is printed.
 fn repair_aloud<'a, D: SyncDev + Drop, H: SyncDev + Drop, C: BlockDev + Drop, W: Write>(
     alloc: Global,
     image: DamagedImage<D, H, C>,
     plan: &Plan,
     json: bool,
     writer: &mut Counted<W>,
-) -> (D, H, Result<(), TreeFault<'a>>)
+) -> (D, H, Counters, Result<(), TreeFault<'a>>)
     requires first { plan.now.copy_first ≤ 2 ^ 55 }
     requires allowed { IsAllowed plan.now.write image.world.data_dev image.world.hash_dev }
-    ensures ok { OnOk result.2 (AreRepairedAloud D.state H.state image.world plan.now json result.0 result.1 W.contents writer.old writer.new) }
-    ensures err { IfErr result.2 (AreUnrepairedAloud D.state H.state image.world plan.now json result.0 result.1 W.contents writer.old writer.new) }
+    ensures ok { OnOk result.3 (AreRepairedAloud D.state H.state image.world plan.now json result.0 result.1 result.2 W.contents writer.old writer.new) }
+    ensures err { IfErr result.3 (AreUnrepairedAloud D.state H.state image.world plan.now json result.0 result.1 result.2 W.contents writer.old writer.new) }
 {
     if json {
         return repair_silently(alloc, image, plan);
@@ -198,11 +201,11 @@ pub(crate) fn repair_silently<'a, D: SyncDev + Drop, H: SyncDev + Drop, C: Block
     alloc: Global,
     image: DamagedImage<D, H, C>,
     plan: &Plan,
-) -> (D, H, Result<(), TreeFault<'a>>)
+) -> (D, H, Counters, Result<(), TreeFault<'a>>)
     requires first { plan.now.copy_first ≤ 2 ^ 55 }
     requires allowed { IsAllowed plan.now.write image.world.data_dev image.world.hash_dev }
-    ensures ok { OnOk result.2 (AreRepairedSilently D.state H.state image.world plan.now result.0 result.1) }
-    ensures err { IfErr result.2 (AreUnrepairedSilently D.state H.state image.world plan.now result.0 result.1) }
+    ensures ok { OnOk result.3 (AreRepairedSilently D.state H.state image.world plan.now result.0 result.1 result.2) }
+    ensures err { IfErr result.3 (AreUnrepairedSilently D.state H.state image.world plan.now result.0 result.1 result.2) }
 {
     let mut nowhere = Counted::new(Nowhere);
     repair_devices(alloc, image, true, plan, &mut nowhere)

@@ -1,7 +1,7 @@
 //! An update that goes on without a writer after the writer failed.
 ghost use Rattle.std.specs.Prelude.{true, ◌≡◌};
 ghost use Rattle.tree_repair.specs.Repairs.{IsAllowed};
-ghost use Rattle.update_commands.specs.Updates.{EndsMovedUnheardOf, EndsUnheardOf, IsMovesEndOf, IsRepairEndOf, IsUpdatedAgainOf, SealsUnheard, is_unprinted};
+ghost use Rattle.update_commands.specs.Updates.{EndsMovedUnheardOf, EndsUnheardOf, IsMovesEndOf, IsUpdatedAgainOf, SealsUnheard, is_unprinted};
 
 use crate::devices::{Target, image_of, repair_silently};
 use crate::moving::move_silently;
@@ -33,23 +33,6 @@ pub(crate) fn end_moving<'a, D: SyncDev + Drop, H: SyncDev + Drop, C: BlockDev +
     (data_dev, hash_dev, fault_of(cause))
 }
 
-/// Ends an update whose repair ended early. If the writer failed, the image is brought to the release without it first.
-pub(crate) fn end_repairing<'a, D: SyncDev + Drop, H: SyncDev + Drop>(
-    alloc: Global,
-    data_dev: D,
-    hash_dev: H,
-    release: &Release,
-    unprinted: bool,
-    cause: TreeFault<'a>,
-) -> (D, H, TreeFault<'a>)
-    ensures { IsRepairEndOf D.state H.state data_dev hash_dev release.now unprinted cause.entry result.0 result.1 result.2 }
-{
-    if !unprinted {
-        return (data_dev, hash_dev, cause);
-    }
-    update_again(alloc, data_dev, hash_dev, release, cause)
-}
-
 // Whether the writer failed.
 fn is_unprinted(fault: RepairFault) -> bool
     ensures { result ≡ is_unprinted fault }
@@ -57,8 +40,9 @@ fn is_unprinted(fault: RepairFault) -> bool
     matches!(fault, RepairFault::Write)
 }
 
-// Brings the image to the release without a writer and without copies: what the copies had is written already.
-fn update_again<'a, D: SyncDev + Drop, H: SyncDev + Drop>(
+/// Brings the image to the release without a writer and without copies: what the copies had is written already. If a device may not be
+/// written, the cause stays.
+pub(crate) fn update_again<'a, D: SyncDev + Drop, H: SyncDev + Drop>(
     alloc: Global,
     data_dev: D,
     hash_dev: H,
@@ -124,7 +108,7 @@ fn repair_unheard<'a, D: SyncDev + Drop, H: SyncDev + Drop, C: BlockDev + Drop>(
     ensures { EndsMovedUnheardOf D.state H.state image.world release.now result.0 result.1 result.2 }
 {
     let plan = plan_of(release);
-    let (data_dev, hash_dev, repaired) = repair_silently(alloc, image, &plan);
+    let (data_dev, hash_dev, _counters, repaired) = repair_silently(alloc, image, &plan);
     match repaired {
         Ok(()) => {
             let mut sealed = hash_dev;

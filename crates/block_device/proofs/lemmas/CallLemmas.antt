@@ -1,5 +1,5 @@
 -- What follows from a list of calls.
-use Rattle.std.proofs.Common.{◌≡◌, ℕ, ◌+◌, List, [], ◌∷◌, ◌++◌, refl, subst, arith}
+use Rattle.std.proofs.Common.{◌≡◌, ◌+◌, List, [], ◌∷◌, ◌++◌, refl, subst, arith}
 use Rattle.block_device.specs.Call.{Call, Calls}
 use Rattle.block_device.specs.CallList.{all_read, all_written}
 

@@ -63,6 +63,7 @@ stops-reading input fault.Lost stops is = cc
 stops-reading input fault.Magic stops is = cc
 stops-reading input fault.Flags stops is = cc
 stops-reading input fault.NoSuchExport stops is = cc
+stops-reading input fault.TooManyOptions stops is = cc
 stops-reading input fault.ReadFault stops is = cc
 stops-reading input fault.WriteFault stops is = stops
 

@@ -9,6 +9,7 @@ service_message service.Lost = Some (codes "the client disconnected in the middl
 service_message service.Magic = Some (codes "the client isn't an NBD client: a message begins with another magic number")
 service_message service.Flags = Some (codes "the client set handshake flags that aren't offered")
 service_message service.NoSuchExport = Some (codes "the client asked for an export that doesn't exist")
+service_message service.TooManyOptions = Some (codes "the client sent more than 1,024 options")
 service_message service.ReadFault = None
 service_message service.WriteFault = None
 

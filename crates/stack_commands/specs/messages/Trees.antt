@@ -30,7 +30,7 @@ difference_message (difference.Unaligned which.First) = Some (codes "the tree's 
 difference_message (difference.Unaligned which.Second) = image_message image.Unaligned
 difference_message (difference.Unpinned of mismatch) = Some (mismatch_message mismatch)
 difference_message (difference.Unlike fault) = Some (unlike_message fault)
-difference_message (difference.Hash of level index) = Some (codes "a hash block fails verification: HASH was modified or is damaged; get it again, or try 'dmstack repair'")
+difference_message (difference.Hash of level index) = Some (codes "a hash block fails verification: check the root hash or the pin; else that hash image was modified or is damaged")
 difference_message difference.NoMemory = None
 difference_message difference.Write = None
 

@@ -17,6 +17,7 @@ pub fn service_message(fault: ServiceFault) -> Option<&'static str>
         ),
         ServiceFault::Flags => Some("the client set handshake flags that aren't offered"),
         ServiceFault::NoSuchExport => Some("the client asked for an export that doesn't exist"),
+        ServiceFault::TooManyOptions => Some("the client sent more than 1,024 options"),
         ServiceFault::ReadFault => None,
         ServiceFault::WriteFault => None,
     }

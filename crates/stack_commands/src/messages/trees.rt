@@ -38,7 +38,7 @@ pub fn difference_message(fault: DifferenceFault) -> Option<&'static str>
         DifferenceFault::Unpinned(_, mismatch) => Some(mismatch_message(mismatch)),
         DifferenceFault::Unlike(fault) => Some(unlike_message(fault)),
         DifferenceFault::Hash(_, _, _) => Some(
-            "a hash block fails verification: HASH was modified or is damaged; get it again, or try 'dmstack repair'",
+            "a hash block fails verification: check the root hash or the pin; else that hash image was modified or is damaged",
         ),
         DifferenceFault::NoMemory => None,
         DifferenceFault::Write => None,

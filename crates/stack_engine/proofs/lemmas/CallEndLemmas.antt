@@ -4,10 +4,11 @@ use Rattle.stack_rules.specs.Records.{Configuration}
 use Rattle.stack_meaning.specs.declared.fault.Fault.{Fault}
 use Rattle.stack_meaning.specs.declared.fault.IoFault.{IoFault}
 use Rattle.stack_meaning.specs.declared.fault.IoFault.TheVariants as io
+use Rattle.stack_meaning.specs.Outcomes.{mismatch}
 use Rattle.stack_rules.specs.Trees.{zero_block}
 use Rattle.stack_engine.specs.Healing.{healed_result}
 use Rattle.stack_engine.specs.LeafCalls.{LeafCall, AllLeafCallsSucceeded, NoneAfterFailure, EndAtFailure}
-use Rattle.stack_engine.specs.SectorCalls.{bytes_before, ReadOf, ReadCalls, WriteTo, WriteCalls, leaf_read, leaf_unread, none_read, line_read, line_unread, units_read, units_unread, part_read, part_unread, zeros_read, fails_read, chain_found, data_read, data_unread, data_full, blocks_read, block_checked, block_differs, block_unread, block_full, hash_kept, hash_full, hash_lost, hash_read, way_down, way_stops, way_full, one_ignored, one_read, next_ignored, next_checked, next_differs, together_read, together_unread, blocks_end, blocks_next, blocks_full, leaf_written, leaf_unwritten, none_written, line_written, line_unwritten, units_written, each_written, part_written, part_lost, none_stepped, step_written, step_unwritten, zeros_written, fails_written, one_healed, spare_none, spare_full, spare_checked, spare_differs, spare_unread, sums_past, sums_added, sums_unread, parity_added, parity_unread}
+use Rattle.stack_engine.specs.SectorCalls.{bytes_before, ReadOf, ReadCalls, WriteTo, WriteCalls, leaf_read, leaf_unread, none_read, line_read, line_unread, units_read, units_unread, part_read, part_unread, zeros_read, fails_read, chain_found, data_read, data_unread, data_full, blocks_read, block_checked, block_differs, block_unread, block_full, hash_kept, hash_full, hash_lost, hash_read, way_down, way_stops, way_full, one_ignored, one_read, next_ignored, next_checked, next_healed, next_differs, together_read, together_unread, blocks_end, blocks_next, blocks_full, leaf_written, leaf_unwritten, none_written, line_written, line_unwritten, units_written, each_written, part_written, part_lost, none_stepped, step_written, step_unwritten, zeros_written, fails_written, one_healed, spare_none, spare_full, spare_checked, spare_differs, spare_unread, sums_past, sums_added, sums_unread, parity_added, parity_unread}
 
 all-append : (calls later : List LeafCall) → AllLeafCallsSucceeded calls → AllLeafCallsSucceeded later → AllLeafCallsSucceeded (calls ++ later)
 all-append [] later h k = k
@@ -93,7 +94,8 @@ reads-end (one_read last used settled a) = reads-end a
 reads-end (one_healed last {calls = calls} {later = later} {fault = fault} {spare = spare} used a b) = ends-healed fault spare calls later (reads-end a) (reads-end b)
 reads-end (next_ignored {p = p} last {calls = calls} {answer = answer} is a) = ends-before (zero_block p.verity) answer [] calls tt (reads-end a)
 reads-end (next_checked block last {calls = calls} {answer = answer} used is a) = ends-before block answer [] calls tt (reads-end a)
-reads-end (next_differs left block ahead last used len other plain) = tt
+reads-end (next_healed {spare = spare} block last {calls = calls} {later = later} {answer = answer} used len other a b) = ends-before spare answer calls later (reads-end a) (reads-end b)
+reads-end (next_differs left block ahead last {calls = calls} {vain = vain} used len other a) = ends-healed mismatch (Err vain) [] calls tt (reads-end a)
 reads-end (together_read {calls = calls} {later = later} {answer = answer} used row a b) = ends-append answer calls later (reads-end a) (reads-end b)
 reads-end (together_unread used row a) = reads-end a
 reads-end (blocks_end p ahead) = tt

@@ -1,5 +1,5 @@
 -- A verity line with parity that has lost data blocks.
-use Rattle.std.proofs.Common.{◌≡◌, ◌≢◌, ◌⊎◌, ℕ, ◌+◌, ◌-◌, ◌*◌, ◌/◌, ◌%◌, ◌<◌, ◌≤◌, Bool, true, false, cond, List, [], ◌++◌, get_or, Some, Ok, Err, inl, inr, refl, sym, ap, ◌∙◌, arith}
+use Rattle.std.proofs.Common.{◌≡◌, ◌≢◌, ◌⊎◌, ℕ, ◌+◌, ◌-◌, ◌*◌, ◌/◌, ◌<◌, ◌≤◌, Bool, true, false, cond, List, [], ◌++◌, get_or, Some, Ok, Err, inl, inr, refl, sym, ap, ◌∙◌, arith}
 use Rattle.std.specs.Str.{bytes_eq}
 use Rattle.std.proofs.lemmas.Bool.{cases_Bool, cond-true, cond-false, lt-ltb}
 use Rattle.std.proofs.lemmas.List.{append_cancel_left}
@@ -8,14 +8,14 @@ use Rattle.hash_tree.specs.Laws.{FormedChainsAreGood}
 use Rattle.tree_shape.specs.Digests.{digest}
 use Rattle.dm_table.specs.declared.parity.Parity.{Parity}
 use Rattle.dm_table.specs.declared.verity.Verity.{Verity}
-use Rattle.stack_rules.specs.Trees.{block_sectors, round_count, zero_block}
+use Rattle.stack_rules.specs.Trees.{block_sectors, zero_block}
 use Rattle.stack_config.proofs.lemmas.ParityLineLemmas.{parity-line}
 use Rattle.stack_meaning.specs.Blocks.{checked, checked_span, data_block_at, is_ignored}
 use Rattle.stack_meaning.specs.Outcomes.{Outcome, span}
 use Rattle.stack_meaning.specs.Spares.{BlockSources, covered_block, data_spare, healed_outcome, spare_block}
 use Rattle.stack_meaning.proofs.lemmas.CheckedLemmas.{checked-digest, then-parts}
 use Rattle.stack_meaning.proofs.lemmas.SpareLemmas.{lost-restored}
-use Rattle.stack_engine.specs.DamagedData.{BlockCollides, DamagedDataIsRead, HaveLostOne, line_sources}
+use Rattle.stack_engine.specs.DamagedData.{BlockCollides, DamagedDataIsRead, HasLostOne, line_sources}
 use Rattle.stack_engine.specs.Laws.{IsSha256Collision}
 use Rattle.stack_engine.proofs.lemmas.FormattedLemmas.{block-low, data-shown, facts, line-is, line-walked, sector-shown, shown_block}
 
@@ -37,8 +37,8 @@ own-healed v (Ok b) spare block good is = go (bytes_eq b block) refl
     })
 own-healed v (Err fault) spare block good is = inl (ap (healed_outcome (Err fault)) is)
 
-module _ (v : Verity) (p : Parity) (has : v.parity ≡ Some p) (few : p.roots ≤ 24) (from : BlockSources) (blocks : List (List ℕ)) (lost : HaveLostOne v p from blocks)
-    (i : ℕ) (inside : i < v.blocks) (covered : i < p.blocks) where
+module _ (v : Verity) (p : Parity) (has : v.parity ≡ Some p) (few : p.roots ≤ 24) (from : BlockSources) (blocks : List (List ℕ)) (i : ℕ) (lost : HasLostOne v p from blocks i)
+    (inside : i < v.blocks) (covered : i < p.blocks) where
   abbrev block : List ℕ
   block = get_or blocks i []
 
@@ -57,17 +57,17 @@ module _ (v : Verity) (p : Parity) (has : v.parity ≡ Some p) (few : p.roots �
   read-former : covered_block v from i ≡ Ok (lost.former i) → span from.on_data (block_sectors v * i) (block_sectors v) ≡ Ok block
   read-former is =
       let at : Bool → Outcome = λ b. span (cond b from.on_data from.on_hash) (cond b (block_sectors v * i) (block_sectors v * (v.start + (i - v.blocks)))) (block_sectors v) in
-      sym (ap at (lt-ltb i v.blocks inside)) ∙ is ∙ ap Ok (lost.first i inside)
+      sym (ap at (lt-ltb i v.blocks inside)) ∙ is ∙ ap Ok lost.own
 
   pub data-damaged : (data_block_at v from i expected ≡ Ok (shown_block v block)) ⊎ BlockCollides v block
-  data-damaged = elim (lost.one i inside) [
+  data-damaged = elim lost.one [
     | inl whole ↦ inl (data-shown v from i expected block (read-former whole) refl)
     | inr beside ↦
-        let restored = lost-restored v p few from lost.former (lost.parity (i % round_count p)) i covered (lost.rounds i inside) beside in
+        let restored = lost-restored v p few from lost.former lost.parity i covered lost.round beside in
         let spare : data_spare v from v.parity i expected ≡ Ok block =
         ap (λ o. data_spare v from o i expected) has
-        ∙ ap (λ (b : List ℕ). spare_block v p from i (digest v.salt b)) (sym (lost.first i inside))
-        ∙ restored ∙ ap Ok (lost.first i inside) in
+        ∙ ap (λ (b : List ℕ). spare_block v p from i (digest v.salt b)) (sym lost.own)
+        ∙ restored ∙ ap Ok lost.own in
         elim (cases_Bool (is_ignored v expected)) [
           | inl zeros ↦ inl (cond-true _ _ _ zeros ∙ ap Ok (sym (cond-true (is_ignored v expected) (zero_block v) block zeros)))
           | inr other ↦ elim (own-healed v own (data_spare v from v.parity i expected) block own-good spare) [
@@ -84,7 +84,7 @@ damaged-read law c loaded images whole d s l line v lies p blocks damaged =
     let line_facts = facts c loaded images whole d s l line v lies in
     let parity = parity-line c d l line v p loaded (line-is c loaded images whole d s l line v lies) lies.has damaged.has line_facts.1 line_facts.2.hash_named in
     let covered : i < p.blocks = omega (arith, low, parity.1.covers) in
-    elim (data-damaged v p damaged.has parity.1.grammar.most_roots (line_sources c images v) blocks damaged.lost i low covered) [
+    elim (data-damaged v p damaged.has parity.1.grammar.most_roots (line_sources c images v) blocks i damaged.lost low covered) [
       | inl shown ↦
           inl (sector-shown c loaded images whole d s l line v lies blocks damaged.tree.sized (line-walked c loaded images whole d s l line v lies law blocks damaged.tree ∙ shown))
       | inr collides ↦ inr collides

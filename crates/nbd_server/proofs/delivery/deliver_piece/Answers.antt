@@ -3,7 +3,7 @@ use Rattle.std.proofs.lemmas.Result.{err_from_is_err_and}
 use Rattle.nbd_protocol.specs.Exports.{export_record}
 use Rattle.nbd_protocol.specs.Chunks.{error_at_chunk}
 use Rattle.nbd_server.specs.Delivery.{AreNextBytes}
-use Rattle.nbd_server.specs.Failures.{reported_error}
+use Rattle.nbd_server.specs.Failures.{failure_text, reported_error}
 use Rattle.nbd_server.specs.Status.{touched}
 use Rattle.nbd_server.specs.Transmission.{ReadsExport}
 use Rattle.nbd_server.proofs.DeliveryLemmas.{lost-stuck, part-size, piece-bytes, piece-lost, piece-put_off, piece-sent, rest-left, sent-stuck}
@@ -97,7 +97,7 @@ returns-in_ok-say_error_at-in-Err-clause-ok g c =
     let size = c.args.piece.size in
     let few : touched at size ≤ 1 = omega (arith, c.touched.ensures, c.if-touched-gt1.false) in
     let lost = piece-lost (export_record c.args.export.now) c.args.delivery c.args.piece.progress c.args.queue.now c.read_piece.new.queue size at c.at-at.ensures c.requires.piece old new c.in-Err.error c.in-Err.ensures.err few in
-    (error_at_chunk c.args.delivery.cookie at (reported_error c.in-Err.error), lost.0, lost.1, rw c.reported.ensures at c.in_ok-say_error_at-in-Err.ensures.ok)
+    (error_at_chunk c.args.delivery.cookie at (reported_error c.in-Err.error) (failure_text c.in-Err.error), lost.0, lost.1, rw (c.reported.ensures, c.as_bytes-text.ensures.value, c.text.ensures.value) at c.in_ok-say_error_at-in-Err.ensures.ok)
 
 pub returns-in_ok-say_error_at-in-Err-clause-kept : goal.returns-in_ok-say_error_at-in-Err-clause-kept
 returns-in_ok-say_error_at-in-Err-clause-kept g c = c.in_ok-say_error_at-in-Err.ensures.kept

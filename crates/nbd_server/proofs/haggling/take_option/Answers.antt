@@ -1,4 +1,4 @@
-use Rattle.std.proofs.Common.{◌≡◌, ◌≢◌, ◌∙◌, ℕ, Bool, Ok, Some, None, ap, sym, subst, arith, length, take, codes, inl, inr}
+use Rattle.std.proofs.Common.{◌≡◌, ◌≢◌, ◌<◌, ◌∙◌, ℕ, Bool, Ok, Some, None, ap, sym, subst, arith, length, take, codes, inl, inr}
 use Rattle.std.specs.Io.KnownBytes.{Consumes}
 use Rattle.std.proofs.lemmas.Grind.{common_steps}
 use Rattle.std.proofs.lemmas.List.Elements.{All-map}
@@ -10,7 +10,7 @@ use Rattle.nbd_protocol.specs.Exports.{HasShortName, export_record, export_recor
 use Rattle.nbd_server.specs.Service.{IsTooLong, IsAnswered, IsExportUnnamed, IsNameUnread}
 use Rattle.nbd_protocol.specs.Streaming.{Fills, TakesInto, content_in}
 use Rattle.nbd_protocol.proofs.lemmas.CountedLemmas.{read-then, read-other, written-same, stops-reading}
-use Rattle.nbd_server.proofs.MessageLemmas.{header-cut, option-unlike, option-lost, option-ends, option-told, option-refused, unnamed-breaks, unread-breaks, unnamed-writing, unread-writing}
+use Rattle.nbd_server.proofs.MessageLemmas.{header-cut, option-unlike, option-lost, option-ends, option-over, option-told, option-refused, unnamed-breaks, unread-breaks, unnamed-writing, unread-writing}
 use Rattle.nbd_server.proofs.haggling.take_option.Goals as goal
 
 -- ---- the header
@@ -52,6 +52,25 @@ returns-then-ne-clause-reader g c = read-other fault.Magic c.in_ok-fill.ensures.
 pub returns-then-ne-clause-writer : goal.returns-then-ne-clause-writer
 returns-then-ne-clause-writer g c = written-same c.args.writer.now (Some fault.Magic) (λ is. (cc))
 
+-- ---- no option is left
+
+pub returns-then-terms-eq0-clause-turn : goal.returns-then-terms-eq0-clause-turn
+returns-then-terms-eq0-clause-turn g c = λ w.
+    let input = g.R.Read.remaining c.args.reader.now.inner in
+    let mid = g.R.Read.remaining c.fill.new.reader.inner in
+    let output = g.W.Write.contents c.args.writer.now.inner in
+    let header = c.fill.new.buffer in
+    let first = subst (λ b. Fills input mid header (Ok b)) c.if-not-branch.false c.in_ok-fill.ensures.filled in
+    let size : length header ≡ 16 = omega (arith, c.fill.auto.buffer) in
+    let magic : take 8 header ≡ codes "IHAVEOPT" = grind (arith, common_steps) in
+    option-over (export_records c.args.exports.now) c.args.terms w input mid mid header first size magic output c.if-terms-eq0.true
+
+pub returns-then-terms-eq0-clause-reader : goal.returns-then-terms-eq0-clause-reader
+returns-then-terms-eq0-clause-reader g c = read-other fault.TooManyOptions c.in_ok-fill.ensures.reader (λ is. (cc))
+
+pub returns-then-terms-eq0-clause-writer : goal.returns-then-terms-eq0-clause-writer
+returns-then-terms-eq0-clause-writer g c = written-same c.args.writer.now (Some fault.TooManyOptions) (λ is. (cc))
+
 -- ---- the data
 
 pub returns-in_err-take_content-clause-turn : goal.returns-in_err-take_content-clause-turn
@@ -64,8 +83,9 @@ returns-in_err-take_content-clause-turn g c = λ w.
     let first = subst (λ b. Fills input mid header (Ok b)) c.if-not-branch.false c.in_ok-fill.ensures.filled in
     let size : length header ≡ 16 = omega (arith, c.fill.auto.buffer) in
     let magic : take 8 header ≡ codes "IHAVEOPT" = grind (arith, common_steps) in
+    let allowed : 0 < c.args.terms.left = omega (arith, c.if-terms-eq0.false) in
     let p = err_from_is_err_and c.from_residual-in_err-take_content.result c.from_residual-in_err-take_content.ensures.1 in
-    rw (p.1, p.2) (option-lost (export_records c.args.exports.now) c.args.terms w input mid input' header first size magic output output c.in_err-take_content.field-0.0 (rw c.number32-count.ensures at c.in_err-take_content.ensures.err))
+    rw (p.1, p.2) (option-lost (export_records c.args.exports.now) c.args.terms w input mid input' header first size magic allowed output output c.in_err-take_content.field-0.0 (rw c.number32-count.ensures at c.in_err-take_content.ensures.err))
 
 pub returns-in_err-take_content-clause-reader : goal.returns-in_err-take_content-clause-reader
 returns-in_err-take_content-clause-reader g c =
@@ -90,15 +110,16 @@ returns-in_err-refuse_content-clause-turn g c = λ w.
     let first = subst (λ b. Fills input mid header (Ok b)) c.if-not-branch.false c.in_ok-fill.ensures.filled in
     let size : length header ≡ 16 = omega (arith, c.fill.auto.buffer) in
     let magic : take 8 header ≡ codes "IHAVEOPT" = grind (arith, common_steps) in
+    let allowed : 0 < c.args.terms.left = omega (arith, c.if-terms-eq0.false) in
     let into : TakesInto None (big_endian32 header 12) mid input' =
     rw c.number32-count.ensures at (subst (λ (b : Bool). TakesInto (content_in b c.number32-count.result c.take_content.new.room) c.number32-count.result mid input') c.if-not-branch-2.true c.in_ok-take_content.ensures.ok) in
     let x = c.in_err-refuse_content.field-0.0 in
     let p = err_from_is_err_and c.from_residual-in_err-refuse_content.result c.from_residual-in_err-refuse_content.ensures.1 in
-    rw (p.1, p.2) (option-ends (export_records c.args.exports.now) c.args.terms w input mid input' header first size magic output (g.W.Write.contents c.refuse_content.new.writer.inner) into.takes.bytes into.takes.consumed into.takes.count
+    rw (p.1, p.2) (option-ends (export_records c.args.exports.now) c.args.terms w input mid input' header first size magic allowed output (g.W.Write.contents c.refuse_content.new.writer.inner) into.takes.bytes into.takes.consumed into.takes.count
     (IsTooLong c.args.terms c.number32-option.result c.number32-count.result) (IsNameUnread c.number32-option.result c.number32-count.result) x
     (λ reply next q. inr (subst (λ (n : ℕ). IsTooLong c.args.terms (big_endian32 header 8) n reply next) (c.number32-count.ensures ∙ sym into.takes.count)
     (subst (λ (n : ℕ). IsTooLong c.args.terms n c.number32-count.result reply next) c.number32-option.ensures q)))
-    (unread-breaks (export_records c.args.exports.now) c.args.terms w input mid input' header first size magic output (g.W.Write.contents c.refuse_content.new.writer.inner) (All-map HasShortName export_record c.args.exports.now c.requires) into.takes.bytes into.takes.count
+    (unread-breaks (export_records c.args.exports.now) c.args.terms w input mid input' header first size magic allowed output (g.W.Write.contents c.refuse_content.new.writer.inner) (All-map HasShortName export_record c.args.exports.now c.requires) into.takes.bytes into.takes.count
     c.number32-option.result c.number32-count.result c.number32-option.ensures c.number32-count.ensures x) c.in_err-refuse_content.ensures.answer)
 
 pub returns-in_err-refuse_content-clause-reader : goal.returns-in_err-refuse_content-clause-reader
@@ -123,9 +144,10 @@ returns-then-not-branch-2-clause-turn g c = λ w.
     let first = subst (λ b. Fills input mid header (Ok b)) c.if-not-branch.false c.in_ok-fill.ensures.filled in
     let size : length header ≡ 16 = omega (arith, c.fill.auto.buffer) in
     let magic : take 8 header ≡ codes "IHAVEOPT" = grind (arith, common_steps) in
+    let allowed : 0 < c.args.terms.left = omega (arith, c.if-terms-eq0.false) in
     let into : TakesInto None (big_endian32 header 12) mid input' =
     rw c.number32-count.ensures at (subst (λ (b : Bool). TakesInto (content_in b c.number32-count.result c.take_content.new.room) c.number32-count.result mid input') c.if-not-branch-2.true c.in_ok-take_content.ensures.ok) in
-    option-refused (export_records c.args.exports.now) c.args.terms w input mid input' header first size magic output (g.W.Write.contents c.refuse_content.new.writer.inner) into _ (IsNameUnread (big_endian32 header 8) (big_endian32 header 12)) (rw (c.number32-option.ensures, c.number32-count.ensures) at c.in_ok-refuse_content.ensures.answer)
+    option-refused (export_records c.args.exports.now) c.args.terms w input mid input' header first size magic allowed output (g.W.Write.contents c.refuse_content.new.writer.inner) into _ (IsNameUnread (big_endian32 header 8) (big_endian32 header 12)) (rw (c.number32-option.ensures, c.number32-count.ensures) at c.in_ok-refuse_content.ensures.answer)
 
 pub returns-then-not-branch-2-clause-reader : goal.returns-then-not-branch-2-clause-reader
 returns-then-not-branch-2-clause-reader g c = read-then c.in_ok-fill.ensures.reader c.in_ok-take_content.ensures.reader
@@ -142,6 +164,7 @@ returns-in_err-answer_option-clause-turn g c = λ w.
     let first = subst (λ b. Fills input mid header (Ok b)) c.if-not-branch.false c.in_ok-fill.ensures.filled in
     let size : length header ≡ 16 = omega (arith, c.fill.auto.buffer) in
     let magic : take 8 header ≡ codes "IHAVEOPT" = grind (arith, common_steps) in
+    let allowed : 0 < c.args.terms.left = omega (arith, c.if-terms-eq0.false) in
     let content = take c.number32-count.result c.take_content.new.room in
     let into : TakesInto (Some content) (big_endian32 header 12) mid input' =
     subst (λ (n : ℕ). TakesInto (Some content) n mid input') c.number32-count.ensures
@@ -149,10 +172,10 @@ returns-in_err-answer_option-clause-turn g c = λ w.
     let x = c.in_err-answer_option.field-0.0 in
     let count : length content ≡ big_endian32 header 12 = ap length into.kept ∙ into.takes.count in
     let p = err_from_is_err_and c.from_residual-in_err-answer_option.result c.from_residual-in_err-answer_option.ensures.1 in
-    rw (p.1, p.2) (option-ends (export_records c.args.exports.now) c.args.terms w input mid input' header first size magic output (g.W.Write.contents c.answer_option.new.writer.inner) content (subst (λ l. Consumes mid input' l) (sym into.kept) into.takes.consumed) count
+    rw (p.1, p.2) (option-ends (export_records c.args.exports.now) c.args.terms w input mid input' header first size magic allowed output (g.W.Write.contents c.answer_option.new.writer.inner) content (subst (λ l. Consumes mid input' l) (sym into.kept) into.takes.consumed) count
     (IsAnswered (export_records c.args.exports.now) c.args.terms c.number32-option.result content) (IsExportUnnamed (export_records c.args.exports.now) c.number32-option.result content) x
     (λ reply next q. inl (subst (λ (n : ℕ). IsAnswered (export_records c.args.exports.now) c.args.terms n content reply next) c.number32-option.ensures q))
-    (λ q. unnamed-breaks (export_records c.args.exports.now) c.args.terms w input mid input' header first size magic output (g.W.Write.contents c.answer_option.new.writer.inner) content count c.number32-option.result c.number32-option.ensures x q)
+    (λ q. unnamed-breaks (export_records c.args.exports.now) c.args.terms w input mid input' header first size magic allowed output (g.W.Write.contents c.answer_option.new.writer.inner) content count c.number32-option.result c.number32-option.ensures x q)
     c.in_err-answer_option.ensures.answer)
 
 pub returns-in_err-answer_option-clause-reader : goal.returns-in_err-answer_option-clause-reader
@@ -178,11 +201,12 @@ returns-clause-turn g c = λ w.
     let first = subst (λ b. Fills input mid header (Ok b)) c.if-not-branch.false c.in_ok-fill.ensures.filled in
     let size : length header ≡ 16 = omega (arith, c.fill.auto.buffer) in
     let magic : take 8 header ≡ codes "IHAVEOPT" = grind (arith, common_steps) in
+    let allowed : 0 < c.args.terms.left = omega (arith, c.if-terms-eq0.false) in
     let content = take c.number32-count.result c.take_content.new.room in
     let into : TakesInto (Some content) (big_endian32 header 12) mid input' =
     subst (λ (n : ℕ). TakesInto (Some content) n mid input') c.number32-count.ensures
     (subst (λ (b : Bool). TakesInto (content_in b c.number32-count.result c.take_content.new.room) c.number32-count.result mid input') c.if-not-branch-2.false c.in_ok-take_content.ensures.ok) in
-    option-told (export_records c.args.exports.now) c.args.terms w input mid input' header first size magic output (g.W.Write.contents c.answer_option.new.writer.inner) content into _ (IsExportUnnamed (export_records c.args.exports.now) (big_endian32 header 8) content) (rw c.number32-option.ensures at c.in_ok-answer_option.ensures.answer)
+    option-told (export_records c.args.exports.now) c.args.terms w input mid input' header first size magic allowed output (g.W.Write.contents c.answer_option.new.writer.inner) content into _ (IsExportUnnamed (export_records c.args.exports.now) (big_endian32 header 8) content) (rw c.number32-option.ensures at c.in_ok-answer_option.ensures.answer)
 
 pub returns-clause-reader : goal.returns-clause-reader
 returns-clause-reader g c = read-then c.in_ok-fill.ensures.reader c.in_ok-take_content.ensures.reader

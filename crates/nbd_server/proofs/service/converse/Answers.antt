@@ -1,9 +1,15 @@
-use Rattle.std.proofs.Common.{arith}
+use Rattle.std.proofs.Common.{◌≡◌, ◌∙◌, List, ap, arith, length, subst, sym}
+use Rattle.std.proofs.lemmas.List.{length-append}
 use Rattle.std.proofs.lemmas.Result.{err_from_is_err_and}
 use Rattle.program_io.specs.Streams.{streams}
 use Rattle.nbd_protocol.specs.declared.fault.ServiceFault.TheVariants as fault
 use Rattle.nbd_protocol.specs.Exports.{export_records}
 use Rattle.nbd_protocol.proofs.lemmas.CountedLemmas.{read-none, read-then, read-fewer, read-over, read-other, written-ok, written-other, written-then, written-failed}
+use Rattle.nbd_server.specs.FaultLines.{IsPrinted, fault_lines}
+use Rattle.nbd_server.specs.declared.first_faults.FirstFault.{FirstFault}
+use Rattle.nbd_server.specs.declared.session_log.SessionLog.{SessionLog}
+use Rattle.nbd_server.proofs.FaultLineLemmas.{printed-more, printed-none}
+use Rattle.nbd_server.proofs.LogLemmas.{left-over, turn-grows}
 use Rattle.nbd_server.proofs.ServiceLemmas.{held-starts, held-kept, held-more, held-none, held-ends, held-over, held-stops, held-stuck, held-unsaid, exports-kept, placed-next}
 use Rattle.nbd_server.proofs.service.converse.Goals as goal
 
@@ -14,6 +20,8 @@ loop-turn-init g c = record {
   placed = tt;
   read = read-none c.args.reader.now;
   written = written-ok c.in_ok-put.ensures.writes.kept;
+  told = sym (ap (λ (t : SessionLog). length t.first) c.requires.log);
+  printed = subst (λ (t : SessionLog). IsPrinted g.E.Write.contents c.args.errors.now c.args.errors.now (fault_lines (export_records c.args.exports.now) t.first)) (sym c.requires.log) (printed-none g.E.Write.contents c.args.errors.now);
 }
 
 pub returns-in_err-next-in_default-clause-service : goal.returns-in_err-next-in_default-clause-service
@@ -38,13 +46,58 @@ loop-turn-preserved g c =
     let new = streams (g.R.Read.remaining c.take_message.new.reader.inner) (g.W.Write.contents c.take_message.new.writer.inner) in
     let held = held-kept input (g.W.Write.contents c.loop-turn.writer.inner) (g.W.Write.contents c.flush.new.self.inner) c.loop-turn.invariant.held c.in_ok-flush.ensures.ok.0 in
     let taken = rw c.in-Some.is at c.in_ok-next-in_default.ensures.turn in
+    let more = turn-grows (export_records c.args.exports.now) c.loop-turn.phase c.loop-turn.queue c.take_message.new.queue c.loop-turn.state.log c.take_message.new.state.log mid new c.in-Some.next taken in
     record {
       held = held-more c.in-Some.next c.take_message.new.queue c.take_message.new.state.log new held taken;
       read = read-then c.loop-turn.invariant.read c.in_ok-next-in_default.ensures.reader;
       written = written-then c.loop-turn.invariant.written (written-then (written-ok c.in_ok-flush.ensures.kept) c.in_ok-next-in_default.ensures.writer);
       exports_are = exports-kept c.args.exports.now c.loop-turn.phase c.loop-turn.queue c.take_message.new.queue c.loop-turn.state.log c.take_message.new.state.log mid new c.in-Some.next c.loop-turn.invariant.exports_are taken;
       placed = placed-next (export_records c.args.exports.now) c.loop-turn.phase c.loop-turn.queue c.take_message.new.queue c.loop-turn.state.log c.take_message.new.state.log mid new c.in-Some.next c.loop-turn.invariant.placed taken;
+      told = c.tell_faults-told.ensures.count ∙ ap length c.as_slice.ensures;
+      printed = printed-more
+          g.E.Write.contents
+          (export_records c.args.exports.now)
+          c.args.errors.now
+          c.loop-turn.errors
+          c.tell_faults-told.new.errors
+          c.loop-turn.state.log.first
+          more.0
+          c.take_message.new.state.log.first
+          more.1
+          c.loop-turn.invariant.printed
+          (subst (λ (l : List FirstFault). IsPrinted g.E.Write.contents c.loop-turn.errors c.tell_faults-told.new.errors (fault_lines (export_records c.args.exports.now) l)) (left-over c.loop-turn.told c.loop-turn.state.log.first more.0 c.as_slice.result.now c.loop-turn.invariant.told (c.as_slice.ensures ∙ more.1)) c.tell_faults-told.ensures.told);
     }
+
+pub tell_faults-told-requires : goal.tell_faults-told-requires
+tell_faults-told-requires g c =
+    let mid = streams (g.R.Read.remaining c.loop-turn.reader.inner) (g.W.Write.contents c.flush.new.self.inner) in
+    let new = streams (g.R.Read.remaining c.take_message.new.reader.inner) (g.W.Write.contents c.take_message.new.writer.inner) in
+    let more = turn-grows (export_records c.args.exports.now) c.loop-turn.phase c.loop-turn.queue c.take_message.new.queue c.loop-turn.state.log c.take_message.new.state.log mid new c.in-Some.next (rw c.in-Some.is at c.in_ok-next-in_default.ensures.turn) in
+    omega (arith, c.loop-turn.invariant.told, ap length (c.as_slice.ensures ∙ more.1), length-append c.loop-turn.state.log.first more.0)
+
+-- ---- the lines of the faults, however it ends
+
+pub returns-in_err-put-clause-printed : goal.returns-in_err-put-clause-printed
+returns-in_err-put-clause-printed g c =
+    subst (λ (t : SessionLog). IsPrinted g.E.Write.contents c.args.errors.now c.args.errors.now (fault_lines (export_records c.args.exports.now) t.first)) (sym c.requires.log) (printed-none g.E.Write.contents c.args.errors.now)
+
+pub returns-in_err-flush-clause-printed : goal.returns-in_err-flush-clause-printed
+returns-in_err-flush-clause-printed g c = c.loop-turn.invariant.printed
+
+pub returns-in-Over-clause-printed : goal.returns-in-Over-clause-printed
+returns-in-Over-clause-printed g c = c.loop-turn.invariant.printed
+
+pub returns-in_err-next-in_default-clause-printed : goal.returns-in_err-next-in_default-clause-printed
+returns-in_err-next-in_default-clause-printed g c =
+    subst (λ (t : SessionLog). IsPrinted g.E.Write.contents c.args.errors.now c.loop-turn.errors (fault_lines (export_records c.args.exports.now) t.first)) (sym c.in_err-next-in_default.ensures.turn.1) c.loop-turn.invariant.printed
+
+pub returns-in-None-clause-printed : goal.returns-in-None-clause-printed
+returns-in-None-clause-printed g c =
+    let turn = rw c.in-None.is at c.in_ok-next-in_default.ensures.turn in
+    subst (λ (t : SessionLog). IsPrinted g.E.Write.contents c.args.errors.now c.loop-turn.errors (fault_lines (export_records c.args.exports.now) t.first)) (sym turn.1) c.loop-turn.invariant.printed
+
+pub returns-clause-printed : goal.returns-clause-printed
+returns-clause-printed g c = c.loop-turn.invariant.printed
 
 pub returns-in_err-next-in_default-clause-reader : goal.returns-in_err-next-in_default-clause-reader
 returns-in_err-next-in_default-clause-reader g c =

@@ -4,9 +4,10 @@ use Rattle.nbd_protocol.specs.declared.fault.ServiceFault.TheVariants as fault
 use Rattle.nbd_protocol.specs.declared.header.Header.{Header}
 use Rattle.nbd_protocol.specs.declared.phase.Phase.TheVariants.{Serving}
 use Rattle.nbd_protocol.specs.Exports.{export_record}
-use Rattle.nbd_protocol.specs.Headers.{header_of, request_magic}
+use Rattle.nbd_protocol.specs.Headers.{command_of, header_of, request_magic}
 use Rattle.nbd_protocol.specs.Numbers.{big_endian32}
 use Rattle.nbd_protocol.specs.Streaming.{Fills}
+use Rattle.nbd_server.specs.Tallies.{moved_bytes}
 use Rattle.nbd_server.specs.Transmission.{data_outcome}
 use Rattle.nbd_protocol.proofs.lemmas.CountedLemmas.{read-then, read-other, written-same, written-ok, written-failed, stops-reading}
 use Rattle.nbd_server.proofs.MessageLemmas.{header-cut, request-delivered, request-last, request-lost, request-served, request-stuck, request-unanswered, request-unlike}
@@ -131,7 +132,7 @@ returns-in-Some-clause-turn g c = λ es at.
     let other : (header_of bytes).kind ≢ 2 = λ is. c.if-header-eq-DISCONNECT.false (ap (λ (h : Header). h.kind) c.of-header.ensures ∙ is) in
     let found = rw c.of-header.ensures at (sym c.of.ensures.value ∙ c.in-Some.is) in
     rw c.count.ensures (request-delivered es c.args.agreed (export_record c.args.export.now) at c.args.queue.now c.deliver.new.queue input mid mid bytes first size magic other
-    (g.W.Write.contents c.args.writer.now.inner) (g.W.Write.contents c.deliver.new.writer.inner) c.in-Some.delivery found refl c.args.state.now.log c.in_ok-lost-in-Some.lost c.in_ok-lost-in-Some.ensures.reply)
+    (g.W.Write.contents c.args.writer.now.inner) (g.W.Write.contents c.deliver.new.writer.inner) c.in-Some.delivery found refl c.args.state.now.log c.moved_bytes-moved.result (c.moved_bytes-moved.ensures ∙ ap moved_bytes (c.command.ensures.value ∙ ap (command_of (export_record c.args.export.now) c.args.agreed) c.of-header.ensures)) c.in_ok-lost-in-Some.lost c.in_ok-lost-in-Some.ensures.reply)
 
 pub returns-in-Some-clause-reader : goal.returns-in-Some-clause-reader
 returns-in-Some-clause-reader g c = c.in_ok-fill.ensures.reader
@@ -182,7 +183,7 @@ returns-clause-turn g c = λ es at.
     let other : (header_of bytes).kind ≢ 2 = λ is. c.if-header-eq-DISCONNECT.false (ap (λ (h : Header). h.kind) c.of-header.ensures ∙ is) in
     let none = rw c.of-header.ensures at (sym c.of.ensures.value ∙ c.in-None.is) in
     rw (c.count-2.ensures, c.outcome_fault-met.ensures, c.of-header.ensures) (request-served es c.args.agreed (export_record c.args.export.now) at c.args.queue.now c.serve_request.new.queue input mid input' bytes first size magic
-    other (g.W.Write.contents c.args.writer.now.inner) (g.W.Write.contents c.say_reply.new.writer.inner) (data_outcome c.in_ok-outcome.outcome) none c.args.state.now.log
+    other (g.W.Write.contents c.args.writer.now.inner) (g.W.Write.contents c.say_reply.new.writer.inner) (data_outcome c.in_ok-outcome.outcome) none c.args.state.now.log c.moved_bytes-moved.result (c.moved_bytes-moved.ensures ∙ ap moved_bytes (c.command.ensures.value ∙ ap (command_of (export_record c.args.export.now) c.args.agreed) c.of-header.ensures))
     (let p = rw c.of-header.ensures at c.in_ok-outcome.ensures.ok in (p.payload, p.size, p.consumed, p.serves)) (rw c.of-header.ensures at c.in_ok-say_reply.ensures.ok))
 
 pub returns-clause-reader : goal.returns-clause-reader

@@ -5,7 +5,7 @@ use Rattle.rescue_map.specs.Kinds.{kind_of}
 use Rattle.rescue_map.specs.Maps.{marks}
 use Rattle.rescue_map.specs.MapText.{map_of, map_text, map_run_text, status_text}
 use Rattle.rescue_map.proofs.PrintedLemmas.{map-kind, map-read, map_text-push}
-use Rattle.rescue_map.proofs.RunLemmas.{length-take, length-within}
+use Rattle.rescue_map.proofs.lemmas.RunLemmas.{length-take, length-within}
 use Rattle.rescue_map.proofs.print.print_map.Goals as goal
 
 pub loop-run-init : goal.loop-run-init
@@ -18,27 +18,27 @@ print_run-requires c =
     let runs : List Run = c.runs-run-items.result.now in
     let i : ℕ = c.loop-run.run-index in
     let few : length (marks runs) ≤ 2 ^ 54 = subst (λ (l : List Run). length (marks l) ≤ 2 ^ 54) (sym c.runs-run-items.ensures.value) c.runs-run-items.ensures.whole.few in
-    omega (arith, few, length-take runs i (record { count = 0; had = false }) c.loop-run-test.true, length-within runs (i + 1), c.loop-run.invariant.1)
+    omega (arith, few, length-take runs i (record { count = 0; had = false; lost = false }) c.loop-run-test.true, length-within runs (i + 1), c.loop-run.invariant.1)
 
 pub overflow_add-at : goal.overflow_add-at
 overflow_add-at c =
     let runs : List Run = c.runs-run-items.result.now in
     let i : ℕ = c.loop-run.run-index in
     let few : length (marks runs) ≤ 2 ^ 54 = subst (λ (l : List Run). length (marks l) ≤ 2 ^ 54) (sym c.runs-run-items.ensures.value) c.runs-run-items.ensures.whole.few in
-    omega (arith, few, length-take runs i (record { count = 0; had = false }) c.loop-run-test.true, length-within runs (i + 1), c.loop-run.invariant.1)
+    omega (arith, few, length-take runs i (record { count = 0; had = false; lost = false }) c.loop-run-test.true, length-within runs (i + 1), c.loop-run.invariant.1)
 
 pub loop-run-preserved : goal.loop-run-preserved
 loop-run-preserved c =
     let runs : List Run = c.runs-run-items.result.now in
     let i : ℕ = c.loop-run.run-index in
-    let run : Run = get_or runs i (record { count = 0; had = false }) in
+    let run : Run = get_or runs i (record { count = 0; had = false; lost = false }) in
     let front : List Run = take i runs in (
       c.in_ok-print_run.ensures.ok
           ∙ ap (λ (t : List ℕ). t ++ map_run_text c.args.no_scrape c.args.tried c.loop-run.at run) c.loop-run.invariant.0
           ∙ ap (λ (n : ℕ). map_text c.args.kind c.args.no_scrape c.args.tried front ++ map_run_text c.args.no_scrape c.args.tried n run) c.loop-run.invariant.1
           ∙ map_text-push c.args.kind c.args.no_scrape c.args.tried front run
-          ∙ ap (map_text c.args.kind c.args.no_scrape c.args.tried) (sym (take_more runs i (record { count = 0; had = false }) c.loop-run-test.true)),
-      ap (λ (n : ℕ). n + run.count) c.loop-run.invariant.1 ∙ sym (length-take runs i (record { count = 0; had = false }) c.loop-run-test.true),
+          ∙ ap (map_text c.args.kind c.args.no_scrape c.args.tried) (sym (take_more runs i (record { count = 0; had = false; lost = false }) c.loop-run-test.true)),
+      ap (λ (n : ℕ). n + run.count) c.loop-run.invariant.1 ∙ sym (length-take runs i (record { count = 0; had = false; lost = false }) c.loop-run-test.true),
     )
 
 pub returns-clause-reads_back : goal.returns-clause-reads_back

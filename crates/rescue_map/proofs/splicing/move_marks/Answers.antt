@@ -18,8 +18,8 @@ runs-preserved c =
     let is : marks_ahead c.runs.ahead ≡ replicate n run.had ++ marks_ahead c.pass.new.self =
     sym c.next_run-run.ensures.same ∙ c.pass.ensures.marks ∙ ap (λ (h : Bool). replicate n h ++ marks_ahead c.pass.new.self) had in
     record {
-      moved = moved-more _ _ n c.runs.left run.had le is (marks c.runs.map) (marks c.push.new.self) c.in_ok-push.ensures ∙ u.moved;
+      moved = moved-more _ _ n c.runs.left run.had le is (marks c.runs.map) (marks c.push.new.self) c.in_ok-push.ensures.marks ∙ u.moved;
       rest = rest-more _ _ n c.runs.left run.had le is ∙ u.rest;
       enough = enough-more _ _ n c.runs.left run.had le is u.enough;
-      room = omega (arith, u.room, length-more (marks c.runs.map) (marks c.push.new.self) n run.had c.in_ok-push.ensures, le);
+      room = omega (arith, u.room, length-more (marks c.runs.map) (marks c.push.new.self) n run.had c.in_ok-push.ensures.marks, le);
     }

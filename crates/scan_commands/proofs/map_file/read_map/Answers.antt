@@ -28,7 +28,7 @@ returns-then-is_missing-clause-ok g c =
     IfOk-weaker c.new_map.result _ _ (λ map is. inr (record { missing = told; unread = is })) c.new_map.ensures.ok
 
 pub returns-then-is_missing-clause-sectors : goal.returns-then-is_missing-clause-sectors
-returns-then-is_missing-clause-sectors g c = IfOk-weaker c.new_map.result _ _ (λ map is. ap length is ∙ length-replicate c.args.sectors false) c.new_map.ensures.ok
+returns-then-is_missing-clause-sectors g c = IfOk-weaker c.new_map.result _ _ (λ map is. ap length is.marks_is ∙ length-replicate c.args.sectors false) c.new_map.ensures.ok
 
 pub returns-then-is_missing-clause-err : goal.returns-then-is_missing-clause-err
 returns-then-is_missing-clause-err g c =

@@ -113,7 +113,9 @@ returns-in_err-rescued-clause-err g c =
         later = inr (record {
           left = after;
           passes = c.in_ok-tried.tried.passes;
+          told = g.L.Listing.told c.tell_known.new.listing;
           again = again;
+          known = c.tell_known.ensures;
           ends = ended-turns replaces file scan _ _ (phase_after c.in_ok-tried.tried.passes) _ _ _ _ _ (left.config ∙ skimmed.config) c.phase_after.ensures c.in_err-rescued.ensures.err;
         });
       });
@@ -141,8 +143,10 @@ returns-clause-ok g c =
         passes = c.in_ok-tried.tried.passes;
         left = after;
         made = c.in_ok-rescued.rescued;
+        told = g.L.Listing.told c.tell_known.new.listing;
         skims = c.in_ok-skimmed.ensures.ok;
         again = again;
+        known = c.tell_known.ensures;
         rescues = whole-turns replaces file scan _ _ (phase_after c.in_ok-tried.tried.passes) _ _ _ _ _ (left.config ∙ skimmed.config) c.phase_after.ensures c.in_ok-rescued.ensures.ok;
         counted = c.counts_of.ensures ∙ ap (λ (t : Totals). counts_of t c.in_ok-rescued.rescued.untried) c.totals_of.ensures;
       };

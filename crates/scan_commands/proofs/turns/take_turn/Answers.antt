@@ -1,6 +1,8 @@
-use Rattle.std.proofs.Common.{arith, ◌∙◌, ◌+◌, min, inr, ℕ, Bool, List, Option, Ok, refl, ap, subst}
+use Rattle.std.proofs.Common.{arith, ◌≡◌, ◌∙◌, ◌+◌, min, inr, ℕ, Bool, true, List, length, replicate, Option, Ok, refl, ap, subst}
 use Rattle.std.proofs.lemmas.Bool.{false≢true}
+use Rattle.std.proofs.lemmas.List.{length-replicate}
 use Rattle.block_device.specs.Device.{Device}
+use Rattle.rescue_map.specs.Maps.{settled_marks}
 use Rattle.rescue_map.specs.MapText.{map_text}
 use Rattle.stack_rules.proofs.lemmas.PassingLemmas.{out_of_memory-more}
 use Rattle.stack_meaning.specs.Memory.{largest_allocation}
@@ -8,21 +10,29 @@ use Rattle.stack_recovery.specs.PassPieces.{scanned}
 use Rattle.stack_recovery.specs.Recoveries.{Sides, sides}
 use Rattle.scan_commands.specs.declared.rescue_fault.PassFault.TheVariants.{NoMemory, Output}
 use Rattle.scan_commands.specs.MapFiles.{map_path_of, recovery_ending}
-use Rattle.scan_commands.specs.Turns.{ReadsSectors, kept, progressed}
+use Rattle.scan_commands.specs.Turns.{ReadsSectors, is_again, kept, progressed}
+use Rattle.scan_commands.proofs.KnownLemmas.{settled-length, spliced-length}
 use Rattle.scan_commands.proofs.TurnLemmas.{err-from, failed-behind, reads-out, reads-unfailed, stops-reading, stops-unwritten}
 use Rattle.scan_commands.proofs.turns.take_turn.Goals as goal
 
 pub read_turn-requires-clause-some : goal.read_turn-requires-clause-some
 read_turn-requires-clause-some g c = omega (arith, c.requires.next.some, c.requires.next.inside, c.requires.all)
 
+pub read_turn-requires-clause-fits : goal.read_turn-requires-clause-fits
+read_turn-requires-clause-fits g c =
+    let len : length (settled_marks (is_again c.args.turn.phase) c.args.turn.map.now) ≡ c.args.turn.sectors = settled-length (is_again c.args.turn.phase) c.args.turn.map.now ∙ c.requires.map in
+    ap length c.requires.wanted
+    ∙ spliced-length c.args.turn.span c.args.turn.sectors (replicate c.args.turn.sectors true) _ (length-replicate {A = Bool} c.args.turn.sectors true) (omega (arith, len, c.requires.next.inside)) c.requires.next.inside
+    ∙ c.requires.all
+
 pub overflow_sub-count : goal.overflow_sub-count
 overflow_sub-count g c = omega (arith, c.min-at.ensures, c.sectors_of.ensures, c.in_ok-read.ensures.ok.some)
 
-pub splice-requires-clause-within : goal.splice-requires-clause-within
-splice-requires-clause-within g c = omega (arith, c.min-at.ensures, c.sectors_of.ensures, c.in_ok-read.ensures.ok.some)
+pub left_map-requires-clause-within : goal.left_map-requires-clause-within
+left_map-requires-clause-within g c = omega (arith, c.min-at.ensures, c.sectors_of.ensures, c.in_ok-read.ensures.ok.some)
 
-pub splice-requires-clause-inside : goal.splice-requires-clause-inside
-splice-requires-clause-inside g c = omega (arith, c.min-at.ensures, c.sectors_of.ensures, c.in_ok-read.ensures.ok.some, c.requires.next.inside)
+pub left_map-requires-clause-inside : goal.left_map-requires-clause-inside
+left_map-requires-clause-inside g c = omega (arith, c.min-at.ensures, c.sectors_of.ensures, c.in_ok-read.ensures.ok.some, c.requires.next.inside)
 
 pub returns-in_err-read-clause-err : goal.returns-in_err-read-clause-err
 returns-in_err-read-clause-err g c =
@@ -108,6 +118,7 @@ returns-clause-ok g c =
       some = omega (arith, c.min-at.ensures, c.sectors_of.ensures, c.in_ok-read.ensures.ok.some, c.requires.next.some);
       here = c.min-at.ensures ∙ ap (min (c.args.turn.span.first + c.args.turn.span.count)) c.sectors_of.ensures;
       map = c.in_ok-map.ensures.marks;
+      bad = c.in_ok-map.ensures.lost;
       untried = c.saturating_add-untried.ensures;
       written = subst (λ (t : Option ℕ). g.I.Images.relations.replaces c.args.images.now c.args.turn.file.path.now (map_text c.args.turn.file.kind c.args.turn.no_scrape t c.in_ok-map.map) (Ok tt) c.write_map.new.images) c.tried_before-tried.ensures c.in_ok-write_map.ensures.ok;
     }

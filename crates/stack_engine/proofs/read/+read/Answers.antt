@@ -10,11 +10,11 @@ use Rattle.block_device.specs.Call.{DeviceDoes, Read}
 use Rattle.stack_engine.specs.LeafCalls.{IsLeafCall}
 use Rattle.stack_engine.specs.SectorCalls.{Gives, zeros_read, fails_read}
 use Rattle.stack_engine.proofs.LeafCallLemmas.{makes-none}
-use Rattle.stack_engine.specs.SectorCalls.{LeadsTo, ReadsBy, block_full, block_of, data_of, expected_hash, hash_full, hash_kept, hash_of, last_bytes, one_block, one_ignored, place_in, way_full, whole_data}
+use Rattle.stack_engine.specs.SectorCalls.{LeadsTo, ReadsBy, place_at, block_full, block_of, data_of, expected_hash, hash_full, hash_kept, hash_of, last_bytes, one_block, one_ignored, place_in, way_full, whole_data}
 use Rattle.stack_engine.specs.Healing.{healed_result}
 use Rattle.stack_engine.specs.ReadSteps.{block_answer, expected_in}
 use Rattle.stack_engine.proofs.WayCallLemmas.{block-ungiven, chain-given, checked-given, data-given, data-short, data-ungiven, differs-given, hash-given, hash-ungiven, last-push, leads-begin, one-given, one-healed, place-same, place-turn, reads-expected, way-ended, way-led, way-short, way-unled}
-use Rattle.stack_engine.proofs.BlockCallLemmas.{BlocksUpTo, block-settled, block-unlike, blocks-begin, blocks-given, blocks-short, blocks-unled, blocks-way, gives-at, path-last, row-asked, row-begins, row-given, row-some, row-stays, row-ungiven, together-at}
+use Rattle.stack_engine.proofs.BlockCallLemmas.{BlocksUpTo, blocks-begin, blocks-given, blocks-short, blocks-unled, blocks-way, gives-at, path-last, row-asked, row-begins, row-given, row-some, row-stays, row-ungiven, together-at}
 use Rattle.stack_engine.proofs.SectorCallLemmas.{leaf-given, gives-begin, run-given, run-ungiven, all-given, units-given, units-ungiven, part-given, part-ungiven}
 use Rattle.std.specs.Vec.{with_items}
 use borrow.Rule.Slice.PartMut.{put_mid, same_len_mid}
@@ -62,7 +62,9 @@ use Rattle.stack_lines.specs.AtOnce.{CanGo}
 use Rattle.stack_lines.specs.Caches.{IsCached}
 use Rattle.stack_engine.proofs.PathLemmas.{path-read, path-hit, path-put, path-down, path-failed, path-stopped, path-ended, path-whole, walk-begins, no_block}
 use Rattle.stack_engine.proofs.BlocksLemmas.{blocks-at, blocks-meet}
-use Rattle.stack_engine.proofs.NextBlockLemmas.{sub-same, digest-count, digest-made, blocks-long, way-whole, block-begin, far, row-next, row-fails, row-ahead, checked-none, turn-at, way-fails, way-costs, row-at, row-got, row-costs, put-at, row-covers, checked-as, checked-all, block-differs, block-full, block-checked, rest-ahead}
+use Rattle.stack_engine.proofs.NextBlockLemmas.{sub-same, digest-count, blocks-long, way-whole, block-begin, far, row-next, row-fails, row-ahead, checked-none, turn-at, way-fails, way-costs, row-at, row-got, row-costs, put-at, row-covers, checked-as, checked-all}
+use Rattle.stack_engine.proofs.NextSettledLemmas.{digest-made, block-costs, block-full, block-checked, rest-ahead, stood-len}
+use Rattle.stack_engine.proofs.SettledLemmas.{settled-given, settled-got, settled-moved, settled-on, settles-at, unsettled, unsettled-given}
 use Rattle.stack_engine.specs.declared.path.Chains.TheVariants.{Kept}
 use Rattle.stack_engine.specs.Keeping.{with_chains, AreHandedOut, ReadsAs, ReadsSourceAs, one_found}
 use Rattle.stack_engine.proofs.KeepingLemmas.{device_err, device_ok, finds-as, finds-begin, finds-kept, finds-none, finds-up, gets-none, one-out, same_reads}
@@ -85,9 +87,10 @@ use Rattle.stack_meaning.specs.Spares.{with_parity}
 use Rattle.stack_lines.specs.declared.tree.Tree.{Tree}
 use Rattle.stack_lines.specs.Walks.{IsTreeOf}
 use Rattle.stack_engine.specs.SectorCalls.{DataPlace, other_at, other_by, sums_of}
-use Rattle.stack_engine.specs.Spares.{IsStoredAt, other_wanted, stored_wanted}
+use Rattle.stack_engine.specs.Spares.{HealsBy, IsStoredAt, other_wanted, stored_wanted}
+use Rattle.stack_engine.specs.declared.rows.JudgedBlock.{JudgedBlock}
 use Rattle.stack_engine.specs.declared.spare.Stored.{Stored}
-use Rattle.stack_engine.proofs.HealLemmas.{heals-failed, heals-had, heals-short}
+use Rattle.stack_engine.proofs.HealLemmas.{asks-unhealed, heals-failed, heals-had, heals-short}
 use Rattle.stack_engine.proofs.MendCallLemmas.{leads-then, other-added, other-lost, other-past, spare-given, spare-lost, spare-other, spare-past, stored-given, stored-lost}
 use Rattle.stack_engine.proofs.lemmas.MendLemmas.{IsSummed, spare-differs, spare-ends, spare-none, stored-fails, summed-fails, summed-more, summed-none}
 use Rattle.stack_engine.proofs.lemmas.RoundLemmas.{is-round, mend-inside, other-given, other-none, other-of, other-read, other-unread, parity-of, stored-count, stored-read, stored-unread}
@@ -911,10 +914,10 @@ read_blocks-shape_of-out-in-Err g t c = c.checks.invariant.checked.size
 pub read_blocks-slice_bounds-way-end : goal.read_blocks-slice_bounds-way-end
 read_blocks-slice_bounds-way-end g t c =
     let v = c.args.part.verity.now in
-    let levels_are : c.levels-levels.result ≡ levels (tree_of v) = c.levels-levels.ensures.value ∙ ap levels c.tree_of-tree.ensures.tree.shape_is in
+    let levels_are : c.levels.result ≡ levels (tree_of v) = c.levels.ensures.value ∙ ap levels c.tree_of-tree.ensures.tree.shape_is in
     let long = way-whole c.args.config.now v (c.args.part.first / c.from.result + c.checks.at) c.walk_path.new.path.items c.in-Ok.ensures.ok in
     let value : length c.as_slice.result.now ≡ length c.walk_path.new.path.items = ap (λ (l : List CachedBlock). length l) c.as_slice.ensures.value in
-    sym (length-take-le c.levels-levels.result c.as_slice.result.now (omega (arith, long, levels_are, value)))
+    sym (length-take-le c.levels.result c.as_slice.result.now (omega (arith, long, levels_are, value)))
 
 pub read_blocks-shape_of-out : goal.read_blocks-shape_of-out
 read_blocks-shape_of-out g t c = c.checks.invariant.checked.size
@@ -922,11 +925,11 @@ read_blocks-shape_of-out g t c = c.checks.invariant.checked.size
 pub read_blocks-shape_of-out-in-Err-read_beneath : goal.read_blocks-shape_of-out-in-Err-read_beneath
 read_blocks-shape_of-out-in-Err-read_beneath g t c = same_len_mid _ _ _ _ c.read_beneath.auto.out ∙ c.checks.invariant.checked.size
 
-pub read_blocks-shape_of-out-then-not-settle : goal.read_blocks-shape_of-out-then-not-settle
-read_blocks-shape_of-out-then-not-settle g t c = same_len_mid _ _ _ _ c.settle.auto.block ∙ same_len_mid _ _ _ _ c.read_beneath.auto.out ∙ c.checks.invariant.checked.size
+pub read_blocks-shape_of-out-in-Err-settle_block : goal.read_blocks-shape_of-out-in-Err-settle_block
+read_blocks-shape_of-out-in-Err-settle_block g t c = same_len_mid _ _ _ _ c.settle_block.auto.block ∙ same_len_mid _ _ _ _ c.read_beneath.auto.out ∙ c.checks.invariant.checked.size
 
 pub read_blocks-shape_of-out-in-Err-keep : goal.read_blocks-shape_of-out-in-Err-keep
-read_blocks-shape_of-out-in-Err-keep g t c = same_len_mid _ _ _ _ c.settle.auto.block ∙ same_len_mid _ _ _ _ c.read_beneath.auto.out ∙ c.checks.invariant.checked.size
+read_blocks-shape_of-out-in-Err-keep g t c = same_len_mid _ _ _ _ c.settle_block.auto.block ∙ same_len_mid _ _ _ _ c.read_beneath.auto.out ∙ c.checks.invariant.checked.size
 
 pub read_blocks-data_extent-extent-requires-clause-block : goal.read_blocks-data_extent-extent-requires-clause-block
 read_blocks-data_extent-extent-requires-clause-block g t c =
@@ -983,27 +986,61 @@ read_blocks-bounds-made-at g t c =
     let turn = turn-at (blocks-at c.requires) inv c.requires.fits.sectors.whole c.from.ensures c.checks-test.true in
     omega (arith, same_len_mid j (j + c.row_len-many.result - j) c.checks.made c.digest_blocks.new.out c.digest_blocks.auto.out, inv.room, turn.inside, turn.few)
 
-pub read_blocks-slice_bounds-settle-end : goal.read_blocks-slice_bounds-settle-end
-read_blocks-slice_bounds-settle-end g t c =
+pub read_blocks-slice_bounds-block-end : goal.read_blocks-slice_bounds-block-end
+read_blocks-slice_bounds-block-end g t c =
     let b = blocks-at c.requires in
     let turn = turn-at b c.checks.invariant.checked c.requires.fits.sectors.whole c.from.ensures c.checks-test.true in
     let row = row-at b turn c.row_len-many.result c.row_len-many.ensures.most in
     let put = put-at b turn row c.read_beneath.new.out c.read_beneath.auto.out in
     omega (arith, put.end)
 
-pub read_blocks-returns-then-not-settle-clause-reads : goal.read_blocks-returns-then-not-settle-clause-reads
-read_blocks-returns-then-not-settle-clause-reads g t c =
-    let inv = c.checks.invariant.checked in
+pub read_blocks-settle_block-requires : goal.read_blocks-settle_block-requires
+read_blocks-settle_block-requires g t c κs within =
+    let config = c.args.config.now in
+    let p = c.args.part in
+    let v = c.args.part.verity.now in
+    let j : ℕ = c.checks.at in
+    let tree = c.tree_of-tree in
+    let all = c.checks.invariant in
+    let inv = all.checked in
     let many = c.row_len-many in
     let b = blocks-at c.requires in
     let turn = turn-at b inv c.requires.fits.sectors.whole c.from.ensures c.checks-test.true in
     let row = row-at b turn many.result many.ensures.most in
     let put = put-at b turn row c.read_beneath.new.out c.read_beneath.auto.out in
-    let gets = row-got b turn row c.tree_of-tree.ensures.data c.data_extent-extent.ensures c.in-Ok-read_beneath.ensures.reads in
+    let gets = row-got b turn row tree.ensures.data c.data_extent-extent.ensures c.in-Ok-read_beneath.ensures.reads in
+    let next = row-next b turn row many.ensures.fresh inv.had c.in-Ok.ensures.moved c.in-Ok.ensures.ok gets in
+    let far_to = far b turn row many.ensures.fresh inv.had c.in-Ok.ensures.moved c.in-Ok.ensures.ok gets in
+    let depths : depth config (mapped tree.result.device.0) ≡ depth config (mapped p.device.0) = ap (λ (x : DevId). depth config (mapped x.0)) tree.ensures.device in
+    let before = stack-later config inv.had.moved.moved.fixed c.requires.stack all.cached in
+    let walked = stack-later config c.in-Ok.ensures.moved.moved.fixed before c.in-Ok.ensures.cached in
+    let stack = stack-later config gets.got.moved.moved.fixed walked c.in-Ok-read_beneath.ensures.cached in
+    let at : c.judge-judged.result.lost.index ≡ p.first / c.from.result + j = ap (λ (x : JudgedBlock). x.lost.index) c.judge-judged.ensures in
+    (omega (arith, depths), (within, (stack, (record { lies = tree.ensures.tree; there = omega (arith, at, turn.there) }, stood-len b _ turn.inside far_to next put.len put.end ∙ sub-same (j * v.data_block) v.data_block))))
+
+pub read_blocks-returns-in-Err-settle_block-clause-reads : goal.read_blocks-returns-in-Err-settle_block-clause-reads
+read_blocks-returns-in-Err-settle_block-clause-reads g t c =
+    let config = c.args.config.now in
+    let p = c.args.part in
+    let v = c.args.part.verity.now in
+    let j : ℕ = c.checks.at in
+    let tree = c.tree_of-tree in
+    let all = c.checks.invariant in
+    let inv = all.checked in
+    let many = c.row_len-many in
+    let b = blocks-at c.requires in
+    let turn = turn-at b inv c.requires.fits.sectors.whole c.from.ensures c.checks-test.true in
+    let row = row-at b turn many.result many.ensures.most in
+    let put = put-at b turn row c.read_beneath.new.out c.read_beneath.auto.out in
+    let gets = row-got b turn row tree.ensures.data c.data_extent-extent.ensures c.in-Ok-read_beneath.ensures.reads in
     let next = row-next b turn row many.ensures.fresh inv.had c.in-Ok.ensures.moved c.in-Ok.ensures.ok gets in
     let far_to = far b turn row many.ensures.fresh inv.had c.in-Ok.ensures.moved c.in-Ok.ensures.ok gets in
     let ahead = row-ahead b turn row many.ensures.fresh c.checks.made inv.had c.in-Ok.ensures.moved gets (all-whole g.D.BlockDev.state g.met.D.BlockDev.whole c.walk_path.new.backing.devices.items) inv.room inv.ahead put c.digest_blocks.ensures in
-    finds-as c.args.chains (block-differs b _ turn.inside far_to next put.len put.end _ c.index-made-at.result c.is_ignored-ignored.ensures ahead (row-covers many.ensures.some) (c.if-not-settle.ensures.other refl)) inv.out inv.had.distinct
+    let made : List (List ℕ) = put_mid j (j + many.result - j) c.checks.made c.digest_blocks.new.out in
+    let same = place-turn p tree.result (p.first / c.from.result + j) j tree.ensures.tree.on_hash c.requires.fits.holds.of.on_hash tree.ensures.data tree.ensures.tree.on_parity c.requires.fits.holds.of.on_parity turn.index in
+    let settled = settles-at p tree.result (p.first / c.from.result + j) j _ _ _ c.judge-judged.ensures turn.index same c.in-Err-settle_block.ensures.reads in
+    let settled_on = settled-on g.D.BlockDev.state config (place_at p (p.first / block_sectors v + j)) _ settled in
+    finds-as c.args.chains (unsettled b _ turn.inside far_to next put.len put.end made c.index-made-at.result c.is_ignored.ensures ahead (row-covers many.ensures.some) c.in-Err-settle_block.vain settled_on) inv.out inv.had.distinct
 
 pub read_blocks-keep-requires : goal.read_blocks-keep-requires
 read_blocks-keep-requires g t c =
@@ -1012,81 +1049,96 @@ read_blocks-keep-requires g t c =
     let many = c.row_len-many in
     let b = blocks-at c.requires in
     let out : List ℕ = put_mid (j * v.data_block) (j * v.data_block + many.result * v.data_block - j * v.data_block) c.checks.out c.read_beneath.new.out in
-    let all : List ℕ = put_mid (j * v.data_block) (j * v.data_block + v.data_block - j * v.data_block) out c.settle.new.block in
+    let all : List ℕ = put_mid (j * v.data_block) (j * v.data_block + v.data_block - j * v.data_block) out c.settle_block.new.block in
     let width : j * v.data_block + v.data_block - j * v.data_block ≡ v.data_block = sub-same (j * v.data_block) v.data_block in
     let len = length-take (j * v.data_block + v.data_block - j * v.data_block) (drop (j * v.data_block) all) in
     let Small : CachedBlock → Type 0 = λ x. length x.bytes ≤ largest_allocation in
     let held : All Small c.walk_path.new.path.items = cached-small c.args.config.now b.loaded _ c.walk_path.new.path.items c.in-Ok.ensures.held in
-    (omega (arith, len, width, b.size.whole, b.size.most), All-take Small c.levels-levels.result c.as_slice.result.now (subst (λ (l : List CachedBlock). All Small l) (sym c.as_slice.ensures.value) held))
+    (omega (arith, len, width, b.size.whole, b.size.most), All-take Small c.levels.result c.as_slice.result.now (subst (λ (l : List CachedBlock). All Small l) (sym c.as_slice.ensures.value) held))
 
 pub read_blocks-returns-in-Err-keep-clause-reads : goal.read_blocks-returns-in-Err-keep-clause-reads
 read_blocks-returns-in-Err-keep-clause-reads g t c =
-    let inv = c.checks.invariant.checked in
+    let config = c.args.config.now in
+    let p = c.args.part in
+    let v = c.args.part.verity.now in
+    let j : ℕ = c.checks.at in
+    let tree = c.tree_of-tree in
+    let all = c.checks.invariant in
+    let inv = all.checked in
     let many = c.row_len-many in
     let b = blocks-at c.requires in
     let turn = turn-at b inv c.requires.fits.sectors.whole c.from.ensures c.checks-test.true in
     let row = row-at b turn many.result many.ensures.most in
     let put = put-at b turn row c.read_beneath.new.out c.read_beneath.auto.out in
-    let gets = row-got b turn row c.tree_of-tree.ensures.data c.data_extent-extent.ensures c.in-Ok-read_beneath.ensures.reads in
+    let gets = row-got b turn row tree.ensures.data c.data_extent-extent.ensures c.in-Ok-read_beneath.ensures.reads in
     let next = row-next b turn row many.ensures.fresh inv.had c.in-Ok.ensures.moved c.in-Ok.ensures.ok gets in
     let far_to = far b turn row many.ensures.fresh inv.had c.in-Ok.ensures.moved c.in-Ok.ensures.ok gets in
-    finds-as c.args.chains (block-full b _ turn.inside far_to next put.len put.end c.in-Err-keep.ensures.err) (subst (AreHandedOut c.args.chains c.args.found.now.items inv.after) (sym c.in-Err-keep.ensures.same) inv.out) inv.had.distinct
+    let same = place-turn p tree.result (p.first / c.from.result + j) j tree.ensures.tree.on_hash c.requires.fits.holds.of.on_hash tree.ensures.data tree.ensures.tree.on_parity c.requires.fits.holds.of.on_parity turn.index in
+    let settled = settles-at p tree.result (p.first / c.from.result + j) j _ _ _ c.judge-judged.ensures turn.index same c.in-Ok-settle_block.ensures.reads in
+    let settled_on = settled-on g.D.BlockDev.state config (place_at p (p.first / block_sectors v + j)) _ settled in
+    let more = settled-moved config v _ settled_on in
+    finds-as c.args.chains (block-full b _ turn.inside far_to next put.len put.end more c.in-Err-keep.ensures.err) (subst (AreHandedOut c.args.chains c.args.found.now.items inv.after) (sym c.in-Err-keep.ensures.same) inv.out) inv.had.distinct
 
 pub read_blocks-checks-preserved : goal.read_blocks-checks-preserved
 read_blocks-checks-preserved g t c =
     let config = c.args.config.now in
     let p = c.args.part in
     let v = c.args.part.verity.now in
+    let j : ℕ = c.checks.at in
     let tree = c.tree_of-tree in
     let all = c.checks.invariant in
     let inv = all.checked in
-    let j : ℕ = c.checks.at in
     let many = c.row_len-many in
     let b = blocks-at c.requires in
     let turn = turn-at b inv c.requires.fits.sectors.whole c.from.ensures c.checks-test.true in
     let row = row-at b turn many.result many.ensures.most in
     let put = put-at b turn row c.read_beneath.new.out c.read_beneath.auto.out in
-    let gets = row-got b turn row c.tree_of-tree.ensures.data c.data_extent-extent.ensures c.in-Ok-read_beneath.ensures.reads in
+    let gets = row-got b turn row tree.ensures.data c.data_extent-extent.ensures c.in-Ok-read_beneath.ensures.reads in
     let next = row-next b turn row many.ensures.fresh inv.had c.in-Ok.ensures.moved c.in-Ok.ensures.ok gets in
     let far_to = far b turn row many.ensures.fresh inv.had c.in-Ok.ensures.moved c.in-Ok.ensures.ok gets in
     let ahead = row-ahead b turn row many.ensures.fresh c.checks.made inv.had c.in-Ok.ensures.moved gets (all-whole g.D.BlockDev.state g.met.D.BlockDev.whole c.walk_path.new.backing.devices.items) inv.room inv.ahead put c.digest_blocks.ensures in
-    let front = put.front (512 * (j * block_sectors v)) (omega (arith, block-begin b j)) in
-    let levels_are : c.levels-levels.result ≡ levels (tree_of v) = c.levels-levels.ensures.value ∙ ap levels tree.ensures.tree.shape_is in
-    let slice : List CachedBlock = c.as_slice.result.now in
-    let goes : map block_bytes (take c.levels-levels.result slice) ≡ map block_bytes (take (levels (tree_of v)) c.walk_path.new.path.items) =
-    ap (λ (l : List CachedBlock). map block_bytes (take c.levels-levels.result l)) c.as_slice.ensures.value ∙ ap (λ (k : ℕ). map block_bytes (take k c.walk_path.new.path.items)) levels_are in
-    let out : List ℕ = put_mid (j * v.data_block) (j * v.data_block + many.result * v.data_block - j * v.data_block) c.checks.out c.read_beneath.new.out in
     let made : List (List ℕ) = put_mid j (j + many.result - j) c.checks.made c.digest_blocks.new.out in
-    let block : List ℕ = c.settle.new.block in
+    let same = place-turn p tree.result (p.first / c.from.result + j) j tree.ensures.tree.on_hash c.requires.fits.holds.of.on_hash tree.ensures.data tree.ensures.tree.on_parity c.requires.fits.holds.of.on_parity turn.index in
+    let settled = settles-at p tree.result (p.first / c.from.result + j) j _ _ _ c.judge-judged.ensures turn.index same c.in-Ok-settle_block.ensures.reads in
+    let settled_on = settled-on g.D.BlockDev.state config (place_at p (p.first / block_sectors v + j)) _ settled in
+    let settle = c.in-Ok-settle_block.ensures in
+    let more = settled-moved config v _ settled_on in
+    let front = put.front (512 * (j * block_sectors v)) (omega (arith, block-begin b j)) in
+    let levels_are : c.levels.result ≡ levels (tree_of v) = c.levels.ensures.value ∙ ap levels tree.ensures.tree.shape_is in
+    let slice : List CachedBlock = c.as_slice.result.now in
+    let path_is : map block_bytes (take c.levels.result slice) ≡ map block_bytes (take (levels (tree_of v)) c.walk_path.new.path.items) =
+    ap (λ (l : List CachedBlock). map block_bytes (take c.levels.result l)) c.as_slice.ensures.value ∙ ap (λ (k : ℕ). map block_bytes (take k c.walk_path.new.path.items)) levels_are in
+    let out : List ℕ = put_mid (j * v.data_block) (j * v.data_block + many.result * v.data_block - j * v.data_block) c.checks.out c.read_beneath.new.out in
+    let block : List ℕ = c.settle_block.new.block in
     let content : List ℕ = take (j * v.data_block + v.data_block - j * v.data_block) (drop (j * v.data_block) (put_mid (j * v.data_block) (j * v.data_block + v.data_block - j * v.data_block) out block)) in
-    let had = block-checked b out turn.inside far_to next put.len put.end made block c.index-made-at.result front c.is_ignored-ignored.ensures ahead (row-covers many.ensures.some) c.settle.auto.block (c.if-not-settle.ensures.zeros refl) (c.if-not-settle.ensures.same refl) turn.index goes in
-    let rest = rest-ahead b out turn.inside far_to next put.len put.end made block c.index-made-at.result front c.is_ignored-ignored.ensures ahead (row-covers many.ensures.some) c.settle.auto.block (c.if-not-settle.ensures.zeros refl) (c.if-not-settle.ensures.same refl) in
+    let got = settled-got b out turn.inside far_to next put.len put.end made c.index-made-at.result c.is_ignored.ensures ahead (row-covers many.ensures.some) settled_on in
+    let had = block-checked b out turn.inside far_to next put.len put.end more block front c.settle_block.auto.block got turn.index path_is in
+    let rest = rest-ahead b out turn.inside far_to next put.len put.end more block front c.settle_block.auto.block made ahead in
+    let walked = blocks-way all.given turn.inside same c.in-Ok.ensures.given in
+    let goes = path-last c.as_slice.ensures.value (c.levels.ensures.value ∙ ap levels tree.ensures.tree.shape_is) in
+    let given = c.in-Ok-read_beneath.ensures.given in
+    let rowed = row-given walked many.result (j * v.data_block + many.result * v.data_block - j * v.data_block) (sub-same (j * v.data_block) (many.result * v.data_block)) put.wide row.end many.ensures.fresh
+    (λ some. together-at p (length c.args.out.now / 512) j many.result _ same turn.count goes c.is_ignored.ensures (many.ensures.together some)) (row-stays p v.data_block many.result row.len given)
+    (λ some. gives-at p j many.result tree.ensures.data (row-begins (block_sectors v) (p.first / c.from.result + j) (p.first / block_sectors v + j) c.data_extent-extent.ensures.value turn.index) row.sectors (row-some many.result v.data_block (block_sectors v) _ row.len b.size.whole b.size.some some) given) in
+    let near : j * v.data_block + v.data_block - j * v.data_block ≡ v.data_block = sub-same (j * v.data_block) v.data_block in
+    let wide : length block ≡ v.data_block = c.settle_block.auto.block ∙ stood-len b out turn.inside far_to next put.len put.end ∙ near in
+    let settled_given = settled-given rowed (j * v.data_block + v.data_block - j * v.data_block) near turn.inside (sym b.size.whole) put.end _ c.is_ignored.ensures (row-covers many.ensures.some)
+    (λ used. digest-made b _ turn.inside far_to next put.len put.end made c.index-made-at.result ahead (row-covers many.ensures.some used)) block wide settled in
     record {
       checked = checked-as c.read_as_far-read.ensures (record {
-        size = same_len_mid _ _ _ _ c.settle.auto.block ∙ same_len_mid _ _ _ _ c.read_beneath.auto.out ∙ inv.size;
+        size = same_len_mid _ _ _ _ c.settle_block.auto.block ∙ same_len_mid _ _ _ _ c.read_beneath.auto.out ∙ inv.size;
         room = same_len_mid _ _ _ _ c.digest_blocks.auto.out ∙ inv.room;
         within = omega (arith, turn.inside);
         most = far_to;
-        after = inv.after ++ (one_found p (p.first / c.from.result + j) content (take c.levels-levels.result slice) ∷ []);
-        out = one-out c.args.chains c.args.found.now.items inv.after c.checks.found.items _ (one_found p (p.first / c.from.result + j) content (take c.levels-levels.result slice)) inv.out c.in-Ok-keep.ensures.ok;
-        held = path-read config c.walk_path.new.path.items gets.got.moved c.in-Ok.ensures.held;
+        after = inv.after ++ (one_found p (p.first / c.from.result + j) content (take c.levels.result slice) ∷ []);
+        out = one-out c.args.chains c.args.found.now.items inv.after c.checks.found.items _ (one_found p (p.first / c.from.result + j) content (take c.levels.result slice)) inv.out c.in-Ok-keep.ensures.ok;
+        held = path-read config c.walk_path.new.path.items more (path-read config c.walk_path.new.path.items gets.got.moved c.in-Ok.ensures.held);
         had = had;
         ahead = rest;
       });
-      cached = record { capacity = c.in-Ok-read_beneath.ensures.cached.capacity ∙ c.in-Ok.ensures.cached.capacity ∙ all.cached.capacity; sound = c.in-Ok-read_beneath.ensures.cached.sound };
-      touches = data-touched config v tree.result b.loaded tree.ensures.tree p.device tree.ensures.device all.touches c.in-Ok.ensures.touches c.in-Ok-read_beneath.ensures.touches;
-      given =
-          let same = place-turn c.args.part tree.result (c.args.part.first / c.from.result + c.checks.at) c.checks.at tree.ensures.tree.on_hash c.requires.fits.holds.of.on_hash tree.ensures.data tree.ensures.tree.on_parity c.requires.fits.holds.of.on_parity turn.index in
-          let walked = blocks-way c.checks.invariant.given turn.inside same c.in-Ok.ensures.given in
-          let goes = path-last c.as_slice.ensures.value (c.levels-levels.ensures.value ∙ ap levels tree.ensures.tree.shape_is) in
-          let given = c.in-Ok-read_beneath.ensures.given in
-          let rowed = row-given walked many.result (j * v.data_block + many.result * v.data_block - j * v.data_block) (sub-same (j * v.data_block) (many.result * v.data_block)) put.wide row.end many.ensures.fresh
-          (λ some. together-at c.args.part (length c.args.out.now / 512) j many.result _ same turn.count goes c.is_ignored-ignored.ensures (many.ensures.together some)) (row-stays c.args.part v.data_block many.result row.len given)
-          (λ some. gives-at c.args.part j many.result tree.ensures.data (row-begins (block_sectors v) (c.args.part.first / c.from.result + j) (c.args.part.first / block_sectors v + j) c.data_extent-extent.ensures.value turn.index) row.sectors (row-some many.result v.data_block (block_sectors v) _ row.len b.size.whole b.size.some some) given) in
-          let near : j * v.data_block + v.data_block - j * v.data_block ≡ v.data_block = sub-same (j * v.data_block) v.data_block in
-          let settled = block-settled rowed (j * v.data_block + v.data_block - j * v.data_block) near turn.inside (sym b.size.whole) put.end c.is_ignored-ignored.result c.settle.new.block c.is_ignored-ignored.ensures (row-covers many.ensures.some) (c.if-not-settle.ensures.zeros refl)
-          (λ used. (sym (digest-made b _ turn.inside far_to next put.len put.end made c.index-made-at.result ahead (row-covers many.ensures.some used)) ∙ (c.if-not-settle.ensures.same refl used).0, (c.if-not-settle.ensures.same refl used).1)) in
-          subst (λ (k : ℕ). BlocksUpTo (DeviceDoes g.D.BlockDev.state g.D.BlockDev.does) config p (length c.args.out.now / 512) k (j + 1) (put_mid (j * v.data_block) (j * v.data_block + v.data_block - j * v.data_block) out block) c.args.backing.now.devices.items c.read_beneath.new.backing.devices.items) (sym c.read_as_far-read.ensures) settled;
+      cached = record { capacity = settle.cached.capacity ∙ c.in-Ok-read_beneath.ensures.cached.capacity ∙ c.in-Ok.ensures.cached.capacity ∙ all.cached.capacity; sound = settle.cached.sound };
+      touches = asks-then (data-touched config v tree.result b.loaded tree.ensures.tree p.device tree.ensures.device all.touches c.in-Ok.ensures.touches c.in-Ok-read_beneath.ensures.touches) (asks-up (same-within config tree.ensures.device) settle.touches);
+      given = subst (λ (k : ℕ). BlocksUpTo (DeviceDoes g.D.BlockDev.state g.D.BlockDev.does) config p (length c.args.out.now / 512) k (j + 1) (put_mid (j * v.data_block) (j * v.data_block + v.data_block - j * v.data_block) out block) c.args.backing.now.devices.items c.settle_block.new.backing.devices.items) (sym c.read_as_far-read.ensures) settled_given;
     }
 
 pub read_blocks-returns-clause-reads : goal.read_blocks-returns-clause-reads
@@ -1119,41 +1171,63 @@ read_blocks-returns-in-Err-read_beneath-clause-step g t c =
     (data-touched config c.args.part.verity.now tree.result b.loaded tree.ensures.tree c.args.part.device tree.ensures.device all.touches c.in-Ok.ensures.touches read.touches)
     (row-costs b turn row many.ensures.fresh all.checked.had c.in-Ok.ensures.moved c.in-Ok.ensures.ok (row-got b turn row c.tree_of-tree.ensures.data c.data_extent-extent.ensures read.reads))
 
-pub read_blocks-returns-then-not-settle-clause-step : goal.read_blocks-returns-then-not-settle-clause-step
-read_blocks-returns-then-not-settle-clause-step g t c =
+pub read_blocks-returns-in-Err-settle_block-clause-step : goal.read_blocks-returns-in-Err-settle_block-clause-step
+read_blocks-returns-in-Err-settle_block-clause-step g t c =
     let config = c.args.config.now in
+    let p = c.args.part in
+    let v = c.args.part.verity.now in
+    let j : ℕ = c.checks.at in
     let tree = c.tree_of-tree in
     let all = c.checks.invariant in
+    let inv = all.checked in
     let many = c.row_len-many in
-    let read = c.in-Ok-read_beneath.ensures in
     let b = blocks-at c.requires in
-    let turn = turn-at b all.checked c.requires.fits.sectors.whole c.from.ensures c.checks-test.true in
+    let turn = turn-at b inv c.requires.fits.sectors.whole c.from.ensures c.checks-test.true in
     let row = row-at b turn many.result many.ensures.most in
-    step-met (blocks-meet config c.args.part (length c.args.out.now / 512) (omega (arith, c.requires.fits.sectors.some, c.requires.fits.sectors.whole)))
-    (record { capacity = read.cached.capacity ∙ c.in-Ok.ensures.cached.capacity ∙ all.cached.capacity; sound = read.cached.sound })
-    (asks-as (Err (Stack Mismatch)) tt (λ failures. refl) (data-touched config c.args.part.verity.now tree.result b.loaded tree.ensures.tree c.args.part.device tree.ensures.device all.touches c.in-Ok.ensures.touches read.touches))
-    (row-costs b turn row many.ensures.fresh all.checked.had c.in-Ok.ensures.moved c.in-Ok.ensures.ok (row-got b turn row c.tree_of-tree.ensures.data c.data_extent-extent.ensures read.reads))
+    let put = put-at b turn row c.read_beneath.new.out c.read_beneath.auto.out in
+    let gets = row-got b turn row tree.ensures.data c.data_extent-extent.ensures c.in-Ok-read_beneath.ensures.reads in
+    let next = row-next b turn row many.ensures.fresh inv.had c.in-Ok.ensures.moved c.in-Ok.ensures.ok gets in
+    let far_to = far b turn row many.ensures.fresh inv.had c.in-Ok.ensures.moved c.in-Ok.ensures.ok gets in
+    let same = place-turn p tree.result (p.first / c.from.result + j) j tree.ensures.tree.on_hash c.requires.fits.holds.of.on_hash tree.ensures.data tree.ensures.tree.on_parity c.requires.fits.holds.of.on_parity turn.index in
+    let settled = settles-at p tree.result (p.first / c.from.result + j) j _ _ _ c.judge-judged.ensures turn.index same c.in-Err-settle_block.ensures.reads in
+    let settled_on = settled-on g.D.BlockDev.state config (place_at p (p.first / block_sectors v + j)) _ settled in
+    let settle = c.in-Err-settle_block.ensures in
+    step-met (blocks-meet config p (length c.args.out.now / 512) (omega (arith, c.requires.fits.sectors.some, c.requires.fits.sectors.whole)))
+    (record { capacity = settle.cached.capacity ∙ c.in-Ok-read_beneath.ensures.cached.capacity ∙ c.in-Ok.ensures.cached.capacity ∙ all.cached.capacity; sound = settle.cached.sound })
+    (asks-then (data-touched config v tree.result b.loaded tree.ensures.tree p.device tree.ensures.device all.touches c.in-Ok.ensures.touches c.in-Ok-read_beneath.ensures.touches) (asks-up (same-within config tree.ensures.device) settle.touches))
+    (block-costs b _ turn.inside far_to next put.len put.end (settled-moved config v _ settled_on))
 
 pub read_blocks-returns-in-Err-keep-clause-step : goal.read_blocks-returns-in-Err-keep-clause-step
 read_blocks-returns-in-Err-keep-clause-step g t c =
     let config = c.args.config.now in
+    let p = c.args.part in
+    let v = c.args.part.verity.now in
+    let j : ℕ = c.checks.at in
     let tree = c.tree_of-tree in
     let all = c.checks.invariant in
+    let inv = all.checked in
     let many = c.row_len-many in
-    let read = c.in-Ok-read_beneath.ensures in
     let b = blocks-at c.requires in
-    let turn = turn-at b all.checked c.requires.fits.sectors.whole c.from.ensures c.checks-test.true in
+    let turn = turn-at b inv c.requires.fits.sectors.whole c.from.ensures c.checks-test.true in
     let row = row-at b turn many.result many.ensures.most in
-    step-met (blocks-meet config c.args.part (length c.args.out.now / 512) (omega (arith, c.requires.fits.sectors.some, c.requires.fits.sectors.whole)))
-    (record { capacity = read.cached.capacity ∙ c.in-Ok.ensures.cached.capacity ∙ all.cached.capacity; sound = read.cached.sound })
-    (asks-as (Err NoMemory) tt (λ failures. refl) (data-touched config c.args.part.verity.now tree.result b.loaded tree.ensures.tree c.args.part.device tree.ensures.device all.touches c.in-Ok.ensures.touches read.touches))
-    (row-costs b turn row many.ensures.fresh all.checked.had c.in-Ok.ensures.moved c.in-Ok.ensures.ok (row-got b turn row c.tree_of-tree.ensures.data c.data_extent-extent.ensures read.reads))
+    let put = put-at b turn row c.read_beneath.new.out c.read_beneath.auto.out in
+    let gets = row-got b turn row tree.ensures.data c.data_extent-extent.ensures c.in-Ok-read_beneath.ensures.reads in
+    let next = row-next b turn row many.ensures.fresh inv.had c.in-Ok.ensures.moved c.in-Ok.ensures.ok gets in
+    let far_to = far b turn row many.ensures.fresh inv.had c.in-Ok.ensures.moved c.in-Ok.ensures.ok gets in
+    let same = place-turn p tree.result (p.first / c.from.result + j) j tree.ensures.tree.on_hash c.requires.fits.holds.of.on_hash tree.ensures.data tree.ensures.tree.on_parity c.requires.fits.holds.of.on_parity turn.index in
+    let settled = settles-at p tree.result (p.first / c.from.result + j) j _ _ _ c.judge-judged.ensures turn.index same c.in-Ok-settle_block.ensures.reads in
+    let settled_on = settled-on g.D.BlockDev.state config (place_at p (p.first / block_sectors v + j)) _ settled in
+    let settle = c.in-Ok-settle_block.ensures in
+    step-met (blocks-meet config p (length c.args.out.now / 512) (omega (arith, c.requires.fits.sectors.some, c.requires.fits.sectors.whole)))
+    (record { capacity = settle.cached.capacity ∙ c.in-Ok-read_beneath.ensures.cached.capacity ∙ c.in-Ok.ensures.cached.capacity ∙ all.cached.capacity; sound = settle.cached.sound })
+    (asks-as (Err NoMemory) tt (λ failures. refl) (asks-then (data-touched config v tree.result b.loaded tree.ensures.tree p.device tree.ensures.device all.touches c.in-Ok.ensures.touches c.in-Ok-read_beneath.ensures.touches) (asks-up (same-within config tree.ensures.device) settle.touches)))
+    (block-costs b _ turn.inside far_to next put.len put.end (settled-moved config v _ settled_on))
 
 pub read_blocks-returns-clause-step : goal.read_blocks-returns-clause-step
 read_blocks-returns-clause-step g t c =
     let all = c.checks.invariant in
     step-met (blocks-meet c.args.config.now c.args.part (length c.args.out.now / 512) (omega (arith, c.requires.fits.sectors.some, c.requires.fits.sectors.whole))) all.cached all.touches
-    (had-spent (blocks-at c.requires) c.checks.read c.checks.at all.checked.most all.checked.within all.checked.had.moved)
+    (had-spent (blocks-at c.requires) c.checks.read c.checks.at c.checks.at all.checked.most all.checked.within all.checked.within all.checked.had.moved)
 
 pub read_beneath-returns-then-is_empty-clause-reads : goal.read_beneath-returns-then-is_empty-clause-reads
 read_beneath-returns-then-is_empty-clause-reads g t c =
@@ -1581,68 +1655,77 @@ read_blocks-returns-in-Err-read_beneath-clause-given g t c =
     let row = row-at b turn many.result many.ensures.most in
     let same = place-turn c.args.part tree.result (c.args.part.first / c.from.result + c.checks.at) c.checks.at tree.ensures.tree.on_hash c.requires.fits.holds.of.on_hash tree.ensures.data tree.ensures.tree.on_parity c.requires.fits.holds.of.on_parity turn.index in
     let walked = blocks-way c.checks.invariant.given turn.inside same c.in-Ok.ensures.given in
-    let goes = path-last c.as_slice.ensures.value (c.levels-levels.ensures.value ∙ ap levels tree.ensures.tree.shape_is) in
+    let goes = path-last c.as_slice.ensures.value (c.levels.ensures.value ∙ ap levels tree.ensures.tree.shape_is) in
     let some : 0 < many.result = row-asked many.result v.data_block _ row.len (λ none. let clash : false ≡ true = (given.none none).1 in cc) in
     let low : c.checks.read ≤ c.checks.at = elim many.ensures.fresh [ inl none ↦ absurd (omega (arith, none, some)) | inr old ↦ old ] in
     let j : ℕ = c.checks.at in
-    row-ungiven walked many.result low (together-at c.args.part (length c.args.out.now / 512) j many.result _ same turn.count goes c.is_ignored-ignored.ensures (many.ensures.together some))
+    row-ungiven walked many.result low (together-at c.args.part (length c.args.out.now / 512) j many.result _ same turn.count goes c.is_ignored.ensures (many.ensures.together some))
     (gives-at c.args.part j many.result tree.ensures.data (row-begins (block_sectors v) (c.args.part.first / c.from.result + j) (c.args.part.first / block_sectors v + j) c.data_extent-extent.ensures.value turn.index) row.sectors (row-some many.result v.data_block (block_sectors v) _ row.len b.size.whole b.size.some some) given)
 
-pub read_blocks-returns-then-not-settle-clause-given : goal.read_blocks-returns-then-not-settle-clause-given
-read_blocks-returns-then-not-settle-clause-given g t c =
+pub read_blocks-returns-in-Err-settle_block-clause-given : goal.read_blocks-returns-in-Err-settle_block-clause-given
+read_blocks-returns-in-Err-settle_block-clause-given g t c =
+    let config = c.args.config.now in
+    let p = c.args.part in
     let v = c.args.part.verity.now in
     let j : ℕ = c.checks.at in
     let tree = c.tree_of-tree in
-    let inv = c.checks.invariant.checked in
+    let all = c.checks.invariant in
+    let inv = all.checked in
     let many = c.row_len-many in
     let b = blocks-at c.requires in
     let turn = turn-at b inv c.requires.fits.sectors.whole c.from.ensures c.checks-test.true in
     let row = row-at b turn many.result many.ensures.most in
     let put = put-at b turn row c.read_beneath.new.out c.read_beneath.auto.out in
-    let gets = row-got b turn row c.tree_of-tree.ensures.data c.data_extent-extent.ensures c.in-Ok-read_beneath.ensures.reads in
+    let gets = row-got b turn row tree.ensures.data c.data_extent-extent.ensures c.in-Ok-read_beneath.ensures.reads in
     let next = row-next b turn row many.ensures.fresh inv.had c.in-Ok.ensures.moved c.in-Ok.ensures.ok gets in
     let far_to = far b turn row many.ensures.fresh inv.had c.in-Ok.ensures.moved c.in-Ok.ensures.ok gets in
     let ahead = row-ahead b turn row many.ensures.fresh c.checks.made inv.had c.in-Ok.ensures.moved gets (all-whole g.D.BlockDev.state g.met.D.BlockDev.whole c.walk_path.new.backing.devices.items) inv.room inv.ahead put c.digest_blocks.ensures in
     let made : List (List ℕ) = put_mid j (j + many.result - j) c.checks.made c.digest_blocks.new.out in
-    let same = place-turn c.args.part tree.result (c.args.part.first / c.from.result + c.checks.at) c.checks.at tree.ensures.tree.on_hash c.requires.fits.holds.of.on_hash tree.ensures.data tree.ensures.tree.on_parity c.requires.fits.holds.of.on_parity turn.index in
-    let walked = blocks-way c.checks.invariant.given turn.inside same c.in-Ok.ensures.given in
-    let goes = path-last c.as_slice.ensures.value (c.levels-levels.ensures.value ∙ ap levels tree.ensures.tree.shape_is) in
+    let same = place-turn p tree.result (p.first / c.from.result + j) j tree.ensures.tree.on_hash c.requires.fits.holds.of.on_hash tree.ensures.data tree.ensures.tree.on_parity c.requires.fits.holds.of.on_parity turn.index in
+    let settled = settles-at p tree.result (p.first / c.from.result + j) j _ _ _ c.judge-judged.ensures turn.index same c.in-Err-settle_block.ensures.reads in
+    let settled_on = settled-on g.D.BlockDev.state config (place_at p (p.first / block_sectors v + j)) _ settled in
+    let walked = blocks-way all.given turn.inside same c.in-Ok.ensures.given in
+    let goes = path-last c.as_slice.ensures.value (c.levels.ensures.value ∙ ap levels tree.ensures.tree.shape_is) in
     let given = c.in-Ok-read_beneath.ensures.given in
     let rowed = row-given walked many.result (j * v.data_block + many.result * v.data_block - j * v.data_block) (sub-same (j * v.data_block) (many.result * v.data_block)) put.wide row.end many.ensures.fresh
-    (λ some. together-at c.args.part (length c.args.out.now / 512) j many.result _ same turn.count goes c.is_ignored-ignored.ensures (many.ensures.together some)) (row-stays c.args.part v.data_block many.result row.len given)
-    (λ some. gives-at c.args.part j many.result tree.ensures.data (row-begins (block_sectors v) (c.args.part.first / c.from.result + j) (c.args.part.first / block_sectors v + j) c.data_extent-extent.ensures.value turn.index) row.sectors (row-some many.result v.data_block (block_sectors v) _ row.len b.size.whole b.size.some some) given) in
+    (λ some. together-at p (length c.args.out.now / 512) j many.result _ same turn.count goes c.is_ignored.ensures (many.ensures.together some)) (row-stays p v.data_block many.result row.len given)
+    (λ some. gives-at p j many.result tree.ensures.data (row-begins (block_sectors v) (p.first / c.from.result + j) (p.first / block_sectors v + j) c.data_extent-extent.ensures.value turn.index) row.sectors (row-some many.result v.data_block (block_sectors v) _ row.len b.size.whole b.size.some some) given) in
     let near : j * v.data_block + v.data_block - j * v.data_block ≡ v.data_block = sub-same (j * v.data_block) v.data_block in
-    let other = c.if-not-settle.ensures.other refl in
-    block-unlike rowed (j * v.data_block + v.data_block - j * v.data_block) near turn.inside (sym b.size.whole) put.end (sym c.is_ignored-ignored.ensures ∙ other.0) (row-covers many.ensures.some other.0)
-    (λ same_digest. other.1 (digest-made b _ turn.inside far_to next put.len put.end made c.index-made-at.result ahead (row-covers many.ensures.some other.0) ∙ same_digest)) b.plain
+    unsettled-given rowed (j * v.data_block + v.data_block - j * v.data_block) near turn.inside (sym b.size.whole) put.end _ c.is_ignored.ensures (row-covers many.ensures.some)
+    (λ used. digest-made b _ turn.inside far_to next put.len put.end made c.index-made-at.result ahead (row-covers many.ensures.some used)) c.in-Err-settle_block.vain settled
 
 pub read_blocks-returns-in-Err-keep-clause-given : goal.read_blocks-returns-in-Err-keep-clause-given
 read_blocks-returns-in-Err-keep-clause-given g t c =
+    let config = c.args.config.now in
+    let p = c.args.part in
     let v = c.args.part.verity.now in
     let j : ℕ = c.checks.at in
     let tree = c.tree_of-tree in
-    let inv = c.checks.invariant.checked in
+    let all = c.checks.invariant in
+    let inv = all.checked in
     let many = c.row_len-many in
     let b = blocks-at c.requires in
     let turn = turn-at b inv c.requires.fits.sectors.whole c.from.ensures c.checks-test.true in
     let row = row-at b turn many.result many.ensures.most in
     let put = put-at b turn row c.read_beneath.new.out c.read_beneath.auto.out in
-    let gets = row-got b turn row c.tree_of-tree.ensures.data c.data_extent-extent.ensures c.in-Ok-read_beneath.ensures.reads in
+    let gets = row-got b turn row tree.ensures.data c.data_extent-extent.ensures c.in-Ok-read_beneath.ensures.reads in
     let next = row-next b turn row many.ensures.fresh inv.had c.in-Ok.ensures.moved c.in-Ok.ensures.ok gets in
     let far_to = far b turn row many.ensures.fresh inv.had c.in-Ok.ensures.moved c.in-Ok.ensures.ok gets in
     let ahead = row-ahead b turn row many.ensures.fresh c.checks.made inv.had c.in-Ok.ensures.moved gets (all-whole g.D.BlockDev.state g.met.D.BlockDev.whole c.walk_path.new.backing.devices.items) inv.room inv.ahead put c.digest_blocks.ensures in
     let made : List (List ℕ) = put_mid j (j + many.result - j) c.checks.made c.digest_blocks.new.out in
-    let same = place-turn c.args.part tree.result (c.args.part.first / c.from.result + c.checks.at) c.checks.at tree.ensures.tree.on_hash c.requires.fits.holds.of.on_hash tree.ensures.data tree.ensures.tree.on_parity c.requires.fits.holds.of.on_parity turn.index in
-    let walked = blocks-way c.checks.invariant.given turn.inside same c.in-Ok.ensures.given in
-    let goes = path-last c.as_slice.ensures.value (c.levels-levels.ensures.value ∙ ap levels tree.ensures.tree.shape_is) in
+    let same = place-turn p tree.result (p.first / c.from.result + j) j tree.ensures.tree.on_hash c.requires.fits.holds.of.on_hash tree.ensures.data tree.ensures.tree.on_parity c.requires.fits.holds.of.on_parity turn.index in
+    let settled = settles-at p tree.result (p.first / c.from.result + j) j _ _ _ c.judge-judged.ensures turn.index same c.in-Ok-settle_block.ensures.reads in
+    let settled_on = settled-on g.D.BlockDev.state config (place_at p (p.first / block_sectors v + j)) _ settled in
+    let walked = blocks-way all.given turn.inside same c.in-Ok.ensures.given in
+    let goes = path-last c.as_slice.ensures.value (c.levels.ensures.value ∙ ap levels tree.ensures.tree.shape_is) in
     let given = c.in-Ok-read_beneath.ensures.given in
     let rowed = row-given walked many.result (j * v.data_block + many.result * v.data_block - j * v.data_block) (sub-same (j * v.data_block) (many.result * v.data_block)) put.wide row.end many.ensures.fresh
-    (λ some. together-at c.args.part (length c.args.out.now / 512) j many.result _ same turn.count goes c.is_ignored-ignored.ensures (many.ensures.together some)) (row-stays c.args.part v.data_block many.result row.len given)
-    (λ some. gives-at c.args.part j many.result tree.ensures.data (row-begins (block_sectors v) (c.args.part.first / c.from.result + j) (c.args.part.first / block_sectors v + j) c.data_extent-extent.ensures.value turn.index) row.sectors (row-some many.result v.data_block (block_sectors v) _ row.len b.size.whole b.size.some some) given) in
+    (λ some. together-at p (length c.args.out.now / 512) j many.result _ same turn.count goes c.is_ignored.ensures (many.ensures.together some)) (row-stays p v.data_block many.result row.len given)
+    (λ some. gives-at p j many.result tree.ensures.data (row-begins (block_sectors v) (p.first / c.from.result + j) (p.first / block_sectors v + j) c.data_extent-extent.ensures.value turn.index) row.sectors (row-some many.result v.data_block (block_sectors v) _ row.len b.size.whole b.size.some some) given) in
     let near : j * v.data_block + v.data_block - j * v.data_block ≡ v.data_block = sub-same (j * v.data_block) v.data_block in
-    let settled = block-settled rowed (j * v.data_block + v.data_block - j * v.data_block) near turn.inside (sym b.size.whole) put.end c.is_ignored-ignored.result c.settle.new.block c.is_ignored-ignored.ensures (row-covers many.ensures.some) (c.if-not-settle.ensures.zeros refl)
-    (λ used. (sym (digest-made b _ turn.inside far_to next put.len put.end made c.index-made-at.result ahead (row-covers many.ensures.some used)) ∙ (c.if-not-settle.ensures.same refl used).0, (c.if-not-settle.ensures.same refl used).1)) in
-    blocks-short settled
+    let wide : length c.settle_block.new.block ≡ v.data_block = c.settle_block.auto.block ∙ stood-len b _ turn.inside far_to next put.len put.end ∙ near in
+    blocks-short (settled-given rowed (j * v.data_block + v.data_block - j * v.data_block) near turn.inside (sym b.size.whole) put.end _ c.is_ignored.ensures (row-covers many.ensures.some)
+    (λ used. digest-made b _ turn.inside far_to next put.len put.end made c.index-made-at.result ahead (row-covers many.ensures.some used)) c.settle_block.new.block wide settled)
 
 pub read_blocks-returns-clause-given : goal.read_blocks-returns-clause-given
 read_blocks-returns-clause-given g t c =
@@ -2023,14 +2106,41 @@ heal-returns-in-Ok-mend-clause-reads g t c =
     let held : length out ≡ block.len = c.mend.auto.out ∙ ap (λ (l : List ℕ). length l) c.as_mut_slice.ensures.value ∙ sym block.ok.0 in
     heals-had g.D.BlockDev.state c.args.config.now (place_in c.args.verity.now c.args.tree.now c.args.lost.now.index) c.args.lost.now c.args.fault (with_items block out) (with_items_is block out held) c.in-Ok-mend.ensures.reads c.in-Ok-mend.ensures.given
 
-pub heal-returns-in-Err-Stack-clause-reads : goal.heal-returns-in-Err-Stack-clause-reads
-heal-returns-in-Err-Stack-clause-reads g t c = heals-failed g.D.BlockDev.state c.args.config.now (place_in c.args.verity.now c.args.tree.now c.args.lost.now.index) c.args.lost.now c.args.fault _ (rw c.in-Err-Stack.field-0-is at c.in-Err-Stack.ensures.reads) (rw c.in-Err-Stack.field-0-is at c.in-Err-Stack.ensures.given)
+pub heal-returns-in-Err-mend-clause-reads : goal.heal-returns-in-Err-mend-clause-reads
+heal-returns-in-Err-mend-clause-reads g t c =
+    let place = place_in c.args.verity.now c.args.tree.now c.args.lost.now.index in
+    subst (λ (y : IoFault). HealsBy g.D.BlockDev.state (DeviceDoes g.D.BlockDev.state g.D.BlockDev.does) c.args.config.now place c.args.lost.now c.args.fault c.args.backing.now c.mend.new.backing (Err y)) (sym c.unhealed.ensures)
+    (heals-failed g.D.BlockDev.state c.args.config.now place c.args.lost.now c.args.fault c.in-Err-mend.vain c.in-Err-mend.ensures.reads c.in-Err-mend.ensures.given)
 
-pub heal-returns-in-Err-Device-clause-reads : goal.heal-returns-in-Err-Device-clause-reads
-heal-returns-in-Err-Device-clause-reads g t c = heals-failed g.D.BlockDev.state c.args.config.now (place_in c.args.verity.now c.args.tree.now c.args.lost.now.index) c.args.lost.now c.args.fault _ (rw c.in-Err-Device.field-0-is at c.in-Err-Device.ensures.reads) (rw c.in-Err-Device.field-0-is at c.in-Err-Device.ensures.given)
+pub heal-returns-in-Err-mend-clause-touches : goal.heal-returns-in-Err-mend-clause-touches
+heal-returns-in-Err-mend-clause-touches g t c = rw c.unhealed.ensures (asks-unhealed c.args.fault c.in-Err-mend.vain c.in-Err-mend.ensures.touches)
 
-pub heal-returns-clause-reads : goal.heal-returns-clause-reads
-heal-returns-clause-reads g t c = heals-failed g.D.BlockDev.state c.args.config.now (place_in c.args.verity.now c.args.tree.now c.args.lost.now.index) c.args.lost.now c.args.fault _ (rw c.in-Err-NoMemory.field-0-is at c.in-Err-NoMemory.ensures.reads) (rw c.in-Err-NoMemory.field-0-is at c.in-Err-NoMemory.ensures.given)
+-- ---- a block that was read together with others
+
+pub settle_block-mend-requires : goal.settle_block-mend-requires
+settle_block-mend-requires g t c κs within = (omega arith, (within, (c.requires.stack, (c.requires.block, c.settle.auto.block ∙ c.requires.size))))
+
+pub settle_block-returns-then-settle-clause-reads : goal.settle_block-returns-then-settle-clause-reads
+settle_block-returns-then-settle-clause-reads g t c = inl (
+  refl,
+  record {
+    zeros = λ is. ap Ok (c.if-settle.ensures.zeros refl is);
+    same = λ is. let own = c.if-settle.ensures.same refl is in (own.0, ap Ok own.1);
+  },
+)
+
+pub settle_block-returns-in-Ok-clause-reads : goal.settle_block-returns-in-Ok-clause-reads
+settle_block-returns-in-Ok-clause-reads g t c =
+    let other = c.if-settle.ensures.other refl in
+    inr (record { used = other.0; differs = other.1; spare = Ok c.mend.new.out; is = refl; got = c.in-Ok.ensures.reads; given = c.in-Ok.ensures.given })
+
+pub settle_block-returns-in-Err-clause-reads : goal.settle_block-returns-in-Err-clause-reads
+settle_block-returns-in-Err-clause-reads g t c =
+    let other = c.if-settle.ensures.other refl in
+    inr (record { used = other.0; differs = other.1; spare = Err c.in-Err.vain; is = ap Err c.unhealed.ensures; got = c.in-Err.ensures.reads; given = c.in-Err.ensures.given })
+
+pub settle_block-returns-in-Err-clause-touches : goal.settle_block-returns-in-Err-clause-touches
+settle_block-returns-in-Err-clause-touches g t c = rw c.unhealed.ensures (asks-unhealed Mismatch c.in-Err.vain c.in-Err.ensures.touches)
 
 pub read_data-heal-requires : goal.read_data-heal-requires
 read_data-heal-requires g t c κs within =

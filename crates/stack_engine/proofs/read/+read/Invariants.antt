@@ -20,7 +20,7 @@ use Rattle.stack_engine.specs.ReadSteps.{run_beneath, IsReadStep}
 use Rattle.stack_engine.proofs.read.+read.Given as goal
 
 -- 16 times the depth and a rank, of which 0 to 6 are left for the steps of a target: part of a unit takes 4, whole units 3,
--- a data block 6, the walk to it 5, its last step 4, healing 3, its spare 2, a step of that 1, a hash block 16 times its own depth
+-- a data block 6, the walk to it 5, its last step and a block of a row 4, healing 3, its spare 2, a step of that 1, a hash block 16 times its own depth
 -- and 11, and a block that is checked 16 times its own depth and 10
 
 abbrev pub decreases-read_lower : goal.decreases-read_lower
@@ -131,6 +131,9 @@ decreases-add_parity g l = 16 * depth l.config.now (mapped l.tree.now.device.0) 
 
 abbrev pub decreases-mend : goal.decreases-mend
 decreases-mend g l = 16 * depth l.config.now (mapped l.tree.now.device.0) + 2
+
+abbrev pub decreases-settle_block : goal.decreases-settle_block
+decreases-settle_block g l = 16 * depth l.config.now (mapped l.tree.now.device.0) + 4
 
 abbrev pub decreases-heal : goal.decreases-heal
 decreases-heal g l = 16 * depth l.config.now (mapped l.tree.now.device.0) + 3

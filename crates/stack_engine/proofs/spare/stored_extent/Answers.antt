@@ -1,4 +1,4 @@
-use Rattle.std.proofs.Common.{◌%◌, ℕ, sym, ap, subst, arith}
+use Rattle.std.proofs.Common.{◌%◌, ℕ, sym, subst, arith}
 use Rattle.stack_lines.specs.Covered.{HasRound}
 use Rattle.stack_engine.proofs.LostBlockLemmas.{block-round, parity-few, parity-stored, rounds-some}
 use Rattle.stack_engine.proofs.spare.stored_extent.Goals as goal

@@ -1,6 +1,7 @@
-use Rattle.std.proofs.Common.{◌++◌, [], ◌∷◌, false, arith, refl, inl, inr}
+use Rattle.std.proofs.Common.{◌++◌, [], ◌∷◌, arith, refl, inl, inr}
+use Rattle.std.proofs.lemmas.Result.{IfErr-weaker, IfOk-weaker}
 use Rattle.image_files.specs.FileUses.{image_use, part_use}
-use Rattle.stack_files.specs.declared.opening_fault.OpeningFault.TheVariants.{NoMemory, Open}
+use Rattle.stack_files.specs.declared.opening_fault.OpeningFault.TheVariants.{NoMemory}
 use Rattle.command_line.specs.PartBindings.{part_record}
 use Rattle.image_files.specs.Places.{device_part}
 use Rattle.stack_files.specs.Openings.{part_ending}
@@ -63,31 +64,11 @@ returns-in_ok-push-in-Part-clause-ok g c =
 pub returns-in-Partition-clause-err : goal.returns-in-Partition-clause-err
 returns-in-Partition-clause-err g c = rw c.in-Partition.is (record { path_is = refl; fault_is = refl; same = refl })
 
-pub returns-in_err-image-in-Mapped-clause-err : goal.returns-in_err-image-in-Mapped-clause-err
-returns-in_err-image-in-Mapped-clause-err g c =
-    let refused = rw c.as_slice-in-Mapped.ensures.value at c.in_err-image-in-Mapped.ensures.err in
-    err-from c.from_residual-in_err-image-in-Mapped.result _ (Open c.in_err-image-in-Mapped.field-0.0) c.from_residual-in_err-image-in-Mapped.ensures.1 (rw c.in-Mapped.is refused)
+pub returns-in-Mapped-clause-ok : goal.returns-in-Mapped-clause-ok
+returns-in-Mapped-clause-ok g c = rw c.in-Mapped.is (IfOk-weaker c.open_with_map.result _ _ (λ device opened. opened) c.open_with_map.ensures.ok)
 
-pub returns-in_err-push-in-Mapped-clause-err : goal.returns-in_err-push-in-Mapped-clause-err
-returns-in_err-push-in-Mapped-clause-err g c =
-    err-from c.from_residual-in_err-push-in-Mapped.result _ NoMemory c.from_residual-in_err-push-in-Mapped.ensures.1
-    (rw c.in-Mapped.is (
-      inr (
-        c.in_ok-image-in-Mapped.image.device,
-        c.args.files.now.items ++ image_use false c.in_ok-image-in-Mapped.image ∷ [],
-        record { image = c.in_ok-image-in-Mapped.image; opened = rw c.as_slice-in-Mapped.ensures.value at c.in_ok-image-in-Mapped.ensures.ok; is = refl; more = refl },
-      ),
-      (1, omega arith, c.in_err-push-in-Mapped.ensures.err.1),
-    ))
-
-pub returns-in_ok-push-in-Mapped-clause-ok : goal.returns-in_ok-push-in-Mapped-clause-ok
-returns-in_ok-push-in-Mapped-clause-ok g c =
-    rw c.in-Mapped.is (record {
-      image = c.in_ok-image-in-Mapped.image;
-      opened = rw c.as_slice-in-Mapped.ensures.value at c.in_ok-image-in-Mapped.ensures.ok;
-      is = refl;
-      more = c.in_ok-push-in-Mapped.ensures.ok;
-    })
+pub returns-in-Mapped-clause-err : goal.returns-in-Mapped-clause-err
+returns-in-Mapped-clause-err g c = rw c.in-Mapped.is (IfErr-weaker c.open_with_map.result _ _ (λ fault fails. fails) c.open_with_map.ensures.err)
 
 pub returns-in_err-zeros-in-Zeros-clause-err : goal.returns-in_err-zeros-in-Zeros-clause-err
 returns-in_err-zeros-in-Zeros-clause-err g c =

@@ -32,7 +32,7 @@ use Rattle.stack_recovery.proofs.HandingLemmas.{hands-failed, hands-in-piece, ha
 use Rattle.stack_recovery.proofs.LeafReadLemmas.{copies-again, copies-had}
 use Rattle.stack_recovery.proofs.PieceLemmas.{found-again, loss-fault, loss-found, may-lose, next-piece}
 use Rattle.stack_recovery.proofs.UnderwayLemmas.{IsUnderway, closed-tally, counted-all, ends-in-piece, fails-output, few, note-room, runs-short, underway-again, underway-had, underway-kept, underway-lost, underway-none, underway-until}
-use Rattle.stack_recovery.proofs.WritingLemmas.{err-from}
+use Rattle.stack_recovery.proofs.lemmas.WritingLemmas.{err-from}
 use Rattle.stack_recovery.proofs.recovery.go_over_by.Goals as goal
 
 pub pieces-init : goal.pieces-init

@@ -13,7 +13,7 @@ use Rattle.stack_recovery.specs.Retries.{after_pass, retried_by}
 use Rattle.stack_recovery.proofs.LeafReadLemmas.{ends-then, passes-end, passes-then}
 use Rattle.stack_recovery.proofs.RetryLemmas.{again-kept, counted-whole, goes-whole, hands-whole}
 use Rattle.stack_recovery.proofs.SkimEndLemmas.{ends-unread, hands-unread, part-unread, skims-config, skims-sectors, skims-unread}
-use Rattle.stack_recovery.proofs.WritingLemmas.{err-from}
+use Rattle.stack_recovery.proofs.lemmas.WritingLemmas.{err-from}
 use Rattle.stack_recovery.proofs.recovery.recover_with.Goals as goal
 
 pub skim_ahead-requires-clause-fits : goal.skim_ahead-requires-clause-fits

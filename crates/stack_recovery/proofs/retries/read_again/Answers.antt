@@ -11,7 +11,7 @@ use Rattle.stack_recovery.specs.Retries.{AfterPass, IsSilentHanding, IsSilentPas
 use Rattle.stack_recovery.proofs.LeafReadLemmas.{passes-end}
 use Rattle.stack_recovery.proofs.RetryLemmas.{counted-whole, goes-whole, silent-handing, silent-part, steps-kept}
 use Rattle.stack_recovery.proofs.lemmas.StepLemmas.{more-steps}
-use Rattle.stack_recovery.proofs.WritingLemmas.{err-from}
+use Rattle.stack_recovery.proofs.lemmas.WritingLemmas.{err-from}
 use Rattle.stack_recovery.proofs.retries.read_again.Goals as goal
 
 pub passes-init : goal.passes-init

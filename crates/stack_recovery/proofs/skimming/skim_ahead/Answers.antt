@@ -1,5 +1,5 @@
 use Rattle.std.proofs.lemmas.Result.{err_from_is_err_and}
-use Rattle.stack_recovery.proofs.WritingLemmas.{err-from}
+use Rattle.stack_recovery.proofs.lemmas.WritingLemmas.{err-from}
 use Rattle.stack_recovery.proofs.skimming.skim_ahead.Goals as goal
 
 pub returns-in_err-skim_by-clause-err : goal.returns-in_err-skim_by-clause-err

@@ -25,7 +25,7 @@ use Rattle.stack_recovery.proofs.LeafReadLemmas.{copies-again, copies-had}
 use Rattle.stack_recovery.proofs.PieceLemmas.{next-piece, skipped-piece}
 use Rattle.stack_recovery.proofs.SkimLemmas.{IsSkimming, fails-skim, hands-short, hands-skims, hands-unwritten, skim-room, skimming-had, skimming-kept, skimming-none, skimming-skipped, skims-short, skims-until}
 use Rattle.stack_recovery.proofs.SkimPieceLemmas.{no-more}
-use Rattle.stack_recovery.proofs.WritingLemmas.{err-from}
+use Rattle.stack_recovery.proofs.lemmas.WritingLemmas.{err-from}
 use Rattle.stack_recovery.proofs.skimming.skim_by.Goals as goal
 
 pub pieces-init : goal.pieces-init

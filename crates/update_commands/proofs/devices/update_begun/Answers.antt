@@ -1,12 +1,13 @@
-use Rattle.std.proofs.Common.{IsTrue, ap, arith, inl, inr, refl, subst, sym}
+use Rattle.std.proofs.Common.{IsTrue, ap, arith, inl, inr, refl, subst, sym, ◌∙◌}
 use Rattle.std.proofs.Math.Path.{subst₂}
 use Rattle.std.proofs.lemmas.Result.{IfErr-weaker, on_ok_weaker}
+use Rattle.repair_commands.specs.declared.counters.Counters.{Counters}
+use Rattle.repair_commands.specs.Counters.{counters_of}
 use Rattle.tree_repair.specs.declared.repair.Plan.{Plan}
 use Rattle.tree_repair.specs.Worlds.{RepairWorld}
 use Rattle.verity_commands.specs.Surveyed.{surveyed_devices}
-use Rattle.update_commands.specs.declared.counts.Written.{Written}
 use Rattle.update_commands.specs.Moving.{FailsToMove, MovesListed}
-use Rattle.update_commands.specs.Updates.{UpdatesMoved}
+use Rattle.update_commands.specs.Updates.{EndsMoved, UpdatesMoved}
 use Rattle.update_commands.proofs.UpdateLemmas.{allowed-moved, allowed-unmoved}
 use Rattle.update_commands.proofs.devices.update_begun.Goals as goal
 
@@ -45,22 +46,28 @@ returns-in-Ok-clause-ok g c =
       count = count;
       between = between;
       moves = subst₂ (λ (p : Plan) (w : RepairWorld). MovesListed json p w moved old between) c.plan_of-plan.ensures c.image_of-image.ensures c.in-Ok.ensures.ok;
-      updates = subst (λ (b : Written). UpdatesMoved r json (record { before = b; moved = count }) moved after between new) c.written_to-before.ensures updates;
+      updates = subst (λ (b : Counters). UpdatesMoved r json (record { before = b; moved = count }) moved after between new) (c.counters_of-before.ensures ∙ ap counters_of c.image_of-image.ensures) updates;
     })
     c.update_moved.ensures.ok
 
 pub returns-in-Ok-clause-err : goal.returns-in-Ok-clause-err
 returns-in-Ok-clause-err g c =
     let json = c.args.json in
+    let r = c.args.release.now in
     let old = g.W.Write.contents c.args.writer.now.inner in
     let between = g.W.Write.contents c.move_listed.new.writer.inner in
+    let new = g.W.Write.contents c.update_moved.new.writer.inner in
+    let failed = c.update_moved.new.writer.failed in
     let moved = c.move_listed.new.image.world in
+    let count = c.in-Ok.moved in
+    let after = surveyed_devices (g.D.BlockDev.state c.update_moved.result.0) (g.H.BlockDev.state c.update_moved.result.1) in
     IfErr-weaker c.update_moved.result.2 _ _
     (λ fault ends. inr (inl (record {
       moved = moved;
+      count = count;
       between = between;
       moves = subst₂ (λ (p : Plan) (w : RepairWorld). MovesListed json p w moved old between) c.plan_of-plan.ensures c.image_of-image.ensures c.in-Ok.ensures.ok;
-      ends = ends;
+      ends = subst (λ (b : Counters). EndsMoved r json (record { before = b; moved = count }) moved after between new failed fault) (c.counters_of-before.ensures ∙ ap counters_of c.image_of-image.ensures) ends;
     })))
     c.update_moved.ensures.err
 

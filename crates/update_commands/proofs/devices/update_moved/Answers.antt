@@ -1,15 +1,11 @@
 use Rattle.std.proofs.Common.{ap, arith, inl, inr, refl, subst, sym, ◌∙◌}
-use Rattle.std.proofs.Math.Path.{subst₂}
 use Rattle.std.proofs.lemmas.Result.{IfErr-weaker, on_ok_weaker}
 use Rattle.tree_repair.specs.declared.repair.Plan.{Plan}
-use Rattle.verity_commands.specs.declared.tree_fault.TreeFault.{TreeFault}
-use Rattle.verity_commands.specs.Surveyed.{SurveyedDevices, surveyed_devices}
-use Rattle.verity_format.specs.Superblock.{shape_of}
+use Rattle.verity_commands.specs.Surveyed.{surveyed_devices}
 use Rattle.update_commands.specs.declared.counts.Counts.{Counts}
-use Rattle.update_commands.specs.declared.counts.Written.{Written}
-use Rattle.update_commands.specs.Counts.{counts_of}
-use Rattle.update_commands.specs.Releases.{plan_of}
-use Rattle.update_commands.specs.Updates.{EndsAloud, Finishes, RepairsAloud}
+use Rattle.update_commands.specs.Counts.{EndsWithCounts, counts_of}
+use Rattle.update_commands.specs.Repaired.{EndsAloud, RepairsAloud}
+use Rattle.update_commands.specs.Updates.{Finishes}
 use Rattle.update_commands.proofs.devices.update_moved.Goals as goal
 
 pub repair_aloud-data_dev-requires-clause-first : goal.repair_aloud-data_dev-requires-clause-first
@@ -27,17 +23,15 @@ returns-in-Ok-clause-ok g c =
     let old = g.W.Write.contents c.args.writer.now.inner in
     let between = g.W.Write.contents c.repair_aloud-data_dev.new.writer.inner in
     let new = g.W.Write.contents c.finish-ended.new.writer.inner in
+    let counters = c.repair_aloud-data_dev.result.2 in
     let mended = surveyed_devices (g.D.BlockDev.state c.repair_aloud-data_dev.result.0) (g.H.BlockDev.state c.repair_aloud-data_dev.result.1) in
-    let counted =
-    c.counts_of-counts.ensures
-    ∙ ap (λ (p : Plan). counts_of p.tree.shape tally c.written_to-after.result) c.plan_of-plan.ensures
-    ∙ ap (λ (b : Written). counts_of (shape_of s) tally b) c.written_to-after.ensures
-    in
+    let counted = c.counts_of-counts.ensures ∙ ap (λ (p : Plan). counts_of p.tree.shape tally counters) c.plan_of-plan.ensures in
     on_ok_weaker c.finish-ended.result
     (λ finishes. record {
       mended = mended;
+      counters = counters;
       between = between;
-      repairs = subst (λ (p : Plan). RepairsAloud json p w mended old between) c.plan_of-plan.ensures (rw c.in-Ok.is at c.repair_aloud-data_dev.ensures.ok);
+      repairs = subst (λ (p : Plan). RepairsAloud json p w mended old between counters) c.plan_of-plan.ensures (rw c.in-Ok.is at c.repair_aloud-data_dev.ensures.ok);
       finishes = subst (λ (n : Counts). Finishes s n json mended.hash_dev (g.H.BlockDev.state c.finish-ended.new.hash_dev) between new) counted finishes;
       data_is = refl;
     })
@@ -49,28 +43,55 @@ returns-in-Ok-clause-err g c =
     let w = c.args.image.world in
     let old = g.W.Write.contents c.args.writer.now.inner in
     let between = g.W.Write.contents c.repair_aloud-data_dev.new.writer.inner in
+    let counters = c.repair_aloud-data_dev.result.2 in
     let mended = surveyed_devices (g.D.BlockDev.state c.repair_aloud-data_dev.result.0) (g.H.BlockDev.state c.repair_aloud-data_dev.result.1) in
     IfErr-weaker c.finish-ended.result _ _
     (λ fault unfinished. inr (inl (record {
       mended = mended;
+      counters = counters;
       between = between;
-      repairs = subst (λ (p : Plan). RepairsAloud json p w mended old between) c.plan_of-plan.ensures (rw c.in-Ok.is at c.repair_aloud-data_dev.ensures.ok);
+      repairs = subst (λ (p : Plan). RepairsAloud json p w mended old between counters) c.plan_of-plan.ensures (rw c.in-Ok.is at c.repair_aloud-data_dev.ensures.ok);
       unfinished = unfinished;
       data_is = refl;
     })))
     c.finish-ended.ensures.err
 
-pub returns-in-Err-clause-err : goal.returns-in-Err-clause-err
-returns-in-Err-clause-err g c =
+pub returns-then-failed-clause-err : goal.returns-then-failed-clause-err
+returns-then-failed-clause-err g c =
     let json = c.args.json in
     let w = c.args.image.world in
     let old = g.W.Write.contents c.args.writer.now.inner in
     let new = g.W.Write.contents c.repair_aloud-data_dev.new.writer.inner in
     let failed = c.repair_aloud-data_dev.new.writer.failed in
+    let counters = c.repair_aloud-data_dev.result.2 in
     let mended = surveyed_devices (g.D.BlockDev.state c.repair_aloud-data_dev.result.0) (g.H.BlockDev.state c.repair_aloud-data_dev.result.1) in
-    let plan = plan_of c.args.release.now in
-    let cut : EndsAloud json plan w mended old new failed c.in-Err.fault = subst (λ (p : Plan). EndsAloud json p w mended old new failed c.in-Err.fault) c.plan_of-plan.ensures (rw c.in-Err.is at c.repair_aloud-data_dev.ensures.err) in
-    elim c.end_repairing-data_dev.ensures [
-      | inl done ↦ inl (subst₂ (λ (f : TreeFault) (t : SurveyedDevices). EndsAloud json plan w t old new failed f) (sym done.0) (sym done.1) cut)
-      | inr again ↦ inr (inr (record { mended = mended; cause = c.in-Err.fault; cut = cut; told = sym c.failed-unprinted.ensures ∙ again.0; goes_on = again.1 }))
-    ]
+    inr (inr (record {
+      mended = mended;
+      counters = counters;
+      cause = c.in-Err.fault;
+      cut = subst (λ (p : Plan). EndsAloud json p w mended old new failed counters c.in-Err.fault) c.plan_of-plan.ensures (rw c.in-Err.is at c.repair_aloud-data_dev.ensures.err);
+      told = sym c.failed.ensures ∙ c.if-failed.true;
+      goes_on = c.update_again-data_again.ensures;
+    }))
+
+pub returns-else-failed-clause-err : goal.returns-else-failed-clause-err
+returns-else-failed-clause-err g c =
+    let json = c.args.json in
+    let w = c.args.image.world in
+    let tally = c.args.tally.now in
+    let old = g.W.Write.contents c.args.writer.now.inner in
+    let between = g.W.Write.contents c.repair_aloud-data_dev.new.writer.inner in
+    let new = g.W.Write.contents c.say_losses-ended.new.writer.inner in
+    let was = c.repair_aloud-data_dev.new.writer.failed in
+    let failed = c.say_losses-ended.new.writer.failed in
+    let counters = c.repair_aloud-data_dev.result.2 in
+    let mended = surveyed_devices (g.D.BlockDev.state c.repair_aloud-data_dev.result.0) (g.H.BlockDev.state c.repair_aloud-data_dev.result.1) in
+    let counted = c.counts_of-counts.ensures ∙ ap (λ (p : Plan). counts_of p.tree.shape tally counters) c.plan_of-plan.ensures in
+    inl (record {
+      counters = counters;
+      between = between;
+      was = was;
+      cause = c.in-Err.fault;
+      ends = subst (λ (p : Plan). EndsAloud json p w mended old between was counters c.in-Err.fault) c.plan_of-plan.ensures (rw c.in-Err.is at c.repair_aloud-data_dev.ensures.err);
+      counted = subst (λ (n : Counts). EndsWithCounts n json c.in-Err.fault between new was failed c.say_losses-ended.result) counted c.say_losses-ended.ensures;
+    })

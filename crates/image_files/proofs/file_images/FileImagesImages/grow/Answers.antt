@@ -1,10 +1,12 @@
-use Rattle.std.proofs.Common.{◌≡◌, ◌*◌, ◌⊎◌, ℕ, true, List, Result, Ok, Err, IsErrAnd, OnOk, inl, inr, refl, subst, sym}
+use Rattle.std.proofs.Common.{◌≡◌, ◌*◌, ℕ, true, List, Result, Ok, Err, IsErrAnd, OnOk, inl, inr, refl, subst, sym}
+use Rattle.std.specs.Prelude.{IfErr}
 use Rattle.std.specs.declared.fs.File.{File}
 use Rattle.block_device.specs.declared.open_fault.OpenFault.{OpenFault}
 use Rattle.block_device.specs.FileCalls.{Opened}
 use Rattle.block_device.specs.FileId.{file_id, file_of}
-use Rattle.block_device.specs.Identity.{IsLongEnough}
+use Rattle.block_device.specs.Identity.{IsLongEnough, IsNotLengthened}
 use Rattle.image_files.specs.Calls.{FileRelations}
+use Rattle.image_files.specs.FileLocks.{IsUnopenedFile}
 use Rattle.image_files.specs.FileRelations.{Grows}
 use Rattle.image_files.specs.NewFiles.{FailsToMake, Makes}
 use Rattle.image_files.proofs.FileLemmas.{locks_at_most, made}
@@ -12,23 +14,23 @@ use Rattle.image_files.proofs.file_images.FileImagesImages.grow.Goals as goal
 
 -- a file that was made, or was there, and then has so many sectors
 grows : {C F : Type 0} (r : FileRelations C F) (old new : C) (path : List ℕ) (n : ℕ) (result : Result (Unit {0}) OpenFault) (file left : File) → Makes r old path new
-    → Opened path true file → OnOk result (IsLongEnough file (n * 512) left) → Grows r old path n result new
-grows r old new path n (Ok done) file left is opened long = inr (record { makes = is; file = file; left = left; opened = opened; long = long })
-grows r old new path n (Err fault) file left is opened long = inr (inl is)
+    → Opened path true file → OnOk result (IsLongEnough file (n * 512) left) → IfErr result (IsNotLengthened file (n * 512)) → Grows r old path n result new
+grows r old new path n (Ok done) file left is opened long refused = inr (record { makes = is; file = file; left = left; opened = opened; long = long })
+grows r old new path n (Err fault) file left is opened long refused = inr (inr (is, inr (record { file = file; opened = opened; refused = refused })))
 
 pub returns : goal.returns
 returns g c = (
   made _ _ _,
   locks_at_most true (file_id c.in_ok-file.file) c.args.self.now.locks.files.items c.open_file.new.locks.files.items c.in_ok-file.ensures.locked.0,
   grows g.C.FileCalls.relations c.args.self.now.texts.calls c.make_file.new.calls c.args.path.now c.args.sectors c.lengthen.result (file_of c.in_ok-file.file) (file_of c.lengthen.new.self)
-      c.in_ok-make_file.ensures.ok c.in_ok-file.ensures.locked.1 c.lengthen.ensures.long,
+      c.in_ok-make_file.ensures.ok c.in_ok-file.ensures.locked.1 c.lengthen.ensures.long c.lengthen.ensures.err,
 )
 
 -- a file that wasn't made
 unmade : {C F : Type 0} (r : FileRelations C F) (old new : C) (path : List ℕ) (n : ℕ) (result : Result (Unit {0}) OpenFault) (fault : OpenFault)
     → IsErrAnd result (λ e. e ≡ fault) → FailsToMake r old path fault new → Grows r old path n result new
 unmade r old new path n (Ok done) fault is h = absurd is
-unmade r old new path n (Err e) fault is h = inr (inr (subst (λ f. FailsToMake r old path f new) (sym is) h))
+unmade r old new path n (Err e) fault is h = inr (inl (subst (λ f. FailsToMake r old path f new) (sym is) h))
 
 pub returns-in_err-make_file : goal.returns-in_err-make_file
 returns-in_err-make_file g c = (
@@ -36,4 +38,18 @@ returns-in_err-make_file g c = (
   inl refl,
   unmade g.C.FileCalls.relations c.args.self.now.texts.calls c.make_file.new.calls c.args.path.now c.args.sectors c.from_residual.result c.in_err-make_file.field-0.0
       c.from_residual.ensures.1 c.in_err-make_file.ensures.err,
+)
+
+-- one that was made, or was there, and wasn't opened
+unopened : {C F : Type 0} (r : FileRelations C F) (old new : C) (path : List ℕ) (n : ℕ) (result : Result (Unit {0}) OpenFault) (fault : OpenFault)
+    → IsErrAnd result (λ e. e ≡ fault) → Makes r old path new → IsUnopenedFile path true fault → Grows r old path n result new
+unopened r old new path n (Ok done) fault is makes h = absurd is
+unopened r old new path n (Err e) fault is makes h = inr (inr (makes, inl (subst (IsUnopenedFile path true) (sym is) h)))
+
+pub returns-in_err-file : goal.returns-in_err-file
+returns-in_err-file g c = (
+  made _ _ _,
+  inl c.in_err-file.ensures.same,
+  unopened g.C.FileCalls.relations c.args.self.now.texts.calls c.make_file.new.calls c.args.path.now c.args.sectors c.from_residual-in_err-file.result c.in_err-file.field-0.0
+      c.from_residual-in_err-file.ensures.1 c.in_ok-make_file.ensures.ok c.in_err-file.ensures.err,
 )

@@ -1,7 +1,7 @@
 use Rattle.std.proofs.Common.{◌+◌, ◌≤◌, ◌^◌, List, length, sym, subst}
 use Rattle.rescue_map.specs.declared.map.Run.{Run}
 use Rattle.rescue_map.specs.Maps.{marks}
-use Rattle.rescue_map.proofs.RunLemmas.{are_runs-either}
+use Rattle.rescue_map.proofs.lemmas.RunLemmas.{are_runs-either}
 use Rattle.rescue_map.proofs.map.Map.add.Goals as goal
 
 pub invariant_of-self-inside : goal.invariant_of-self-inside

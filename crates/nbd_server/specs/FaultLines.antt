@@ -1,0 +1,35 @@
+-- What is printed of the faults of requests: a line for each.
+use Rattle.std.specs.Prelude.{◌≡◌, ◌⊎◌, ℕ, true, List, ◌++◌, codes, decimal, flat_map, Option}
+use Rattle.std.specs.Io.KnownBytes.{Appends}
+use Rattle.nbd_protocol.specs.Exports.{ExportRecord, export_at}
+use Rattle.nbd_server.specs.Logs.{met_name}
+use Rattle.nbd_server.specs.declared.first_faults.FirstFault.{FirstFault}
+use Rattle.program_io.specs.Counted.{CountedRecord}
+use Rattle.stack_meaning.specs.declared.fault.IoFault.{IoFault}
+use Rattle.stack_meaning.specs.declared.fault.IoFault.TheVariants as io
+
+-- the number of the backing device that failed, and the end of the line
+abbrev pub leaf_end : IoFault → List ℕ
+leaf_end (io.Device leaf) = codes " " ++ (decimal leaf ++ codes "\n")
+leaf_end fault = codes "\n"
+
+-- the sector of a request's fault, and the fault's name
+unfoldable pub fault_facts : FirstFault → List ℕ
+fault_facts f = codes ": sector " ++ (decimal f.sector ++ (codes ": " ++ (met_name f ++ leaf_end f.fault)))
+
+-- with the name of its export before them
+unfoldable pub named_fault : List ExportRecord → FirstFault → List ℕ
+named_fault exports f = (export_at exports f.place).name ++ fault_facts f
+
+-- a line for it
+unfoldable pub fault_line : List ExportRecord → FirstFault → List ℕ
+fault_line exports f = codes "dmstack: export " ++ named_fault exports f
+
+-- a line for each
+abbrev pub fault_lines : List ExportRecord → List FirstFault → List ℕ
+fault_lines exports faults = flat_map (fault_line exports) faults
+
+-- a text was printed, or the writer failed; a writer that had failed stays failed
+pub record IsPrinted {E : Type 0} (contents : E → Option (List ℕ)) (old new : CountedRecord E) (text : List ℕ) : Type 0 where
+  pub printed : Appends (contents old.inner) (contents new.inner) text ⊎ (new.failed ≡ true)
+  pub failed : old.failed ≡ true → new.failed ≡ true

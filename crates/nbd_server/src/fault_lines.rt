@@ -1,0 +1,97 @@
+//! Prints a line for each fault of a request. A failure of the writer stays known and ends nothing.
+ghost use Rattle.std.specs.Prelude.{◌≡◌, ◌≤◌, drop, length};
+ghost use Rattle.nbd_protocol.specs.Exports.{export_at, export_records};
+ghost use Rattle.nbd_server.specs.FaultLines.{IsPrinted, fault_facts, fault_line, fault_lines, named_fault};
+ghost use Rattle.program_io.specs.Counted.{Writes};
+
+use crate::first_faults::FirstFault;
+use nbd_protocol::{Export, export_at};
+use program_io::{Counted, WriteFault};
+use stack_meaning::IoFault;
+use std::io::Write;
+
+/// Prints a line for each fault from index `told` on, and returns how many faults there are.
+pub(crate) fn tell_faults<E: Write>(
+    errors: &mut Counted<E>,
+    exports: &[Export<'_>],
+    faults: &[FirstFault],
+    told: usize,
+) -> usize
+    requires { told ≤ length faults.now }
+    ensures count { result ≡ length faults.now }
+    ensures told { IsPrinted E.contents errors.old errors.new (fault_lines (export_records exports.now) (drop told faults.now)) }
+{
+    let _said = say_fault_lines(errors, exports, &faults[told..]);
+    faults.len()
+}
+
+// A line for each fault.
+fn say_fault_lines<W: Write>(
+    writer: &mut Counted<W>,
+    exports: &[Export<'_>],
+    faults: &[FirstFault],
+) -> Result<(), WriteFault>
+    ensures { Writes W.contents writer.old writer.new (fault_lines (export_records exports.now) faults.now) result }
+{
+    for fault in faults {
+        say_fault_line(writer, exports, fault)?;
+    }
+    Ok(())
+}
+
+// `dmstack: export NAME: sector S: KIND`
+#[tactic(auto, unfolding(crate::specs::FaultLines::fault_line))]
+fn say_fault_line<W: Write>(
+    writer: &mut Counted<W>,
+    exports: &[Export<'_>],
+    fault: &FirstFault,
+) -> Result<(), WriteFault>
+    ensures { Writes W.contents writer.old writer.new (fault_line (export_records exports.now) fault.now) result }
+{
+    writer.put(b"dmstack: export ")?;
+    say_named_fault(writer, exports, fault)
+}
+
+// `NAME: sector S: KIND`
+#[tactic(auto, unfolding(crate::specs::FaultLines::named_fault))]
+fn say_named_fault<W: Write>(
+    writer: &mut Counted<W>,
+    exports: &[Export<'_>],
+    fault: &FirstFault,
+) -> Result<(), WriteFault>
+    ensures { Writes W.contents writer.old writer.new (named_fault (export_records exports.now) fault.now) result }
+{
+    say_name(writer, exports, fault.place)?;
+    say_fault_facts(writer, fault)
+}
+
+// `: sector S: KIND`, with the number of the backing device that failed
+#[tactic(auto, unfolding(crate::specs::FaultLines::fault_facts))]
+fn say_fault_facts<W: Write>(writer: &mut Counted<W>, fault: &FirstFault) -> Result<(), WriteFault>
+    ensures { Writes W.contents writer.old writer.new (fault_facts fault.now) result }
+{
+    let (sector, kind) = (fault.sector, fault.name());
+    match fault.fault {
+        IoFault::Device(leaf) => {
+            writer.print(format_args!(": sector {sector}: {kind} {leaf}\n"))
+        }
+        IoFault::Stack(_) | IoFault::NoMemory => {
+            writer.print(format_args!(": sector {sector}: {kind}\n"))
+        }
+    }
+}
+
+// The name of the export at an index, if there is one.
+fn say_name<W: Write>(
+    writer: &mut Counted<W>,
+    exports: &[Export<'_>],
+    place: usize,
+) -> Result<(), WriteFault>
+    ensures { Writes W.contents writer.old writer.new (export_at (export_records exports.now) place).name result }
+{
+    let count = exports.len();
+    if count <= place {
+        return Ok(());
+    }
+    writer.put(export_at(exports, place).name)
+}

@@ -1,0 +1,36 @@
+-- Two lists, element by element.
+use Rattle.std.proofs.Common.{◌≡◌, ℕ, zero, suc, ◌-◌, ◌≤◌, Bool, List, [], ◌∷◌, ◌++◌, length, replicate, refl, sym, ap, ◌∙◌, append_assoc, arith}
+use Rattle.std.proofs.lemmas.List.{append-nil, length-append, length-replicate}
+use Rattle.rescue_map.specs.Aheads.{marks_ahead}
+use Rattle.rescue_map.specs.declared.ahead.Ahead.{Ahead}
+use Rattle.rescue_map.specs.Maps.{joined, marks}
+
+-- their first elements, which are alike
+pub joined-front : (f : Bool → Bool → Bool) (n : ℕ) (a b : Bool) (xs ys : List Bool) → joined f (replicate n a ++ xs) (replicate n b ++ ys) ≡ replicate n (f a b) ++ joined f xs ys
+joined-front f zero a b xs ys = refl
+joined-front f (suc n) a b xs ys = ap (λ (l : List Bool). f a b ∷ l) (joined-front f n a b xs ys)
+
+joined-none : (f : Bool → Bool → Bool) (xs ys : List Bool) → length ys ≡ 0 → joined f xs ys ≡ []
+joined-none f [] ys e = refl
+joined-none f (x ∷ xs) [] e = refl
+joined-none f (x ∷ xs) (y ∷ ys) e = absurd (omega (arith, e))
+
+-- so many are joined, and then the rest
+pub joined-more : (f : Bool → Bool → Bool) (n : ℕ) (a b : Bool) (old new xs xs' ys ys' : List Bool) → new ≡ old ++ replicate n (f a b) → xs ≡ replicate n a ++ xs' → ys ≡ replicate n b ++ ys'
+    → new ++ joined f xs' ys' ≡ old ++ joined f xs ys
+joined-more f n a b old new xs xs' ys ys' put front behind =
+    ap (λ (l : List Bool). l ++ joined f xs' ys') put
+    ∙ append_assoc old (replicate n (f a b)) (joined f xs' ys')
+    ∙ ap (λ (l : List Bool). old ++ l) (sym (ap (λ (l : List Bool). joined f l ys) front ∙ ap (joined f (replicate n a ++ xs')) behind ∙ joined-front f n a b xs' ys'))
+
+-- all were joined
+pub joined-all : (f : Bool → Bool → Bool) (made xs ys whole : List Bool) → length ys ≡ 0 → made ++ joined f xs ys ≡ whole → made ≡ whole
+joined-all f made xs ys whole none e = sym (ap (λ (l : List Bool). made ++ l) (joined-none f xs ys none) ∙ append-nil made) ∙ e
+
+-- how many are left
+pub left-more : (n : ℕ) (h : Bool) (now next : List Bool) (left : ℕ) → now ≡ replicate n h ++ next → length now ≡ left → length next ≡ left - n
+left-more n h now next left is all = omega (arith, all, ap length is, length-append (replicate n h) next, length-replicate {A = Bool} n h)
+
+-- the current run is among the sectors ahead
+pub first-inside : (ahead : Ahead) → ahead.first.count ≤ length (marks_ahead ahead)
+first-inside ahead = omega (arith, length-append (replicate ahead.first.count ahead.first.had) (marks ahead.rest.now), length-replicate {A = Bool} ahead.first.count ahead.first.had)

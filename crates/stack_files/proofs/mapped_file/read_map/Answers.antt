@@ -1,0 +1,12 @@
+use Rattle.std.proofs.Common.{ap, inr, refl, sym, ◌∙◌}
+use Rattle.image_files.specs.FileUses.{has_clash}
+use Rattle.stack_files.proofs.mapped_file.read_map.Goals as goal
+
+pub returns-then-has_clash-clause-err : goal.returns-then-has_clash-clause-err
+returns-then-has_clash-clause-err g c =
+    let clash = sym (c.has_clash.ensures ∙ ap (has_clash c.args.files.now) c.read_use.ensures) ∙ c.if-has_clash.true in
+    inr (record { text = c.in_ok-text.text; told = c.in_ok-text.ensures.ok; clash = clash; is = (refl, refl) })
+
+pub returns-clause-ok : goal.returns-clause-ok
+returns-clause-ok g c =
+    record { told = c.in_ok-text.ensures.ok; apart = sym (c.has_clash.ensures ∙ ap (has_clash c.args.files.now) c.read_use.ensures) ∙ c.if-has_clash.false }
