@@ -321,7 +321,7 @@ cc -shared -fPIC -O2 -o "$room/fail.so" "$top/scripts/gate/fail_calls.c" -ldl
 mkdir killed
 printf '# dmstack scan\n0 ?\n0 2048 +\n2048 2048 ?\n' > skimmed
 calls=''
-for number in 1 2 3 4 5 6 7 8 9 10 11 12 13; do
+for number in 1 2 3 4 5 6 7 8 9 10 11 12 13 14 15; do
     rm -rf killed/* met
     cp unread killed/map
     status=0
@@ -331,11 +331,12 @@ for number in 1 2 3 4 5 6 7 8 9 10 11 12 13; do
     read -r call _ _ path < met
     calls+=" $call:${path#"$room/"}"
     check "killed before call $number: the status" test "$status" = 137
-    # a map takes the place of the one before by the fourth of its five calls, and has a draft before the second to the fourth
+    # The first two calls try a draft. A map takes the place of the one before by the fourth of its five calls, and has a draft before
+    # the second to the fourth.
     wanted=unread draft='killed/*.dmstack-new*'
-    [ "$number" -le 4 ] || wanted=skimmed
-    [ "$number" -le 9 ] || wanted=tried
-    case $number in 2 | 3 | 4 | 7 | 8 | 9) draft=killed/map.dmstack-new ;; esac
+    [ "$number" -le 6 ] || wanted=skimmed
+    [ "$number" -le 11 ] || wanted=tried
+    case $number in 2 | 4 | 5 | 6 | 9 | 10 | 11) draft=killed/map.dmstack-new ;; esac
     check "killed before call $number: the map" cmp killed/map $wanted
     check "killed before call $number: the draft" test "$(echo killed/*.dmstack-new*)" = "$draft"
     cp unread killed/map
@@ -343,7 +344,7 @@ for number in 1 2 3 4 5 6 7 8 9 10 11 12 13; do
 done
 draft=killed/map.dmstack-new
 replaces=" create:$draft write:$draft sync:$draft rename:$draft sync:killed"
-check "the calls by which maps are replaced, and not$calls" test "$calls" = "$replaces$replaces"
+check "the calls by which maps are replaced, and not$calls" test "$calls" = " create:$draft remove:$draft$replaces$replaces"
 
 # The superblock of HASH changes before each read of a repair in turn, to one under which no block verifies. Either the pin refuses
 # that superblock, and nothing is written; or the one that was compared with the pin is the one by which the image is repaired.

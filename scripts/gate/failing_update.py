@@ -26,13 +26,14 @@ class Update(Repair):
     def told(self, mended):
         """What is printed if these blocks are written, and each block that is read from the release has its digest."""
         fetched = [sum(it.startswith(kind) and it.endswith(self.last_copy) for it in mended) for kind in (b"repaired data ", b"repaired hash ")]
-        return told(self.tree, mended, counted(self.tree, mended, fetched), False)
+        return told(self.tree, mended, counted(self.tree, mended, 0, fetched), False)
 
     def is_told(self, lines, mended):
-        """Whether that was printed, or more was read from the release, since a read failed."""
+        """Whether that was printed, or more was read from the release, since a read failed: then more may count as fetched, and as much
+        less as moved."""
         wanted = self.told(mended)
-        kept, fetched = ([int(line.split()[at]) for line in (lines[-1], wanted[-1])] for at in (1, 5))
-        return lines[:-1] == wanted[:-1] and kept[0] == kept[1] and fetched[0] >= fetched[1]
+        kept, moved, fetched = ([int(line.split()[at]) for line in (lines[-1], wanted[-1])] for at in (1, 3, 5))
+        return lines[:-1] == wanted[:-1] and kept[0] == kept[1] and moved[0] + fetched[0] == moved[1] + fetched[1] and fetched[0] >= fetched[1]
 
     def files_before(self):
         before = super().files_before()

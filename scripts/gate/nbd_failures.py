@@ -4,7 +4,7 @@ import subprocess
 
 from nbd_messages import (
     DF, EIO, ENOMEM, FLUSH, FUA, GREETING, READ, SECTOR, STACK, STATUS, WRITE, ZEROES, begun, begun_in_chunks, counts_of, exports,
-    failed, failed_at, faults_line, flags, log_of, reply, request, start_of, without_log,
+    failed, failed_at, faults_line, flags, log_of, reason_of, reply, request, start_of, without_log,
 )
 from sentences import without_sentence
 
@@ -49,10 +49,11 @@ def talks(chunked, failing=None, error=EIO):
 
 
 def lost_by(asked, chunked, failing):
-    """The sectors of the requests that report an error where the request of that number fails: a piece is read again, and goes well."""
+    """The sectors of the requests that report an error where the request of that number fails, and None for each flush: a piece is read
+    again, and goes well."""
     kind, *rest = asked[failing]
     if kind == "flush":
-        return [0 for later, *_ in asked[failing:] if later == "flush"]
+        return [None for later, *_ in asked[failing:] if later == "flush"]
     return [] if kind == "read" and chunked else [rest[0] // SECTOR]
 
 
@@ -115,7 +116,7 @@ def device_ends(asked, chunked, synced):
         lost = [] if failing is None else lost_by(asked, chunked, failing)
         line = b"fault 3 Device 3\n" if synced else faults_line(1, len(asked)) if lost else b""
         counts = counts_of(talks(chunked)[0], len(e.content), True)
-        log = start_of([e]) + log_of("file", counts, lost, b"Device 3")
+        log = start_of([e]) + log_of("file", counts, lost, b"Device 3", reason_of(talks(chunked)[0]))
         ends.append((told, 3 if line else 0, left, log + line))
     return ends
 

@@ -288,9 +288,9 @@ def faults_line(faults, requests):
 
 
 # The lines on standard error on a service, unless it is quiet: one for each export before the greeting, one for each sector that a
-# request lost, and those at its end.
+# request lost and one for a failed sync, and those at its end.
 START = re.compile(rb"(?:dmstack: export [!-~]+ [0-9]+ bytes r[ow]\n)+")
-LOG = re.compile(START.pattern + rb"(?:dmstack: export [!-~]+: sector [0-9]+: [A-Za-z]+(?: [0-9]+)?\n)*(?:dmstack: [0-9]+ more faulty requests\n)?dmstack: served .*\n")
+LOG = re.compile(START.pattern + rb"(?:dmstack: export [!-~]+: (?:sector [0-9]+|flush): [A-Za-z]+(?: [0-9]+)?\n)*(?:dmstack: [0-9]+ more faulty requests\n)?dmstack: served .*\n")
 MOST_LISTED = 60
 
 
@@ -299,13 +299,16 @@ def start_of(served):
     return b"".join(b"dmstack: export %s %d bytes %s\n" % (it.name.encode(), len(it.content), b"rw" if it.writable else b"ro") for it in served)
 
 
-def log_of(name, counts, lost=(), kind=b"ErrorTarget", reason=b"the client disconnected"):
-    """The lines after the first on a service of that export: on the first sectors that were lost, by faults of a kind, on the requests
-    and their bytes, and why it ended."""
+def log_of(name, counts, lost, kind, reason):
+    """The lines after the first on a service of that export: on the first sectors that were lost (of a failed sync None), by faults of a
+    kind, on the requests and their bytes, and why it ended."""
     listed = list(dict.fromkeys(lost))[:MOST_LISTED]
-    lines = b"".join(b"dmstack: export %s: sector %d: %s\n" % (name.encode(), sector, kind) for sector in listed)
+    places = [b"flush" if sector is None else b"sector %d" % sector for sector in listed]
+    lines = b"".join(b"dmstack: export %s: %s: %s\n" % (name.encode(), place, kind) for place in places)
     more = b"dmstack: %d more faulty requests\n" % (len(lost) - len(listed)) if len(lost) > len(listed) else b""
-    return lines + more + b"dmstack: served %d requests of %d bytes, %d with an input/output error; %s\n" % (*counts, len(lost), reason)
+    full = len(lost) if kind.startswith(b"NoSpace") else 0
+    faults = len(lost) - full, full
+    return lines + more + b"dmstack: served %d requests of %d bytes, %d with an input/output error, %d with NoSpace; %s\n" % (*counts, *faults, reason)
 
 
 def counts_of(sent, size, writable):
@@ -336,6 +339,22 @@ def requests_of(sent):
             break
         found.append((kind, bits, offset, length))
     return found
+
+
+def reason_of(sent):
+    """Why a session ends whose messages are whole: the client ends it, by ABORT or DISC, or its messages end."""
+    at = 4
+    while sent[at : at + 8] == OPTION_MAGIC:
+        number, count = struct.unpack(">II", sent[at + 8 : at + 16])
+        if number == ABORT:
+            return b"the client ended the session"
+        at += 16 + count
+    while sent[at : at + 4] == struct.pack(">I", REQUEST) and at + 28 <= len(sent):
+        _, kind, _, _, length = struct.unpack(">HHQQI", sent[at + 4 : at + 28])
+        if kind == DISC:
+            return b"the client ended the session"
+        at += 28 + (length if kind == WRITE else 0)
+    return b"the client disconnected"
 
 
 def lost_in(sent, export):
@@ -387,8 +406,8 @@ class Runner(Checks):
         lost = lost_in(sent, exports()[name]) if status == 3 else []
         e = served_by(sent, name) if served else None
         counts = counts_of(sent, len(e.content), e.writable) if e else (0, 0)
-        ends = ENDS.items() if status == 4 and not told else [(told, b"the client disconnected")]
-        wanted_errors = [(start_of(served) + log_of(name or "", counts, lost, reason=reason) if served else b"") + line for line, reason in ends]
+        ends = ENDS.items() if status == 4 and not told else [(told, ENDS.get(told) or reason_of(sent))]
+        wanted_errors = [(start_of(served) + log_of(name or "", counts, lost, b"ErrorTarget", reason) if served else b"") + line for line, reason in ends]
         if without_sentence(b"", done.stderr, done.returncode) not in wanted_errors:
             problems.append(f"standard error: {done.stderr[:200]!r}")
         if after is not None and open("F", "rb").read() != after:
@@ -405,7 +424,7 @@ class Runner(Checks):
         good = done.stdout == wanted and done.returncode == status and start
         words_of_start = start[0].split() if start else [b"0", b"bytes", b"ro"]
         counts = counts_of(sent, int(words_of_start[-3]), words_of_start[-1] == b"rw")
-        good = good and told[start.end() :] == log_of(words[1], counts, lost, kind) + (faults_line(len(lost), counts[0]) if lost else b"")
+        good = good and told[start.end() :] == log_of(words[1], counts, lost, kind, reason_of(sent)) + (faults_line(len(lost), counts[0]) if lost else b"")
         self.count(label, good, f"differs at {at} of {len(wanted)}, status {done.returncode}, {done.stderr[:200]!r}")
 
 

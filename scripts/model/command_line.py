@@ -9,7 +9,7 @@ from images import Drawn, run_diff, run_dump, run_format, run_partitions, run_ta
 from nbd import Service
 from partitions import part_named
 from places import grow_file, open_place
-from recovery import chart_of, check_size, facts_of as lost_facts, lines_of, looked_up, recovered, with_map
+from recovery import chart_of, check_size, facts_of as lost_facts, lines_of, looked_up, recovered, runs_of, with_map
 from repairs import run_repair
 from replies import Json, Octets, ending_object
 from rescue_map import MapFault, marks_of
@@ -96,9 +96,10 @@ def resolved(words, files):
     return found
 
 
-def begun(path, words, files):
-    """The bindings, whose partitions are looked up first, and the text of the stack."""
+def begun(path, words, files, options=(), out=None):
+    """The bindings, whose partitions are looked up first, and the text of the stack, beside the map if there is one."""
     words = resolved(words, files)
+    use_map(options, files, out)
     return words, stack_text(path, files)
 
 
@@ -113,7 +114,12 @@ def bound(words, files):
 
 
 def stack_text(path, files):
-    text = bytes(files.stack if path == b"-" and files.stack is not None else files.content(path))
+    if path == b"-" and files.stack is not None:
+        text = bytes(files.stack)
+    else:
+        node = files.text(path)
+        files.take(node, False, WHOLE, path)
+        text = bytes(node)
     if len(text) > MOST_OF_A_TEXT:
         raise Stop(b"refused input")
     return text
@@ -191,21 +197,37 @@ def check_map(options):
         raise Usage
 
 
+def use_map(options, files, out=None):
+    """Whether there is a map's file. It is in use then as one that is written, is a regular one, and isn't the copy's image."""
+    if b"map" not in options:
+        return False
+    path, node = options[b"map"], None
+    try:
+        node = files.find(path)
+    except Stop as stop:
+        if not stop.line.startswith(b"refused 1 "):
+            raise
+    if not (node is None or isinstance(node, bytearray)):
+        raise not_opened("OtherFault", path)
+    if not files.can_replace(path):
+        raise Stop(b"refused 31 MapWrite")
+    if node is not None:
+        files.opened.append((node, True, WHOLE))
+    if out is not None and (files.same_name(path, out) or files.is_used(files.known(out), True)):
+        raise not_opened("SameFile", out)
+    return node is not None
+
+
 def gone_over(options, name, stack, out, files):
     """What `scan` and `copy` print, the statuses, and the map that is left in its file."""
     device = looked_up(stack.configuration, name)
     if out is not None:
         check_size(device, out)
-    unwritten = None
     if b"map" in options:
-        runs, had, unwritten = with_map(stack, device, out, options[b"map"], files, int(options.get(b"retries", b"0")) > 0)
+        runs, had = with_map(stack, device, out, options[b"map"], files, int(options.get(b"retries", b"0")) > 0)
     else:
-        runs, had = recovered(stack, device, out)
-    if unwritten:
-        # an object or a map comes at the end, and what ends it alone
-        if b"json" in options:
-            return [ending_object(unwritten)], REFUSED
-        return [*lines_of(runs, had)[:-1] * (b"chart" not in options), unwritten], REFUSED
+        faults, had = recovered(stack, device, out)
+        runs = runs_of(faults)
     lines = [Json(lost_facts(runs, had))] if b"json" in options else lines_of(runs, had)
     if b"chart" in options:
         lines[-1:-1] = chart_of(had)
@@ -218,9 +240,10 @@ def run_scan(options, words, files, _given, features):
     if b"json" in options and b"chart" in options:
         raise Usage
     if name is None:
+        use_map(options, files)
         stack = disk_stack(open_place(files, path, False), features)
         return gone_over(options, b"disk", stack, None, files)
-    rest, text = begun(path, rest, files)
+    rest, text = begun(path, rest, files, options)
     stack = loaded(text, rest, files, features)
     return gone_over(options, name, stack, None, files)
 
@@ -229,13 +252,14 @@ def run_copy(options, words, files, _given, features):
     (path, name), (out_path,), rest = read_pass(options, words, 1)
     check_map(options)
     if name is None:
+        is_mapped = use_map(options, files, out_path)
         disk = open_place(files, path, False)
         stack = disk_stack(disk, features)
-        if b"grow" in options:
+        if b"grow" in options and not is_mapped:
             grow_file(files, out_path, disk.sectors())
         image = files.image(out_path, True)
         return gone_over(options, b"disk", stack, image, files)
-    rest, text = begun(path, rest, files)
+    rest, text = begun(path, rest, files, options, out_path)
     out = files.image(out_path, True)
     stack = loaded(text, rest, files, features)
     return gone_over(options, name, stack, out, files)

@@ -343,7 +343,7 @@ LATER = [
      'self.take(length) if command == WRITE and self.device.writable else'),
     ("nbd-command", "a client that is lost went away", "nbd.py",
      '        head = self.take(28)',
-     '        if len(self.given) - self.at < 28:\n            raise Ended(DONE)\n        head = self.take(28)'),
+     '        if len(self.given) - self.at < 28:\n            raise Ended(DONE, reason=GONE)\n        head = self.take(28)'),
     ("nbd-command", "no zeros by the other flag", "nbd.py",
      'return bool(flags & NO_ZEROES)', 'return bool(flags & FIXED_NEWSTYLE)'),
     ("nbd-command", "an option of 65,537 bytes", "nbd.py",

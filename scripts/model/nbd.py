@@ -32,10 +32,12 @@ TEXTS = {
 }
 # Why a session ended, by the line on the client.
 REASONS = {
-    b"": b"the client disconnected", b"client 1 Lost": b"the client disconnected in a message", b"client 2 Magic": b"the client broke the protocol",
+    b"client 1 Lost": b"the client disconnected in a message", b"client 2 Magic": b"the client broke the protocol",
     b"client 3 Flags": b"the client broke the protocol", b"client 4 NoSuchExport": b"there is no such export",
     b"client 5 TooManyOptions": b"the client sent too many options",
 }
+# And without such a line: by DISC or ABORT, or between two messages.
+ENDED, GONE = b"the client ended the session", b"the client disconnected"
 MOST_OF_AN_OPTION, MOST_OF_A_REQUEST, MOST_OPTIONS = 65536, 32 * 1024 * 1024, 1024
 # Where the pieces of a READ end, and the blocks at the ends of one that are holes where they are zeros. A BLOCK_STATUS that
 # reads does so up to the end of a piece, or of a part of one where one extent is asked for, and tells zeros by such blocks.
@@ -46,11 +48,11 @@ MOST_LISTED = 60
 
 
 class Ended(Exception):
-    """The end of the service, with its status and the line on a client that broke the protocol or is lost."""
+    """The end of the service, with its status, and the line on a client that broke the protocol or is lost, or else why it ended."""
 
-    def __init__(self, status, line=b""):
+    def __init__(self, status, line=b"", reason=None):
         super().__init__(status)
-        self.status, self.line = status, line
+        self.status, self.line, self.reason = status, line, reason or REASONS[line]
 
 
 class Refused(Exception):
@@ -100,8 +102,7 @@ class Service:
             while True:
                 self.request()
         except Ended as end:
-            status, line = end.status, end.line
-        reason = REASONS[line]
+            status, line, reason = end.status, end.line, end.reason
         if status == DONE and self.faults:
             status, line = FAULTS, b"faults %d requests %d" % (self.faults, self.requests)
         self.replies.warnings = [*([] if is_quiet else self.log(reason)), *([line] if line else [])]
@@ -114,7 +115,7 @@ class Service:
         left_out = self.faults - len(listed)
         more = [b"dmstack: %d more faulty requests" % left_out] if left_out > 0 else []
         counts = self.requests, self.moved, self.faults, reason
-        served = b"dmstack: served %d requests of %d bytes, %d with an input/output error; %s" % counts
+        served = b"dmstack: served %d requests of %d bytes, %d with an input/output error, 0 with NoSpace; %s" % counts
         return [*devices, *listed, *more, served]
 
     def lose(self, at, fault):
@@ -126,7 +127,7 @@ class Service:
     def begin(self):
         """A message begins: where the input has ended, the client went away between two of them."""
         if self.at == len(self.given):
-            raise Ended(DONE)
+            raise Ended(DONE, reason=GONE)
 
     def take(self, count):
         """So many bytes of a message; a client that goes away in it is lost."""
@@ -158,7 +159,7 @@ class Service:
             return self.export_name(data)
         if option == ABORT:
             self.tell(option, ACK)
-            raise Ended(DONE)
+            raise Ended(DONE, reason=ENDED)
         if option == SET_META_CONTEXT:
             self.selected = None
         if length > MOST_OF_AN_OPTION:
@@ -257,7 +258,7 @@ class Service:
         if magic != REQUEST_MAGIC:
             raise Ended(BROKEN, b"client 2 Magic")
         if command == DISCONNECT:
-            raise Ended(DONE)
+            raise Ended(DONE, reason=ENDED)
         data = self.take(length) if command == WRITE else b""
         self.requests += 1
         asked = "command %d at %d of %d bytes" % (command, offset, length)

@@ -91,7 +91,7 @@ class Recoveries(Sessions):
         if self.has("forms", "pass-cache") and self.chance(0.2):
             words += [b"--cache", self.pick([b"0", b"1", b"64", b"65536", b"65537"])]
         if self.has("forms", "map") and self.chance(0.3):
-            words += [b"--map", b"map"]
+            words += [b"--map", self.pick([b"map"] * 12 + [b"gone/map", b"/dev/null", *self.files])]
         if self.has("forms", "retries") and self.chance(0.1):
             words += [b"--retries", self.pick([b"0", b"1", b"3", b"x"])]
         return words

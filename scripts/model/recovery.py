@@ -8,8 +8,6 @@ from session import SUBMISSION_RULES
 from stack import SECTOR, Fault
 
 OUT_RULES = ["TooSmall", "Device"]
-LEAST_TURN = 131072
-MOST_TURNS = 256
 
 
 def looked_up(configuration, name):
@@ -31,24 +29,30 @@ def answers(stack, device, marks):
             yield None, fault.text
 
 
-def recovered(stack, device, out, marks=(), turn=0):
-    """The longest runs of one fault, and of each sector whether it is had, now or before.
+def recovered(stack, device, out, marks=()):
+    """Of each sector the fault that it is lost by, or None; and whether it is had, now or before.
 
-    What can be had is put into `out`, where there is one; what is lost stays as it was there. With a map no run goes on
-    where a turn of so many sectors ends."""
-    runs, had = [], []
+    What can be had is put into `out`, where there is one; what is lost stays as it was there."""
+    faults, had = [], []
     for at, (data, fault) in enumerate(answers(stack, device, marks)):
         had.append(fault is None)
-        if data is not None:
-            if out is not None:
-                out[at * SECTOR:(at + 1) * SECTOR] = data
-        elif fault is None:
+        faults.append(fault)
+        if data is not None and out is not None:
+            out[at * SECTOR:(at + 1) * SECTOR] = data
+    return faults, had
+
+
+def runs_of(faults):
+    """The longest runs of sectors that are lost by one fault."""
+    runs = []
+    for at, fault in enumerate(faults):
+        if fault is None:
             continue
-        elif runs and runs[-1][2] == fault and sum(runs[-1][:2]) == at and not (turn and at % turn == 0):
+        if runs and runs[-1][2] == fault and sum(runs[-1][:2]) == at:
             runs[-1][1] += 1
         else:
             runs.append([at, 1, fault])
-    return runs, had
+    return runs
 
 
 def lines_of(runs, had):
@@ -73,24 +77,13 @@ def run_facts(first, count, fault):
     return {"first": first, "count": count, "fault": name, **({"leaf": int(leaf[0])} if leaf else {})}
 
 
-def known_runs(runs, joins):
-    """The runs of what a map has as lost, with the fault of no binding; a map that is made anew joins them."""
-    found = []
-    for first, count in runs:
-        if joins and found and sum(found[-1][:2]) == first:
-            found[-1][1] += count
-        else:
-            found.append([first, count, "fault 3 Device 0"])
-    return found
-
-
 def with_map(stack, device, out, path, files, again):
-    """The same where a map says what was had before: that isn't read again, nor what is lost, which comes first, unless lost
-    sectors are read again. The map is as it is then. Where nothing was read its file stays as it is. A copy takes nothing for
-    copied by a scan's map. Where the map isn't written, its refusal is told too."""
+    """The runs where a map says what was had before: that isn't read again, nor what is lost, by the fault of no binding, unless
+    lost sectors are read again. The map is as it is then. Where nothing was read its file stays as it is. A copy takes nothing for
+    copied by a scan's map."""
     of_scan = out is None
     try:
-        text = bytes(files.content(path))
+        text = bytes(files.text(path))
         marks = marks_of(text, device.sectors)
         bad = lost_runs_of(text)
         if is_of_scan(text) and not of_scan:
@@ -101,19 +94,16 @@ def with_map(stack, device, out, path, files, again):
         if not stop.line.startswith(b"refused 1 "):
             raise
         marks, bad = (), []
-    turn = max(LEAST_TURN, device.sectors // MOST_TURNS)
     lost = {at for first, count in bad for at in range(first, first + count)}
     settled = [had or not again and at in lost for at, had in enumerate(marks)]
-    runs, had = recovered(stack, device, out, settled, turn)
+    faults, had = recovered(stack, device, out, settled)
     reads = not marks or not all(settled)
     if not again:
         had = [it and at not in lost for at, it in enumerate(had)]
-        runs = known_runs(bad, reads) + runs
+        faults = ["fault 3 Device 0" if at in lost else it for at, it in enumerate(faults)]
     if reads:
-        if not files.can_replace(path):
-            return runs, had, b"refused 31 MapWrite"
         files.replace(path, text_of(had, of_scan, lost))
-    return runs, had, None
+    return runs_of(faults), had
 
 
 def check_size(device, out):

@@ -1,10 +1,10 @@
 """`update`: an image that is brought in place to the release of a pin."""
 
 from differences import Bad, Stored
-from files import Stop
+from files import Stop, not_opened
 from images import surveyed
 from pins import read_pin
-from places import grow_place, open_place, shrink_place
+from places import grow_place, named_part, open_place, shrink_place
 from repairs import Repair, opened
 from replies import Json
 from stack import SECTOR
@@ -57,10 +57,21 @@ def check_root(image, pin):
         raise Stop(str(bad).encode(), FAULT) from None
 
 
+def check_pin_apart(files, paths, pin):
+    """The file of the pin is neither image, nor is it to be made where one is."""
+    for path in paths:
+        node, part = files.known(path), named_part(path)
+        if node is None and part:
+            node = files.known(part[0])
+        if files.same_name(pin, path) or node is not None and node is files.known(pin):
+            raise not_opened("SameFile", pin)
+
+
 def run_update(options, words, files, _given, _features):
     *paths, copies = read_update(options, words)
     pin = read_pin(files, options[b"pin"])
     files.opened.clear()
+    check_pin_apart(files, paths, options[b"pin"])
     release = open_place(files, copies[-1][1], False).image()
     superblock = read_superblock(release)
     pin.check(superblock)
@@ -76,15 +87,15 @@ def run_update(options, words, files, _given, _features):
     listed, *seeds = [None if b"no-index" in options else listed_blocks(it, superblock) for it in (image, *copies[1][:-1])]
     if image[:len(SIGNATURE)] == SIGNATURE:
         image[:SECTOR] = bytes(SECTOR)
-    repair, lines, bad = Repair(tree, superblock.salt, pin.root, 0), [], []
-    lines += repair.lines((data, image), copies, True, [], 1)
-    if listed:
-        lines += repair.moves(data, listed)
-    lines += repair.seeds(data, copies[0], seeds)
+    repair, bad = Repair(tree, superblock.salt, pin.root, 0), []
+    lines = list(repair.lines((data, image), copies, True, [], 1))
+    copied = list(repair.moves(data, listed)) if listed else []
+    copied += repair.seeds(data, copies[0], seeds)
+    lines += copied
     lines += repair.fetches(data, copies[0])
     lines += repair.lines((data, image), copies, True, bad)
     lines = [line.encode() for line in lines]
-    counts = counted(tree, lines, repair.last_read)
+    counts = counted(tree, lines, len(copied), repair.last_read)
     if bad:
         found, status = surveyed(data, image, tree, superblock.salt, pin.root, False)
         return [Json(counts)] if b"json" in options else lines + found, status
@@ -94,15 +105,14 @@ def run_update(options, words, files, _given, _features):
     return told(tree, lines, counts, b"json" in options), DONE
 
 
-def counted(tree, lines, fetched):
-    """The counts of an update that wrote the blocks of these lines, and read so many data and hash blocks from the release.
+def counted(tree, lines, copied, read):
+    """The counts of an update that wrote the blocks of these lines, so many of them copied by lists, and read so many data and hash
+    blocks from the release.
 
-    Blocks that were written and not fetched moved: within DATA at least those whose lines say so."""
-    within = sum(line.startswith(b"moved ") for line in lines)
-    hashes = sum(line.startswith(b"repaired hash ") for line in lines)
-    moved = max(within, len(lines) - hashes - fetched[0]) + max(0, hashes - fetched[1])
-    bytes_read = fetched[0] * tree.data_block + fetched[1] * tree.hash_block
-    return {"kept": tree.blocks + sum(tree.levels) - len(lines), "moved": moved, "fetched": sum(fetched), "fetched_bytes": bytes_read}
+    Of the blocks that weren't copied by lists, as many as the release was read for were fetched; the others that were written moved."""
+    fetched = min(len(lines) - copied, sum(read))
+    bytes_read = read[0] * tree.data_block + read[1] * tree.hash_block
+    return {"kept": tree.blocks + sum(tree.levels) - len(lines), "moved": len(lines) - fetched, "fetched": fetched, "fetched_bytes": bytes_read}
 
 
 def told(tree, lines, counts, as_json):

@@ -69,8 +69,17 @@ module _ {S D T G : Type 0} (relations : Opener S D) (state : D → Device) (giv
         (super-sectors (drawing gives stream generators generators') a (state done.fills.image.device).size done.fills.kinds done.plan done.fills.is_plan) in
         ap (λ (i : List (List ℕ)). concat (take 1 i)) (made.image steady hash_steady) ∙ formatted-first super valid copied.image (state done.fills.fills.makes.image.device).image some ∙ ap spelling same
 
-    module _ (later : Device) (same : HoldsTheSame (state done.fills.fills.table.device') later) (part_is : run_of later.image done.plan.parts.hash.first done.plan.parts.hash.count ≡ (state done.fills.fills.makes.device').image)
-        (trusted : TrustedRoot) (root_is : trusted.root ≡ done.made.root) (pair : FindsPair later (size_of a.sector_size) trusted) where
+    module _ (opened : D) (same : HoldsTheSame (state done.fills.fills.table.device') (state opened)) (part_is : run_of (state opened).image done.plan.parts.hash.first done.plan.parts.hash.count ≡ (state done.fills.fills.makes.device').image)
+        (trusted : TrustedRoot) (root_is : trusted.root ≡ done.made.root) (pair : FindsPair state opened (size_of a.sector_size) trusted) where
+      abbrev later : Device
+      later = state opened
+
+      abbrev read_device : Device
+      read_device = state pair.read_device
+
+      abbrev signed_device : Device
+      signed_device = state pair.signed_device
+
       abbrev size : SectorSize
       size = size_of a.sector_size
 
@@ -80,11 +89,11 @@ module _ {S D T G : Type 0} (relations : Opener S D) (state : D → Device) (giv
           (assembled-held relations state gives stream whole chains images images' generators generators' a old new done data_steady disk_steady parts held)
 
       size-is : pair.table.size ≡ size
-      size-is = sized-is read later pair.read_device size (disk_id done.made) (partitions_of done.plan done.made) pair.table later-held pair.found
+      size-is = sized-is read later read_device size (disk_id done.made) (partitions_of done.plan done.made) pair.table later-held pair.found
 
       both-is : (pair.both.«data» ≡ data_partition done.plan done.made) × (pair.both.verity ≡ hash_partition done.plan done.made)
       both-is =
-          let entries = ((found later pair.read_device size (disk_id done.made) (partitions_of done.plan done.made) later-held).0 pair.table pair.found).entries in
+          let entries = ((found later read_device size (disk_id done.made) (partitions_of done.plan done.made) later-held).0 pair.table pair.found).entries in
           pair-is done.plan done.made trusted.root root_is pair.both (subst (λ (ps : List Partition). image_partitions ps trusted.root ≡ Ok pair.both) entries pair.both_is)
 
       -- both are whole sectors of the disk
@@ -106,9 +115,9 @@ module _ {S D T G : Type 0} (relations : Opener S D) (state : D → Device) (giv
       found-super : pair.super ≡ done.plan.superblock
       unfolding block_at
       found-super =
-          let kept : Keeps later pair.signed_device = keeps-then later pair.read_device pair.signed_device (sized-keeps later pair.read_device size pair.table pair.found) (keeps-only pair.read_device pair.signed_device pair.sought.read) in
+          let kept : Keeps later signed_device = keeps-then later read_device signed_device (sized-keeps later read_device size pair.table pair.found) (keeps-only read_device signed_device pair.sought.read) in
           let sector = pair.fitting.read.first (kept.steady same.steady)
-          ∙ ap (λ (p : Part). concat (take 1 (run_of pair.signed_device.image p.first p.count))) hash-is
+          ∙ ap (λ (p : Part). concat (take 1 (run_of signed_device.image p.first p.count))) hash-is
           ∙ ap (λ (i : List (List ℕ)). concat (take 1 (run_of i done.plan.parts.hash.first done.plan.parts.hash.count))) (kept.image same.steady)
           ∙ ap (λ (i : List (List ℕ)). concat (take 1 i)) part_is
           ∙ super-stored in

@@ -26,7 +26,7 @@ abbrev pub AssembledStacksArePrinted : {S D T G : Type 0} → Opener S D → (D 
 AssembledStacksArePrinted {S} {D} {T} {G} relations state gives stream =
     (images images' : S) (generators generators' : T) (a : AssembleRecord) (old new : Option (List ℕ)) → (done : HasAssembled relations state gives stream images images' generators generators' a old new)
     → IsTrue (state done.fills.image.device).steady → IsTrue (state done.fills.fills.makes.image.device).steady → IsTrue (state done.fills.fills.table.image.device).steady
-    → (later : Device) → HoldsTheSame (state done.fills.fills.table.device') later
-    → run_of later.image done.plan.parts.hash.first done.plan.parts.hash.count ≡ (state done.fills.fills.makes.device').image
-    → (trusted : TrustedRoot) → trusted.root ≡ done.made.root → (writable : Bool) → (pair : FindsPair later (size_of a.sector_size) trusted)
+    → (later : D) → HoldsTheSame (state done.fills.fills.table.device') (state later)
+    → run_of (state later).image done.plan.parts.hash.first done.plan.parts.hash.count ≡ (state done.fills.fills.makes.device').image
+    → (trusted : TrustedRoot) → trusted.root ≡ done.made.root → (writable : Bool) → (pair : FindsPair state later (size_of a.sector_size) trusted)
     → pair_text writable pair ≡ assembled_text writable done.plan done.made ++ signature_entry pair.table.size pair.signed

@@ -1,5 +1,5 @@
 -- Lines of faults as they are printed.
-use Rattle.std.proofs.Common.{◌≡◌, ◌≤◌, ◌∙◌, ◌++◌, ℕ, true, List, [], length, Option, Result, Ok, Err, ap, arith, inl, inr, refl, subst, sym}
+use Rattle.std.proofs.Common.{◌≡◌, ◌≤◌, ◌∙◌, ◌++◌, ℕ, true, List, [], append-nil, length, Option, Result, Ok, Err, ap, arith, inl, inr, refl, subst, sym}
 use Rattle.std.specs.Prelude.{◌⊎◌, flat_map}
 use Rattle.std.specs.Io.KnownBytes.{Appends}
 use Rattle.std.proofs.KnownBytes.{Appends-nil, Appends-trans}
@@ -7,8 +7,9 @@ use Rattle.std.proofs.lemmas.Grind.{flat_map-append}
 use Rattle.std.proofs.lemmas.List.{get_or_past, length-map}
 use Rattle.nbd_protocol.specs.Exports.{ExportRecord, export_at, export_record, export_records, no_export}
 use Rattle.nbd_protocol.specs.declared.export.Export.{Export}
-use Rattle.nbd_server.specs.FaultLines.{IsPrinted, fault_line, fault_lines}
+use Rattle.nbd_server.specs.FaultLines.{IsPrinted, PrintsNew, fault_line, fault_lines}
 use Rattle.nbd_server.specs.declared.first_faults.FirstFault.{FirstFault}
+use Rattle.nbd_server.specs.declared.session_log.SessionLog.{SessionLog}
 use Rattle.program_io.specs.Counted.{CountedRecord, Writes}
 use Rattle.program_io.specs.declared.fault.WriteFault.{WriteFault}
 
@@ -24,6 +25,14 @@ module _ {E : Type 0} (contents : E → Option (List ℕ)) where
 
   pub printed-none : (at : CountedRecord E) → IsPrinted contents at at []
   printed-none at = record { printed = inl (Appends-nil (contents at.inner)); failed = λ failed. failed }
+
+  -- the log is the same
+  pub prints-none : (at : CountedRecord E) (exports : List ExportRecord) (before after : SessionLog) → after ≡ before → PrintsNew contents at at exports before.first after.first
+  prints-none at exports before after same = record {
+    rest = [];
+    grows = ap (λ (l : SessionLog). l.first) same ∙ sym (append-nil before.first);
+    lines = printed-none at;
+  }
 
   -- one text after another
   printed-then : (old mid new : CountedRecord E) (first second : List ℕ) → Appends (contents old.inner) (contents mid.inner) first ⊎ (mid.failed ≡ true) → (mid.failed ≡ true → new.failed ≡ true)

@@ -3,6 +3,7 @@ pub mod ContentLemmas
 pub mod ToldLemmas
 pub mod DeliveryLemmas
 pub mod FetchLemmas
+pub mod FlushLemmas
 pub mod ServiceLemmas
 pub mod StatusLemmas
 pub mod ReadStatusLemmas

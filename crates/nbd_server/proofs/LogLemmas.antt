@@ -1,9 +1,10 @@
 -- The first faults of a session.
-use Rattle.std.proofs.Common.{◌≡◌, ◌≢◌, ◌≤◌, ◌<◌, ◌∙◌, ℕ, Bool, true, false, List, [], ◌∷◌, ◌++◌, length, ap, append-nil, arith, drop, inl, inr, refl, sym, Option, Some, None, Ok}
+use Rattle.std.proofs.Common.{◌≡◌, ◌≢◌, ◌≤◌, ◌<◌, ◌∙◌, ℕ, Bool, true, false, List, [], ◌∷◌, ◌++◌, length, ap, append-nil, arith, drop, inl, inr, refl, sym, Option, Some, None, Result, Ok, Err}
 use Rattle.std.proofs.Math.Seq.{drop-append_seam}
 use Rattle.std.specs.Prelude.{◌⊎◌, nat_lt, if◌then◌else◌}
 use Rattle.nbd_protocol.specs.Exports.{ExportRecord, export_at}
 use Rattle.nbd_protocol.specs.Headers.{command_of, header_of}
+use Rattle.nbd_protocol.specs.declared.fault.ServiceFault.{ServiceFault}
 use Rattle.nbd_protocol.specs.declared.phase.Agreement.{Agreement}
 use Rattle.nbd_protocol.specs.declared.phase.Phase.{Phase}
 use Rattle.nbd_protocol.specs.declared.phase.Phase.TheVariants.{Greeted, Haggling, Serving, Over}
@@ -63,11 +64,18 @@ message-grows es (Haggling terms) w message reply next w' takes log = ([], sym (
 message-grows es (Serving agreed) w message reply next w' takes log = request-grows (export_at es agreed.place) agreed w takes.header takes.payload reply next w' takes.answered log
 message-grows es Over w message reply next w' takes log = absurd takes
 
-pub turn-grows : (es : List ExportRecord) (phase : Phase) (w w' : World) (log log' : SessionLog) (old new : Streams) (next : Phase) → EndsTurn es phase w w' log log' old new (Ok (Some next))
+turn-grows : (es : List ExportRecord) (phase : Phase) (w w' : World) (log log' : SessionLog) (old new : Streams) (next : Phase) → EndsTurn es phase w w' log log' old new (Ok (Some next))
     → (rest : List FirstFault) × (log'.first ≡ log.first ++ rest)
 turn-grows es phase w w' log log' old new next t =
     let grows = message-grows es phase w t.taken t.written next w' t.holds.0 log in
     (grows.0, ap (λ (x : SessionLog). x.first) t.holds.1 ∙ grows.1)
+
+-- and however the turn ends
+pub turn-grown : (es : List ExportRecord) (phase : Phase) (w w' : World) (log log' : SessionLog) (old new : Streams) (result : Result (Option Phase) ServiceFault) → EndsTurn es phase w w' log log' old new result
+    → (rest : List FirstFault) × (log'.first ≡ log.first ++ rest)
+turn-grown es phase w w' log log' old new (Ok (Some next)) t = turn-grows es phase w w' log log' old new next t
+turn-grown es phase w w' log log' old new (Ok None) t = ([], ap (λ (x : SessionLog). x.first) t.1 ∙ sym (append-nil log.first))
+turn-grown es phase w w' log log' old new (Err fault) t = ([], ap (λ (x : SessionLog). x.first) t.1 ∙ sym (append-nil log.first))
 
 -- what wasn't printed yet
 pub left-over : (told : ℕ) (first rest all : List FirstFault) → told ≡ length first → all ≡ first ++ rest → drop told all ≡ rest

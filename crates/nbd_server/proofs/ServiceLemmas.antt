@@ -34,6 +34,7 @@ use Rattle.nbd_server.specs.Delivery.{delivery_of}
 use Rattle.nbd_server.specs.declared.delivery.Delivery.{Delivery}
 use Rattle.nbd_server.specs.Service.{AnswersOption, BeginsMessage, Conversation, begins, goes_on, EndsTurn, IsInterrupted, IsService, IsLastRequest, IsServedRequest, IsUnanswered, GivesReply, TakesMessage, message_log, log_before, log_of}
 use Rattle.nbd_server.specs.Logs.{no_log}
+use Rattle.nbd_server.specs.declared.session_end.SessionEnd.TheVariants.{Ended, Gone}
 use Rattle.nbd_server.specs.declared.session_log.SessionLog.{SessionLog}
 use Rattle.nbd_server.proofs.DeliveryLemmas.{delivered-config, read-config}
 use Rattle.nbd_server.proofs.ReadStatusLemmas.{status-config}
@@ -72,9 +73,9 @@ held-more {es = es} {now = now} {phase = phase} {old = old} {mid = mid} next now
 }
 
 -- it went away between two messages
-pub held-none : {es : List ExportRecord} {first now : World} {phase : Phase} {log : SessionLog} {old mid : Streams} (now' : World) (log' : SessionLog) (new : Streams) (done : Unit) → BusyOr es first phase now log old mid
-    → EndsTurn es phase now now' log log' mid new (Ok None) → IsService es first now' old new log' (Ok done)
-held-none {es = es} {first = first} {now = now} {phase = phase} {log = log} {old = old} {mid = mid} now' log' new done h t =
+pub held-none : {es : List ExportRecord} {first now : World} {phase : Phase} {log : SessionLog} {old mid : Streams} (now' : World) (log' : SessionLog) (new : Streams) → phase ≢ Over → BusyOr es first phase now log old mid
+    → EndsTurn es phase now now' log log' mid new (Ok None) → IsService es first now' old new log' (Ok Gone)
+held-none {es = es} {first = first} {now = now} {phase = phase} {log = log} {old = old} {mid = mid} now' log' new going h t =
     let none = t.0.0 in
     let talk = subst (λ (x : World). IsTalk es first phase x log h.taken h.written) (sym none.holds.2) h.holds in
     record {
@@ -92,7 +93,7 @@ held-none {es = es} {first = first} {now = now} {phase = phase} {log = log} {old
           logged_is = t.1 ∙ talk.3;
           taken_is = refl;
           written_is = ap (λ l. h.written ++ l) none.holds.1 ∙ append-nil h.written ∙ talk.2;
-          ends = (none.holds.0, inr t.0.1);
+          ends = (none.holds.0, going, t.0.1);
         };
       };
       done = λ is. (cc);
@@ -128,7 +129,7 @@ ends-in {es = es} {first = first} {now = now} {phase = phase} {log = log} {old =
 
 -- those messages were taken and done
 stuck : {es : List ExportRecord} {first last : World} {phase : Phase} {old new : Streams} (log : SessionLog) (whole replies : List ℕ) → Consumes old.input new.input whole → (talk : Conversation es first phase last whole replies)
-    → (log ≡ log_of talk) ⊎ (log ≡ log_before talk) → IsService es first last old new log (Err fault.WriteFault)
+    → log ≡ log_before talk → IsService es first last old new log (Err fault.WriteFault)
 stuck {last = last} {phase = phase} {old = old} {new = new} log whole replies c talk logged_is = record {
   held = λ other. absurd (other refl);
   done = λ is. record {
@@ -139,8 +140,7 @@ stuck {last = last} {phase = phase} {old = old} {new = new} log whole replies c 
     rest = [];
     consumed = subst (λ (l : List ℕ). Consumes old.input new.input l) (sym (append-nil whole)) c;
     talk = talk;
-    logged_is = logged_is;
-    ends = inl (refl, refl);
+    ends = inl (refl, refl, logged_is);
   };
   led = talk-led talk;
 }
@@ -158,26 +158,20 @@ stuck-begun {es = es} {first = first} {mid = mid} {phase = phase} last old new l
     rest = rest;
     consumed = c;
     talk = talk;
-    logged_is = inl logged_is;
-    ends = inr begun;
+    ends = inr (begun, logged_is);
   };
   led = led-then EachPart first mid last (talk-led talk) (begun-led es phase mid rest last begun);
 }
 
 -- in the greeting
 pub held-unsaid : (es : List ExportRecord) (first : World) (log : SessionLog) (input output output' : Option (List ℕ)) → log ≡ no_log → IsService es first first (streams input output) (streams input output') log (Err fault.WriteFault)
-held-unsaid es first log input output output' none = stuck {old = streams input output} {new = streams input output'} log [] [] (Consumes-nil input) begins (inl none)
-
--- between two messages
-pub held-stuck : {es : List ExportRecord} {first now : World} {phase : Phase} {log : SessionLog} {old : Streams} (input output output' : Option (List ℕ)) → BusyOr es first phase now log old (streams input output)
-    → IsService es first now old (streams input output') log (Err fault.WriteFault)
-held-stuck {log = log} {old = old} input output output' h = stuck {old = old} {new = streams input output'} log h.taken h.holds.0 h.consumed h.holds.1 (inl h.holds.3)
+held-unsaid es first log input output output' none = stuck {old = streams input output} {new = streams input output'} log [] [] (Consumes-nil input) begins none
 
 -- in a reply
 held-fails : {es : List ExportRecord} {first now : World} {phase : Phase} {log : SessionLog} {old mid : Streams} (now' : World) (log' : SessionLog) (new : Streams) → BusyOr es first phase now log old mid → log' ≡ log
     → IsUnanswered es phase now now' mid.input new.input ⊎ IsInterrupted es phase now now' mid.input new.input → IsService es first now' old new log' (Err fault.WriteFault)
 held-fails {old = old} {mid = mid} now' log' new h same (inl t) =
-    stuck {old = old} {new = new} log' (h.taken ++ t.message) (h.holds.0 ++ t.reply) (Consumes-trans old.input mid.input new.input h.taken t.message h.consumed t.consumed) (goes_on t.message t.reply h.holds.1 t.takes) (inr (same ∙ h.holds.3))
+    stuck {old = old} {new = new} log' (h.taken ++ t.message) (h.holds.0 ++ t.reply) (Consumes-trans old.input mid.input new.input h.taken t.message h.consumed t.consumed) (goes_on t.message t.reply h.holds.1 t.takes) (same ∙ h.holds.3)
 held-fails {old = old} {mid = mid} now' log' new h same (inr t) =
     stuck-begun now' old new log' h.taken h.holds.0 t.message (Consumes-trans old.input mid.input new.input h.taken t.message h.consumed t.consumed) h.holds.1 (same ∙ h.holds.3) t.begins
 
@@ -199,8 +193,8 @@ held-stops {now = now} {log = log} new h =
     ends-in {mid = new} now log new fault.ReadFault (λ is. (cc)) h refl (record { taken = []; written = []; consumed = Consumes-nil new.input; appended = Appends-nil new.output; holds = (refl, refl, inl refl) })
 
 -- the client has ended it
-pub held-over : {es : List ExportRecord} {first now : World} {phase : Phase} {log : SessionLog} {old new : Streams} (done : Unit) → BusyOr es first phase now log old new → phase ≡ Over → IsService es first now old new log (Ok done)
-held-over {phase = phase} done h over = record {
+pub held-over : {es : List ExportRecord} {first now : World} {phase : Phase} {log : SessionLog} {old new : Streams} → BusyOr es first phase now log old new → phase ≡ Over → IsService es first now old new log (Ok Ended)
+held-over {phase = phase} h over = record {
   held = λ other. record {
     taken = h.taken;
     written = h.written;
@@ -215,7 +209,7 @@ held-over {phase = phase} done h over = record {
       logged_is = h.holds.3;
       taken_is = sym (append-nil h.taken);
       written_is = h.holds.2;
-      ends = (refl, inl over);
+      ends = (refl, over);
     };
   };
   done = λ is. (cc);

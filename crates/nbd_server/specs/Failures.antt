@@ -4,7 +4,7 @@ use Rattle.block_device.specs.Device.{Device}
 use Rattle.nbd_protocol.specs.declared.request_error.RequestError.{RequestError}
 use Rattle.nbd_protocol.specs.declared.request_error.RequestError.TheVariants.{InputOutput, Invalid, NoMemory, NoSpace, NotPermitted, NotSupported}
 use Rattle.nbd_server.specs.declared.failure.Failure.{Failure}
-use Rattle.nbd_server.specs.declared.failure.Failure.TheVariants.{Faulty, Full, Refused}
+use Rattle.nbd_server.specs.declared.failure.Failure.TheVariants.{Faulty, Full, Refused, Unsynced}
 use Rattle.nbd_server.specs.declared.first_faults.SectorFault.{SectorFault}
 use Rattle.stack_meaning.specs.declared.fault.Fault.TheVariants.{ErrorTarget, Mismatch}
 use Rattle.stack_meaning.specs.declared.fault.IoFault.{IoFault}
@@ -26,12 +26,14 @@ abbrev pub write_failure : List Device → Failure → Failure
 write_failure leaves (Refused error) = Refused error
 write_failure leaves (Faulty fault) = if lacks_space leaves fault then Full fault else Faulty fault
 write_failure leaves (Full fault) = Full fault
+write_failure leaves (Unsynced fault) = Unsynced fault
 
 -- the error that the reply reports
 abbrev pub reported_error : Failure → RequestError
 reported_error (Refused error) = error
 reported_error (Faulty fault) = InputOutput
 reported_error (Full fault) = NoSpace
+reported_error (Unsynced fault) = InputOutput
 
 -- what an error chunk says of a request that isn't allowed, or for which memory lacks
 abbrev pub refusal_text : RequestError → List ℕ
@@ -54,9 +56,11 @@ abbrev pub failure_text : Failure → List ℕ
 failure_text (Refused error) = refusal_text error
 failure_text (Faulty fault) = fault_text fault
 failure_text (Full fault) = codes "a backing device has no space left"
+failure_text (Unsynced fault) = fault_text fault
 
--- a fault with a sector; other failures are none
+-- a fault with a sector, but that of a sync without one; other failures are none
 abbrev pub fault_at : ℕ → Failure → Option SectorFault
 fault_at sector (Refused error) = None
-fault_at sector (Faulty fault) = Some (record { sector = sector; fault = fault; full = false })
-fault_at sector (Full fault) = Some (record { sector = sector; fault = fault; full = true })
+fault_at sector (Faulty fault) = Some (record { sector = Some sector; fault = fault; full = false })
+fault_at sector (Full fault) = Some (record { sector = Some sector; fault = fault; full = true })
+fault_at sector (Unsynced fault) = Some (record { sector = None; fault = fault; full = false })

@@ -1,5 +1,5 @@
 -- What is printed of the faults of requests: a line for each.
-use Rattle.std.specs.Prelude.{◌≡◌, ◌⊎◌, ℕ, true, List, ◌++◌, codes, decimal, flat_map, Option}
+use Rattle.std.specs.Prelude.{◌≡◌, ◌⊎◌, ℕ, true, List, ◌++◌, codes, decimal, flat_map, Option, Some, None}
 use Rattle.std.specs.Io.KnownBytes.{Appends}
 use Rattle.nbd_protocol.specs.Exports.{ExportRecord, export_at}
 use Rattle.nbd_server.specs.Logs.{met_name}
@@ -13,9 +13,18 @@ abbrev pub leaf_end : IoFault → List ℕ
 leaf_end (io.Device leaf) = codes " " ++ (decimal leaf ++ codes "\n")
 leaf_end fault = codes "\n"
 
--- the sector of a request's fault, and the fault's name
+-- the sector of a request's fault, or that the fault is of a sync
+abbrev pub place_text : Option ℕ → List ℕ
+place_text (Some sector) = codes ": sector " ++ (decimal sector ++ codes ": ")
+place_text None = codes ": flush: "
+
+-- the name of a fault
+abbrev pub kind_text : FirstFault → List ℕ
+kind_text f = met_name f ++ leaf_end f.fault
+
+-- the place of a request's fault, and the fault's name
 unfoldable pub fault_facts : FirstFault → List ℕ
-fault_facts f = codes ": sector " ++ (decimal f.sector ++ (codes ": " ++ (met_name f ++ leaf_end f.fault)))
+fault_facts f = place_text f.sector ++ kind_text f
 
 -- with the name of its export before them
 unfoldable pub named_fault : List ExportRecord → FirstFault → List ℕ
@@ -33,3 +42,9 @@ fault_lines exports faults = flat_map (fault_line exports) faults
 pub record IsPrinted {E : Type 0} (contents : E → Option (List ℕ)) (old new : CountedRecord E) (text : List ℕ) : Type 0 where
   pub printed : Appends (contents old.inner) (contents new.inner) text ⊎ (new.failed ≡ true)
   pub failed : old.failed ≡ true → new.failed ≡ true
+
+-- a log has further faults after others, and a line for each of these was printed, or the writer failed
+pub record PrintsNew {E : Type 0} (contents : E → Option (List ℕ)) (old new : CountedRecord E) (exports : List ExportRecord) (before after : List FirstFault) : Type 0 where
+  pub rest : List FirstFault
+  pub grows : after ≡ before ++ rest
+  pub lines : IsPrinted contents old new (fault_lines exports rest)

@@ -13,11 +13,18 @@ use Rattle.nbd_server.specs.Tallies.{counted, no_requests}
 abbrev pub most_kept : ℕ
 most_kept = 60
 
--- a fault of the same sector of the same export is among them
-abbrev pub has_sector : List FirstFault → FirstFault → Bool
-has_sector first fault = list_any (λ met. (met.place == fault.place) && (met.sector == fault.sector)) first
+-- both are the same sector, or no sector
+abbrev pub is_same_sector : Option ℕ → Option ℕ → Bool
+is_same_sector (Some sector) (Some other) = sector == other
+is_same_sector (Some sector) None = false
+is_same_sector None (Some other) = false
+is_same_sector None None = true
 
--- one more fault, if it is the first of its sector and there are fewer than so many
+-- a fault of the same sector, or of a sync, of the same export is among them
+abbrev pub has_sector : List FirstFault → FirstFault → Bool
+has_sector first fault = list_any (λ met. (met.place == fault.place) && is_same_sector met.sector fault.sector) first
+
+-- one more fault, if it is the first of its sector, or of a sync, and there are fewer than so many
 abbrev pub kept_first : List FirstFault → FirstFault → List FirstFault
 kept_first first fault = if has_sector first fault then first else if nat_lt (length first) most_kept then first ++ fault ∷ [] else first
 
@@ -39,5 +46,5 @@ first_fault place met = record { place = place; sector = met.sector; fault = met
 
 -- one more request was answered, of so many bytes, and with that fault or with none
 abbrev pub logged : ℕ → ℕ → Option SectorFault → SessionLog → SessionLog
-logged place bytes None log = record { tally = counted bytes false log.tally; first = log.first }
-logged place bytes (Some met) log = record { tally = counted bytes true log.tally; first = kept_first log.first (first_fault place met) }
+logged place bytes None log = record { tally = counted bytes false false log.tally; first = log.first }
+logged place bytes (Some met) log = record { tally = counted bytes true met.full log.tally; first = kept_first log.first (first_fault place met) }

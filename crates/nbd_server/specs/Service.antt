@@ -20,6 +20,8 @@ use Rattle.nbd_server.specs.Transmission.{ServesRequest}
 use Rattle.nbd_server.specs.Delivery.{IsBegun, IsDelivered, delivery_fault, delivery_of}
 use Rattle.nbd_server.specs.Logs.{logged, no_log, outcome_fault}
 use Rattle.nbd_server.specs.declared.first_faults.SectorFault.{SectorFault}
+use Rattle.nbd_server.specs.declared.session_end.SessionEnd.{SessionEnd}
+use Rattle.nbd_server.specs.declared.session_end.SessionEnd.TheVariants.{Ended, Gone}
 use Rattle.nbd_server.specs.declared.session_log.SessionLog.{SessionLog}
 use Rattle.nbd_server.specs.declared.delivery.Delivery.{Delivery}
 use Rattle.nbd_protocol.specs.declared.header.Header.{Header}
@@ -213,14 +215,15 @@ abbrev pub EndsFlags : {R : Type 0} → (R → Option (List ℕ)) → CountedRec
 EndsFlags remaining old new result =
     (es : List ExportRecord) (w : World) (written : Option (List ℕ)) → EndsMessage es Greeted w w (streams (remaining old.inner) written) (streams (remaining new.inner) written) result
 
--- how the session ends after some messages: the client ended it or disconnected, or the rest of the input has the cause of the
--- fault
-abbrev pub EndsSo : List ExportRecord → Phase → List ℕ → Option (List ℕ) → Result Unit ServiceFault → Type 0
-EndsSo es phase rest input (Ok done) = (rest ≡ []) × ((phase ≡ Over) ⊎ IsAtEnd input)
+-- how the session ends after some messages: the client ended it; or the input ended before a further message; or the rest of the
+-- input has the cause of the fault
+abbrev pub EndsSo : List ExportRecord → Phase → List ℕ → Option (List ℕ) → Result SessionEnd ServiceFault → Type 0
+EndsSo es phase rest input (Ok Ended) = (rest ≡ []) × (phase ≡ Over)
+EndsSo es phase rest input (Ok Gone) = (rest ≡ []) × (phase ≢ Over) × IsAtEnd input
 EndsSo es phase rest input (Err fault) = Breaks es phase rest input fault
 
 -- the input was whole messages and a rest, and the output the greeting and the replies to these messages; the log is theirs
-pub record IsHeld (es : List ExportRecord) (first last : World) (input : Option (List ℕ)) (log : SessionLog) (result : Result Unit ServiceFault) (taken written : List ℕ) : Type 0 where
+pub record IsHeld (es : List ExportRecord) (first last : World) (input : Option (List ℕ)) (log : SessionLog) (result : Result SessionEnd ServiceFault) (taken written : List ℕ) : Type 0 where
   pub phase : Phase
   pub whole : List ℕ
   pub replies : List ℕ
@@ -231,9 +234,8 @@ pub record IsHeld (es : List ExportRecord) (first last : World) (input : Option 
   pub written_is : written ≡ greeting ++ replies
   pub ends : EndsSo es phase rest input result
 
--- The input was whole messages, which were handled; their replies may be incomplete. If the last message is answered piece by
--- piece, perhaps only some of its pieces were read. A request whose reply failed isn't
--- counted.
+-- The input was whole messages, which were handled. The reply to the last one failed, or the greeting; or only some of its pieces
+-- were read, if it is answered piece by piece. That one isn't counted.
 pub record IsServiceDone (es : List ExportRecord) (first last : World) (old new : Option (List ℕ)) (log : SessionLog) : Type 0 where
   pub phase : Phase
   pub whole : List ℕ
@@ -242,11 +244,10 @@ pub record IsServiceDone (es : List ExportRecord) (first last : World) (old new 
   pub rest : List ℕ
   pub consumed : Consumes old new (whole ++ rest)
   pub talk : Conversation es first phase mid whole replies
-  pub logged_is : (log ≡ log_of talk) ⊎ (log ≡ log_before talk)
-  pub ends : ((rest ≡ []) × (last ≡ mid)) ⊎ BeginsMessage es phase mid rest last
+  pub ends : ((rest ≡ []) × (last ≡ mid) × (log ≡ log_before talk)) ⊎ (BeginsMessage es phase mid rest last × (log ≡ log_of talk))
 
 -- What a session read and wrote, from the first state of its queue to the last, and the log of its requests.
-pub record IsService (es : List ExportRecord) (first last : World) (old new : Streams) (log : SessionLog) (result : Result Unit ServiceFault) : Type 0 where
+pub record IsService (es : List ExportRecord) (first last : World) (old new : Streams) (log : SessionLog) (result : Result SessionEnd ServiceFault) : Type 0 where
   -- if the writer didn't fail
   pub held : result ≢ Err WriteFault → Spoken old new (IsHeld es first last new.input log result)
   -- if the writer failed

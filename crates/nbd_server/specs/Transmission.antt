@@ -28,7 +28,7 @@ use Rattle.nbd_server.specs.declared.reply.Data.{Data}
 use Rattle.nbd_protocol.specs.declared.request_error.RequestError.{RequestError}
 use Rattle.nbd_server.specs.Failures.{no_memory, write_failure}
 use Rattle.nbd_server.specs.declared.failure.Failure.{Failure}
-use Rattle.nbd_server.specs.declared.failure.Failure.TheVariants.{Faulty, Refused}
+use Rattle.nbd_server.specs.declared.failure.Failure.TheVariants.{Refused, Unsynced}
 
 -- success without effect
 abbrev pub Stays : World → RequestOutcome → World → Type 0
@@ -100,7 +100,7 @@ WritesAny e w offset (byte ∷ more) outcome w' = WritesByRuns e w offset (byte 
 -- all that was written so far is synced, or a backing device failed to sync
 abbrev pub Flushes : World → RequestOutcome → World → Type 0
 Flushes w (Ok content) w' = (content ≡ []) × Step EachPart w (sync (Ok tt)) w'
-Flushes w (Err error) w' = (fault : IoFault) × (error ≡ Faulty fault) × Step EachPart w (sync (Err fault)) w'
+Flushes w (Err error) w' = (fault : IoFault) × (error ≡ Unsynced fault) × Step EachPart w (sync (Err fault)) w'
 
 -- the outcome of a write that left the queue so
 abbrev pub reported_outcome : World → RequestOutcome → RequestOutcome

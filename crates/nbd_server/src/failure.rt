@@ -9,7 +9,7 @@ use nbd_protocol::RequestError;
 use stack_engine::Stack;
 use stack_meaning::{Fault, IoFault};
 
-/// Why a request isn't done: by an error of its own, or by a fault of the stack.
+/// Why a request isn't done: by an error of its own, by a fault of the stack, or by a failed sync.
 #[derive(Clone, Copy, Debug, PartialEq, Eq)]
 pub(crate) enum Failure {
     /// The request isn't allowed, or an allocation failed.
@@ -18,6 +18,8 @@ pub(crate) enum Failure {
     Faulty(IoFault),
     /// A device failed to write because it has no space left.
     Full(IoFault),
+    /// A device failed to sync what was written.
+    Unsynced(IoFault),
 }
 
 // What is said of a request that isn't allowed, or for which memory lacks.
@@ -57,6 +59,7 @@ impl Failure {
             Failure::Refused(error) => error,
             Failure::Faulty(_) => RequestError::InputOutput,
             Failure::Full(_) => RequestError::NoSpace,
+            Failure::Unsynced(_) => RequestError::InputOutput,
         }
     }
 
@@ -69,6 +72,7 @@ impl Failure {
             Failure::Refused(error) => refusal_text(error),
             Failure::Faulty(fault) => fault_text(fault),
             Failure::Full(_) => "a backing device has no space left",
+            Failure::Unsynced(fault) => fault_text(fault),
         }
     }
 
@@ -86,24 +90,30 @@ impl Failure {
                 }
             }
             Failure::Full(fault) => Failure::Full(fault),
+            Failure::Unsynced(fault) => Failure::Unsynced(fault),
         }
     }
 
-    /// Returns the fault, if it is one, with a sector.
+    /// Returns the fault, if there is one, with a sector. The fault of a sync has no sector.
     pub(crate) fn at(self, sector: u64) -> Option<SectorFault>
         ensures { result ≡ fault_at sector self }
     {
         match self {
             Failure::Refused(_) => None,
             Failure::Faulty(fault) => Some(SectorFault {
-                sector,
+                sector: Some(sector),
                 fault,
                 full: false,
             }),
             Failure::Full(fault) => Some(SectorFault {
-                sector,
+                sector: Some(sector),
                 fault,
                 full: true,
+            }),
+            Failure::Unsynced(fault) => Some(SectorFault {
+                sector: None,
+                fault,
+                full: false,
             }),
         }
     }

@@ -1,7 +1,7 @@
 //! Prints a line for each fault of a request. A failure of the writer stays known and ends nothing.
-ghost use Rattle.std.specs.Prelude.{◌≡◌, ◌≤◌, drop, length};
+ghost use Rattle.std.specs.Prelude.{◌≤◌, drop, length};
 ghost use Rattle.nbd_protocol.specs.Exports.{export_at, export_records};
-ghost use Rattle.nbd_server.specs.FaultLines.{IsPrinted, fault_facts, fault_line, fault_lines, named_fault};
+ghost use Rattle.nbd_server.specs.FaultLines.{IsPrinted, fault_facts, fault_line, fault_lines, kind_text, named_fault, place_text};
 ghost use Rattle.program_io.specs.Counted.{Writes};
 
 use crate::first_faults::FirstFault;
@@ -10,19 +10,17 @@ use program_io::{Counted, WriteFault};
 use stack_meaning::IoFault;
 use std::io::Write;
 
-/// Prints a line for each fault from index `told` on, and returns how many faults there are.
+/// Prints a line for each fault from index `told` on.
 pub(crate) fn tell_faults<E: Write>(
     errors: &mut Counted<E>,
     exports: &[Export<'_>],
     faults: &[FirstFault],
     told: usize,
-) -> usize
+)
     requires { told ≤ length faults.now }
-    ensures count { result ≡ length faults.now }
-    ensures told { IsPrinted E.contents errors.old errors.new (fault_lines (export_records exports.now) (drop told faults.now)) }
+    ensures { IsPrinted E.contents errors.old errors.new (fault_lines (export_records exports.now) (drop told faults.now)) }
 {
     let _said = say_fault_lines(errors, exports, &faults[told..]);
-    faults.len()
 }
 
 // A line for each fault.
@@ -39,7 +37,7 @@ fn say_fault_lines<W: Write>(
     Ok(())
 }
 
-// `dmstack: export NAME: sector S: KIND`
+// `dmstack: export NAME: sector S: KIND`, or `flush` in place of the sector
 #[tactic(auto, unfolding(crate::specs::FaultLines::fault_line))]
 fn say_fault_line<W: Write>(
     writer: &mut Counted<W>,
@@ -52,7 +50,7 @@ fn say_fault_line<W: Write>(
     say_named_fault(writer, exports, fault)
 }
 
-// `NAME: sector S: KIND`
+// `NAME: sector S: KIND`, or `flush` in place of the sector
 #[tactic(auto, unfolding(crate::specs::FaultLines::named_fault))]
 fn say_named_fault<W: Write>(
     writer: &mut Counted<W>,
@@ -65,19 +63,33 @@ fn say_named_fault<W: Write>(
     say_fault_facts(writer, fault)
 }
 
-// `: sector S: KIND`, with the number of the backing device that failed
+// `: sector S: KIND`, or `: flush: KIND`
 #[tactic(auto, unfolding(crate::specs::FaultLines::fault_facts))]
 fn say_fault_facts<W: Write>(writer: &mut Counted<W>, fault: &FirstFault) -> Result<(), WriteFault>
     ensures { Writes W.contents writer.old writer.new (fault_facts fault.now) result }
 {
-    let (sector, kind) = (fault.sector, fault.name());
+    say_place(writer, fault.sector)?;
+    say_kind(writer, fault)
+}
+
+// `: sector S: `, or `: flush: ` of a sync
+fn say_place<W: Write>(writer: &mut Counted<W>, sector: Option<u64>) -> Result<(), WriteFault>
+    ensures { Writes W.contents writer.old writer.new (place_text sector) result }
+{
+    match sector {
+        Some(sector) => writer.print(format_args!(": sector {sector}: ")),
+        None => writer.put(b": flush: "),
+    }
+}
+
+// `KIND`, with the number of the backing device that failed
+fn say_kind<W: Write>(writer: &mut Counted<W>, fault: &FirstFault) -> Result<(), WriteFault>
+    ensures { Writes W.contents writer.old writer.new (kind_text fault.now) result }
+{
+    let kind = fault.name();
     match fault.fault {
-        IoFault::Device(leaf) => {
-            writer.print(format_args!(": sector {sector}: {kind} {leaf}\n"))
-        }
-        IoFault::Stack(_) | IoFault::NoMemory => {
-            writer.print(format_args!(": sector {sector}: {kind}\n"))
-        }
+        IoFault::Device(leaf) => writer.print(format_args!("{kind} {leaf}\n")),
+        IoFault::Stack(_) | IoFault::NoMemory => writer.print(format_args!("{kind}\n")),
     }
 }
 

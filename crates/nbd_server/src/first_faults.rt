@@ -1,6 +1,6 @@
 //! The first faults of the requests of a session.
 ghost use Rattle.std.specs.Prelude.{◌≡◌, ◌<◌, ◌++◌, ◌∷◌, [], length};
-ghost use Rattle.nbd_server.specs.Logs.{has_sector, kept_first, met_name};
+ghost use Rattle.nbd_server.specs.Logs.{has_sector, is_same_sector, kept_first, met_name};
 
 use stack_meaning::{Fault, IoFault};
 use std::marker::Model;
@@ -8,10 +8,10 @@ use std::marker::Model;
 // The most faults that are kept.
 const MOST: usize = 60;
 
-/// The fault of a request, and its first sector, or that of the piece that can't be read.
+/// The fault of a request, and the request's first sector, or that of the piece that can't be read. A fault of a sync has no sector.
 #[derive(Clone, Copy, Debug, PartialEq, Eq)]
 pub struct SectorFault {
-    pub sector: u64,
+    pub sector: Option<u64>,
     pub fault: IoFault,
     /// The device that failed has no space left.
     pub full: bool,
@@ -21,7 +21,7 @@ pub struct SectorFault {
 #[derive(Clone, Copy, Debug, PartialEq, Eq)]
 pub struct FirstFault {
     pub place: usize,
-    pub sector: u64,
+    pub sector: Option<u64>,
     pub fault: IoFault,
     /// The device that failed has no space left.
     pub full: bool,
@@ -40,14 +40,27 @@ impl FirstFault {
     }
 }
 
-// Whether a fault of the same sector of the same export is among them.
+// Whether both are the same sector, or no sector.
+fn is_same_sector(first: Option<u64>, second: Option<u64>) -> bool
+    ensures { result ≡ is_same_sector first second }
+{
+    match first {
+        Some(sector) => match second {
+            Some(other) => sector == other,
+            None => false,
+        },
+        None => second.is_none(),
+    }
+}
+
+// Whether a fault of the same sector, or of a sync, of the same export is among them.
 fn is_known(faults: &[FirstFault], fault: FirstFault) -> bool
     ensures { result ≡ has_sector faults.now fault }
 {
-    faults.iter().any(|met| met.place == fault.place && met.sector == fault.sector)
+    faults.iter().any(|met| met.place == fault.place && is_same_sector(met.sector, fault.sector))
 }
 
-/// The first faults of a session, one a sector, at most 60. No memory is allocated for them.
+/// The first faults of a session, one a sector and one of a sync for each export, at most 60. No memory is allocated for them.
 #[derive(Drop)]
 pub struct FirstFaults {
     faults: [FirstFault; MOST],
@@ -72,7 +85,7 @@ impl FirstFaults {
     {
         let unused = FirstFault {
             place: 0,
-            sector: 0,
+            sector: None,
             fault: IoFault::Stack(Fault::ErrorTarget),
             full: false,
         };
@@ -89,8 +102,8 @@ impl FirstFaults {
         &self.faults[..self.count]
     }
 
-    // Returns how many there are.
-    fn len(&self) -> usize
+    /// Returns how many there are.
+    pub(crate) fn len(&self) -> usize
         ensures { result ≡ length self.now }
     {
         self.as_slice().len()
@@ -105,14 +118,14 @@ impl FirstFaults {
         self.count += 1;
     }
 
-    // Whether a fault of the same sector of the same export is among them.
+    // Whether a fault of the same sector, or of a sync, of the same export is among them.
     fn has(&self, fault: FirstFault) -> bool
         ensures { result ≡ has_sector self.now fault }
     {
         is_known(self.as_slice(), fault)
     }
 
-    /// Appends a fault, if it is the first of its sector and there are fewer than 60.
+    /// Appends a fault, if it is the first of its sector, or of a sync, and there are fewer than 60.
     pub(crate) fn keep(&mut self, fault: FirstFault)
         ensures { self.new ≡ kept_first self.old fault }
     {

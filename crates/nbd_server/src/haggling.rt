@@ -1,5 +1,5 @@
 //! The messages of the handshake: the client flags and the options.
-ghost use Rattle.std.specs.Prelude.{◌≡◌, ◌≢◌, ◌<◌, ◌≤◌, ◌^◌, length, nat_le, IfOk, IfErr};
+ghost use Rattle.std.specs.Prelude.{◌≡◌, ◌≢◌, ◌<◌, ◌≤◌, ◌^◌, length, nat_le, IfNone, IfOk, IfErr};
 ghost use Rattle.program_io.specs.Streams.{streams};
 ghost use Rattle.request_queue.specs.World.{World};
 ghost use Rattle.nbd_protocol.specs.Exports.{HaveShortNames, export_records};
@@ -124,6 +124,7 @@ pub(crate) fn take_option<R: Read, W: Write>(
         (streams (R.remaining reader.old.inner) (W.contents writer.old.inner)) (streams (R.remaining reader.new.inner) (W.contents writer.new.inner)) result }
     ensures reader { HasRead 1 reader.old reader.new (result_fault result) }
     ensures writer { HasWritten writer.old writer.new (result_fault result) }
+    ensures silent { IfOk result (λ next. IfNone next (writer.new ≡ writer.old)) }
 {
     let mut header = [0u8; 16];
     if !fill(reader, &mut header)? {

@@ -5,7 +5,7 @@ ghost use Rattle.nbd_server.specs.Logs.{logged, no_log};
 use crate::first_faults::{FirstFault, FirstFaults, SectorFault};
 use crate::tally::Tally;
 
-/// The tally of the requests that were answered, and the first faults among them, one a sector.
+/// The tally of the requests that were answered, and the first faults among them, one a sector and one of a sync for each export.
 #[derive(Drop)]
 pub struct SessionLog {
     pub tally: Tally,
@@ -28,9 +28,9 @@ impl SessionLog {
         ensures { self.new ≡ logged place bytes met self.old }
     {
         match met {
-            None => self.tally = self.tally.count(bytes, false),
+            None => self.tally = self.tally.count(bytes, false, false),
             Some(at) => {
-                self.tally = self.tally.count(bytes, true);
+                self.tally = self.tally.count(bytes, true, at.full);
                 self.first.keep(FirstFault {
                     place,
                     sector: at.sector,

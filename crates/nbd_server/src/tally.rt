@@ -1,11 +1,11 @@
 //! The counts of the requests of a session.
 ghost use Rattle.std.specs.Prelude.{◌≡◌};
-ghost use Rattle.nbd_server.specs.Tallies.{counted, moved_bytes, no_requests, one_more};
+ghost use Rattle.nbd_server.specs.Tallies.{counted, moved_bytes, no_requests, one_more, one_more_if};
 
 use nbd_protocol::{Command, RequestError};
 
-/// How many requests were answered, the lengths of the READs and WRITEs within the export among them, in bytes, and how many were
-/// answered with an input/output error.
+/// How many requests were answered, the lengths of the READs and WRITEs within the export among them, in bytes, how many were
+/// answered with a fault, and how many of these because a device has no space left.
 ///
 /// Each number stays at 2^64 - 1 once it is reached.
 #[derive(Clone, Copy, Debug, PartialEq, Eq)]
@@ -13,12 +13,20 @@ pub struct Tally {
     pub requests: u64,
     pub bytes: u64,
     pub faults: u64,
+    pub full: u64,
 }
 
 fn one_more(count: u64) -> u64
     ensures { result ≡ one_more count }
 {
     count.saturating_add(1)
+}
+
+// One more if it is set.
+fn one_more_if(set: bool, count: u64) -> u64
+    ensures { result ≡ one_more_if set count }
+{
+    if set { one_more(count) } else { count }
 }
 
 /// Returns the length of a READ or WRITE within the export, and 0 for other requests.
@@ -45,22 +53,20 @@ impl Tally {
             requests: 0,
             bytes: 0,
             faults: 0,
+            full: 0,
         }
     }
 
-    /// Counts a request of that many bytes, which was answered with an input/output error if `faulty` is set.
-    pub(crate) fn count(self, bytes: u32, faulty: bool) -> Tally
-        ensures { result ≡ counted bytes faulty self }
+    /// Counts a request of that many bytes, which was answered with a fault if `faulty` is set, because a device has no space left if
+    /// `full` is set.
+    pub(crate) fn count(self, bytes: u32, faulty: bool, full: bool) -> Tally
+        ensures { result ≡ counted bytes faulty full self }
     {
-        let faults = if faulty {
-            one_more(self.faults)
-        } else {
-            self.faults
-        };
         Tally {
             requests: one_more(self.requests),
             bytes: self.bytes.saturating_add(u64::from(bytes)),
-            faults,
+            faults: one_more_if(faulty, self.faults),
+            full: one_more_if(full, self.full),
         }
     }
 }

@@ -1,5 +1,5 @@
 //! The requests of the transmission phase.
-ghost use Rattle.std.specs.Prelude.{◌≡◌, ◌<◌, ◌≤◌, ◌+◌, ◌^◌, ℕ, List, [], length, Ok, IfOk, IfErr, IsTrue, OnErr};
+ghost use Rattle.std.specs.Prelude.{◌≡◌, ◌<◌, ◌≤◌, ◌+◌, ◌^◌, ℕ, List, [], false, length, Ok, IfOk, IfErr, IsTrue, OnErr, OnOk};
 ghost use Rattle.std.specs.Io.KnownBytes.{Consumes};
 ghost use Rattle.allocation.specs.Refusal.{IsOutOfMemory};
 ghost use Rattle.program_io.specs.Streams.{streams};
@@ -85,7 +85,7 @@ fn flush<D: SyncDev>(alloc: Global, queue: &mut Queue<D>) -> Result<Data, Failur
 {
     match queue.sync() {
         Ok(()) => Ok(Data::none(alloc)),
-        Err(fault) => Err(Failure::Faulty(fault)),
+        Err(fault) => Err(Failure::Unsynced(fault)),
     }
 }
 
@@ -241,7 +241,7 @@ fn outcome_fault(sector: u64, outcome: &Result<Data, Failure>) -> Option<SectorF
     }
 }
 
-/// Receives a request, writes the reply and counts it. Returns `None` if the input ended before the request.
+/// Receives a request, writes and flushes the reply, and counts the request. Returns `None` if the input ended before the request.
 pub(crate) fn take_request<D: SyncDev, R: Read, W: Write>(
     state: &mut SessionState,
     queue: &mut Queue<D>,
@@ -250,11 +250,13 @@ pub(crate) fn take_request<D: SyncDev, R: Read, W: Write>(
     reader: &mut Counted<R>,
     writer: &mut Counted<W>,
 ) -> Result<Option<Phase>, ServiceFault>
-    requires { IsExport queue.old.stack.config (export_record export.now) }
+    requires export { IsExport queue.old.stack.config (export_record export.now) }
+    requires flushed { writer.old.pending ≡ false }
     ensures turn { (es : List ExportRecord) → export_at es agreed.place ≡ export_record export.now → EndsTurn es (Serving agreed) queue.old queue.new state.old.log state.new.log
         (streams (R.remaining reader.old.inner) (W.contents writer.old.inner)) (streams (R.remaining reader.new.inner) (W.contents writer.new.inner)) result }
     ensures reader { HasRead 1 reader.old reader.new (result_fault result) }
     ensures writer { HasWritten writer.old writer.new (result_fault result) }
+    ensures flushed { OnOk result (writer.new.pending ≡ false) }
 {
     let mut bytes = [0u8; 28];
     if !fill(reader, &mut bytes)? {
@@ -271,6 +273,7 @@ pub(crate) fn take_request<D: SyncDev, R: Read, W: Write>(
     match Delivery::of(export, agreed, header) {
         Some(delivery) => {
             let lost = deliver(&mut state.room, queue, export, delivery, writer)?;
+            writer.flush()?;
             state.count(agreed.place, moved, lost);
             return Ok(Some(Phase::Serving { agreed }));
         }
@@ -279,6 +282,7 @@ pub(crate) fn take_request<D: SyncDev, R: Read, W: Write>(
     let outcome = serve_request(state.room.alloc, queue, export, agreed, header, reader)?;
     let met = outcome_fault(header.offset / 512, &outcome);
     say_reply(writer, agreed, header, outcome)?;
+    writer.flush()?;
     state.count(agreed.place, moved, met);
     Ok(Some(Phase::Serving { agreed }))
 }

@@ -30,8 +30,8 @@ pub less-room : (super : SuperRecord) (root : List ℕ) (e : OutOfMemory) → as
 less-room super root e low = omega (arith, low)
 
 -- a text of two partitions that isn't written
-pub say-root : {D : Type 0} (state : D → Device) (device : D) (plan : StackPlan) (trusted : TrustedRoot) (pair : FindsPair (state device) plan.size trusted) (failed : Bool) (fault : PartitionsFault)
-    → IsLoadableEnd plan.writable pair.signed_device.size (pair_text plan.writable pair) failed fault → IsRootTextEnd state plan trusted failed device fault
+pub say-root : {D : Type 0} (state : D → Device) (device : D) (plan : StackPlan) (trusted : TrustedRoot) (pair : FindsPair state device plan.size trusted) (failed : Bool) (fault : PartitionsFault)
+    → IsLoadableEnd plan.writable (state pair.signed_device).size (pair_text plan.writable pair) failed fault → IsRootTextEnd state plan trusted failed device fault
 say-root state device plan trusted pair failed NoMemory ends = record { pair = pair; refused = out_of_memory-more stack_room (root_room pair.super trusted.root) (omega arith) ends }
 say-root state device plan trusted pair failed NotLoadable ends = record { pair = pair; unloadable = ends }
 say-root state device plan trusted pair failed Write ends = ends

@@ -54,40 +54,40 @@ pub record IsFitting (device : Device) (size : SectorSize) (both : ImagePartitio
   pub fits : is_unfit size both super ≡ false
 
 -- the two partitions of the root were found on the device, the one with its signature was sought, and then the superblock was found
--- in the verity partition
-pub record FindsPair (device : Device) (size : SectorSize) (trusted : TrustedRoot) : Type 0 where
+-- in the verity partition. The devices are those that calls left.
+pub record FindsPair {D : Type 0} (state : D → Device) (device : D) (size : SectorSize) (trusted : TrustedRoot) : Type 0 where
   pub table : PartitionTable
-  pub read_device : Device
-  pub found : IsSizedTable device read_device size table
+  pub read_device : D
+  pub found : IsSizedTable (state device) (state read_device) size table
   pub both : ImagePartitions
   pub both_is : image_partitions table.partitions.items trusted.root ≡ Ok both
-  pub signed_device : Device
+  pub signed_device : D
   pub signed : Option Partition
-  pub sought : SeeksSignature read_device signed_device table.size trusted.root table.partitions.items signed
+  pub sought : SeeksSignature (state read_device) (state signed_device) table.size trusted.root table.partitions.items signed
   pub super : SuperRecord
-  pub fitting : IsFitting signed_device table.size both trusted.pin super
+  pub fitting : IsFitting (state signed_device) table.size both trusted.pin super
 
 -- the text of the stack over them, and of the signature's partition
-abbrev pub pair_text : {device : Device} {size : SectorSize} {trusted : TrustedRoot} → Bool → FindsPair device size trusted → List ℕ
-pair_text {device} {size} {trusted} writable pair = root_stack_text writable pair.table.size pair.both pair.super trusted.root ++ signature_entry pair.table.size pair.signed
+abbrev pub pair_text : {D : Type 0} {state : D → Device} {device : D} {size : SectorSize} {trusted : TrustedRoot} → Bool → FindsPair state device size trusted → List ℕ
+pair_text {D} {state} {device} {size} {trusted} writable pair = root_stack_text writable pair.table.size pair.both pair.super trusted.root ++ signature_entry pair.table.size pair.signed
 
 -- they were found, and their text loads and was written
-pub record PrintsRoot (device : Device) (plan : StackPlan) (trusted : TrustedRoot) (old new : Option (List ℕ)) (notes : Notes) : Type 0 where
-  pub pair : FindsPair device plan.size trusted
-  pub loads : Loads plan.writable pair.signed_device.size (pair_text plan.writable pair)
+pub record PrintsRoot {D : Type 0} (state : D → Device) (device : D) (plan : StackPlan) (trusted : TrustedRoot) (old new : Option (List ℕ)) (notes : Notes) : Type 0 where
+  pub pair : FindsPair state device plan.size trusted
+  pub loads : Loads plan.writable (state pair.signed_device).size (pair_text plan.writable pair)
   pub printed : Appends old new (pair_text plan.writable pair)
-  pub noted : IsNoted notes (warning_text pair.read_device pair.table)
+  pub noted : IsNoted notes (warning_text (state pair.read_device) pair.table)
 
 pub record PrintsRootOfImage {S D : Type 0} (w : Calls S D) (path : List ℕ) (plan : StackPlan) (trusted : TrustedRoot) (old new : Option (List ℕ)) (notes : Notes) : Type 0 where
   pub image : OpenImage D
   pub opened : Opens w path false image
-  pub prints : PrintsRoot (w.state image.device) plan trusted old new notes
+  pub prints : PrintsRoot w.state image.device plan trusted old new notes
 
 -- a table was found, but not the two partitions
-pub record LacksPartitions (device : Device) (size : SectorSize) (root : List ℕ) (refusal : PartitionRefusal) : Type 0 where
+pub record LacksPartitions {D : Type 0} (state : D → Device) (device : D) (size : SectorSize) (root : List ℕ) (refusal : PartitionRefusal) : Type 0 where
   pub table : PartitionTable
-  pub read_device : Device
-  pub found : IsSizedTable device read_device size table
+  pub read_device : D
+  pub found : IsSizedTable (state device) (state read_device) size table
   pub refused : image_partitions table.partitions.items root ≡ Err refusal
 
 -- with which refusal a command ends if a part of the device has no superblock of the pin
@@ -138,25 +138,25 @@ pub record LacksTable {D : Type 0} (state : D → Device) (device : D) (size : S
   pub is : refusal ≡ Table fault
 
 -- both hold an image, and room for its text, or for the check of it, was refused
-pub record RefusesText (device : Device) (size : SectorSize) (trusted : TrustedRoot) : Type 0 where
-  pub pair : FindsPair device size trusted
+pub record RefusesText {D : Type 0} (state : D → Device) (device : D) (size : SectorSize) (trusted : TrustedRoot) : Type 0 where
+  pub pair : FindsPair state device size trusted
   pub refused : IsOutOfMemory (root_room pair.super trusted.root)
 
 -- both hold an image, and `load` would refuse its text over the disk
-pub record LacksLoad (device : Device) (plan : StackPlan) (trusted : TrustedRoot) : Type 0 where
-  pub pair : FindsPair device plan.size trusted
-  pub unloadable : IsUnloadable plan.writable pair.signed_device.size (pair_text plan.writable pair)
+pub record LacksLoad {D : Type 0} (state : D → Device) (device : D) (plan : StackPlan) (trusted : TrustedRoot) : Type 0 where
+  pub pair : FindsPair state device plan.size trusted
+  pub unloadable : IsUnloadable plan.writable (state pair.signed_device).size (pair_text plan.writable pair)
 
 -- one of these, or the text can't be written
 abbrev pub IsRootTextEnd : {D : Type 0} → (D → Device) → StackPlan → TrustedRoot → Bool → D → PartitionsFault → Type 0
-IsRootTextEnd state plan trusted failed device NoMemory = RefusesText (state device) plan.size trusted
+IsRootTextEnd state plan trusted failed device NoMemory = RefusesText state device plan.size trusted
 IsRootTextEnd state plan trusted failed device Write = failed ≡ true
-IsRootTextEnd state plan trusted failed device NotLoadable = LacksLoad (state device) plan trusted
+IsRootTextEnd state plan trusted failed device NotLoadable = LacksLoad state device plan trusted
 IsRootTextEnd state plan trusted failed device (Open file) = ⊥
 IsRootTextEnd state plan trusted failed device (Pin fault) = ⊥
 IsRootTextEnd {D} state plan trusted failed device (Refused refusal) =
     LacksTable state device plan.size refusal
-    ⊎ (LacksPartitions (state device) plan.size trusted.root refusal ⊎ ((device' : D) × LacksSuperblock state device device' plan.size trusted refusal))
+    ⊎ (LacksPartitions state device plan.size trusted.root refusal ⊎ ((device' : D) × LacksSuperblock state device device' plan.size trusted refusal))
 
 pub record EndsRoot {S D : Type 0} (w : Calls S D) (path : List ℕ) (plan : StackPlan) (trusted : TrustedRoot) (failed : Bool) (fault : PartitionsFault) : Type 0 where
   pub image : OpenImage D
@@ -198,7 +198,7 @@ ArePinnedNotes {S} {D} w path size notes fault =
 -- ---- as a call sees them
 
 abbrev pub SaysRoot : {D W : Type 0} → (D → Device) → D → (W → Option (List ℕ)) → CountedRecord W → CountedRecord W → StackPlan → TrustedRoot → Notes → Type 0
-SaysRoot state device contents writer writer' plan trusted notes = PrintsRoot (state device) plan trusted (contents writer.inner) (contents writer'.inner) notes
+SaysRoot state device contents writer writer' plan trusted notes = PrintsRoot state device plan trusted (contents writer.inner) (contents writer'.inner) notes
 
 abbrev pub PrintsRootOf : {S D W : Type 0} → Opener S D → (D → Device) → S → S → (W → Option (List ℕ)) → CountedRecord W → CountedRecord W → List ℕ → StackPlan → TrustedRoot → Notes → Type 0
 PrintsRootOf relations state images images' contents writer writer' path plan trusted notes =

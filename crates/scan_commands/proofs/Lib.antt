@@ -2,9 +2,10 @@ pub mod OpeningLemmas
 mod PassLemmas
 pub mod ReportLemmas
 mod ChartLemmas
-mod KnownLemmas
+mod SpanLemmas
 mod MapFileLemmas
 mod TurnLemmas
+mod LastPassLemmas
 mod RetryTurnLemmas
 pub mod NameLemmas
 pub mod PlainLemmas

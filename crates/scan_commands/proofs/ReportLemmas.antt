@@ -6,9 +6,8 @@ use Rattle.allocation.specs.Asked.{refused_size}
 use Rattle.allocation.proofs.lemmas.AskedLemmas.{asked-refused}
 use Rattle.stack_recovery.specs.declared.listing.KeptRuns.{KeptRuns}
 use Rattle.stack_recovery.specs.declared.recovery.Counts.{Counts}
-use Rattle.stack_recovery.specs.Listings.{Listed, listed}
+use Rattle.stack_recovery.specs.Listings.{Listed, kept_runs}
 use Rattle.stack_recovery.specs.LostRuns.{LostRun}
-use Rattle.stack_recovery.specs.Texts.{lost_text}
 use Rattle.charts.specs.declared.form.ReportForm.{ReportForm}
 use Rattle.scan_commands.specs.declared.recovering_fault.RecoveringFault.{RecoveringFault}
 use Rattle.scan_commands.specs.Reports.{AreKept, Early, IsRunRefused, IsUnreported, Reports, Whole, kept_text}
@@ -38,12 +37,12 @@ unreported-more S T P Q form old new failed fault stops more (inr l) = inr (reco
 })
 
 -- at first no run is kept
-pub none-kept : (runs : List LostRun) (refused : Option OutOfMemory) → runs ≡ [] → refused ≡ None → listed (Some (lost_text runs)) (is_some refused) ≡ listed (Some []) false
-none-kept runs refused none kept = ap (λ (rs : List LostRun). listed (Some (lost_text rs)) (is_some refused)) none ∙ ap (λ (r : Option OutOfMemory). listed (Some []) (is_some r)) kept
+pub none-kept : (runs : List LostRun) (refused : Option OutOfMemory) → runs ≡ [] → refused ≡ None → kept_runs runs (is_some refused) ≡ kept_runs [] false
+none-kept runs refused none kept = ap (λ (rs : List LostRun). kept_runs rs (is_some refused)) none ∙ ap (λ (r : Option OutOfMemory). kept_runs [] (is_some r)) kept
 
 -- none was refused
 abbrev pub all-kept : (kept : KeptRuns) → is_some kept.refused ≡ false → AreKept (kept_text kept)
-all-kept kept is = record { runs = kept.runs.items; same = ap (λ (b : Bool). listed (Some (lost_text kept.runs.items)) b) is }
+all-kept kept is = record { runs = kept.runs.items; same = ap (λ (b : Bool). kept_runs kept.runs.items b) is }
 
 -- one was
 abbrev pub one-unkept : (kept : KeptRuns) → is_some kept.refused ≡ true → IsRunRefused (kept_text kept)

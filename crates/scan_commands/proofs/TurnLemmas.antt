@@ -1,8 +1,8 @@
 -- A turn over a device.
-use Rattle.std.proofs.Common.{◌≡◌, ◌⊎◌, ℕ, suc, ◌+◌, ◌-◌, ◌<◌, ◌≤◌, ◌^◌, Bool, IsTrue, List, [], ◌∷◌, length, map, Option, Some, Result, Ok, Err, IfErr, IfOk, IsErrAnd, arith, inl, inr, true, refl, sym, ap, ◌∙◌, subst}
+use Rattle.std.proofs.Common.{◌≡◌, ◌⊎◌, ℕ, suc, ◌+◌, ◌-◌, ◌<◌, ◌≤◌, ◌^◌, Bool, IsTrue, List, [], ◌∷◌, length, drop, map, Option, Some, Result, Ok, Err, IfErr, IfOk, IsErrAnd, arith, inl, inr, true, refl, sym, ap, ◌∙◌, subst}
 use Rattle.allocation.specs.Refusal.{IsOutOfMemory}
 use Rattle.block_device.specs.Device.{Device, HasFailed, IsSameDevice}
-use Rattle.rescue_map.specs.Maps.{marks}
+use Rattle.rescue_map.specs.Maps.{marks, settled_marks}
 use Rattle.stack_rules.specs.Names.{mapped, size}
 use Rattle.stack_rules.proofs.lemmas.PassingLemmas.{out_of_memory-more}
 use Rattle.stack_meaning.specs.Memory.{largest_allocation}
@@ -13,7 +13,7 @@ use Rattle.scan_commands.specs.declared.turns.ReadMap.{ReadMap}
 use Rattle.scan_commands.specs.MapFiles.{MapPathRecord, recovery_ending}
 use Rattle.image_files.specs.declared.texts.ReplaceFault.{ReplaceFault}
 use Rattle.rescue_map.specs.declared.splicing.Span.{Span}
-use Rattle.scan_commands.specs.Turns.{EndsSectors, EndsUnmapped, FailsToWrite, IsSpan, RunsOut, asked_marks, IsPassTurnsEnd, IsMapUnwritten, IsUnfailed, Kept, Progressed, ReadsInTurns, ReadsLeftUntil, ReadsPast, ReadsSectors, StopsIn, IsTurn, Turns, kept as kept_by, largest_print_allocation, progressed, made_map}
+use Rattle.scan_commands.specs.Turns.{EndsSectors, EndsUnmapped, FailsToWrite, IsSpan, RunsOut, asked_marks, IsPassTurnsEnd, IsMapUnwritten, IsUnfailed, Kept, Progressed, ReadsInTurns, ReadsLeftUntil, ReadsPast, ReadsSectors, StopsIn, IsTurn, Turns, is_again, kept as kept_by, largest_print_allocation, progressed, made_map, span_between}
 use Rattle.stack_recovery.specs.declared.deadline.Deadline.{Deadline}
 use Rattle.stack_recovery.specs.declared.fault.RecoveryFault.{RecoveryFault}
 use Rattle.stack_recovery.specs.declared.fault.RecoveryFault.TheVariants as recovery
@@ -27,6 +27,7 @@ use Rattle.stack_recovery.specs.TwoPasses.{transfer_of}
 use Rattle.stack_recovery.specs.PassPieces.{Scanned}
 use Rattle.stack_recovery.specs.Recoveries.{FailsOutput, FindsNoMemory, GoesOverTo, IsMapRefused, RescuesUntil, RunsShort, Sides, counted_sectors, is_had}
 use Rattle.stack_recovery.specs.Surveys.{AnswersFinding, Finding, IsSurveyOver, PieceRead, SectorState, again, all_states, had, kept, lost, states_of}
+use Rattle.scan_commands.proofs.SpanLemmas.{drop-more, settled-after}
 
 answers-config : (w : StackRecord) (d first n : ℕ) (found : Finding) (w' : StackRecord) → AnswersFinding w d first n found w' → w'.config ≡ w.config
 answers-config w d first n (had bytes) w' a = a.any.config
@@ -189,6 +190,15 @@ pub turn-out : {S : Type 0} (k : Kept S) (phase : Phase) (old new : Progressed S
 turn-out k phase old new t =
     let same = reads-out phase _ k.scan old.sides t.made t.left t.reads in
     (ap (λ (s : Sides). s.out.size) t.on_medium ∙ same.size, λ h. subst IsTrue (sym (ap (λ (s : Sides). s.out.may_write) t.on_medium ∙ same.may_write)) h)
+
+-- what a pass doesn't read after the turn is what it didn't before
+pub turned-wanted : {S : Type 0} (k : Kept S) (phase : Phase) (old new : Progressed S) (done : List Bool) → length (marks old.runs) ≡ k.sectors
+    → drop old.at done ≡ drop old.at (settled_marks (is_again phase) old.runs) → IsTurn k phase old new → drop new.at done ≡ drop new.at (settled_marks (is_again phase) new.runs)
+turned-wanted k phase old new done all same t =
+    let n : ℕ = new.at - old.at in
+    let at : new.at ≡ old.at + n = omega (arith, t.some) in
+    ap (λ (m : ℕ). drop m done) at ∙ drop-more old.at n done (settled_marks (is_again phase) old.runs) same ∙ ap (λ (m : ℕ). drop m (settled_marks (is_again phase) old.runs)) (sym at)
+    ∙ sym (settled-after (is_again phase) (span_between old.at new.at) new.at old.runs new.runs t.made.map at (omega (arith, t.here, t.next.inside, all)) (omega (arith, t.here)) t.map t.bad)
 
 -- the size of the device as it was told
 pub ends-as : {S : Type 0} (replaces : S → List ℕ → List ℕ → Result (Unit {0}) ReplaceFault → S → Type 0) (file : MapPathRecord) (phase : Phase) (scan : Scanned) (m n : ℕ) (first now : Progressed S) (images : S) (new : Sides) (fault : PassFault)

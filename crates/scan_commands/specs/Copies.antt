@@ -1,19 +1,21 @@
 -- Copies of a device's readable sectors to an image, and how a copy ends early.
-use Rattle.std.specs.Prelude.{◌≡◌, ◌⊎◌, ℕ, ◌<◌, Bool, true, false, IsTrue, List, Option, option_map}
+use Rattle.std.specs.Prelude.{◌≡◌, ◌⊎◌, ◌&&◌, not, ℕ, ◌<◌, Bool, true, false, IsTrue, List, Option, option_map}
 use Rattle.block_device.specs.Device.{Device, IsUnsynced, synced}
 use Rattle.program_io.specs.Counted.{CountedRecord}
 use Rattle.device_adapters.specs.Differing.{differing}
+use Rattle.image_files.specs.declared.file_use.FileUse.{FileUse}
 use Rattle.image_files.specs.declared.images.OpenImage.{OpenImage}
 use Rattle.image_files.specs.Opener.{Calls, Opener, calls}
 use Rattle.scan_commands.specs.declared.rescue_fault.PassFault.{PassFault}
 use Rattle.scan_commands.specs.declared.rescue_fault.PassFault.TheVariants.{Output}
 use Rattle.scan_commands.specs.declared.passing.Passing.{Passing}
 use Rattle.scan_commands.specs.MapFiles.{map_at}
+use Rattle.scan_commands.specs.MapUses.{IsMapUnusedBeside, UsesMapBeside}
 use Rattle.scan_commands.specs.Passes.{Moving, Passes, StopsPass, moving, retried_of}
 use Rattle.rescue_map.specs.declared.kind.MapKind.TheVariants as map_kind
 use Rattle.stack_rules.specs.Names.{mapped, size}
 use Rattle.stack_engine.specs.Stacks.{StackRecord}
-use Rattle.stack_files.specs.DeviceSources.{FailsToFindSourceOutput, FindsSourceOutput, SourceWords, source_words}
+use Rattle.stack_files.specs.DeviceSources.{FailsToFindSourceOutput, FindsSourceOutput, SourceWords, of_disk, of_stack, source_words}
 use Rattle.stack_files.specs.NamedDevices.{DevicePlace}
 use Rattle.stack_files.specs.declared.device_source.DeviceSource.{DeviceSource}
 use Rattle.stack_recovery.specs.declared.recovery.Counts.{Counts}
@@ -84,15 +86,23 @@ EndsCopying is_differing w map t m fault = StopsTo is_differing w map t m fault 
 
 -- ---- a copy
 
+-- what is read: beside a map that there is, OUT isn't made as long as a disk, since it has what the map marks
+abbrev pub words_beside : FileUse → SourceWords → SourceWords
+words_beside used (of_stack words) = of_stack words
+words_beside used (of_disk words) = of_disk (record words { grow = words.grow && not used.writable })
+
 -- the device was copied to OUT's image, which was then synced and closed
 pub record Copies {S D : Type 0} (w : Calls S D) (words : CopyWords) (before : Listed) (counts : Counts) (told : Listed) : Type 0 where
   pub at : DevicePlace
   pub image : OpenImage D
   pub image' : D
   pub left : StackRecord
+  pub used : FileUse
+  pub first : S
   pub between : S
   pub behind : S
-  pub found : FindsSourceOutput (record w { new = between }) words.words words.out at image
+  pub map_used : UsesMapBeside (record w { new = first }) words.map words.out used
+  pub found : FindsSourceOutput (record w { old = first; new = between }) used (words_beside used words.words) words.out at image
   pub copied : CopiesTo words.differing (record w { old = between; new = behind }) words.map (retried at.d words.retries words.no_scrape) (moving (sides at.stack (w.state image.device) before) (sides left (w.state image') told)) counts
   pub back : w.relations.takes behind words.out image' w.new
 
@@ -102,9 +112,12 @@ pub record StopsCopy {S D : Type 0} (w : Calls S D) (words : CopyWords) (before 
   pub image : OpenImage D
   pub image' : D
   pub left : StackRecord
+  pub used : FileUse
+  pub first : S
   pub between : S
   pub behind : S
-  pub found : FindsSourceOutput (record w { new = between }) words.words words.out at image
+  pub map_used : UsesMapBeside (record w { new = first }) words.map words.out used
+  pub found : FindsSourceOutput (record w { old = first; new = between }) used (words_beside used words.words) words.out at image
   pub stops : IsPassEnd (EndsCopying words.differing (record w { old = between; new = behind }) words.map (retried at.d words.retries words.no_scrape) (moving (sides at.stack (w.state image.device) before) (sides left (w.state image') told))) fault
   pub back : w.relations.takes behind words.out image' w.new
 
@@ -118,26 +131,37 @@ IsOutputTooSmall image sectors (OutputTooSmall needed) = (needed ≡ sectors) ×
 IsOutputTooSmall image sectors fault = ⊥
 
 -- the image has no room for the device
-pub record FindsNoRoom {S D : Type 0} (w : Calls S D) (words : SourceWords) (out : List ℕ) (fault : RecoveringFault) : Type 0 where
+pub record FindsNoRoom {S D : Type 0} (w : Calls S D) (used : FileUse) (words : SourceWords) (out : List ℕ) (fault : RecoveringFault) : Type 0 where
   pub at : DevicePlace
   pub image : OpenImage D
-  pub found : FindsSourceOutput w words out at image
+  pub found : FindsSourceOutput w used words out at image
   pub small : IsOutputTooSmall (w.state image.device) (size at.stack.config (mapped at.d)) fault
 
 -- the image has no room, or there is no such device
-abbrev pub IsOutputUncopied : {S D : Type 0} → Calls S D → SourceWords → List ℕ → RecoveringFault → Type 0
-IsOutputUncopied w words out fault = IsRecoveryStackless (FailsToFindSourceOutput w words out) fault ⊎ FindsNoRoom w words out fault
+abbrev pub IsOutputUncopied : {S D : Type 0} → Calls S D → FileUse → SourceWords → List ℕ → RecoveringFault → Type 0
+IsOutputUncopied w used words out fault = IsRecoveryStackless (FailsToFindSourceOutput w used words out) fault ⊎ FindsNoRoom w used words out fault
+
+-- the map's file may be used and isn't OUT, and one of these
+pub record FailsBesideMap {S D : Type 0} (w : Calls S D) (words : CopyWords) (fault : RecoveringFault) : Type 0 where
+  pub used : FileUse
+  pub first : S
+  pub map_used : UsesMapBeside (record w { new = first }) words.map words.out used
+  pub fails : IsOutputUncopied (record w { old = first }) used (words_beside used words.words) words.out fault
+
+-- that, or the file may not be used, or is OUT
+abbrev pub IsCopyUnbegun : {S D : Type 0} → Calls S D → CopyWords → RecoveringFault → Type 0
+IsCopyUnbegun w words fault = IsMapUnusedBeside w words.map words.out fault ⊎ FailsBesideMap w words fault
 
 -- nothing is printed if the copy doesn't begin
 abbrev pub IsCopyEnd : {S D : Type 0} → Calls S D → CopyWords → Option (List ℕ) → Option (List ℕ) → Bool → RecoveringFault → Type 0
 IsCopyEnd w words old new failed fault =
-    ((new ≡ old) × IsOutputUncopied w words.words words.out fault) ⊎ IsUnreported (StopsCopy w words) (Copies w words) Lines old new failed fault
+    ((new ≡ old) × IsCopyUnbegun w words fault) ⊎ IsUnreported (StopsCopy w words) (Copies w words) Lines old new failed fault
 
 -- ---- in terms of the arguments of a call
 
 -- there is no such device, or no image with room for it
-abbrev pub FailsTo : {S D : Type 0} → Opener S D → (D → Device) → S → S → DeviceSource → List ℕ → RecoveringFault → Type 0
-FailsTo relations state old new source out = IsOutputUncopied (calls relations state old new) (source_words source) out
+abbrev pub FailsTo : {S D : Type 0} → Opener S D → (D → Device) → S → S → FileUse → DeviceSource → List ℕ → RecoveringFault → Type 0
+FailsTo relations state old new used source out = IsOutputUncopied (calls relations state old new) used (source_words source) out
 
 -- for an open device, with the writer of the lines
 module _ {S D E O T : Type 0} (relations : Opener S D) (state : D → Device) (seen : O → Device) (contents : T → Option (List ℕ)) (images images' : S) (old new : Passing E O) (writer writer' : CountedRecord T) (plan : CopyPlan) where

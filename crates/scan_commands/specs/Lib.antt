@@ -4,9 +4,9 @@ pub mod Reports
 pub mod Scans
 pub mod Passes
 pub mod PassesInTurns
-pub mod Known
 pub mod MapFiles
 pub mod MapTexts
+pub mod MapUses
 pub mod Turns
 pub mod Devices
 pub mod DeviceLines

@@ -6,12 +6,13 @@ use Rattle.rescue_map.specs.declared.map.Run.{Run}
 use Rattle.rescue_map.specs.Maps.{marks}
 use Rattle.scan_commands.specs.declared.rescue_fault.PassFault.{PassFault}
 use Rattle.scan_commands.specs.declared.rescue_fault.PassFault.TheVariants.{NoMemory, Output}
+use Rattle.scan_commands.specs.declared.map_file.MapFile.{MapFile}
 use Rattle.scan_commands.specs.declared.map_file.MapPath.{MapPath}
 use Rattle.scan_commands.specs.declared.passing.Passing.{Passing}
 use Rattle.scan_commands.specs.declared.retries.TriedMap.{TriedMap}
 use Rattle.scan_commands.specs.MapFiles.{IsMapRead, IsMapUnread, MapPathRecord, map_path_of}
-use Rattle.scan_commands.specs.PassesInTurns.{EndsRetries, IsTurnsEnd, RescuesInTurns, RetriesBy, after_turns}
-use Rattle.scan_commands.specs.Turns.{Replaces, kept, progressed}
+use Rattle.scan_commands.specs.PassesInTurns.{EndsLast, EndsRetries, IsTurnsEnd, ReportsLast, RescuesInTurns, RetriesBy, after_turns}
+use Rattle.scan_commands.specs.Turns.{Kept, Replaces, kept, progressed}
 use Rattle.stack_rules.specs.Names.{mapped, size}
 use Rattle.stack_recovery.specs.declared.fault.RecoveryFault.TheVariants as recovery
 use Rattle.stack_recovery.specs.declared.recovery.Counts.{Counts}
@@ -88,9 +89,22 @@ abbrev pub EndsRetriesBy : {S D O : Type 0} → Replaces S → (O → Device) �
 EndsRetriesBy replaces state file map images images' old new fault =
     EndsRetries (kept replaces (map_path_of file) (scanned old.device.0 old.no_scrape) (size old.stack.config (mapped old.device.0))) old.retries (after_turns images old.stack (state old.out) map) images' new.stack (state new.out) fault
 
--- what the last pass needs: the map is of all sectors, and the device can still be read and copied
+-- the last pass, which reports, or its early end
+abbrev pub last_kept : {S D O : Type 0} → Replaces S → MapFile → Passing D O → Kept S
+last_kept replaces last old = kept replaces (map_path_of last.file) (scanned old.device.0 last.no_scrape) (size old.stack.config (mapped old.device.0))
+
+abbrev pub ReportsLastBy : {S D O L : Type 0} → Replaces S → (O → Device) → (L → Listed) → MapFile → S → S → Passing D O → Passing D O → L → L → Counts → Type 0
+ReportsLastBy replaces state told last images images' old new listing listing' counts =
+    ReportsLast (last_kept replaces last old) last.phase (after_turns images old.stack (state old.out) last.map) (told listing) images' (sides new.stack (state new.out) (told listing')) counts
+
+abbrev pub EndsLastBy : {S D O L : Type 0} → Replaces S → (O → Device) → (L → Listed) → MapFile → S → S → Passing D O → Passing D O → L → L → PassFault → Type 0
+EndsLastBy replaces state told last images images' old new listing listing' fault =
+    EndsLast (last_kept replaces last old) last.phase (after_turns images old.stack (state old.out) last.map) images' new.stack (state new.out) fault × (told listing' ≡ told listing)
+
+-- what the last pass needs: the map is of all sectors, and the same device can still be read and copied
 pub record LeavesPassing {D O : Type 0} (state : O → Device) (old new : Passing D O) (tried : TriedMap) : Type 0 where
   pub map : length (marks tried.map) ≡ size old.stack.config (mapped old.device.0)
+  pub device : new.device.0 ≡ old.device.0
   pub config : new.stack.config ≡ old.stack.config
   pub same_size : (state new.out).size ≡ (state old.out).size
   pub allowed : IsTrue (state new.out).may_write

@@ -8,9 +8,8 @@ use Rattle.program_io.specs.JsonLines.{json_line}
 use Rattle.scan_commands.specs.LostJson.{lost_json}
 use Rattle.stack_recovery.specs.declared.listing.KeptRuns.{KeptRuns}
 use Rattle.stack_recovery.specs.declared.recovery.Counts.{Counts}
-use Rattle.stack_recovery.specs.Listings.{Listed, listed}
+use Rattle.stack_recovery.specs.Listings.{Listed, kept_runs, listed}
 use Rattle.stack_recovery.specs.LostRuns.{LostRun}
-use Rattle.stack_recovery.specs.Texts.{lost_text}
 use Rattle.scan_commands.specs.declared.recovering_fault.RecoveringFault.{RecoveringFault}
 use Rattle.scan_commands.specs.declared.recovering_fault.RecoveringFault.TheVariants.{Lost, LostAsSaid, NoMemory, Write}
 use Rattle.charts.specs.declared.form.ReportForm.{ReportForm}
@@ -28,13 +27,13 @@ Early = Listed → RecoveringFault → Listed → Type 0
 -- what was reported before: the lines follow what the writer holds; for a map or an object no run is kept
 abbrev pub BeginsReport : ReportForm → Option (List ℕ) → Listed → Type 0
 BeginsReport Lines old before = before.text ≡ old
-BeginsReport Chart old before = before ≡ listed (Some []) false
-BeginsReport Object old before = before ≡ listed (Some []) false
+BeginsReport Chart old before = before ≡ kept_runs [] false
+BeginsReport Object old before = before ≡ kept_runs [] false
 
 -- all runs were kept, and these are their lines
 pub record AreKept (told : Listed) : Type 0 where
   pub runs : List LostRun
-  pub same : told ≡ listed (Some (lost_text runs)) false
+  pub same : told ≡ kept_runs runs false
 
 -- one object of the runs and the counts was printed
 abbrev pub PrintsLost : List LostRun → Counts → Option (List ℕ) → Option (List ℕ) → Type 0
@@ -106,9 +105,9 @@ IsUnreported Stopped Done form old new failed fault = StopsEarly Stopped form ol
 
 -- ---- in terms of the arguments of a call
 
--- the text of the runs that are kept, and whether a run couldn't be kept
+-- the runs that are kept, and whether a run couldn't be kept
 abbrev pub kept_text : KeptRuns → Listed
-kept_text kept = listed (Some (lost_text kept.runs.items)) (is_some kept.refused)
+kept_text kept = kept_runs kept.runs.items (is_some kept.refused)
 
 abbrev pub TellsObject : {T : Type 0} → (T → Option (List ℕ)) → KeptRuns → Counts → CountedRecord T → CountedRecord T → Type 0
 TellsObject contents kept counts old new = IsReported Object counts (kept_text kept) (contents old.inner) (contents new.inner)

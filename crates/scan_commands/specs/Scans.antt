@@ -2,9 +2,11 @@
 use Rattle.std.specs.Prelude.{◌≡◌, ◌⊎◌, ℕ, Bool, IsTrue, List, Option, option_map}
 use Rattle.block_device.specs.Device.{Device}
 use Rattle.program_io.specs.Counted.{CountedRecord}
+use Rattle.image_files.specs.declared.file_use.FileUse.{FileUse}
 use Rattle.image_files.specs.Opener.{Calls, Opener, calls}
 use Rattle.scan_commands.specs.declared.passing.Passing.{Passing}
 use Rattle.scan_commands.specs.MapFiles.{map_at}
+use Rattle.scan_commands.specs.MapUses.{IsMapUnused, UsesMap}
 use Rattle.scan_commands.specs.Passes.{Moving, Passes, StopsPass, moving, retried_of}
 use Rattle.rescue_map.specs.declared.kind.MapKind.TheVariants as map_kind
 use Rattle.stack_files.specs.DeviceSources.{FailsToFindSource, FindsSource, SourceWords, source_words}
@@ -43,8 +45,11 @@ pub record Scans {S D : Type 0} (w : Calls S D) (words : ScanWords) (before : Li
   pub out : Device
   pub out' : Device
   pub left : StackRecord
+  pub used : FileUse
+  pub first : S
   pub between : S
-  pub found : FindsSource (record w { new = between }) words.words at
+  pub map_used : UsesMap (record w { new = first }) words.map used
+  pub found : FindsSource (record w { old = first; new = between }) used words.words at
   pub passed : Passes (record w { old = between }) (map_at words.map map_kind.Scan) (retried at.d words.retries words.no_scrape) (moving (sides at.stack out before) (sides left out' told)) counts
 
 -- the scan began and ended early; the device that it copies to never fails
@@ -53,8 +58,11 @@ pub record StopsScan {S D : Type 0} (w : Calls S D) (words : ScanWords) (before 
   pub out : Device
   pub out' : Device
   pub left : StackRecord
+  pub used : FileUse
+  pub first : S
   pub between : S
-  pub found : FindsSource (record w { new = between }) words.words at
+  pub map_used : UsesMap (record w { new = first }) words.map used
+  pub found : FindsSource (record w { old = first; new = between }) used words.words at
   pub sure : IsTrue out.never_fails
   pub stops : IsPassEnd (StopsPass (record w { old = between }) (map_at words.map map_kind.Scan) (retried at.d words.retries words.no_scrape) (moving (sides at.stack out before) (sides left out' told))) fault
 
@@ -62,10 +70,21 @@ pub record StopsScan {S D : Type 0} (w : Calls S D) (words : ScanWords) (before 
 abbrev pub PrintsScan : {S D : Type 0} → Calls S D → ScanWords → Option (List ℕ) → Option (List ℕ) → Type 0
 PrintsScan w words old new = Reports (Scans w words) words.form old new
 
--- there is no such device, and nothing is printed; or the scan ended early, or sectors are lost or not all is printed
+-- the map's file may be used, and there is no such device beside it
+pub record FailsBesideMap {S D : Type 0} (w : Calls S D) (words : ScanWords) (fault : RecoveringFault) : Type 0 where
+  pub used : FileUse
+  pub first : S
+  pub map_used : UsesMap (record w { new = first }) words.map used
+  pub fails : IsRecoveryStackless (FailsToFindSource (record w { old = first }) used words.words) fault
+
+-- that, or the file may not be used
+abbrev pub IsScanUnbegun : {S D : Type 0} → Calls S D → ScanWords → RecoveringFault → Type 0
+IsScanUnbegun w words fault = IsPassEnd (IsMapUnused w words.map) fault ⊎ FailsBesideMap w words fault
+
+-- nothing is printed if the scan doesn't begin; or the scan ended early, or sectors are lost or not all is printed
 abbrev pub IsScanEnd : {S D : Type 0} → Calls S D → ScanWords → Option (List ℕ) → Option (List ℕ) → Bool → RecoveringFault → Type 0
 IsScanEnd w words old new failed fault =
-    ((new ≡ old) × IsRecoveryStackless (FailsToFindSource w words.words) fault) ⊎ IsUnreported (StopsScan w words) (Scans w words) words.form old new failed fault
+    ((new ≡ old) × IsScanUnbegun w words fault) ⊎ IsUnreported (StopsScan w words) (Scans w words) words.form old new failed fault
 
 -- ---- in terms of the arguments of a call, for an open device
 

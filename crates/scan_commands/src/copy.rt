@@ -6,7 +6,8 @@ ghost use Rattle.scan_commands.specs.Copies.{CopiesBy, EndsCopyingBy, IsCopyEnd,
 ghost use Rattle.scan_commands.specs.Counting.{EndsPrintedBy, PrintedBy};
 
 use crate::map_file::map_at;
-use crate::output::open_with_room;
+use crate::map_use::use_map_beside;
+use crate::output::{open_with_room, source_beside};
 use crate::passing::{Passing, run_pass};
 use crate::recovering_fault::RecoveringFault;
 use crate::report::tell_counts;
@@ -36,7 +37,8 @@ pub struct CopyPlan<'a> {
 /// printed.
 ///
 /// With a map file, only sectors that the map doesn't mark as read are copied, and the map file is kept as a copy's map. A
-/// scan's map counts no sector as read: the image has none of the sectors that it marks `+`.
+/// scan's map counts no sector as read: the image has none of the sectors that it marks `+`. If the map file is there, the image
+/// isn't made as long as a disk.
 ///
 /// # Errors
 ///
@@ -56,7 +58,9 @@ pub fn copy_device<'a, I: Images, W: Write, P: Progress>(
     ensures ok { OnOk result (PrintedBy W.contents writer.old writer.new (PrintsCopy (calls I.relations I.Dev.state images.old images.new) (words_to_copy source.entry plan.entry))) }
     ensures err { IfErr result (EndsPrintedBy W.contents writer.old writer.new (IsCopyEnd (calls I.relations I.Dev.state images.old images.new) (words_to_copy source.entry plan.entry))) }
 {
-    let (stack, device, image) = open_with_room(alloc, images, source, plan.out)?;
+    let used = use_map_beside(images, plan.map, plan.out)?;
+    let read = source_beside(used, source);
+    let (stack, device, image) = open_with_room(alloc, images, used, read, plan.out)?;
     let OpenImage { device: out, id: _ } = image;
     let retries = plan.retries;
     let no_scrape = plan.no_scrape;

@@ -104,8 +104,8 @@ fn continues(kind: MapKind, read: MapKind) -> bool
     }
 }
 
-// Whether there is no file.
-fn is_missing(fault: OpenFault) -> bool
+/// Whether there is no file.
+pub(crate) fn is_missing(fault: OpenFault) -> bool
     ensures { result ≡ is_missing fault }
 {
     match fault {

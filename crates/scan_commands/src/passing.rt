@@ -1,11 +1,12 @@
 //! A pass over a mapped device, with or without a map file.
-ghost use Rattle.std.specs.Prelude.{◌≡◌, IfOk, IfErr};
-ghost use Rattle.scan_commands.specs.Passes.{CanPass, PassesBy, PassesMapBy, StopsBy, StopsMapBy};
+ghost use Rattle.std.specs.Prelude.{◌≡◌, length, IfOk, IfErr};
+ghost use Rattle.rescue_map.specs.Maps.{marks};
+ghost use Rattle.stack_rules.specs.Names.{mapped, size};
+ghost use Rattle.scan_commands.specs.Passes.{CanPass, EndsLastBy, PassesBy, PassesMapBy, ReportsLastBy, StopsBy, StopsMapBy};
 ghost use Rattle.scan_commands.specs.PassesInTurns.{counts_of};
 
-use crate::known::tell_known;
 use crate::map_file::{MapFile, MapPath, read_map};
-use crate::phase::{Phase, phase_after};
+use crate::phase::{Phase, is_again, phase_after};
 use crate::rescue_fault::PassFault;
 use crate::retries::retry_in_turns;
 use crate::turns::read_in_turns;
@@ -15,7 +16,7 @@ use image_files::Images;
 use rescue_map::{Totals, totals_of};
 use stack_config::DevId;
 use stack_engine::Stack;
-use stack_recovery::{Counts, Listing, RecoveryPlan, recover_with};
+use stack_recovery::{Counts, KeptRuns, Listing, RecoveryPlan, recover_with, tell_among_bad};
 use std::alloc::Global;
 
 /// A mapped device of a stack, the device that its readable sectors are copied to, how many times lost sectors are read again, and
@@ -35,8 +36,9 @@ pub struct Passing<D: BlockDev, O> {
 /// reports.
 ///
 /// With a map file, only sectors that the map doesn't mark as read are read, and bad ones only in the passes that read lost
-/// sectors again; without these, bad sectors are reported before the others. Each pass goes in turns; after each turn the other
-/// device is synced and the map file replaced. Without a map file the opener isn't called, and nothing is synced.
+/// sectors again; without these, bad sectors are reported too, by the fault of binding 0. Runs are reported after the last pass. Each pass
+/// goes in turns; after each turn the other device is synced and the map file replaced. Without a map file the opener isn't called, and
+/// nothing is synced.
 ///
 /// # Errors
 ///
@@ -108,24 +110,47 @@ fn pass_by_map<'a, I: Images, D: BlockDev, O: SyncDev, L: Listing, P: Progress>(
         progress,
     )?;
     let tried = retry_in_turns(alloc, images, passing, file, skimmed.map, progress)?;
-    tell_known(listing, tried.passes, &tried.map);
     let last = MapFile {
         file,
         map: tried.map,
         phase: phase_after(tried.passes),
         no_scrape,
     };
-    let rescued = read_in_turns(
+    report_last(alloc, images, passing, last, listing, progress)
+}
+
+// Runs the last pass, and reports its lost runs with the bad sectors that it left.
+fn report_last<'a, I: Images, D: BlockDev, O: SyncDev, L: Listing, P: Progress>(
+    alloc: Global,
+    images: &mut I,
+    passing: &mut Passing<D, O>,
+    last: MapFile<'_>,
+    listing: &mut L,
+    progress: &mut P,
+) -> Result<Counts, PassFault<'a>>
+    requires can { CanPass O.state passing.old }
+    requires fits { length (marks last.map) ≡ size passing.old.stack.config (mapped passing.old.device.0) }
+    ensures ok { IfOk result (ReportsLastBy I.relations.replaces O.state L.told last.entry images.old images.new passing.old passing.new listing.old listing.new) }
+    ensures err { IfErr result (EndsLastBy I.relations.replaces O.state L.told last.entry images.old images.new passing.old passing.new listing.old listing.new) }
+{
+    let device = passing.device;
+    let again = is_again(last.phase);
+    let mut kept = KeptRuns::new(alloc);
+    let made = read_in_turns(
         alloc,
         images,
         &mut passing.stack,
         device,
         &mut passing.out,
         last,
-        listing,
+        &mut kept,
         progress,
     )?;
-    Ok(counts_of(totals_of(&rescued.map), rescued.untried))
+    if kept.refused.is_some() {
+        return Err(PassFault::NoMemory);
+    }
+    tell_among_bad(listing, &made.map, again, kept.runs.as_slice());
+    Ok(counts_of(totals_of(&made.map), made.untried))
 }
 
 // The counts of a map, of whose sectors so many are unscraped.

@@ -7,6 +7,7 @@ ghost use Rattle.scan_commands.specs.Scans.{EndsReporting, IsScanEnd, PrintsScan
 
 use crate::chart::tell_chart;
 use crate::map_file::map_at;
+use crate::map_use::use_map;
 use crate::passing::{Passing, run_pass};
 use crate::recovering_fault::RecoveringFault;
 use crate::report::{tell_counts, tell_object};
@@ -52,7 +53,8 @@ pub fn scan_device<'a, I: Images, W: Write, P: Progress>(
     ensures ok { OnOk result (PrintedBy W.contents writer.old writer.new (PrintsScan (calls I.relations I.Dev.state images.old images.new) (words_to_scan source.entry plan.entry))) }
     ensures err { IfErr result (EndsPrintedBy W.contents writer.old writer.new (IsScanEnd (calls I.relations I.Dev.state images.old images.new) (words_to_scan source.entry plan.entry))) }
 {
-    let (stack, device) = open_source(alloc, images, source)?;
+    let used = use_map(images, plan.map)?;
+    let (stack, device) = open_source(alloc, images, used, source)?;
     let out = Discard::new(stack.config().sectors(device));
     let retries = plan.retries;
     let no_scrape = plan.no_scrape;

@@ -10,7 +10,7 @@ ghost use Rattle.scan_commands.specs.Turns.{EndsTurnRead, GoesOn, IsSpan, Leaves
 use crate::map_file::{MapFile, MapPath};
 use crate::phase::Phase;
 use crate::rescue_fault::PassFault;
-use crate::turn_map::{asked, left_map};
+use crate::turn_map::{asked, left_map, pass_maps};
 use block_device::{BlockDev, SyncDev};
 use device_adapters::Progress;
 use image_files::Images;
@@ -258,12 +258,13 @@ pub fn read_in_turns<'a, I: Images, D: BlockDev, O: SyncDev, L: Listing, P: Prog
         phase,
         no_scrape,
     } = kept;
+    let maps = pass_maps(alloc, phase, &map, sectors)?;
     let mut untried = 0;
     let mut at = 0;
     'turns: while at < sectors {
         let count = turn_len(sectors).min(sectors - at);
         let span = Span { first: at, count };
-        let wanted = asked(alloc, phase, &map, span, sectors)?;
+        let wanted = asked(alloc, &maps, span, sectors)?;
         if is_had(&wanted) {
             at += count;
         } else {

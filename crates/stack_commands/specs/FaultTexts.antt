@@ -48,7 +48,7 @@ service_text service.TooManyOptions = codes "client 5 TooManyOptions\n"
 service_text service.ReadFault = []
 service_text service.WriteFault = []
 
--- so many requests of a client were answered with an input/output error, of so many
+-- so many requests of a client ended with a fault, of so many
 abbrev pub faults_text : Tally → List ℕ
 faults_text tally = codes "faults " ++ (decimal tally.faults ++ (codes " requests " ++ (decimal tally.requests ++ codes "\n")))
 

@@ -32,6 +32,7 @@ use Rattle.stack_commands.specs.Diffing.{ComparesImages, IsComparingEnd}
 use Rattle.stack_commands.specs.Endings.{IsSilent, IsReplyUnwritten}
 use Rattle.transfer_commands.specs.Writes.{PutWords, put_words}
 use Rattle.request_queue.specs.Requests.{a_read, a_write}
+use Rattle.nbd_server.specs.declared.session_end.SessionEnd.{SessionEnd}
 use Rattle.scan_commands.specs.Copies.{CopyWords, IsCopyEnd, PrintsCopy, copy_words}
 use Rattle.scan_commands.specs.Scans.{IsScanEnd, PrintsScan, ScanWords, scan_words}
 use Rattle.stack_files.specs.NamedDevices.{DeviceWords}
@@ -94,7 +95,7 @@ abbrev pub IsSessionWordsEnd : {S D : Type 0} → Calls S D → SessionRecord �
 IsSessionWordsEnd w s old new failed fault = IsServeEnd w s.cache s.bindings old new failed fault
 
 abbrev pub ServesNamedDevice : {S D : Type 0} → Calls S D → NbdRecord → Exchange → Type 0
-ServesNamedDevice w n x = ServesWell (λ log. ServesClient w (device_on n.stack n.name n.cache n.bindings) x log (Ok tt) (Ok tt))
+ServesNamedDevice w n x = ServesWell (λ log. (end : SessionEnd) × ServesClient w (device_on n.stack n.name n.cache n.bindings) x log (Ok end) (Ok tt))
 
 abbrev pub IsNbdWordsEnd : {S D : Type 0} → Calls S D → NbdRecord → Exchange → Bool → CommandFault → Type 0
 IsNbdWordsEnd w n x failed fault = IsClientEnd w (device_on n.stack n.name n.cache n.bindings) x failed fault
@@ -147,7 +148,7 @@ IsCopyWordsEnd w c old new failed fault = IsRecoveringEnd (IsCopyEnd w (copied c
 -- ---- a client that is served each device
 
 abbrev pub ServesDevices : {S D : Type 0} → Calls S D → ExportsRecord → Exchange → Type 0
-ServesDevices w e x = ServesWell (λ log. ServesExports w (on e.stack e.bindings) e.cache x log (Ok tt) (Ok tt))
+ServesDevices w e x = ServesWell (λ log. (end : SessionEnd) × ServesExports w (on e.stack e.bindings) e.cache x log (Ok end) (Ok tt))
 
 abbrev pub IsExportsWordsEnd : {S D : Type 0} → Calls S D → ExportsRecord → Exchange → Bool → CommandFault → Type 0
 IsExportsWordsEnd w e x failed fault = IsExportsEnd w (on e.stack e.bindings) e.cache x failed fault

@@ -6,6 +6,7 @@ use Rattle.nbd_protocol.specs.Exports.{ExportRecord}
 use Rattle.nbd_protocol.specs.Offers.{AreNames, Offers, longest_name}
 use Rattle.nbd_protocol.specs.declared.fault.ServiceFault.{ServiceFault}
 use Rattle.nbd_protocol.specs.declared.fault.ServiceFault.TheVariants as service_fault
+use Rattle.nbd_server.specs.declared.session_end.SessionEnd.{SessionEnd}
 use Rattle.nbd_server.specs.declared.session_log.SessionLog.{SessionLog}
 use Rattle.request_queue.specs.World.{World}
 use Rattle.stack_engine.specs.Stacks.{StackRecord}
@@ -28,7 +29,7 @@ pub record AreOffered (stack : StackRecord) (exports : List ExportRecord) : Type
 
 -- The service of a client, over each device of the stack, and the log of its requests. The images were closed with what was
 -- written to them, synced or not.
-pub record ServesExports {S D : Type 0} (w : Calls S D) (words : StackWords) (cache : ℕ) (x : Exchange) (log : SessionLog) (outcome : Result Unit ServiceFault) (synced : Result Unit IoFault) : Type 0 where
+pub record ServesExports {S D : Type 0} (w : Calls S D) (words : StackWords) (cache : ℕ) (x : Exchange) (log : SessionLog) (outcome : Result SessionEnd ServiceFault) (synced : Result Unit IoFault) : Type 0 where
   pub stack : StackRecord
   pub exports : List ExportRecord
   pub last : World
@@ -59,4 +60,4 @@ pub record FailsToOffer {S D : Type 0} (w : Calls S D) (words : StackWords) (cac
 abbrev pub IsExportsEnd : {S D : Type 0} → Calls S D → StackWords → ℕ → Exchange → Bool → CommandFault → Type 0
 IsExportsEnd w words cache x failed fault =
     (IsUnbegun x × (IsStackEnd (FailsToLoadFile w words) fault ⊎ FailsToOffer w words cache fault))
-    ⊎ (FailsToServeExports w words cache x failed fault ⊎ IsServedEnd (λ log synced. ServesExports w words cache x log (Ok tt) synced) fault)
+    ⊎ (FailsToServeExports w words cache x failed fault ⊎ IsServedEnd (λ log synced. (end : SessionEnd) × ServesExports w words cache x log (Ok end) synced) fault)

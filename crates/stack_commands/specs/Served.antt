@@ -17,6 +17,7 @@ use Rattle.command_line.specs.words.Nbd.{nbd_record}
 use Rattle.command_line.specs.words.Session.{session_record}
 use Rattle.command_line.specs.words.Store.{store_record}
 use Rattle.image_files.specs.Opener.{Calls, Opener, calls}
+use Rattle.nbd_server.specs.declared.session_end.SessionEnd.{SessionEnd}
 use Rattle.partition_commands.specs.Warnings.{notes_of}
 use Rattle.stack_files.specs.NamedDevices.{DeviceWords}
 use Rattle.stack_commands.specs.declared.client.Client.{Client}
@@ -97,13 +98,13 @@ module _ {S D R T E X : Type 0} (relations : Opener S D) (state : D → Device) 
 
   -- over a stack file
   abbrev pub ServesDevice : ServedDevice → List Binding → Type 0
-  ServesDevice device bindings = ServesWell (λ log. ServesClient client_calls (served_device device bindings) client_exchange log (Ok tt) (Ok tt))
+  ServesDevice device bindings = ServesWell (λ log. (end : SessionEnd) × ServesClient client_calls (served_device device bindings) client_exchange log (Ok end) (Ok tt))
 
   abbrev pub EndsClient : ServedDevice → List Binding → CommandFault → Type 0
   EndsClient device bindings = IsClientEnd client_calls (served_device device bindings) client_exchange client_failed
 
   abbrev pub ServesEach : ℕ → List ℕ → List Binding → Type 0
-  ServesEach cache stack bindings = ServesWell (λ log. ServesExports client_calls (on stack (map binding_record bindings)) cache client_exchange log (Ok tt) (Ok tt))
+  ServesEach cache stack bindings = ServesWell (λ log. (end : SessionEnd) × ServesExports client_calls (on stack (map binding_record bindings)) cache client_exchange log (Ok end) (Ok tt))
 
   abbrev pub EndsAll : ℕ → List ℕ → List Binding → CommandFault → Type 0
   EndsAll cache stack bindings = IsExportsEnd client_calls (on stack (map binding_record bindings)) cache client_exchange client_failed

@@ -5,6 +5,8 @@ use Rattle.nbd_protocol.specs.declared.fault.ServiceFault.{ServiceFault}
 use Rattle.nbd_protocol.specs.declared.fault.ServiceFault.TheVariants as service
 use Rattle.nbd_server.specs.FaultLines.{fault_lines}
 use Rattle.nbd_server.specs.Service.{IsService}
+use Rattle.nbd_server.specs.declared.session_end.SessionEnd.{SessionEnd}
+use Rattle.nbd_server.specs.declared.session_end.SessionEnd.TheVariants as session
 use Rattle.nbd_server.specs.declared.session_log.SessionLog.{SessionLog}
 use Rattle.nbd_server.specs.declared.tally.Tally.{Tally}
 use Rattle.partition_commands.specs.Warnings.{IsNoted, Notes}
@@ -38,8 +40,9 @@ unfoldable pub more_text : ℕ → List ℕ
 more_text count = if count == 0 then codes "" else codes "dmstack: " ++ (decimal count ++ codes " more faulty requests\n")
 
 -- why a session ended
-abbrev pub end_reason : Result Unit ServiceFault → List ℕ
-end_reason (Ok done) = codes "the client disconnected"
+abbrev pub end_reason : Result SessionEnd ServiceFault → List ℕ
+end_reason (Ok session.Ended) = codes "the client ended the session"
+end_reason (Ok session.Gone) = codes "the client disconnected"
 end_reason (Err service.Lost) = codes "the client disconnected in a message"
 end_reason (Err service.Magic) = codes "the client broke the protocol"
 end_reason (Err service.Flags) = codes "the client broke the protocol"
@@ -48,10 +51,14 @@ end_reason (Err service.TooManyOptions) = codes "the client sent too many option
 end_reason (Err service.ReadFault) = codes "the input failed"
 end_reason (Err service.WriteFault) = codes "the output failed"
 
--- how many requests were answered, of how many bytes, how many of these with an input/output error, and why the session ended
+-- how many requests were answered, of how many bytes, how many of these with an input/output error, how many because a device has
+-- no space left, and why the session ended
 unfoldable pub served_line : Tally → List ℕ → List ℕ
 served_line t reason =
-    codes "dmstack: served " ++ (decimal t.requests ++ (codes " requests of " ++ (decimal t.bytes ++ (codes " bytes, " ++ (decimal t.faults ++ (codes " with an input/output error; " ++ (reason ++ codes "\n")))))))
+    codes "dmstack: served "
+    ++ (decimal t.requests
+    ++ (codes " requests of "
+    ++ (decimal t.bytes ++ (codes " bytes, " ++ (decimal (t.faults - t.full) ++ (codes " with an input/output error, " ++ (decimal t.full ++ (codes " with NoSpace; " ++ (reason ++ codes "\n")))))))))
 
 -- ---- what was printed
 
@@ -74,12 +81,12 @@ exchange old new quiet notes = record { old = old; new = new; quiet = quiet; not
 abbrev pub ended_text : SessionLog → List ℕ → List ℕ
 ended_text log reason = more_text (log.tally.faults - length log.first) ++ served_line log.tally reason
 
-abbrev pub end_text : SessionLog → Result Unit ServiceFault → List ℕ
+abbrev pub end_text : SessionLog → Result SessionEnd ServiceFault → List ℕ
 end_text log outcome = ended_text log (end_reason outcome)
 
--- a client was served these exports; a line for each was printed before, one for each of the first faults when its request ended,
--- and those on the tally after
-pub record ServesNoted (x : Exchange) (exports : List ExportRecord) (begin last : World) (log : SessionLog) (outcome : Result Unit ServiceFault) : Type 0 where
+-- a client was served these exports; a line for each was printed before, one for each of the first faults, and those on the tally
+-- after
+pub record ServesNoted (x : Exchange) (exports : List ExportRecord) (begin last : World) (log : SessionLog) (outcome : Result SessionEnd ServiceFault) : Type 0 where
   pub service : IsService exports begin last x.old x.new log outcome
   pub noted : IsNotedUnless x.quiet x.notes (start_text exports ++ (fault_lines exports log.first ++ end_text log outcome))
 

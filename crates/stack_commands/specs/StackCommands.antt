@@ -10,6 +10,7 @@ use Rattle.stack_meaning.specs.declared.fault.IoFault.{IoFault}
 use Rattle.nbd_protocol.specs.declared.fault.ServiceFault.{ServiceFault}
 use Rattle.nbd_protocol.specs.declared.fault.ServiceFault.TheVariants as service_fault
 use Rattle.nbd_protocol.specs.Exports.{ExportRecord, HasNoExport, IsExport}
+use Rattle.nbd_server.specs.declared.session_end.SessionEnd.{SessionEnd}
 use Rattle.nbd_server.specs.declared.session_log.SessionLog.{SessionLog}
 use Rattle.request_queue.specs.declared.reply.Reply.{Reply}
 use Rattle.request_queue.specs.Requests.{RequestRecord}
@@ -149,7 +150,7 @@ IsServeEnd w cache bindings old new failed fault = ⊥
 
 -- The service of a client, over the device of that name in the stack, and the log of its requests. The images were then closed,
 -- synced or not.
-pub record ServesClient {S D : Type 0} (w : Calls S D) (words : DeviceWords) (x : Exchange) (log : SessionLog) (outcome : Result Unit ServiceFault) (synced : Result Unit IoFault) : Type 0 where
+pub record ServesClient {S D : Type 0} (w : Calls S D) (words : DeviceWords) (x : Exchange) (log : SessionLog) (outcome : Result SessionEnd ServiceFault) (synced : Result Unit IoFault) : Type 0 where
   pub stack : StackRecord
   pub export : ExportRecord
   pub last : World
@@ -160,16 +161,16 @@ pub record ServesClient {S D : Type 0} (w : Calls S D) (words : DeviceWords) (x 
   pub served : ServesNoted x (export ∷ []) (new_world stack) last log outcome
   pub back : GivesBack (record w { old = between }) words.words.bindings last.stack.leaves synced
 
--- all was served and synced, and no request was answered with an input/output error
+-- all was served and synced, and no request ended with a fault
 abbrev pub ServesWell : (SessionLog → Type 0) → Type 0
 ServesWell Done = (log : SessionLog) × (log.tally.faults ≡ 0) × Done log
 
--- all was served and synced, but requests were answered with an input/output error
+-- all was served and synced, but requests ended with a fault
 abbrev pub IsFaultsEnd : (SessionLog → Type 0) → CommandFault → Type 0
 IsFaultsEnd Done (Faults tally) = (tally.faults ≢ 0) × ((log : SessionLog) × (tally ≡ log.tally) × Done log)
 IsFaultsEnd Done fault = ⊥
 
--- all was served, and an image wasn't synced or requests were answered with an input/output error
+-- all was served, and an image wasn't synced or requests ended with a fault
 abbrev pub IsServedEnd : (SessionLog → Result Unit IoFault → Type 0) → CommandFault → Type 0
 IsServedEnd Done fault = IsSyncEnd (λ synced. (log : SessionLog) × Done log synced) fault ⊎ IsFaultsEnd (λ log. Done log (Ok tt)) fault
 
@@ -198,4 +199,4 @@ pub record FailsToServeClient {S D : Type 0} (w : Calls S D) (words : DeviceWord
 abbrev pub IsClientEnd : {S D : Type 0} → Calls S D → DeviceWords → Exchange → Bool → CommandFault → Type 0
 IsClientEnd w words x failed fault =
     (IsUnbegun x × IsStackEnd (FailsToExport w words) fault)
-    ⊎ (FailsToServeClient w words x failed fault ⊎ IsServedEnd (λ log synced. ServesClient w words x log (Ok tt) synced) fault)
+    ⊎ (FailsToServeClient w words x failed fault ⊎ IsServedEnd (λ log synced. (end : SessionEnd) × ServesClient w words x log (Ok end) synced) fault)

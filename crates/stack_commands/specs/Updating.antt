@@ -18,6 +18,7 @@ order_by u pin = record {
   places = record { data_path = u.data_path; hash_path = u.hash_path; first = 0; write = true };
   release_path = u.release_hash;
   pin = pin;
+  pin_path = u.pin;
   no_index = u.no_index;
   json = u.json;
 }

@@ -50,7 +50,7 @@ pub enum CommandFault<'a> {
     Session(SessionFault),
     /// The service of a client ended early.
     Service(ServiceFault),
-    /// Requests of a client were answered with an input/output error.
+    /// Requests of a client ended with a fault.
     Faults(Tally),
 }
 

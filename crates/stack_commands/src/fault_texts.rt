@@ -67,7 +67,7 @@ pub fn say_service_fault<W: Write>(
     }
 }
 
-/// Prints `faults F requests R`: so many of so many requests of a client were answered with an input/output error.
+/// Prints `faults F requests R`: so many of so many requests of a client ended with a fault.
 ///
 /// # Errors
 ///

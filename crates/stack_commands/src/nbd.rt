@@ -12,7 +12,7 @@ use block_device::{BlockDev, SyncDev};
 use command_line::{Binding, ExportsWords, NbdWords, ServedDevice};
 use image_files::Images;
 use nbd_protocol::{Export, exports_of, names_of};
-use nbd_server::{ServiceFault, SessionLog, serve, serve_logged};
+use nbd_server::{ServiceFault, SessionEnd, SessionLog, serve, serve_logged};
 use request_queue::Queue;
 use stack_files::{StackFault, StackFile, open_loaded, sync_and_close};
 use std::alloc::Global;
@@ -26,7 +26,7 @@ use std::io::{Read, Write};
 /// - `Stack` if a file can't be opened, or there is no stack or no such device.
 /// - `Service` if the service ended early.
 /// - `Io` if the images can't be synced.
-/// - `Faults` if a request was answered with an input/output error.
+/// - `Faults` if a request ended with a fault.
 pub fn invoke_nbd<'a, I: Images, R: Read, W: Write, E: Write>(
     alloc: Global,
     images: &mut I,
@@ -48,7 +48,7 @@ pub fn invoke_nbd<'a, I: Images, R: Read, W: Write, E: Write>(
 /// - `Stack` if a file can't be opened, or there is no stack.
 /// - `Service` if the service ended early.
 /// - `Io` if the images can't be synced.
-/// - `Faults` if a request was answered with an input/output error.
+/// - `Faults` if a request ended with a fault.
 pub fn invoke_exports<'a, I: Images, R: Read, W: Write, E: Write>(
     alloc: Global,
     images: &mut I,
@@ -133,15 +133,15 @@ fn serve_exports<'a, I: Images, R: Read, W: Write, E: Write>(
     Err(CommandFault::Faults(tally))
 }
 
-// Serves the exports. Among the errors a line for each of them is printed before, those of the faults when they occur, and those on
-// the tally after.
+// Serves the exports. Among the errors a line for each of them is printed before, that of a fault after the reply to its request is
+// flushed, and those on the tally after.
 fn serve_noted<D: SyncDev, R: Read, W: Write, E: Write>(
     alloc: Global,
     queue: &mut Queue<D>,
     exports: &[Export<'_>],
     client: Client<'_, R, W, E>,
     log: &mut SessionLog,
-) -> Result<(), ServiceFault>
+) -> Result<SessionEnd, ServiceFault>
     requires { AreExports queue.old.stack.config exports.now }
     ensures served { ServesNoted (exchanged R.remaining W.contents E.contents client.entry client.exit) (export_records exports.now) queue.old queue.new log.new result }
     ensures writer { HasWritten client.entry.writer.now client.exit.1.0.now (result_fault result) }

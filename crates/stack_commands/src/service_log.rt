@@ -6,7 +6,7 @@ ghost use Rattle.program_io.specs.Counted.{Writes};
 ghost use Rattle.stack_commands.specs.ServiceLog.{end_reason, end_text, ended_text, export_facts, export_line, more_text, named_facts, rights_text, served_line, start_text};
 
 use nbd_protocol::Export;
-use nbd_server::{ServiceFault, SessionLog, Tally};
+use nbd_server::{ServiceFault, SessionEnd, SessionLog, Tally};
 use program_io::{Counted, WriteFault};
 use std::io::Write;
 
@@ -18,11 +18,11 @@ pub(crate) fn note_start<E: Write>(errors: &mut Counted<E>, exports: &[Export<'_
 }
 
 /// Prints how many requests had faults that weren't printed, how many requests were answered, of how many bytes, how many of them
-/// with an input/output error, and why the session ended.
+/// with an input/output error, how many because a device has no space left, and why the session ended.
 pub(crate) fn note_end<E: Write>(
     errors: &mut Counted<E>,
     log: &SessionLog,
-    outcome: &Result<(), ServiceFault>,
+    outcome: &Result<SessionEnd, ServiceFault>,
 )
     ensures { IsPrinted E.contents errors.old errors.new (end_text log.now outcome.now) }
 {
@@ -30,11 +30,12 @@ pub(crate) fn note_end<E: Write>(
 }
 
 // Why a session ended.
-fn end_reason(outcome: &Result<(), ServiceFault>) -> &'static str
+fn end_reason(outcome: &Result<SessionEnd, ServiceFault>) -> &'static str
     ensures { result.now ≡ end_reason outcome.now }
 {
     match outcome {
-        Ok(()) => "the client disconnected",
+        Ok(SessionEnd::Ended) => "the client ended the session",
+        Ok(SessionEnd::Gone) => "the client disconnected",
         Err(ServiceFault::Lost) => "the client disconnected in a message",
         Err(ServiceFault::Magic) => "the client broke the protocol",
         Err(ServiceFault::Flags) => "the client broke the protocol",
@@ -91,7 +92,7 @@ fn rights_text(writable: bool) -> &'static str
     if writable { "rw" } else { "ro" }
 }
 
-// `dmstack: served R requests of B bytes, F with an input/output error; REASON`
+// `dmstack: served R requests of B bytes, F with an input/output error, N with NoSpace; REASON`
 #[tactic(auto, unfolding(crate::specs::ServiceLog::served_line))]
 fn say_served<W: Write>(
     writer: &mut Counted<W>,
@@ -104,9 +105,11 @@ fn say_served<W: Write>(
         requests,
         bytes,
         faults,
+        full,
     } = tally;
+    let failed = faults.saturating_sub(full);
     writer.print(format_args!(
-        "dmstack: served {requests} requests of {bytes} bytes, {faults} with an input/output error; {reason}\n"
+        "dmstack: served {requests} requests of {bytes} bytes, {failed} with an input/output error, {full} with NoSpace; {reason}\n"
     ))
 }
 

@@ -38,6 +38,7 @@ pub fn update_image<'a, I: Images, S: Watchers, W: Write>(
         hash: words.hash_path,
         release_hash: words.release_hash,
         pin,
+        pin_path: words.pin,
         no_index: words.no_index,
         progress: words.progress,
         json: words.json,

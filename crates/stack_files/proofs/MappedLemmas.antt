@@ -1,5 +1,5 @@
 -- Texts that are no map of a device, and images that are opened with one.
-use Rattle.std.proofs.Common.{◌≡◌, ◌≤◌, ◌+◌, ℕ, List, Option, None, Some, Result, Ok, Err, inl, inr, subst, sym}
+use Rattle.std.proofs.Common.{◌≡◌, ◌≤◌, ◌+◌, ℕ, List, Option, None, Some, Err, inl, inr, subst, sym}
 use Rattle.std.specs.Prelude.{option_map}
 use Rattle.block_device.specs.Device.{Device}
 use Rattle.block_device.specs.declared.open_fault.OpenFault.{OpenFault}

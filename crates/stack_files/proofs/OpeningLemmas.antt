@@ -14,7 +14,6 @@ use Rattle.image_files.specs.declared.parts.UnopenedPart.{UnopenedPart}
 use Rattle.image_files.specs.declared.parts.UnopenedPart.TheVariants.{File, Outside as OutsideFile}
 use Rattle.image_files.specs.OpenParts.{RefusesPart}
 use Rattle.image_files.specs.Opener.{Calls, Opener, calls}
-use Rattle.stack_rules.specs.Records.{LeafRecord}
 use Rattle.stack_meaning.specs.Leaves.{ServeLeaves}
 use Rattle.stack_files.specs.declared.opening_fault.OpeningFault.{OpeningFault}
 use Rattle.stack_files.specs.declared.opening_fault.OpeningFault.TheVariants.{NoMemory, Open, Outside, TooLong}

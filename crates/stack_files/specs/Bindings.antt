@@ -1,6 +1,6 @@
 -- The backing devices that names are bound to.
 use Rattle.std.specs.Global.{Global}
-use Rattle.std.specs.Prelude.{◌≡◌, ℕ, Bool, false, true, List, [], ◌∷◌, ◌++◌, map, Option, None, option_map, Vec}
+use Rattle.std.specs.Prelude.{◌≡◌, ℕ, Bool, true, List, [], ◌∷◌, ◌++◌, map, Option, None, option_map, Vec}
 use Rattle.block_device.specs.Device.{Device, in_memory, zeros_image, ramp_image}
 use Rattle.command_line.specs.Bindings.{BackingRecord, BindingRecord, backing_record, binding_record, file, mapped, part, partition, ramp, zeros}
 use Rattle.command_line.specs.declared.bindings.Backing.{Backing}

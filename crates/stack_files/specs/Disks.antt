@@ -8,7 +8,7 @@ use Rattle.image_files.specs.declared.images.OpenImage.{OpenImage}
 use Rattle.image_files.specs.declared.opening.UnopenedFile.{UnopenedFile}
 use Rattle.image_files.specs.declared.placed_image.PlacedImage.{PlacedImage}
 use Rattle.image_files.specs.Opener.{Calls, Opener, calls}
-use Rattle.image_files.specs.OpenPlaces.{FailsToGrowFile, GrowsFile, OpensPlace, RefusesPlace}
+use Rattle.image_files.specs.OpenPlaces.{FailsToGrowFile, GrowsFile, OpensPlaceApart, RefusesPlaceApart}
 use Rattle.image_files.specs.Places.{place_use}
 use Rattle.stack_engine.specs.Stacks.{StackRecord}
 use Rattle.stack_meaning.specs.Leaves.{ServeLeaves}
@@ -53,32 +53,32 @@ pub record IsDiskStack {D : Type 0} (state : D → Device) (disk : D) (over : Op
 abbrev pub IsUnmade : OpeningFault → Type 0
 IsUnmade fault = (fault ≡ NoMemory) × IsOutOfMemory entry_room
 
--- the disk was opened for reading
-pub record OpensDisk {S D : Type 0} (w : Calls S D) (place : List ℕ) (over : OpenStack D) : Type 0 where
+-- the disk was opened for reading, next to the file in use
+pub record OpensDisk {S D : Type 0} (w : Calls S D) (used : FileUse) (place : List ℕ) (over : OpenStack D) : Type 0 where
   pub disk : PlacedImage D
-  pub opened : OpensPlace w place false disk
+  pub opened : OpensPlaceApart w (used ∷ []) place false disk
   pub is : IsDiskStack w.state disk.device over
 
 -- it was opened, and an allocation was refused
-pub record IsDiskUnmade {S D : Type 0} (w : Calls S D) (place : List ℕ) (fault : OpeningFault) : Type 0 where
+pub record IsDiskUnmade {S D : Type 0} (w : Calls S D) (used : FileUse) (place : List ℕ) (fault : OpeningFault) : Type 0 where
   pub disk : PlacedImage D
-  pub opened : OpensPlace w place false disk
+  pub opened : OpensPlaceApart w (used ∷ []) place false disk
   pub unmade : IsUnmade fault
 
 -- that, or it isn't opened
-abbrev pub FailsToOpenDisk : {S D : Type 0} → Calls S D → List ℕ → OpeningFault → Type 0
-FailsToOpenDisk w place fault = IsFileUnopened (RefusesPlace w place false) fault ⊎ IsDiskUnmade w place fault
+abbrev pub FailsToOpenDisk : {S D : Type 0} → Calls S D → FileUse → List ℕ → OpeningFault → Type 0
+FailsToOpenDisk w used place fault = IsFileUnopened (RefusesPlaceApart w (used ∷ []) place false) fault ⊎ IsDiskUnmade w used place fault
 
 -- the disk was opened, and its device is the one of the stack that its text makes
-pub record FindsDisk {S D : Type 0} (w : Calls S D) (words : DiskWords) (at : DevicePlace) : Type 0 where
+pub record FindsDisk {S D : Type 0} (w : Calls S D) (used : FileUse) (words : DiskWords) (at : DevicePlace) : Type 0 where
   pub over : OpenStack D
-  pub opened : OpensDisk w words.place over
+  pub opened : OpensDisk w used words.place over
   pub has : HasDevice w.state (codes "disk") over words.cache at
 
 -- it isn't opened, or its text makes no such device
-abbrev pub FailsToFindDisk : {S D : Type 0} → Calls S D → DiskWords → StackFault → Type 0
-FailsToFindDisk {S} {D} w words fault =
-    IsOpeningEnd (FailsToOpenDisk w words.place) fault ⊎ ((over : OpenStack D) × OpensDisk w words.place over × FailsToFind (codes "disk") over fault)
+abbrev pub FailsToFindDisk : {S D : Type 0} → Calls S D → FileUse → DiskWords → StackFault → Type 0
+FailsToFindDisk {S} {D} w used words fault =
+    IsOpeningEnd (FailsToOpenDisk w used words.place) fault ⊎ ((over : OpenStack D) × OpensDisk w used words.place over × FailsToFind (codes "disk") over fault)
 
 -- ---- with an image to copy to
 
@@ -108,48 +108,48 @@ pub record IsOutputRefused {S D : Type 0} (w : Calls S D) (files : List FileUse)
 abbrev pub LacksOutput : {S D : Type 0} → Calls S D → List FileUse → Bool → List ℕ → ℕ → UnopenedFile → Type 0
 LacksOutput w files grow out sectors file = FailsToMakeRoom w grow out sectors file ⊎ IsOutputRefused w files grow out sectors file
 
--- The disk was opened, and has its device. Only then was the image made as long as the disk and opened, next to it.
-pub record FindsDiskOutput {S D : Type 0} (w : Calls S D) (words : DiskWords) (out : List ℕ) (at : DevicePlace) (image : OpenImage D) : Type 0 where
+-- The disk was opened, and has its device. Only then was the image made as long as the disk and opened, next to it and the file in use.
+pub record FindsDiskOutput {S D : Type 0} (w : Calls S D) (used : FileUse) (words : DiskWords) (out : List ℕ) (at : DevicePlace) (image : OpenImage D) : Type 0 where
   pub between : S
   pub disk : PlacedImage D
   pub over : OpenStack D
-  pub opened : OpensPlace (record w { new = between }) words.place false disk
+  pub opened : OpensPlaceApart (record w { new = between }) (used ∷ []) words.place false disk
   pub is : IsDiskStack w.state disk.device over
   pub has : HasDevice w.state (codes "disk") over words.cache at
-  pub output : OpensWithRoom (record w { old = between }) (place_use false disk ∷ []) words.grow out (w.state disk.device).size image
+  pub output : OpensWithRoom (record w { old = between }) (place_use false disk ∷ used ∷ []) words.grow out (w.state disk.device).size image
 
 -- the disk was opened and has its device, and the image isn't made as long, or isn't opened
-pub record LacksDiskOutput {S D : Type 0} (w : Calls S D) (words : DiskWords) (out : List ℕ) (fault : StackFault) : Type 0 where
+pub record LacksDiskOutput {S D : Type 0} (w : Calls S D) (used : FileUse) (words : DiskWords) (out : List ℕ) (fault : StackFault) : Type 0 where
   pub between : S
   pub disk : PlacedImage D
   pub over : OpenStack D
   pub found : DevicePlace
   pub file : UnopenedFile
-  pub opened : OpensPlace (record w { new = between }) words.place false disk
+  pub opened : OpensPlaceApart (record w { new = between }) (used ∷ []) words.place false disk
   pub is_stack : IsDiskStack w.state disk.device over
   pub has : HasDevice w.state (codes "disk") over words.cache found
-  pub lacks : LacksOutput (record w { old = between }) (place_use false disk ∷ []) words.grow out (w.state disk.device).size file
+  pub lacks : LacksOutput (record w { old = between }) (place_use false disk ∷ used ∷ []) words.grow out (w.state disk.device).size file
   pub is : fault ≡ Open file
 
 -- that, or there is no such device, and the image wasn't touched
-abbrev pub FailsToFindDiskOutput : {S D : Type 0} → Calls S D → DiskWords → List ℕ → StackFault → Type 0
-FailsToFindDiskOutput w words out fault = FailsToFindDisk w words fault ⊎ LacksDiskOutput w words out fault
+abbrev pub FailsToFindDiskOutput : {S D : Type 0} → Calls S D → FileUse → DiskWords → List ℕ → StackFault → Type 0
+FailsToFindDiskOutput w used words out fault = FailsToFindDisk w used words fault ⊎ LacksDiskOutput w used words out fault
 
 -- ---- in terms of the opener, before and after its calls, and the program's arguments
 
 -- a disk's device
-abbrev pub FindsDiskBy : {S D : Type 0} → Opener S D → (D → Device) → S → S → DiskPlace → StackRecord × DevId → Type 0
-FindsDiskBy relations state old new disk = λ found. FindsDisk (calls relations state old new) (disk_words disk) (device_place found.0 found.1.0)
+abbrev pub FindsDiskBy : {S D : Type 0} → Opener S D → (D → Device) → S → S → FileUse → DiskPlace → StackRecord × DevId → Type 0
+FindsDiskBy relations state old new used disk = λ found. FindsDisk (calls relations state old new) used (disk_words disk) (device_place found.0 found.1.0)
 
 -- there is none
-abbrev pub FailsToFindDiskBy : {S D : Type 0} → Opener S D → (D → Device) → S → S → DiskPlace → StackFault → Type 0
-FailsToFindDiskBy relations state old new disk = FailsToFindDisk (calls relations state old new) (disk_words disk)
+abbrev pub FailsToFindDiskBy : {S D : Type 0} → Opener S D → (D → Device) → S → S → FileUse → DiskPlace → StackFault → Type 0
+FailsToFindDiskBy relations state old new used disk = FailsToFindDisk (calls relations state old new) used (disk_words disk)
 
 -- a disk's device, and the image to copy to
-abbrev pub FindsDiskTo : {S D : Type 0} → Opener S D → (D → Device) → S → S → DiskPlace → List ℕ → StackRecord × DevId × OpenImage D → Type 0
-FindsDiskTo relations state old new disk out =
-    λ found. FindsDiskOutput (calls relations state old new) (disk_words disk) out (device_place found.0 found.1.0) found.2
+abbrev pub FindsDiskTo : {S D : Type 0} → Opener S D → (D → Device) → S → S → FileUse → DiskPlace → List ℕ → StackRecord × DevId × OpenImage D → Type 0
+FindsDiskTo relations state old new used disk out =
+    λ found. FindsDiskOutput (calls relations state old new) used (disk_words disk) out (device_place found.0 found.1.0) found.2
 
 -- one of them is missing
-abbrev pub LacksDiskTo : {S D : Type 0} → Opener S D → (D → Device) → S → S → DiskPlace → List ℕ → StackFault → Type 0
-LacksDiskTo relations state old new disk out = FailsToFindDiskOutput (calls relations state old new) (disk_words disk) out
+abbrev pub LacksDiskTo : {S D : Type 0} → Opener S D → (D → Device) → S → S → FileUse → DiskPlace → List ℕ → StackFault → Type 0
+LacksDiskTo relations state old new used disk out = FailsToFindDiskOutput (calls relations state old new) used (disk_words disk) out

@@ -13,3 +13,4 @@ pub mod Endings
 pub mod NamedDevices
 pub mod Resolving
 pub mod StacksOfTexts
+pub mod StacksApart

@@ -1,6 +1,7 @@
 -- A mapped device of a stack, by its name.
 use Rattle.std.specs.Prelude.{◌≡◌, ◌⊎◌, ℕ, List, Some, None, Ok}
 use Rattle.block_device.specs.Device.{Device}
+use Rattle.image_files.specs.declared.file_use.FileUse.{FileUse}
 use Rattle.image_files.specs.declared.images.OpenImage.{OpenImage}
 use Rattle.image_files.specs.Opener.{Calls, Opener, calls}
 use Rattle.stack_rules.specs.Names.{device_named}
@@ -8,7 +9,8 @@ use Rattle.stack_rules.specs.Records.{Configuration}
 use Rattle.stack_engine.specs.Stacks.{StackRecord}
 use Rattle.stack_files.specs.declared.stack_file.OpenStack.{OpenStack}
 use Rattle.stack_files.specs.declared.stack_file.StackFile.{StackFile}
-use Rattle.stack_files.specs.OpenStacks.{FailsToOpenOutput, OpensOutput, StackWords, stack_words}
+use Rattle.stack_files.specs.OpenStacks.{StackWords, stack_words}
+use Rattle.stack_files.specs.StacksApart.{FailsToOpenApart, FailsToOpenOutput, OpensOutput, OpensStackApart}
 use Rattle.stack_files.specs.declared.device.NamedDevice.{NamedDevice}
 use Rattle.stack_files.specs.declared.stack_fault.StackFault.{StackFault}
 use Rattle.stack_files.specs.declared.stack_fault.StackFault.TheVariants.{NoSuchDevice}
@@ -64,23 +66,38 @@ pub record FindsDevice {S D : Type 0} (w : Calls S D) (words : DeviceWords) (at 
 abbrev pub FailsToFindDevice : {S D : Type 0} → Calls S D → DeviceWords → StackFault → Type 0
 FailsToFindDevice w words fault = FailsBehind w words.words (FailsToFind words.name) fault
 
--- ---- with an image to copy to
+-- ---- beside a file in use
 
--- all files were opened, and there is such a device
-pub record FindsOutput {S D : Type 0} (w : Calls S D) (words : DeviceWords) (out : List ℕ) (at : DevicePlace) (image : OpenImage D) : Type 0 where
+-- all files were opened next to it, and there is such a device
+pub record FindsApart {S D : Type 0} (w : Calls S D) (used : FileUse) (words : DeviceWords) (at : DevicePlace) : Type 0 where
   pub over : OpenStack D
-  pub opened : OpensOutput w words.words out over image
+  pub opened : OpensStackApart w used words.words over
   pub has : HasDevice w.state words.name over words.cache at
 
 -- all files are open, but the text makes no stack or there is no such device
-pub record FindsNone {S D : Type 0} (w : Calls S D) (words : DeviceWords) (out : List ℕ) (fault : StackFault) : Type 0 where
+pub record FindsNoneApart {S D : Type 0} (w : Calls S D) (used : FileUse) (words : DeviceWords) (fault : StackFault) : Type 0 where
   pub over : OpenStack D
-  pub image : OpenImage D
-  pub opened : OpensOutput w words.words out over image
+  pub opened : OpensStackApart w used words.words over
   pub fails : FailsToFind words.name over fault
 
-abbrev pub FailsToFindOutput : {S D : Type 0} → Calls S D → DeviceWords → List ℕ → StackFault → Type 0
-FailsToFindOutput w words out fault = IsOpeningEnd (FailsToOpenOutput w words.words out) fault ⊎ FindsNone w words out fault
+abbrev pub FailsToFindApart : {S D : Type 0} → Calls S D → FileUse → DeviceWords → StackFault → Type 0
+FailsToFindApart w used words fault = IsOpeningEnd (FailsToOpenApart w used words.words) fault ⊎ FindsNoneApart w used words fault
+
+-- all files and the image to copy to were opened, and there is such a device
+pub record FindsOutput {S D : Type 0} (w : Calls S D) (used : FileUse) (words : DeviceWords) (out : List ℕ) (at : DevicePlace) (image : OpenImage D) : Type 0 where
+  pub over : OpenStack D
+  pub opened : OpensOutput w used words.words out over image
+  pub has : HasDevice w.state words.name over words.cache at
+
+-- all files are open, but the text makes no stack or there is no such device
+pub record FindsNone {S D : Type 0} (w : Calls S D) (used : FileUse) (words : DeviceWords) (out : List ℕ) (fault : StackFault) : Type 0 where
+  pub over : OpenStack D
+  pub image : OpenImage D
+  pub opened : OpensOutput w used words.words out over image
+  pub fails : FailsToFind words.name over fault
+
+abbrev pub FailsToFindOutput : {S D : Type 0} → Calls S D → FileUse → DeviceWords → List ℕ → StackFault → Type 0
+FailsToFindOutput w used words out fault = IsOpeningEnd (FailsToOpenOutput w used words.words out) fault ⊎ FindsNone w used words out fault
 
 -- ---- in terms of the opener, before and after its calls, and the program's arguments
 
@@ -96,11 +113,20 @@ FindsBy relations state old new file device = λ found. FindsDevice (calls relat
 abbrev pub FailsToFindBy : {S D : Type 0} → Opener S D → (D → Device) → S → S → StackFile → NamedDevice → StackFault → Type 0
 FailsToFindBy relations state old new file device = FailsToFindDevice (calls relations state old new) (words_for file device)
 
+-- a device, beside a file in use
+abbrev pub FindsApartBy : {S D : Type 0} → Opener S D → (D → Device) → S → S → FileUse → StackFile → NamedDevice → StackRecord × DevId → Type 0
+FindsApartBy relations state old new used file device =
+    λ found. FindsApart (calls relations state old new) used (words_for file device) (device_place found.0 found.1.0)
+
+-- there is no such device
+abbrev pub FailsToFindApartBy : {S D : Type 0} → Opener S D → (D → Device) → S → S → FileUse → StackFile → NamedDevice → StackFault → Type 0
+FailsToFindApartBy relations state old new used file device = FailsToFindApart (calls relations state old new) used (words_for file device)
+
 -- a device, and the image to copy to
-abbrev pub FindsTo : {S D : Type 0} → Opener S D → (D → Device) → S → S → StackFile → NamedDevice → List ℕ → StackRecord × DevId × OpenImage D → Type 0
-FindsTo relations state old new file device out =
-    λ found. FindsOutput (calls relations state old new) (words_for file device) out (device_place found.0 found.1.0) found.2
+abbrev pub FindsTo : {S D : Type 0} → Opener S D → (D → Device) → S → S → FileUse → StackFile → NamedDevice → List ℕ → StackRecord × DevId × OpenImage D → Type 0
+FindsTo relations state old new used file device out =
+    λ found. FindsOutput (calls relations state old new) used (words_for file device) out (device_place found.0 found.1.0) found.2
 
 -- the device or the image is missing
-abbrev pub LacksTo : {S D : Type 0} → Opener S D → (D → Device) → S → S → StackFile → NamedDevice → List ℕ → StackFault → Type 0
-LacksTo relations state old new file device out = FailsToFindOutput (calls relations state old new) (words_for file device) out
+abbrev pub LacksTo : {S D : Type 0} → Opener S D → (D → Device) → S → S → FileUse → StackFile → NamedDevice → List ℕ → StackFault → Type 0
+LacksTo relations state old new used file device out = FailsToFindOutput (calls relations state old new) used (words_for file device) out

@@ -1,5 +1,5 @@
--- The files of a command on a stack file, opened in this order: the stack text, another file, and the bindings.
-use Rattle.std.specs.Prelude.{◌⊎◌, ℕ, Bool, true, List, [], ◌∷◌, map, false}
+-- The files of a command on a stack file, opened in this order: the stack text, a file that is only read, and the bindings.
+use Rattle.std.specs.Prelude.{◌⊎◌, ℕ, List, [], ◌∷◌, map, false}
 use Rattle.block_device.specs.Device.{Device}
 use Rattle.command_line.specs.Bindings.{BindingRecord, binding_record}
 use Rattle.image_files.specs.Apart.{OpensApart, RefusesApart}
@@ -70,43 +70,36 @@ abbrev pub FailsToOpenSource : {S D : Type 0} → Calls S D → StackWords → L
 FailsToOpenSource w words source fault =
     IsTextEnd w words.stack fault ⊎ (FailsAtSource w words.stack source fault ⊎ FailsBehindSource w words source fault)
 
--- STACK's text was read, and then an image was opened, for writing too or not; a writable image is another file
-pub record TellsAndOpens {S D : Type 0} (w : Calls S D) (stack path : List ℕ) (writable : Bool) (text : FileText) (image : OpenImage D) : Type 0 where
+-- STACK's text was read, and then an image was opened for reading
+pub record TellsAndOpens {S D : Type 0} (w : Calls S D) (stack source : List ℕ) (text : FileText) (image : OpenImage D) : Type 0 where
   pub between : S
   pub told : TellsStack (record w { new = between }) stack text
-  pub opened : OpensApart (record w { old = between }) (text_use text ∷ []) path writable image
+  pub opened : OpensApart (record w { old = between }) (text_use text ∷ []) source false image
 
 -- and then the images of the bindings were opened next to both
-pub record OpensBeside {S D : Type 0} (w : Calls S D) (words : StackWords) (path : List ℕ) (writable : Bool) (over : OpenStack D) (image : OpenImage D) : Type 0 where
+pub record OpensInput {S D : Type 0} (w : Calls S D) (words : StackWords) (source : List ℕ) (over : OpenStack D) (image : OpenImage D) : Type 0 where
   pub between : S
-  pub told : TellsAndOpens (record w { new = between }) words.stack path writable over.text image
-  pub bound : AreBound (record w { old = between }) (text_use over.text ∷ image_use writable image ∷ []) words.bindings over.leaves.items over.devices.items
+  pub told : TellsAndOpens (record w { new = between }) words.stack source over.text image
+  pub bound : AreBound (record w { old = between }) (text_use over.text ∷ image_use false image ∷ []) words.bindings over.leaves.items over.devices.items
 
 -- STACK's text was read, and the image can't be opened
-pub record FailsAtImage {S D : Type 0} (w : Calls S D) (stack path : List ℕ) (writable : Bool) (fault : OpeningFault) : Type 0 where
+pub record FailsAtInput {S D : Type 0} (w : Calls S D) (stack source : List ℕ) (fault : OpeningFault) : Type 0 where
   pub text : FileText
   pub between : S
   pub told : TellsStack (record w { new = between }) stack text
-  pub fails : IsFileUnopened (RefusesApart (record w { old = between }) (text_use text ∷ []) path writable) fault
+  pub fails : IsFileUnopened (RefusesApart (record w { old = between }) (text_use text ∷ []) source false) fault
 
 -- the image is open, and then the bindings weren't all opened
-pub record FailsBehindImage {S D : Type 0} (w : Calls S D) (words : StackWords) (path : List ℕ) (writable : Bool) (fault : OpeningFault) : Type 0 where
+pub record FailsBehindInput {S D : Type 0} (w : Calls S D) (words : StackWords) (source : List ℕ) (fault : OpeningFault) : Type 0 where
   pub text : FileText
   pub image : OpenImage D
   pub between : S
-  pub told : TellsAndOpens (record w { new = between }) words.stack path writable text image
-  pub fails : IsBindingEnd (record w { old = between }) (text_use text ∷ image_use writable image ∷ []) words.bindings fault
+  pub told : TellsAndOpens (record w { new = between }) words.stack source text image
+  pub fails : IsBindingEnd (record w { old = between }) (text_use text ∷ image_use false image ∷ []) words.bindings fault
 
-abbrev pub FailsToOpenBeside : {S D : Type 0} → Calls S D → StackWords → List ℕ → Bool → OpeningFault → Type 0
-FailsToOpenBeside w words path writable fault =
-    IsTextEnd w words.stack fault ⊎ (FailsAtImage w words.stack path writable fault ⊎ FailsBehindImage w words path writable fault)
-
--- OUT is opened for writing
-abbrev pub OpensOutput : {S D : Type 0} → Calls S D → StackWords → List ℕ → OpenStack D → OpenImage D → Type 0
-OpensOutput w words out over image = OpensBeside w words out true over image
-
-abbrev pub FailsToOpenOutput : {S D : Type 0} → Calls S D → StackWords → List ℕ → OpeningFault → Type 0
-FailsToOpenOutput w words out fault = FailsToOpenBeside w words out true fault
+abbrev pub FailsToOpenInput : {S D : Type 0} → Calls S D → StackWords → List ℕ → OpeningFault → Type 0
+FailsToOpenInput w words source fault =
+    IsTextEnd w words.stack fault ⊎ (FailsAtInput w words.stack source fault ⊎ FailsBehindInput w words source fault)
 
 -- ---- in terms of the opener, before and after its calls, and the program's arguments
 
@@ -126,26 +119,10 @@ OpensWithSource relations state old new file source = λ both. OpensSource (call
 abbrev pub FailsWithSource : {S D : Type 0} → Opener S D → (D → Device) → S → S → StackFile → List ℕ → OpeningFault → Type 0
 FailsWithSource relations state old new file source = FailsToOpenSource (calls relations state old new) (stack_words file) source
 
--- STACK, an image and the bindings are opened
-abbrev pub OpensWith : {S D : Type 0} → Opener S D → (D → Device) → S → S → StackFile → List ℕ → Bool → OpenStack D × OpenImage D → Type 0
-OpensWith relations state old new file path writable = λ both. OpensBeside (calls relations state old new) (stack_words file) path writable both.0 both.1
-
--- one of these can't be opened
-abbrev pub FailsWith : {S D : Type 0} → Opener S D → (D → Device) → S → S → StackFile → List ℕ → Bool → OpeningFault → Type 0
-FailsWith relations state old new file path writable = FailsToOpenBeside (calls relations state old new) (stack_words file) path writable
-
 -- STACK, an image that is only read, and the bindings are opened
 abbrev pub OpensWithInput : {S D : Type 0} → Opener S D → (D → Device) → S → S → StackFile → List ℕ → OpenStack D × OpenImage D → Type 0
-OpensWithInput relations state old new file source = OpensWith relations state old new file source false
+OpensWithInput relations state old new file source = λ both. OpensInput (calls relations state old new) (stack_words file) source both.0 both.1
 
 -- one of these can't be opened
 abbrev pub FailsWithInput : {S D : Type 0} → Opener S D → (D → Device) → S → S → StackFile → List ℕ → OpeningFault → Type 0
-FailsWithInput relations state old new file source = FailsWith relations state old new file source false
-
--- STACK, OUT for writing, and the bindings are opened
-abbrev pub OpensWithOutput : {S D : Type 0} → Opener S D → (D → Device) → S → S → StackFile → List ℕ → OpenStack D × OpenImage D → Type 0
-OpensWithOutput relations state old new file out = λ both. OpensOutput (calls relations state old new) (stack_words file) out both.0 both.1
-
--- one of these can't be opened
-abbrev pub FailsWithOutput : {S D : Type 0} → Opener S D → (D → Device) → S → S → StackFile → List ℕ → OpeningFault → Type 0
-FailsWithOutput relations state old new file out = FailsToOpenOutput (calls relations state old new) (stack_words file) out
+FailsWithInput relations state old new file source = FailsToOpenInput (calls relations state old new) (stack_words file) source

@@ -1,5 +1,5 @@
 -- Files that are opened whole to be read, of which all or a part is used.
-use Rattle.std.specs.Prelude.{◌≡◌, ◌⊎◌, Bool, true, false, List, ℕ, Option, None, Some}
+use Rattle.std.specs.Prelude.{◌≡◌, ◌⊎◌, true, false, List, ℕ, Option, None, Some}
 use Rattle.block_device.specs.declared.file_id.FileId.{FileId}
 use Rattle.block_device.specs.declared.open_fault.OpenFault.TheVariants.{SameFile}
 use Rattle.block_device.specs.Device.{Device}
@@ -12,7 +12,7 @@ use Rattle.image_files.specs.declared.parts.UnopenedPart.{UnopenedPart}
 use Rattle.image_files.specs.declared.parts.UnopenedPart.TheVariants.{File, Outside}
 use Rattle.image_files.specs.FileUses.{has_clash}
 use Rattle.image_files.specs.Opened.{Opens, Refuses}
-use Rattle.image_files.specs.Opener.{Calls, Opener, IsNarrowed, calls}
+use Rattle.image_files.specs.Opener.{Calls, IsNarrowed}
 
 -- a file of which all or a part is only read
 abbrev pub read_use : Option FileId → Option Part → FileUse

@@ -1,13 +1,14 @@
 //! A mapped device of a stack, by its name.
 ghost use Rattle.std.specs.Prelude.{◌≡◌, ◌≤◌, ◌<◌, ◌^◌, length, map, true, IfOk, IfErr};
 ghost use Rattle.stack_meaning.specs.Leaves.{ServeLeaves};
-ghost use Rattle.stack_files.specs.NamedDevices.{FailsToFind, FailsToFindBy, FindsBy, FindsTo, HasNamed, LacksTo};
+ghost use Rattle.stack_files.specs.NamedDevices.{FailsToFind, FailsToFindApartBy, FailsToFindBy, FindsApartBy, FindsBy, FindsTo, HasNamed, LacksTo};
 
 use crate::configuration::configuration_of;
+use crate::stack_apart::{open_stack_apart, open_with_output};
 use crate::stack_fault::StackFault;
-use crate::stack_file::{OpenStack, StackFile, open_stack, open_with_output};
+use crate::stack_file::{OpenStack, StackFile, open_stack};
 use block_device::BlockDev;
-use image_files::{Images, OpenImage};
+use image_files::{FileUse, Images, OpenImage};
 use stack_config::DevId;
 use stack_engine::Stack;
 use std::alloc::Global;
@@ -38,25 +39,46 @@ pub fn open_device<'a, I: Images>(
     find_device(alloc, over, device)
 }
 
-/// Opens the stack of a stack file, finds the device with that name, and opens an image to copy to, which mustn't be the stack
-/// file.
+/// Opens the stack of a stack file over its bindings, beside a file in use, and finds the device with that name.
 ///
 /// # Errors
 ///
-/// The faults of `open_device`; `Open` also if the image can't be opened, or is the stack file.
+/// The faults of `open_device`; `Open` also if a file conflicts with the file in use.
+pub(crate) fn open_device_apart<'a, I: Images>(
+    alloc: Global,
+    images: &mut I,
+    used: FileUse,
+    file: StackFile<'a, '_>,
+    device: NamedDevice<'_>,
+) -> Result<(Stack<I::Dev>, DevId), StackFault<'a>>
+    ensures ok { IfOk result (FindsApartBy I.relations I.Dev.state images.old images.new used file.entry device.entry) }
+    ensures there { IfOk result (λ found. found.1.0 < length found.0.config.devices) }
+    ensures err { IfErr result (FailsToFindApartBy I.relations I.Dev.state images.old images.new used file.entry device.entry) }
+{
+    let over = open_stack_apart(alloc, images, used, file)?;
+    find_device(alloc, over, device)
+}
+
+/// Opens the stack of a stack file beside a file in use, finds the device with that name, and opens an image to copy to, which
+/// mustn't be the stack file or the file in use.
+///
+/// # Errors
+///
+/// The faults of `open_device_apart`; `Open` also if the image can't be opened, or is the stack file or the file in use.
 pub(crate) fn open_device_and_output<'a, I: Images>(
     alloc: Global,
     images: &mut I,
+    used: FileUse,
     file: StackFile<'a, '_>,
     device: NamedDevice<'_>,
     out: &'a str,
 ) -> Result<(Stack<I::Dev>, DevId, OpenImage<I::Dev>), StackFault<'a>>
-    ensures ok { IfOk result (FindsTo I.relations I.Dev.state images.old images.new file.entry device.entry out.now) }
+    ensures ok { IfOk result (FindsTo I.relations I.Dev.state images.old images.new used file.entry device.entry out.now) }
     ensures there { IfOk result (λ found. found.1.0 < length found.0.config.devices) }
     ensures writable { IfOk result (λ found. (I.Dev.state found.2.device).may_write ≡ true) }
-    ensures err { IfErr result (LacksTo I.relations I.Dev.state images.old images.new file.entry device.entry out.now) }
+    ensures err { IfErr result (LacksTo I.relations I.Dev.state images.old images.new used file.entry device.entry out.now) }
 {
-    let (over, image) = open_with_output(alloc, images, file, out)?;
+    let (over, image) = open_with_output(alloc, images, used, file, out)?;
     let (stack, device) = find_device(alloc, over, device)?;
     Ok((stack, device, image))
 }

@@ -12,7 +12,7 @@ use crate::stack_file::OpenStack;
 use block_device::BlockDev;
 use device_adapters::Part;
 use image_files::{
-    FileText, FileUse, Images, OpenImage, UnopenedFile, grow_file, open_apart, open_place,
+    FileText, FileUse, Images, OpenImage, UnopenedFile, grow_file, open_apart, open_place_apart,
     place_use,
 };
 use stack_config::DevId;
@@ -50,16 +50,17 @@ fn disk_stack<'a, D: BlockDev + Drop>(
     })
 }
 
-// Opens a disk for reading, with its stack text.
+// Opens a disk for reading beside a file in use, with its stack text.
 fn open_over<'a, I: Images>(
     alloc: Global,
     images: &mut I,
+    used: FileUse,
     place: &'a str,
 ) -> Result<OpenStack<I::Dev>, OpeningFault<'a>>
-    ensures ok { IfOk result (OpensDisk (calls I.relations I.Dev.state images.old images.new) place.now) }
-    ensures err { IfErr result (FailsToOpenDisk (calls I.relations I.Dev.state images.old images.new) place.now) }
+    ensures ok { IfOk result (OpensDisk (calls I.relations I.Dev.state images.old images.new) used place.now) }
+    ensures err { IfErr result (FailsToOpenDisk (calls I.relations I.Dev.state images.old images.new) used place.now) }
 {
-    let disk = open_place(alloc, images, place, false)?;
+    let disk = open_place_apart(alloc, images, &[used], place, false)?;
     disk_stack(alloc, disk.device)
 }
 
@@ -95,24 +96,25 @@ fn open_output<'a, I: Images>(
     open_apart(images, files, out, true)
 }
 
-/// Opens a disk for reading, and returns the stack of one device, which is all of it.
+/// Opens a disk for reading beside a file in use, and returns the stack of one device, which is all of it.
 ///
 /// # Errors
 ///
 /// - `NoMemory` if an allocation was refused.
-/// - `Open` if the disk can't be opened.
+/// - `Open` if the disk can't be opened, or conflicts with the file in use.
 /// - `Text` or `Load` if there is no such device, as of a disk of no sectors.
 pub(crate) fn open_disk<'a, I: Images>(
     alloc: Global,
     images: &mut I,
+    used: FileUse,
     disk: DiskPlace<'a>,
 ) -> Result<(Stack<I::Dev>, DevId), StackFault<'a>>
-    ensures ok { IfOk result (FindsDiskBy I.relations I.Dev.state images.old images.new disk.entry) }
+    ensures ok { IfOk result (FindsDiskBy I.relations I.Dev.state images.old images.new used disk.entry) }
     ensures there { IfOk result (λ found. found.1.0 < length found.0.config.devices) }
-    ensures err { IfErr result (FailsToFindDiskBy I.relations I.Dev.state images.old images.new disk.entry) }
+    ensures err { IfErr result (FailsToFindDiskBy I.relations I.Dev.state images.old images.new used disk.entry) }
 {
     let cache = disk.cache;
-    let over = open_over(alloc, images, disk.place)?;
+    let over = open_over(alloc, images, used, disk.place)?;
     find_device(
         alloc,
         over,
@@ -123,26 +125,28 @@ pub(crate) fn open_disk<'a, I: Images>(
     )
 }
 
-/// Opens a disk as `open_disk` does, and then an image to copy to, which mustn't have a sector of the disk. With `grow` the image's
-/// file is made as long as the disk before it is opened, and created if there is none.
+/// Opens a disk as `open_disk` does, and then an image to copy to, which mustn't have a sector of the disk or be the file in use. With
+/// `grow` the image's file is made as long as the disk before it is opened, and created if there is none.
 ///
 /// # Errors
 ///
-/// The faults of `open_disk`; `Open` also if the image can't be made so long or opened, or has a sector of the disk.
+/// The faults of `open_disk`; `Open` also if the image can't be made so long or opened, has a sector of the disk, or is the file in
+/// use.
 pub(crate) fn open_disk_and_output<'a, I: Images>(
     alloc: Global,
     images: &mut I,
+    used: FileUse,
     disk: DiskPlace<'a>,
     out: &'a str,
 ) -> Result<(Stack<I::Dev>, DevId, OpenImage<I::Dev>), StackFault<'a>>
-    ensures ok { IfOk result (FindsDiskTo I.relations I.Dev.state images.old images.new disk.entry out.now) }
+    ensures ok { IfOk result (FindsDiskTo I.relations I.Dev.state images.old images.new used disk.entry out.now) }
     ensures there { IfOk result (λ found. found.1.0 < length found.0.config.devices) }
     ensures writable { IfOk result (λ found. (I.Dev.state found.2.device).may_write ≡ true) }
-    ensures err { IfErr result (LacksDiskTo I.relations I.Dev.state images.old images.new disk.entry out.now) }
+    ensures err { IfErr result (LacksDiskTo I.relations I.Dev.state images.old images.new used disk.entry out.now) }
 {
     let cache = disk.cache;
-    let opened = open_place(alloc, images, disk.place, false)?;
-    let files = [place_use(&opened, false)];
+    let opened = open_place_apart(alloc, images, &[used], disk.place, false)?;
+    let files = [place_use(&opened, false), used];
     let sectors = opened.device.sectors();
     let over = disk_stack(alloc, opened.device)?;
     let (stack, device) = find_device(

@@ -15,6 +15,7 @@ mod opening_fault;
 mod resolving;
 mod source;
 mod stack;
+mod stack_apart;
 mod stack_fault;
 mod stack_file;
 mod whole_file;

@@ -1,7 +1,7 @@
-//! The files of a command on a stack file, opened in this order: the stack text, another file, and the bindings.
-ghost use Rattle.std.specs.Prelude.{◌≡◌, false, true, IfOk, IfErr};
+//! The files of a command on a stack file, opened in this order: the stack text, a file that is only read, and the bindings.
+ghost use Rattle.std.specs.Prelude.{◌≡◌, IfOk, IfErr};
 ghost use Rattle.image_files.specs.FileUses.{text_use};
-ghost use Rattle.stack_files.specs.OpenStacks.{FailsByFile, FailsWith, FailsWithInput, FailsWithOutput, FailsWithSource, OpensByFile, OpensWith, OpensWithInput, OpensWithOutput, OpensWithSource};
+ghost use Rattle.stack_files.specs.OpenStacks.{FailsByFile, FailsWithInput, FailsWithSource, OpensByFile, OpensWithInput, OpensWithSource};
 
 use crate::leaves::{OpenLeaves, open_all};
 use crate::opening_fault::OpeningFault;
@@ -27,8 +27,8 @@ pub struct OpenStack<D> {
     pub devices: Vec<D>,
 }
 
-// How the file of a text is used.
-fn text_use(text: &FileText) -> FileUse
+/// Returns how the file of a text is used.
+pub(crate) fn text_use(text: &FileText) -> FileUse
     ensures { result ≡ text_use text.now }
 {
     FileUse {
@@ -94,24 +94,6 @@ pub fn open_with_source<'a, I: Images>(
     Ok((over, source))
 }
 
-/// Reads a stack file, then opens an image to copy to, which mustn't be the stack file, and then the bindings.
-///
-/// # Errors
-///
-/// The faults of `open_stack`; `Open` also if the image can't be opened, or is the stack file.
-pub fn open_with_output<'a, I: Images>(
-    alloc: Global,
-    images: &mut I,
-    file: StackFile<'a, '_>,
-    out: &'a str,
-) -> Result<(OpenStack<I::Dev>, OpenImage<I::Dev>), OpeningFault<'a>>
-    ensures ok { IfOk result (OpensWithOutput I.relations I.Dev.state images.old images.new file.entry out.now) }
-    ensures writable { IfOk result (λ both. (I.Dev.state both.1.device).may_write ≡ true) }
-    ensures err { IfErr result (FailsWithOutput I.relations I.Dev.state images.old images.new file.entry out.now) }
-{
-    open_beside(alloc, images, file, out, true)
-}
-
 /// Reads a stack file, then opens an image for reading, which may be the stack file, and then the bindings.
 ///
 /// # Errors
@@ -126,26 +108,14 @@ pub fn open_with_input<'a, I: Images>(
     ensures ok { IfOk result (OpensWithInput I.relations I.Dev.state images.old images.new file.entry source.now) }
     ensures err { IfErr result (FailsWithInput I.relations I.Dev.state images.old images.new file.entry source.now) }
 {
-    open_beside(alloc, images, file, source, false)
-}
-
-// Reads a stack file, then opens an image, for writing too if `writable` is set, and then the bindings.
-fn open_beside<'a, I: Images>(
-    alloc: Global,
-    images: &mut I,
-    file: StackFile<'a, '_>,
-    path: &'a str,
-    writable: bool,
-) -> Result<(OpenStack<I::Dev>, OpenImage<I::Dev>), OpeningFault<'a>>
-    ensures ok { IfOk result (OpensWith I.relations I.Dev.state images.old images.new file.entry path.now writable) }
-    ensures writable { IfOk result (λ both. (I.Dev.state both.1.device).may_write ≡ writable) }
-    ensures err { IfErr result (FailsWith I.relations I.Dev.state images.old images.new file.entry path.now writable) }
-{
     let text = read_stack(images, file.path)?;
-    let image = open_apart(images, &[text_use(&text)], path, writable)?;
-    let id = image.id;
-    let part = None;
-    let files = [text_use(&text), FileUse { id, writable, part }];
+    let image = open_apart(images, &[text_use(&text)], source, false)?;
+    let input = FileUse {
+        id: image.id,
+        writable: false,
+        part: None,
+    };
+    let files = [text_use(&text), input];
     let OpenLeaves { leaves, devices } = open_all(alloc, images, &files, file.bindings)?;
     let over = OpenStack {
         text,

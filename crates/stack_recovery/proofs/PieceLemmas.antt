@@ -15,7 +15,7 @@ use Rattle.stack_recovery.specs.Alike.{AreAlike}
 use Rattle.stack_recovery.specs.Losses.{loss_by}
 use Rattle.stack_recovery.specs.PassLaws.{AreScraped, IsLossScraped, IsScraped, PassesScrape}
 use Rattle.stack_recovery.specs.PassPieces.{AreInPieces, IsLossFound, IsNextPiece, IsPieceFound, IsReadAgain, Pass, limit_after, limit_from, pass_over}
-use Rattle.stack_recovery.specs.PieceLimits.{gives_up, is_given_up, limit_of_run}
+use Rattle.stack_recovery.specs.PieceLimits.{is_given_up, limit_of_run}
 use Rattle.stack_recovery.specs.Pieces.{EndsAligned}
 use Rattle.stack_recovery.specs.Skims.{IsSkimFound}
 use Rattle.stack_recovery.specs.Surveys.{Finding, MayLose, PieceRead, SectorState, again, all_states, fault_of, had, kept, lost, states_of}

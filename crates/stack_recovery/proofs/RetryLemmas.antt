@@ -1,6 +1,5 @@
 -- What the passes between the first one and the last leave.
-use Rattle.std.proofs.Common.{◌≡◌, ◌⊎◌, ℕ, suc, ◌+◌, ◌≤◌, ◌<◌, Bool, true, IsTrue, List, [], ◌∷◌, length, Option, Some, None, Ok, Err, Result, IfErr, inl, inr, refl, sym, ap, ◌∙◌, subst, arith}
-use Rattle.std.specs.List.{list_all}
+use Rattle.std.proofs.Common.{◌≡◌, ℕ, ◌+◌, Bool, List, [], ◌∷◌, length, Option, Some, None, refl, sym, ap, ◌∙◌, subst}
 use Rattle.block_device.specs.Call.{Call}
 use Rattle.block_device.specs.Device.{Device, IsSameDevice}
 use Rattle.stack_rules.specs.Names.{mapped, size}
@@ -13,7 +12,7 @@ use Rattle.stack_recovery.specs.declared.fault.RecoveryFault.{RecoveryFault}
 use Rattle.stack_recovery.specs.declared.recovery.Counts.{Counts}
 use Rattle.stack_recovery.specs.PassPieces.{Scanned}
 use Rattle.stack_recovery.specs.Recoveries.{GoesOver, GoesOverTo, GoesOverUntil, Parties, Sides, counted_sectors, parties}
-use Rattle.stack_recovery.specs.Retries.{AfterPass, IsEnough, IsSilentHanding, IsSilentPass, ReadsAgain, Retried, Steps, after_pass, no_step, one_more, scan_of}
+use Rattle.stack_recovery.specs.Retries.{AfterPass, IsSilentHanding, IsSilentPass, ReadsAgain, Retried, Steps, no_step, one_more, scan_of}
 use Rattle.stack_recovery.specs.Surveys.{IsSurveyOver, PieceRead, all_states, states_of}
 use Rattle.stack_recovery.proofs.AheadLemmas.{length-noted}
 use Rattle.stack_recovery.proofs.CopyLemmas.{same-device}

@@ -29,7 +29,6 @@ use Rattle.stack_recovery.specs.PassPieces.{ArePassPieces, IsLossFound, IsNextPi
 use Rattle.stack_recovery.specs.PieceLimits.{limit_after_bytes, limit_after_loss, limit_of_run, limit_up_to}
 use Rattle.stack_recovery.specs.Recoveries.{EndsEarly, FailsOutput, FindsNoMemory, GoesOverUntil, IsBegunOver, AreMarksNoted, IsMapRefused, NotesMore, RunsShort, Sides, counted_sectors, sides}
 use Rattle.stack_recovery.specs.Surveys.{AreMarked, IsPieceSurveyed, IsSurveyOver, MayLose, PieceRead, SectorState, again, all_states, fault_of, had, kept, lost, states_of}
-use Rattle.stack_recovery.specs.Texts.{lost_text}
 use Rattle.stack_recovery.proofs.AheadLemmas.{length-noted, noted-more}
 use Rattle.stack_recovery.proofs.CopyLemmas.{copied-had, copied-lost, copied-none}
 use Rattle.runs.proofs.lemmas.RunLemmas.{IsTallied, tallied-all, tallied-had, tallied-lost, tallied-none}
@@ -49,7 +48,7 @@ pub record IsUnderway (makes_map : Bool) (before : List Bool) (scan : Scanned) (
   pub lost : tally.lost ≡ lost_in (all_states reads)
   pub untried : tally.untried ≡ untried_in (all_states reads)
   pub copied : IsCopied reads old.out new.out
-  pub printed : Tells old.printed new.printed (lost_text closed)
+  pub printed : Tells old.printed new.printed closed
   pub noted : AreMarksNoted made (all_states reads)
   pub pieces : ArePassPieces scan.no_scrape (pass_over old.stack.config scan.d before makes_map) reads
   pub limited : limit ≡ limit_from scan.no_scrape (limit_of_run 0) 0 reads
@@ -174,7 +173,7 @@ module _ (makes_map : Bool) (before : List Bool) (scan : Scanned) (old now : Sid
   pub underway-had : (n : ℕ) (bytes : List ℕ) (stack : StackRecord) (k : ℕ) (ok : Bool) (out : Device) (printed : Listed) (next : Tally) (more : Option (List Run)) (after : PieceLimit) → IsNextPiece (pass_over old.stack.config scan.d before makes_map) at limit.most n → after ≡ limit_after_bytes limit n (at + n)
       → 1 ≤ n → EachBytes now.stack scan.d at n (Ok bytes) stack → AreMarked before at n false → NotesMore noted more (replicate n true) → k ≡ n
       → IsWritten now.out at k ok out → (IsTrue now.out.steady → out.image ≡ spliced now.out.image at (sectors_of k bytes))
-      → Tells now.printed printed (lost_text (listed tally.last)) → next ≡ record { last = None; lost = tally.lost; untried = tally.untried } → IsUnderway makes_map before scan old (sides stack out printed) (at + n) next more after (calls ++ Write at bytes true ∷ [])
+      → Tells now.printed printed (listed tally.last) → next ≡ record { last = None; lost = tally.lost; untried = tally.untried } → IsUnderway makes_map before scan old (sides stack out printed) (at + n) next more after (calls ++ Write at bytes true ∷ [])
   underway-had n bytes stack k ok out printed next more after piece grown some p marked noting count w image told is =
       let r : PieceRead = record { count = n; found = had bytes; after = stack } in
       let states : all_states (u.reads ++ r ∷ []) ≡ all_states u.reads ++ replicate n None = states-push u.reads r in
@@ -196,7 +195,7 @@ module _ (makes_map : Bool) (before : List Bool) (scan : Scanned) (old now : Sid
 
   -- sectors that were had before
   pub underway-kept : (n : ℕ) (printed : Listed) (next : Tally) (more : Option (List Run)) (after : PieceLimit) → after ≡ limit_of_run (at + n) → 1 ≤ n → AreMarked before at n true → NotesMore noted more (replicate n true)
-      → Tells now.printed printed (lost_text (listed tally.last)) → next ≡ record { last = None; lost = tally.lost; untried = tally.untried } → IsUnderway makes_map before scan old (sides now.stack now.out printed) (at + n) next more after calls
+      → Tells now.printed printed (listed tally.last) → next ≡ record { last = None; lost = tally.lost; untried = tally.untried } → IsUnderway makes_map before scan old (sides now.stack now.out printed) (at + n) next more after calls
   underway-kept n printed next more after begins some marked noting told is =
       let r : PieceRead = record { count = n; found = kept; after = now.stack } in
       let states : all_states (u.reads ++ r ∷ []) ≡ all_states u.reads ++ replicate n None = states-push u.reads r in
@@ -219,7 +218,7 @@ module _ (makes_map : Bool) (before : List Bool) (scan : Scanned) (old now : Sid
   -- a piece that is lost, and told
   pub underway-lost : (n : ℕ) (loss : Loss) (stack : StackRecord) (printed : Listed) (next : Tally) (more : Option (List Run)) (after : PieceLimit) → IsNextPiece (pass_over old.stack.config scan.d before makes_map) at limit.most n → IsLossFound scan.no_scrape limit at n loss → after ≡ limit_after_loss scan.no_scrape limit (at + n)
       → 1 ≤ n → EachBytes now.stack scan.d at n (Err (fault_of loss)) stack → AreMarked before at n false → NotesMore noted more (replicate n false) → MayLose now.stack.config scan.d at n loss
-      → Tells now.printed printed (lost_text (closed_by is_same_loss tally.last (run at n loss))) → next ≡ record { last = Some (opened_by is_same_loss tally.last (run at n loss)); lost = tally.lost + lost_count loss n; untried = tally.untried + untried_count loss n }
+      → Tells now.printed printed (closed_by is_same_loss tally.last (run at n loss)) → next ≡ record { last = Some (opened_by is_same_loss tally.last (run at n loss)); lost = tally.lost + lost_count loss n; untried = tally.untried + untried_count loss n }
       → IsUnderway makes_map before scan old (sides stack now.out printed) (at + n) next more after calls
   underway-lost n loss stack printed next more after piece found grown some p marked noting may told is =
       let r : PieceRead = record { count = n; found = lost loss; after = stack } in
@@ -267,7 +266,7 @@ module _ (makes_map : Bool) (before : List Bool) (scan : Scanned) (old now : Sid
   counted-all counts is = let sum : at ≡ at - (tally.lost + tally.untried) + (tally.lost + tally.untried) = omega (arith, few) in sum ∙ sym (ap counted_sectors is)
 
   -- the pass ended here
-  pub underway-until : (deadline : Option Deadline) (printed : Listed) (sectors : ℕ) (counts : Counts) → EndsAt deadline at sectors → sectors ≡ size old.stack.config (mapped scan.d) → Tells now.printed printed (lost_text (listed tally.last))
+  pub underway-until : (deadline : Option Deadline) (printed : Listed) (sectors : ℕ) (counts : Counts) → EndsAt deadline at sectors → sectors ≡ size old.stack.config (mapped scan.d) → Tells now.printed printed (listed tally.last)
       → counts ≡ tally_counts at tally → now.out.failures ≡ old.out.failures → is_some noted ≡ makes_map → GoesOverUntil deadline before scan old counts noted (sides now.stack now.out printed)
   underway-until deadline printed sectors counts ends all told is unfailed same = record {
     goes = record {

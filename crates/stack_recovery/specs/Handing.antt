@@ -11,7 +11,7 @@ use Rattle.stack_recovery.specs.declared.fault.RecoveryFault.TheVariants.{NoMemo
 use Rattle.stack_recovery.specs.Recoveries.{AreMarksNoted, Parties, counted_sectors}
 use Rattle.stack_recovery.specs.declared.recovery.Counts.{Counts}
 use Rattle.stack_recovery.specs.declared.rescued.Rescued.{Rescued}
-use Rattle.stack_recovery.specs.Surveys.{Finding, IsSurveyOver, PieceRead, again, all_states, had, kept, lost, states_of}
+use Rattle.stack_recovery.specs.Surveys.{Finding, IsSurveyOver, PieceRead, all_states, had, states_of}
 
 -- a piece that was read is written at once, by one call; no other piece is
 abbrev pub calls_found : ℕ → Finding → List Call

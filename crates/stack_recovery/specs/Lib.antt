@@ -5,6 +5,7 @@ pub mod FirstPasses
 pub mod Handing
 pub mod Laws
 pub mod LeafReads
+pub mod Joins
 pub mod Listings
 pub mod LostRuns
 pub mod PieceLimits

@@ -12,7 +12,6 @@ use Rattle.stack_recovery.specs.LostRuns.{LostRun, is_same_loss, lost_count, unt
 use Rattle.stack_recovery.specs.declared.tally.Tally.{Tally}
 use Rattle.stack_recovery.specs.Listings.{Listed, Tells}
 use Rattle.stack_recovery.specs.Recoveries.{IsMapRefused, NotesMore}
-use Rattle.stack_recovery.specs.Texts.{lost_text}
 
 -- the loss of a piece whose sectors are lost together, or aren't
 abbrev pub loss_by : Bool → IoFault → Loss
@@ -30,7 +29,7 @@ TalliesLost run old new false = new ≡ old
 
 -- what is reported: the run that doesn't grow further
 abbrev pub ListsLost : {L : Type 0} → (L → Listed) → LostRun → Tally → L → L → Bool → Type 0
-ListsLost told run tally old new true = Tells (told old) (told new) (lost_text (closed_by is_same_loss tally.last run))
+ListsLost told run tally old new true = Tells (told old) (told new) (closed_by is_same_loss tally.last run)
 ListsLost told run tally old new false = new ≡ old
 
 -- why the recovery ends there: the read ran out of memory, or memory for the map was refused

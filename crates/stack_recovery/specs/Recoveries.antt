@@ -23,7 +23,6 @@ use Rattle.stack_recovery.specs.Deadlines.{EndsAt}
 use Rattle.stack_recovery.specs.Listings.{Listed, Tells}
 use Rattle.stack_recovery.specs.PassPieces.{ArePassPieces, Scanned, pass_over, scanned}
 use Rattle.stack_recovery.specs.Surveys.{IsSurveyOver, PieceRead, SectorState, all_states}
-use Rattle.stack_recovery.specs.Texts.{lost_text}
 
 -- the device of a pass, and whether it doesn't scrape
 abbrev pub scanned_by : DevicePass → Scanned
@@ -47,7 +46,7 @@ pub record IsBegunOver (makes_map : Bool) (marks : List Bool) (scan : Scanned) (
   pub survey : IsSurveyOver marks scan.d 0 old.stack reads left
   pub pieces : ArePassPieces scan.no_scrape (pass_over old.stack.config scan.d marks makes_map) reads
   pub first : runs_of is_same_loss 0 (all_states reads) ≡ runs ++ more
-  pub printed : Tells old.printed new.printed (lost_text runs)
+  pub printed : Tells old.printed new.printed runs
 
 -- a read of some sectors from that one on ran out of memory; a `verity` line is below them, as only its reads allocate
 pub record FindsNoMemory (d at : ℕ) (w w' : StackRecord) : Type 0 where
@@ -127,7 +126,7 @@ pub record GoesOverTo (before : List Bool) (scan : Scanned) (end : ℕ) (old : S
   pub pieces : ArePassPieces scan.no_scrape (pass_over old.stack.config scan.d before (is_some made)) reads
   pub copied : IsCopied reads old.out new.out
   pub unfailed : new.out.failures ≡ old.out.failures
-  pub printed : Tells old.printed new.printed (lost_text (runs_of is_same_loss 0 (all_states reads)))
+  pub printed : Tells old.printed new.printed (runs_of is_same_loss 0 (all_states reads))
   pub counted : counts ≡ counts_in (all_states reads)
   pub noted : AreMarksNoted made (all_states reads)
 

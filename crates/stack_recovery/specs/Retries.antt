@@ -12,7 +12,7 @@ use Rattle.stack_recovery.specs.declared.recovery.RecoveryPlan.{RecoveryPlan}
 use Rattle.stack_recovery.specs.Handing.{HandsOver, HandsOverPart}
 use Rattle.stack_recovery.specs.Listings.{Listed}
 use Rattle.stack_recovery.specs.PassPieces.{Scanned, scanned}
-use Rattle.stack_recovery.specs.Recoveries.{GoesOver, IsRescueEnd, Sides, parties, sides}
+use Rattle.stack_recovery.specs.Recoveries.{GoesOver, IsRescueEnd, parties, sides}
 
 -- a mapped device, how many times its lost sectors are read again, and whether failed pieces aren't searched sector by sector
 pub record Retried : Type 0 where

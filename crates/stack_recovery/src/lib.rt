@@ -4,6 +4,7 @@
 mod deadline;
 mod discard;
 mod fault;
+mod joining;
 pub mod laws;
 mod listing;
 mod lost_run;
@@ -20,6 +21,7 @@ mod tally;
 pub use deadline::{Deadline, DevicePass};
 pub use discard::Discard;
 pub use fault::RecoveryFault;
+pub use joining::tell_among_bad;
 pub use listing::{KeptRuns, Listing, NoListing};
 pub use lost_run::{Loss, LostRun, is_same};
 pub use piece::{Piece, piece_at};

@@ -1,8 +1,7 @@
 //! Receivers of lost runs: a writer, or a list in memory.
-ghost use Rattle.std.specs.Prelude.{◌≡◌, ◌≤◌, [], None};
+ghost use Rattle.std.specs.Prelude.{◌≡◌, ◌≤◌, [], ◌∷◌, None};
 ghost use Rattle.allocation.specs.Asked.{refused_size};
 ghost use Rattle.stack_recovery.specs.Listings.{Listed, Tells};
-ghost use Rattle.stack_recovery.specs.Texts.{lost_run_text};
 
 use crate::lost_run::{LostRun, say_run};
 use allocation::{OutOfMemory, push};
@@ -12,12 +11,12 @@ use std::io::Write;
 
 /// Receives lost runs, in order. After a run that couldn't be reported no further run is; the recovery goes on.
 pub trait Listing {
-    /// The text of the reported runs, a line each, and whether a run couldn't be reported.
+    /// The text of the reported runs, a line each, or the runs, and whether a run couldn't be reported.
     ghost told: { Self → Listed };
 
     /// Reports a run, unless an earlier run couldn't be reported.
     fn tell(&mut self, run: LostRun)
-        ensures { Tells (told self.old) (told self.new) (lost_run_text run) };
+        ensures { Tells (told self.old) (told self.new) (run ∷ []) };
 }
 
 impl<W: Write> Listing for Counted<W> {
@@ -25,6 +24,7 @@ impl<W: Write> Listing for Counted<W> {
 
     ghost told = { λ writer. listed (W.contents writer.inner) writer.failed };
 
+    #[tactic(auto, using(crate::proofs::lemmas::WritingLemmas::one_run_text))]
     fn tell(&mut self, run: LostRun) {
         if !self.failed() {
             let _remembered = say_run(self, run);
@@ -54,11 +54,10 @@ impl KeptRuns {
 }
 
 impl Listing for KeptRuns {
-    ghost use Rattle.std.specs.Prelude.{Some, is_some};
-    ghost use Rattle.stack_recovery.specs.Listings.{listed};
-    ghost use Rattle.stack_recovery.specs.Texts.{lost_text};
+    ghost use Rattle.std.specs.Prelude.{is_some};
+    ghost use Rattle.stack_recovery.specs.Listings.{kept_runs};
 
-    ghost told = { λ kept. listed (Some (lost_text kept.runs.items)) (is_some kept.refused) };
+    ghost told = { λ kept. kept_runs kept.runs.items (is_some kept.refused) };
 
     #[tactic(auto, using(crate::proofs::lemmas::WritingLemmas::runs_text_last))]
     fn tell(&mut self, run: LostRun) {

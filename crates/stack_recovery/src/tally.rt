@@ -3,7 +3,6 @@ ghost use Rattle.std.specs.Prelude.{◌≡◌, ◌+◌, ◌-◌, ◌<◌, ◌≤
 ghost use Rattle.stack_recovery.specs.Listings.{Tells};
 ghost use Rattle.runs.specs.Tallies.{EndsAt, closed_by, joined_run, listed, opened_by};
 ghost use Rattle.stack_recovery.specs.LostRuns.{is_same_loss, lost_count, untried_count};
-ghost use Rattle.stack_recovery.specs.Texts.{lost_text};
 
 use crate::listing::Listing;
 use crate::lost_run::{LostRun, is_same_loss, lost_count, untried_count};
@@ -45,7 +44,7 @@ impl Tally {
     /// Reports the open run, and closes it.
     #[tactic(auto, using(crate::proofs::lemmas::WritingLemmas::tells_nothing))]
     pub(crate) fn close<L: Listing>(&mut self, listing: &mut L)
-        ensures text { Tells (L.told listing.old) (L.told listing.new) (lost_text (listed self.old.last)) }
+        ensures text { Tells (L.told listing.old) (L.told listing.new) (listed self.old.last) }
         ensures last { self.new.last ≡ None }
         ensures lost { (self.new.lost ≡ self.old.lost) × (self.new.untried ≡ self.old.untried) }
     {
@@ -61,7 +60,7 @@ impl Tally {
         requires ends { EndsAt self.old.last run.first }
         requires lost { self.old.lost + self.old.untried ≤ run.first }
         requires room { run.first + run.count < 2 ^ 64 }
-        ensures text { Tells (L.told listing.old) (L.told listing.new) (lost_text (closed_by is_same_loss self.old.last run)) }
+        ensures text { Tells (L.told listing.old) (L.told listing.new) (closed_by is_same_loss self.old.last run) }
         ensures last { self.new.last ≡ Some (opened_by is_same_loss self.old.last run) }
         ensures lost { self.new.lost ≡ self.old.lost + lost_count run.kind run.count }
         ensures untried { self.new.untried ≡ self.old.untried + untried_count run.kind run.count }
@@ -80,7 +79,7 @@ impl Tally {
     /// Reports the open run, and returns the counts of the `sectors` sectors so far.
     pub(crate) fn finish<L: Listing>(&mut self, listing: &mut L, sectors: u64) -> Counts
         requires { self.old.lost + self.old.untried ≤ sectors }
-        ensures text { Tells (L.told listing.old) (L.told listing.new) (lost_text (listed self.old.last)) }
+        ensures text { Tells (L.told listing.old) (L.told listing.new) (listed self.old.last) }
         ensures value { result ≡ record { read = sectors - (self.old.lost + self.old.untried); lost = self.old.lost; untried = self.old.untried } }
     {
         self.close(listing);

@@ -8,7 +8,7 @@ use Rattle.image_files.specs.Opener.{Calls}
 use Rattle.stack_engine.specs.Stacks.{StackRecord}
 use Rattle.stack_files.specs.declared.stack_file.OpenStack.{OpenStack}
 use Rattle.stack_files.specs.declared.stack_file.StackFile.{StackFile}
-use Rattle.stack_files.specs.OpenStacks.{FailsToOpenBeside, OpensBeside}
+use Rattle.stack_files.specs.OpenStacks.{FailsToOpenInput, OpensInput}
 use Rattle.transfer_commands.specs.declared.device_in.Target.{Target}
 use Rattle.transfer_commands.specs.declared.stream_fault.StoreCause.TheVariants.{Length}
 use Rattle.transfer_commands.specs.declared.stream_fault.StoreFault.{StoreFault}
@@ -38,7 +38,7 @@ words_to_store file target source = file_words (words_to file target) source tar
 -- all files were opened, SOURCE read-only; `part` is whether SOURCE ends inside a sector
 pub record OpensSourceFile {S D : Type 0} (w : Calls S D) (words : FileWords) (over : OpenStack D) (image : OpenImage D) (part : Bool) : Type 0 where
   pub between : S
-  pub opened : OpensBeside (record w { new = between }) words.words.words words.source false over image
+  pub opened : OpensInput (record w { new = between }) words.words.words words.source over image
   pub measured : w.relations.measures between words.source (Ok part) w.new
 
 -- all files were opened, and there is such a device
@@ -95,7 +95,7 @@ pub record FailsToMeasureSource {S D : Type 0} (w : Calls S D) (words : FileWord
   pub over : OpenStack D
   pub image : OpenImage D
   pub between : S
-  pub opened : OpensBeside (record w { new = between }) words.words.words words.source false over image
+  pub opened : OpensInput (record w { new = between }) words.words.words words.source over image
   pub fails : IsOpenEnd words.source (λ cause. w.relations.measures between words.source (Err cause) w.new) fault
 
 -- the text makes no stack, or there is no such device
@@ -109,7 +109,7 @@ pub record FindsNoTarget {S D : Type 0} (w : Calls S D) (words : FileWords) (fau
 -- nothing is written if the transfer doesn't begin
 abbrev pub IsUnstored : {S D : Type 0} → Calls S D → FileWords → StackFault → Type 0
 IsUnstored w words fault =
-    IsOpeningEnd (FailsToOpenBeside w words.words.words words.source false) fault ⊎ (FailsToMeasureSource w words fault ⊎ FindsNoTarget w words fault)
+    IsOpeningEnd (FailsToOpenInput w words.words.words words.source) fault ⊎ (FailsToMeasureSource w words fault ⊎ FindsNoTarget w words fault)
 
 abbrev pub IsFileEnd : {S D : Type 0} → Calls S D → FileWords → Option (List ℕ) → Option (List ℕ) → Bool → StreamFault → Type 0
 IsFileEnd w words old new failed fault =

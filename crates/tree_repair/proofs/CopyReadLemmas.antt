@@ -1,18 +1,20 @@
 -- Reads of runs of blocks from the copies: one call, one after another, and in their order.
-use Rattle.std.proofs.Common.{◌≡◌, ◌≢◌, ◌⊎◌, ◌<◌, ◌≤◌, ◌+◌, ◌-◌, ◌*◌, ◌/◌, ◌^◌, ℕ, suc, Bool, true, false, nat_lt, List, [], ◌∷◌, ◌++◌, length, map, set, get_or, min, None, Option, ap, sym, ◌∙◌, subst, refl, arith, inl, inr}
-use Rattle.std.specs.Prelude.{if◌then◌else◌}
+use Rattle.std.proofs.Common.{◌≡◌, ◌<◌, ◌≤◌, ◌+◌, ◌-◌, ◌*◌, ◌/◌, ◌^◌, ℕ, suc, Bool, true, false, nat_lt, List, [], ◌∷◌, ◌++◌, length, map, set, get_or, min, None, Result, Ok, Err, ap, sym, ◌∙◌, subst, refl, arith, inl, inr}
+use Rattle.std.specs.Prelude.{OnOk, if◌then◌else◌}
+use Rattle.std.specs.Result.{result_err}
 use Rattle.std.proofs.Math.ListN.{length-set}
 use Rattle.std.proofs.Math.Nat.{suc-mul}
 use Rattle.std.proofs.lemmas.Bool.{ltb-false}
 use Rattle.std.proofs.lemmas.List.{get_or-map, length-map, set-get_or}
 use Rattle.block_device.specs.Call.{Call, DeviceDoes, IsCall, Read}
 use Rattle.block_device.specs.Device.{Device}
-use Rattle.tree_repair.specs.CopyReads.{AreInOrder, CopyBlock, CopyRead, FetchesRun, FetchesRuns, IsNotBefore, LeavesCopies, ReadsAreFew, ReadsCopy, ReadsCopyOnce, ReadsRunOnce, ReadsRuns, blocks_fetched, copy_block, short_runs}
+use Rattle.tree_repair.specs.declared.fault.RepairFault.{RepairFault}
+use Rattle.tree_repair.specs.CopyReads.{AreInOrder, CopyBlock, CopyRead, FetchesRun, IsNotBefore, LeavesCopies, ReadsAreFew, ReadsCopy, ReadsCopyOnce, ReadsEach, ReadsInOrder, ReadsRunOnce, ReadsRuns, ReadsSeed, ReadsSeeds, blocks_fetched, copy_block, copy_read, short_runs}
 use Rattle.tree_repair.specs.Fetches.{AreLacking, IsLacking, IsNotLacking, IsReadAtMostOnce, IsWholeRun, most_blocks}
 use Rattle.tree_repair.specs.RepairCalls.{IsReadOnce}
 use Rattle.tree_repair.specs.Runs.{HasRun, Job}
 use Rattle.tree_repair.specs.Worlds.{IsWorldRead, RepairWorld}
-use Rattle.tree_repair.proofs.RunLemmas.{runs-read, runs-then, world-none}
+use Rattle.tree_repair.proofs.RunLemmas.{runs-read, runs-then, world-none, world-then}
 use Rattle.tree_repair.proofs.SourceLemmas.{each-none, new-here, new-other}
 
 -- ---- one call
@@ -70,15 +72,16 @@ once-read j r bytes a b read short once = record { between = b; read = read; byt
 pub once-then : (j : Job) (r : CopyRead) (a b c : RepairWorld) → ReadsRunOnce j r a b → LeavesCopies j b c → ReadsRunOnce j r a c
 once-then j r a b c once leaves = record { between = once.between; read = once.read; bytes = once.bytes; short = once.short; once = once.once; after = leaves-then j once.between b c once.after leaves }
 
--- ---- one run after another
+-- ---- one read after another
 
-fetches-behind : (j : Job) (reads : List CopyRead) (a b c : RepairWorld) → LeavesCopies j a b → FetchesRuns j reads b c → FetchesRuns j reads a c
-fetches-behind j [] a b c leaves fetches = leaves-then j a b c leaves fetches
-fetches-behind j (r ∷ more) a b c leaves (x, (y, (first, rest))) = (x, (y, (leaves-then j a b x leaves first, rest)))
+module _ (Reads : CopyRead → RepairWorld → RepairWorld → Type 0) (j : Job) where
+  each-behind : (reads : List CopyRead) (a b c : RepairWorld) → LeavesCopies j a b → ReadsEach Reads j reads b c → ReadsEach Reads j reads a c
+  each-behind [] a b c leaves made = leaves-then j a b c leaves made
+  each-behind (r ∷ more) a b c leaves (x, (y, (first, rest))) = (x, (y, (leaves-then j a b x leaves first, rest)))
 
-fetches-then : (j : Job) (reads more : List CopyRead) (a b c : RepairWorld) → FetchesRuns j reads a b → FetchesRuns j more b c → FetchesRuns j (reads ++ more) a c
-fetches-then j [] more a b c leaves fetches = fetches-behind j more a b c leaves fetches
-fetches-then j (r ∷ rest) more a b c (x, (y, (first, (here, last)))) fetches = (x, (y, (first, (here, fetches-then j rest more y b c last fetches))))
+  each-then : (reads more : List CopyRead) (a b c : RepairWorld) → ReadsEach Reads j reads a b → ReadsEach Reads j more b c → ReadsEach Reads j (reads ++ more) a c
+  each-then [] more a b c leaves made = each-behind more a b c leaves made
+  each-then (r ∷ rest) more a b c (x, (y, (first, (here, last)))) made = (x, (y, (first, (here, each-then rest more y b c last made))))
 
 -- ---- the order
 
@@ -98,19 +101,22 @@ order-then (r ∷ rest) more p q s (first, last) ordered = (first, order-then re
 
 -- ---- both
 
-pub reads-none : (j : Job) (p : CopyBlock) (w : RepairWorld) → ReadsRuns j p p w w
-reads-none j p w = record { reads = []; fetches = leaves-none j w; ordered = inr (refl, omega arith) }
+pub reads-none : {Reads : CopyRead → RepairWorld → RepairWorld → Type 0} (j : Job) (p : CopyBlock) (w : RepairWorld) → ReadsInOrder Reads j p p w w
+reads-none j p w = record { reads = []; made = leaves-none j w; ordered = inr (refl, omega arith) }
 
-pub reads-then : (j : Job) (p q s : CopyBlock) (a b c : RepairWorld) → ReadsRuns j p q a b → ReadsRuns j q s b c → ReadsRuns j p s a c
-reads-then j p q s a b c h last = record {
+pub reads-then : {Reads : CopyRead → RepairWorld → RepairWorld → Type 0} (j : Job) (p q s : CopyBlock) (a b c : RepairWorld) → ReadsInOrder Reads j p q a b → ReadsInOrder Reads j q s b c → ReadsInOrder Reads j p s a c
+reads-then {Reads} j p q s a b c h last = record {
   reads = h.reads ++ last.reads;
-  fetches = fetches-then j h.reads last.reads a b c h.fetches last.fetches;
+  made = each-then Reads j h.reads last.reads a b c h.made last.made;
   ordered = order-then h.reads last.reads p q s h.ordered last.ordered;
 }
 
--- nothing more was read, up to a later block
-pub reads-end : (j : Job) (p q s : CopyBlock) (a b c : RepairWorld) → ReadsRuns j p q a b → IsNotBefore q s → LeavesCopies j b c → ReadsRuns j p s a c
-reads-end j p q s a b c h before leaves = reads-then j p q s a b c h (record { reads = []; fetches = leaves; ordered = before })
+-- nothing was read, up to a later block
+pub reads-leave : {Reads : CopyRead → RepairWorld → RepairWorld → Type 0} (j : Job) (p q : CopyBlock) (a b : RepairWorld) → IsNotBefore p q → LeavesCopies j a b → ReadsInOrder Reads j p q a b
+reads-leave j p q a b before leaves = record { reads = []; made = leaves; ordered = before }
+
+pub reads-end : {Reads : CopyRead → RepairWorld → RepairWorld → Type 0} (j : Job) (p q s : CopyBlock) (a b c : RepairWorld) → ReadsInOrder Reads j p q a b → IsNotBefore q s → LeavesCopies j b c → ReadsInOrder Reads j p s a c
+reads-end j p q s a b c h before leaves = reads-then j p q s a b c h (reads-leave j q s b c before leaves)
 
 -- a run was sought from a block on, and then read
 module _ (j : Job) (r : CopyRead) (from : ℕ) (a seen : RepairWorld) (begins : from ≤ r.first) (ends : r.first ≤ r.end) (read : IsWorldRead a seen) (kept : seen.data_copies ≡ a.data_copies) (lacking : IsLacking j r.first a seen)
@@ -119,13 +125,13 @@ module _ (j : Job) (r : CopyRead) (from : ℕ) (a seen : RepairWorld) (begins : 
   reads-run c once = elim once.once [
     | inl same ↦ record {
       reads = [];
-      fetches = leaves-then j a once.between c
+      made = leaves-then j a once.between c
           (record { visits = []; runs = runs-read j [] a seen once.between read once.read; kept = same ∙ kept }) once.after;
       ordered = inr (refl, omega (arith, begins, ends));
     }
     | inr reads ↦ record {
       reads = r ∷ [];
-      fetches = (
+      made = (
         a,
         (
           once.between,
@@ -150,6 +156,58 @@ module _ (j : Job) (r : CopyRead) (from : ℕ) (a seen : RepairWorld) (begins : 
       ordered = (inr (refl, begins), inr (refl, omega arith));
     }
   ]
+
+-- a block was sought in a copy, and then read at most once
+module _ (j : Job) (k i source : ℕ) (bytes : List ℕ) (a seen between c : RepairWorld) (lacking : IsLacking j i a seen) (kept : seen.data_copies ≡ a.data_copies) (sought : IsWorldRead a seen)
+    (read : IsWorldRead seen between) (size : length bytes ≡ j.tree.shape.data_block) (once : ReadsCopyOnce k (source * (j.tree.shape.data_block / 512)) bytes seen.data_copies between.data_copies) (after : LeavesCopies j between c) where
+  pub reads-seed : ReadsSeeds j (copy_block k i) (copy_block k (i + 1)) a c
+  reads-seed = elim once [
+    | inl same ↦ record {
+      reads = [];
+      made = leaves-then j a between c (record { visits = []; runs = world-then a seen between sought read; kept = same ∙ kept }) after;
+      ordered = inr (refl, omega arith);
+    }
+    | inr reads ↦ record {
+      reads = copy_read k i (i + 1) ∷ [];
+      made = (
+        a,
+        (
+          between,
+          (
+            leaves-none j a,
+            (
+              record {
+                one = refl;
+                seen = seen;
+                lacking = lacking;
+                source = source;
+                bytes = bytes;
+                size = size;
+                reads = subst (λ (l : List Device). ReadsCopy k (source * (j.tree.shape.data_block / 512)) bytes l between.data_copies) kept reads;
+                read = read;
+              },
+              after,
+            ),
+          ),
+        ),
+      );
+      ordered = (inr (refl, omega arith), inr (refl, omega arith));
+    }
+  ]
+
+-- blocks were visited before, and no copy was accessed
+seeds-behind : (j : Job) (p q : CopyBlock) (a b c : RepairWorld) → LeavesCopies j a b → ReadsSeeds j p q b c → ReadsSeeds j p q a c
+seeds-behind j p q a b c leaves h = record { reads = h.reads; made = each-behind (ReadsSeed j) j h.reads a b c leaves h.made; ordered = h.ordered }
+
+-- ---- by the result of the call
+
+pub on_ok-run : {T Q : Type 0} {j : Job} {a b : RepairWorld} (r : Result T RepairFault) → HasRun j a b None None (result_err r) → (HasRun j a b None None None → Q) → OnOk r Q
+on_ok-run (Ok x) run holds = holds run
+on_ok-run (Err e) run holds = tt
+
+pub seeds-ok : {T E : Type 0} (r : Result T E) (j : Job) (p q : CopyBlock) (a b c : RepairWorld) → LeavesCopies j a b → OnOk r (ReadsSeeds j p q b c) → OnOk r (ReadsSeeds j p q a c)
+seeds-ok (Ok x) j p q a b c leaves h = seeds-behind j p q a b c leaves h
+seeds-ok (Err e) j p q a b c leaves h = tt
 
 -- ---- how many reads there are
 

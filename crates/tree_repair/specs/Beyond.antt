@@ -13,7 +13,7 @@ use Rattle.tree_repair.specs.declared.repair.Plan.{Plan}
 use Rattle.tree_repair.specs.Coverage.{IsVisitAt}
 use Rattle.tree_repair.specs.Parity.{IsCoveredAt}
 use Rattle.tree_repair.specs.Repairs.{SeeksByParity, job_of}
-use Rattle.tree_repair.specs.Runs.{IsPart, Job, Visit, VisitsAll}
+use Rattle.tree_repair.specs.Runs.{IsPart, Job, Visit}
 use Rattle.tree_repair.specs.ParitySearches.{IsBroughtBack, IsCutOff, IsGoodBehind, IsMadeOther, IsUncovered, Trial, trial}
 use Rattle.tree_repair.specs.Worlds.{HasCountedNone, IsParityRead, IsWorldRead, RepairWorld}
 

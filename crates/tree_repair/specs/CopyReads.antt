@@ -1,4 +1,4 @@
--- Reads of neighbouring data blocks from the copies, and what else happens meanwhile.
+-- Reads of data blocks from the copies, and what else happens meanwhile.
 use Rattle.std.specs.Prelude.{◌≡◌, ◌≢◌, ◌⊎◌, ℕ, ◌+◌, ◌-◌, ◌*◌, ◌/◌, ◌^◌, ◌<◌, ◌≤◌, Bool, List, [], ◌∷◌, length, if◌then◌else◌, nat_lt}
 use Rattle.std.specs.List.{slice_index_or}
 use Rattle.block_device.specs.Call.{IsCall, Read}
@@ -56,10 +56,21 @@ pub record FetchesRun (j : Job) (r : CopyRead) (w w' : RepairWorld) : Type 0 whe
   pub reads : ReadsCopy r.copy (r.first * (j.tree.shape.data_block / 512)) bytes w.data_copies w'.data_copies
   pub read : IsWorldRead seen w'
 
--- these runs were read one after another, and nothing else was read from a copy of the data; blocks were visited meanwhile
-abbrev pub FetchesRuns : Job → List CopyRead → RepairWorld → RepairWorld → Type 0
-FetchesRuns j [] w w' = LeavesCopies j w w'
-FetchesRuns j (r ∷ more) w w' = (a : RepairWorld) × ((b : RepairWorld) × (LeavesCopies j w a × (FetchesRun j r a b × FetchesRuns j more b w')))
+-- The data device lacked a block. Then one call read a block of a copy, where a list has its digest, and no other copy was accessed.
+pub record ReadsSeed (j : Job) (r : CopyRead) (w w' : RepairWorld) : Type 0 where
+  pub one : r.end ≡ r.first + 1
+  pub seen : RepairWorld
+  pub lacking : IsLacking j r.first w seen
+  pub source : ℕ
+  pub bytes : List ℕ
+  pub size : length bytes ≡ j.tree.shape.data_block
+  pub reads : ReadsCopy r.copy (source * (j.tree.shape.data_block / 512)) bytes w.data_copies w'.data_copies
+  pub read : IsWorldRead seen w'
+
+-- such reads were made one after another, and nothing else was read from a copy of the data; blocks were visited meanwhile
+abbrev pub ReadsEach : (CopyRead → RepairWorld → RepairWorld → Type 0) → Job → List CopyRead → RepairWorld → RepairWorld → Type 0
+ReadsEach Reads j [] w w' = LeavesCopies j w w'
+ReadsEach Reads j (r ∷ more) w w' = (a : RepairWorld) × ((b : RepairWorld) × (LeavesCopies j w a × (Reads r a b × ReadsEach Reads j more b w')))
 
 -- ---- the order
 
@@ -81,15 +92,27 @@ abbrev pub AreInOrder : List CopyRead → CopyBlock → CopyBlock → Type 0
 AreInOrder [] from to = IsNotBefore from to
 AreInOrder (r ∷ more) from to = IsNotBefore from (copy_block r.copy r.first) × AreInOrder more (copy_block r.copy r.end) to
 
--- runs were read in their order
-pub record ReadsRuns (j : Job) (from to : CopyBlock) (w w' : RepairWorld) : Type 0 where
+-- such reads were made in their order
+pub record ReadsInOrder (Reads : CopyRead → RepairWorld → RepairWorld → Type 0) (j : Job) (from to : CopyBlock) (w w' : RepairWorld) : Type 0 where
   pub reads : List CopyRead
-  pub fetches : FetchesRuns j reads w w'
+  pub made : ReadsEach Reads j reads w w'
   pub ordered : AreInOrder reads from to
+
+-- runs were read
+abbrev pub ReadsRuns : Job → CopyBlock → CopyBlock → RepairWorld → RepairWorld → Type 0
+ReadsRuns j from to w w' = ReadsInOrder (FetchesRun j) j from to w w'
+
+-- single blocks were read where lists have them
+abbrev pub ReadsSeeds : Job → CopyBlock → CopyBlock → RepairWorld → RepairWorld → Type 0
+ReadsSeeds j from to w w' = ReadsInOrder (ReadsSeed j) j from to w w'
 
 -- runs were read from one copy after another
 abbrev pub ReadsCopies : Job → RepairWorld → RepairWorld → Type 0
 ReadsCopies j w w' = (to : CopyBlock) × ReadsRuns j (copy_block 0 0) to w w'
+
+-- blocks were, from one copy after another
+abbrev pub ReadsLists : Job → RepairWorld → RepairWorld → Type 0
+ReadsLists j w w' = (to : CopyBlock) × ReadsSeeds j (copy_block 0 0) to w w'
 
 -- ---- how many reads there are
 

@@ -1,10 +1,10 @@
 //! Fetches neighbouring data blocks from the copies by large reads.
-ghost use Rattle.std.specs.Prelude.{◌≡◌, ◌+◌, IfErr, IsTrue, OnOk};
+ghost use Rattle.std.specs.Prelude.{◌≡◌, ◌+◌, IfErr, IfOk, IsTrue, OnOk};
 ghost use Rattle.block_device.specs.Call.{DeviceDoes};
 ghost use Rattle.tree_shape.specs.Digests.{digest};
 ghost use Rattle.tree_repair.specs.CopyReads.{ReadsCopies, ReadsRunOnce, ReadsRuns, copy_block, copy_read};
 ghost use Rattle.tree_repair.specs.Jobs.{job};
-ghost use Rattle.tree_repair.specs.Moves.{HasMoved, SaysFetches};
+ghost use Rattle.tree_repair.specs.Moves.{HasMoved, SaysFetches, SaysCopies};
 ghost use Rattle.tree_repair.specs.ParitySearches.{IsOfTree};
 ghost use Rattle.tree_repair.specs.RepairCalls.{wrote_all};
 ghost use Rattle.tree_repair.specs.RunCalls.{MakesRepair};
@@ -60,7 +60,7 @@ pub(crate) fn fetch_runs<D: BlockDev, H: BlockDev, C: BlockDev, W: Write>(
     requires can { CanRun (job repair.now) image.old.world }
     ensures run { HasMoved (job repair.now) image.old.world image.new.world result }
     ensures told { IfErr result (IsWriterCause writer.new) }
-    ensures said { OnOk result (SaysFetches W.contents (job repair.now) writer.old writer.new) }
+    ensures said { OnOk result (SaysFetches W.contents (job repair.now) image.old.world image.new.world writer.old writer.new) }
     ensures handed { MakesRepair (DeviceDoes D.state D.does) (DeviceDoes H.state H.does) (job repair.now) (wrote_all result) image.old image.new }
     ensures reads { OnOk result (ReadsCopies (job repair.now) image.old.world image.new.world) }
 {
@@ -85,7 +85,7 @@ fn fetch_copies<D: BlockDev, H: BlockDev, C: BlockDev, W: Write>(
     requires can { CanRun (job repair.now) image.old.world }
     ensures run { HasMoved (job repair.now) image.old.world image.new.world result }
     ensures told { IfErr result (IsWriterCause writer.new) }
-    ensures said { OnOk result (SaysFetches W.contents (job repair.now) writer.old writer.new) }
+    ensures said { OnOk result (SaysFetches W.contents (job repair.now) image.old.world image.new.world writer.old writer.new) }
     ensures handed { MakesRepair (DeviceDoes D.state D.does) (DeviceDoes H.state H.does) (job repair.now) (wrote_all result) image.old image.new }
     ensures reads { OnOk result (ReadsCopies (job repair.now) image.old.world image.new.world) }
 {
@@ -107,7 +107,7 @@ fn fetch_each<D: BlockDev, H: BlockDev, C: BlockDev, W: Write>(
     requires can { CanRun (job repair.now) image.old.world }
     ensures run { HasMoved (job repair.now) image.old.world image.new.world result }
     ensures told { IfErr result (IsWriterCause writer.new) }
-    ensures said { OnOk result (SaysFetches W.contents (job repair.now) writer.old writer.new) }
+    ensures said { OnOk result (SaysFetches W.contents (job repair.now) image.old.world image.new.world writer.old writer.new) }
     ensures handed { MakesRepair (DeviceDoes D.state D.does) (DeviceDoes H.state H.does) (job repair.now) (wrote_all result) image.old image.new }
     ensures reads { OnOk result (ReadsRuns (job repair.now) (copy_block copy 0) (copy_block (copy + 1) 0) image.old.world image.new.world) }
 {
@@ -143,7 +143,7 @@ fn fetch_run<D: BlockDev, H: BlockDev, C: BlockDev, W: Write>(
     ensures tree { IsOfTree (job repair.now).tree last_path.new.path }
     ensures run { HasMoved (job repair.now) image.old.world image.new.world result }
     ensures told { IfErr result (IsWriterCause writer.new) }
-    ensures said { OnOk result (SaysFetches W.contents (job repair.now) writer.old writer.new) }
+    ensures said { OnOk result (SaysFetches W.contents (job repair.now) image.old.world image.new.world writer.old writer.new) }
     ensures handed { MakesRepair (DeviceDoes D.state D.does) (DeviceDoes H.state H.does) (job repair.now) (wrote_all result) image.old image.new }
     ensures reads { OnOk result (ReadsRunOnce (job repair.now) (copy_read fetch.now.copy fetch.now.run.first fetch.now.run.end) image.old.world image.new.world) }
 {
@@ -168,7 +168,8 @@ fn fetch_run<D: BlockDev, H: BlockDev, C: BlockDev, W: Write>(
     Ok(())
 }
 
-/// Writes the block of that number among bytes that were read, if all hash blocks above it verify and its digest is right.
+/// Writes the block of that number among bytes that were read, if all hash blocks above it verify and its digest is right. Returns how
+/// many blocks were written: one or none.
 pub(crate) fn fetch_block<D: BlockDev, H: BlockDev, C: BlockDev, W: Write>(
     last_path: &mut VerifiedPath,
     repair: &Repair,
@@ -176,24 +177,24 @@ pub(crate) fn fetch_block<D: BlockDev, H: BlockDev, C: BlockDev, W: Write>(
     k: u64,
     image: &mut DamagedImage<D, H, C>,
     writer: &mut Counted<W>,
-) -> Result<(), RepairFault>
+) -> Result<u64, RepairFault>
     requires tree { IsOfTree (job repair.now).tree last_path.old.path }
     requires asked { IsTrue repair.now.parity }
     requires can { CanRun (job repair.now) image.old.world }
     ensures tree { IsOfTree (job repair.now).tree last_path.new.path }
     ensures run { HasMoved (job repair.now) image.old.world image.new.world result }
     ensures told { IfErr result (IsWriterCause writer.new) }
-    ensures said { OnOk result (SaysFetches W.contents (job repair.now) writer.old writer.new) }
+    ensures said { IfOk result (SaysCopies W.contents (job repair.now) image.old.world image.new.world writer.old writer.new) }
     ensures handed { MakesRepair (DeviceDoes D.state D.does) (DeviceDoes H.state H.does) (job repair.now) (wrote_all result) image.old image.new }
     ensures kept { image.new.world.data_copies ≡ image.old.world.data_copies }
 {
     let index = fetched.first.saturating_add(k);
     let place = Place { height: 0, index };
     if !is_place(repair, place) {
-        return Ok(());
+        return Ok(0);
     }
     if !last_path.reach(repair, image, place.index, place.height) {
-        return Ok(());
+        return Ok(0);
     }
     let missing = Missing {
         path: &last_path.path,
@@ -204,21 +205,22 @@ pub(crate) fn fetch_block<D: BlockDev, H: BlockDev, C: BlockDev, W: Write>(
 }
 
 // Writes a block of a run, if the bytes that were read for it have its digest, and prints its line. A block that is valid isn't
-// written.
+// written. Returns how many blocks were written: one or none.
 fn put_fetched<D: BlockDev, H: BlockDev, C: BlockDev, W: Write>(
     missing: &Missing<'_>,
     fetched: &Fetched<'_>,
     k: u64,
     image: &mut DamagedImage<D, H, C>,
     writer: &mut Counted<W>,
-) -> Result<(), RepairFault>
+) -> Result<u64, RepairFault>
     requires asked { IsTrue missing.now.repair.now.parity }
     requires can { CanRun (job missing.now.repair.now) image.old.world }
     requires place { IsInTree missing.now }
+    requires low { missing.now.place.height ≡ 0 }
     requires way { IsReached missing.now }
     ensures run { HasMoved (job missing.now.repair.now) image.old.world image.new.world result }
     ensures told { IfErr result (IsWriterCause writer.new) }
-    ensures said { OnOk result (SaysFetches W.contents (job missing.now.repair.now) writer.old writer.new) }
+    ensures said { IfOk result (SaysCopies W.contents (job missing.now.repair.now) image.old.world image.new.world writer.old writer.new) }
     ensures handed { MakesRepair (DeviceDoes D.state D.does) (DeviceDoes H.state H.does) (job missing.now.repair.now) (wrote_all result) image.old image.new }
     ensures kept { image.new.world.data_copies ≡ image.old.world.data_copies }
 {
@@ -233,11 +235,11 @@ fn put_fetched<D: BlockDev, H: BlockDev, C: BlockDev, W: Write>(
         .path
         .digest_at(missing.place.height, missing.place.index);
     if !has_digest(&repair.salt, &expected, bytes) {
-        return Ok(());
+        return Ok(0);
     }
     let back = put_block(missing, image, bytes, block)?;
     if !back {
-        return Ok(());
+        return Ok(0);
     }
     let number = fetched.copy.saturating_add(1);
     let place = Place {
@@ -245,7 +247,7 @@ fn put_fetched<D: BlockDev, H: BlockDev, C: BlockDev, W: Write>(
         index: missing.place.index,
     };
     say_mended(writer, repair, place, Mended::Copy(number))?;
-    Ok(())
+    Ok(1)
 }
 
 // Copies the part of that number of some bytes, if they have it, into a buffer as long as a part.

@@ -1,9 +1,9 @@
 //! Copies data blocks that are elsewhere on the data device, and fetches those that aren't.
-ghost use Rattle.std.specs.Prelude.{◌≡◌, ◌<◌, ◌≤◌, ◌^◌, None, IfErr, IsTrue, OnOk, false, length, true};
+ghost use Rattle.std.specs.Prelude.{◌≡◌, ◌<◌, ◌≤◌, ◌^◌, None, IfErr, IfOk, IsTrue, false, length, true};
 ghost use Rattle.block_device.specs.Call.{DeviceDoes};
 ghost use Rattle.program_io.specs.Counted.{Writes};
 ghost use Rattle.tree_repair.specs.Jobs.{job};
-ghost use Rattle.tree_repair.specs.Moves.{AreMoved, HasMoved, SaysMoves, moved_after, moved_line};
+ghost use Rattle.tree_repair.specs.Moves.{AreMoved, HasMoved, SaysMoves, moved_line};
 ghost use Rattle.tree_repair.specs.ParitySearches.{IsOfTree};
 ghost use Rattle.tree_repair.specs.RepairCalls.{ReadsBoth, wrote_all};
 ghost use Rattle.tree_repair.specs.Repairs.{IsAllowed, IsUnrepairedBy, job_of};
@@ -44,7 +44,8 @@ struct Search<'a> {
 /// Blocks that moved up are copied from the last to the first, and then those that moved down in their order, so few are overwritten
 /// before they are copied. Corrupt blocks that the list of a copy has are copied from there. Then neighbouring blocks that are still
 /// corrupt are read from the copies by reads of at most 1 MiB, and those with their digest are written. Prints a line for each block that
-/// was written, and returns how many were copied within the data device. Nothing is synced.
+/// was written. Returns how many blocks were copied by lists, within the data device or from copies; those of runs aren't counted.
+/// Nothing is synced.
 ///
 /// # Errors
 ///
@@ -60,7 +61,7 @@ pub fn move_blocks<D: BlockDev, H: BlockDev, C: BlockDev, W: Write>(
 ) -> Result<u64, RepairFault>
     requires first { plan.now.copy_first ≤ 2 ^ 55 }
     requires allowed { IsAllowed plan.now.write image.old.world.data_dev image.old.world.hash_dev }
-    ensures ok { OnOk result (AreMoved W.contents plan.now image.old.world image.new.world writer.old writer.new) }
+    ensures ok { IfOk result (AreMoved W.contents plan.now image.old.world image.new.world writer.old writer.new) }
     ensures err { IfErr result (IsUnrepairedBy plan.now true image.old.world image.new.world None None) }
     ensures told { IfErr result (IsWriterCause writer.new) }
     ensures handed { MakesRepair (DeviceDoes D.state D.does) (DeviceDoes H.state H.does) (job_of plan.now true) (wrote_all result) image.old image.new }
@@ -70,12 +71,12 @@ pub fn move_blocks<D: BlockDev, H: BlockDev, C: BlockDev, W: Write>(
     let mut bad = BadBlocks::new(alloc, false);
     repair_heights(&repair, 1, image, &mut bad, writer)?;
     let moved = move_if_listed(&repair, &lists.own, image, writer)?;
-    copy_from_seeds(&repair, lists.copies.as_slice(), image, writer)?;
+    let copied = copy_from_seeds(&repair, lists.copies.as_slice(), image, writer)?;
     fetch_runs(&repair, image, writer)?;
-    Ok(moved)
+    Ok(moved.saturating_add(copied))
 }
 
-// Copies the data blocks that moved, if there is a list.
+// Copies the data blocks that moved, if there is a list. Returns how many were copied.
 fn move_if_listed<D: BlockDev, H: BlockDev, C: BlockDev, W: Write>(
     repair: &Repair,
     listed: &Option<ListedBlocks>,
@@ -86,8 +87,9 @@ fn move_if_listed<D: BlockDev, H: BlockDev, C: BlockDev, W: Write>(
     requires can { CanRun (job repair.now) image.old.world }
     ensures run { HasMoved (job repair.now) image.old.world image.new.world result }
     ensures told { IfErr result (IsWriterCause writer.new) }
-    ensures said { OnOk result (SaysMoves W.contents writer.old writer.new) }
+    ensures said { IfOk result (SaysMoves W.contents (job repair.now) image.old.world image.new.world writer.old writer.new) }
     ensures handed { MakesRepair (DeviceDoes D.state D.does) (DeviceDoes H.state H.does) (job repair.now) (wrote_all result) image.old image.new }
+    ensures kept { image.new.world.data_copies ≡ image.old.world.data_copies }
 {
     match listed {
         None => Ok(0),
@@ -95,7 +97,7 @@ fn move_if_listed<D: BlockDev, H: BlockDev, C: BlockDev, W: Write>(
     }
 }
 
-// Copies the data blocks that moved up, and then those that moved down.
+// Copies the data blocks that moved up, and then those that moved down. Returns how many were copied.
 fn move_both<D: BlockDev, H: BlockDev, C: BlockDev, W: Write>(
     repair: &Repair,
     listed: &ListedBlocks,
@@ -106,8 +108,9 @@ fn move_both<D: BlockDev, H: BlockDev, C: BlockDev, W: Write>(
     requires can { CanRun (job repair.now) image.old.world }
     ensures run { HasMoved (job repair.now) image.old.world image.new.world result }
     ensures told { IfErr result (IsWriterCause writer.new) }
-    ensures said { OnOk result (SaysMoves W.contents writer.old writer.new) }
+    ensures said { IfOk result (SaysMoves W.contents (job repair.now) image.old.world image.new.world writer.old writer.new) }
     ensures handed { MakesRepair (DeviceDoes D.state D.does) (DeviceDoes H.state H.does) (job repair.now) (wrote_all result) image.old image.new }
+    ensures kept { image.new.world.data_copies ≡ image.old.world.data_copies }
 {
     let upwards = Search {
         listed,
@@ -134,16 +137,17 @@ fn move_data<D: BlockDev, H: BlockDev, C: BlockDev, W: Write>(
     requires can { CanRun (job repair.now) image.old.world }
     ensures run { HasMoved (job repair.now) image.old.world image.new.world result }
     ensures told { IfErr result (IsWriterCause writer.new) }
-    ensures said { OnOk result (SaysMoves W.contents writer.old writer.new) }
+    ensures said { IfOk result (SaysMoves W.contents (job repair.now) image.old.world image.new.world writer.old writer.new) }
     ensures handed { MakesRepair (DeviceDoes D.state D.does) (DeviceDoes H.state H.does) (job repair.now) (wrote_all result) image.old image.new }
+    ensures kept { image.new.world.data_copies ≡ image.old.world.data_copies }
 {
     let mut last_path = VerifiedPath::new(repair)?;
     let blocks = repair.shape.blocks();
-    let mut moved = 0;
+    let mut moved: u64 = 0;
     'each: for k in 0..blocks {
         let index = turn_of(k, blocks, search.upwards);
         let copied = move_block(&mut last_path, repair, search, index, image, writer)?;
-        moved = moved_after(moved, copied);
+        moved = moved.saturating_add(copied);
     }
     Ok(moved)
 }
@@ -156,16 +160,8 @@ fn turn_of(k: u64, blocks: u64, upwards: bool) -> u64 {
     k
 }
 
-fn moved_after(moved: u64, copied: bool) -> u64
-    ensures { result ≡ moved_after moved copied }
-{
-    if copied {
-        return moved.saturating_add(1);
-    }
-    moved
-}
-
-// Copies a data block, if all hash blocks above it verify and the list has its digest at another place.
+// Copies a data block, if all hash blocks above it verify and the list has its digest at another place. Returns how many blocks were
+// copied: one or none.
 fn move_block<D: BlockDev, H: BlockDev, C: BlockDev, W: Write>(
     last_path: &mut VerifiedPath,
     repair: &Repair,
@@ -173,26 +169,27 @@ fn move_block<D: BlockDev, H: BlockDev, C: BlockDev, W: Write>(
     index: u64,
     image: &mut DamagedImage<D, H, C>,
     writer: &mut Counted<W>,
-) -> Result<bool, RepairFault>
+) -> Result<u64, RepairFault>
     requires tree { IsOfTree (job repair.now).tree last_path.old.path }
     requires asked { IsTrue repair.now.parity }
     requires can { CanRun (job repair.now) image.old.world }
     ensures tree { IsOfTree (job repair.now).tree last_path.new.path }
     ensures run { HasMoved (job repair.now) image.old.world image.new.world result }
     ensures told { IfErr result (IsWriterCause writer.new) }
-    ensures said { OnOk result (SaysMoves W.contents writer.old writer.new) }
+    ensures said { IfOk result (SaysMoves W.contents (job repair.now) image.old.world image.new.world writer.old writer.new) }
     ensures handed { MakesRepair (DeviceDoes D.state D.does) (DeviceDoes H.state H.does) (job repair.now) (wrote_all result) image.old image.new }
+    ensures kept { image.new.world.data_copies ≡ image.old.world.data_copies }
 {
     let place = Place { height: 0, index };
     if !is_place(repair, place) {
-        return Ok(false);
+        return Ok(0);
     }
     if !last_path.reach(repair, image, place.index, place.height) {
-        return Ok(false);
+        return Ok(0);
     }
     let digest = last_path.path.digest_at(place.height, place.index);
     let source = match search.listed.source(&digest, index, search.upwards) {
-        None => return Ok(false),
+        None => return Ok(0),
         Some(source) => source,
     };
     let missing = Missing {
@@ -204,20 +201,23 @@ fn move_block<D: BlockDev, H: BlockDev, C: BlockDev, W: Write>(
 }
 
 // Copies a block from another place, if it has the block's digest there, and prints its line. A block that is valid isn't written.
+// Returns how many blocks were copied: one or none.
 fn copy_from<D: BlockDev, H: BlockDev, C: BlockDev, W: Write>(
     missing: &Missing<'_>,
     source: u64,
     image: &mut DamagedImage<D, H, C>,
     writer: &mut Counted<W>,
-) -> Result<bool, RepairFault>
+) -> Result<u64, RepairFault>
     requires asked { IsTrue missing.now.repair.now.parity }
     requires can { CanRun (job missing.now.repair.now) image.old.world }
     requires place { IsInTree missing.now }
+    requires low { missing.now.place.height ≡ 0 }
     requires way { IsReached missing.now }
     ensures run { HasMoved (job missing.now.repair.now) image.old.world image.new.world result }
     ensures told { IfErr result (IsWriterCause writer.new) }
-    ensures said { OnOk result (SaysMoves W.contents writer.old writer.new) }
+    ensures said { IfOk result (SaysMoves W.contents (job missing.now.repair.now) image.old.world image.new.world writer.old writer.new) }
     ensures handed { MakesRepair (DeviceDoes D.state D.does) (DeviceDoes H.state H.does) (job missing.now.repair.now) (wrote_all result) image.old image.new }
+    ensures kept { image.new.world.data_copies ≡ image.old.world.data_copies }
 {
     let repair = missing.repair;
     let size = block_size(&repair.shape, missing.place.height);
@@ -226,14 +226,14 @@ fn copy_from<D: BlockDev, H: BlockDev, C: BlockDev, W: Write>(
     let bytes = made.as_mut_slice();
     let block = read.as_mut_slice();
     if !is_at(missing, source, image, bytes) {
-        return Ok(false);
+        return Ok(0);
     }
     let back = put_block(missing, image, bytes, block)?;
     if !back {
-        return Ok(false);
+        return Ok(0);
     }
     say_moved(writer, missing.place.index, source)?;
-    Ok(true)
+    Ok(1)
 }
 
 // Reads the data block of that number into `bytes`, also after the end of the data, and returns whether it has the digest that leads to
@@ -251,6 +251,7 @@ fn is_at<D: BlockDev, H: BlockDev, C: BlockDev>(
     ensures read { IsWorldRead image.old.world image.new.world }
     ensures good { IsTrue result → AreGoodFor missing.now bytes.new }
     ensures called { ReadsBoth (DeviceDoes D.state D.does) (DeviceDoes H.state H.does) image.old image.new }
+    ensures kept { image.new.world.data_copies ≡ image.old.world.data_copies }
 {
     let repair = missing.repair;
     let place = missing.place;

@@ -148,12 +148,12 @@ module _ (law : OtherSectorsStay) (plan : Plan) (one : plan.tree.shape.start ≡
   kept-aloud false w t' old new failed n fault ends kept = kept-early true w t' old new failed fault (counted-ends plan true w t' old new failed n fault ends) kept
 
   -- with the moves before it
-  kept-blocks : (w w' : RepairWorld) (old new : Option (List ℕ)) → MovesBlocks plan w w' old new → Kept w → Kept w'
-  kept-blocks w w' old new moves kept = kept-repaired true moves.mid w' None None None moves.moved (kept-repaired true w moves.mid old moves.between None moves.tree kept)
+  kept-blocks : (w w' : RepairWorld) (old new : Option (List ℕ)) (count : ℕ) → MovesBlocks plan w w' old new count → Kept w → Kept w'
+  kept-blocks w w' old new count moves kept = kept-repaired true moves.mid w' None None None moves.moved (kept-repaired true w moves.mid old moves.between None moves.tree kept)
 
-  kept-moved : (json : Bool) (w w' : RepairWorld) (old new : Option (List ℕ)) → MovesListed json plan w w' old new → Kept w → Kept w'
-  kept-moved true w w' old new moves kept = kept-blocks w w' None None moves.0 kept
-  kept-moved false w w' old new moves kept = kept-blocks w w' old new moves kept
+  kept-moved : (json : Bool) (w w' : RepairWorld) (old new : Option (List ℕ)) (count : ℕ) → MovesListed json plan w w' old new count → Kept w → Kept w'
+  kept-moved true w w' old new count moves kept = kept-blocks w w' None None count moves.0 kept
+  kept-moved false w w' old new count moves kept = kept-blocks w w' old new count moves kept
 
 -- ---- an update
 
@@ -161,7 +161,11 @@ kept-ends : OtherSectorsStay → (r : Release) (json : Bool) (w : RepairWorld) (
 kept-ends law r json w t' fault (inl ends) kept =
     subst (λ (t : SurveyedDevices). KeptOn t) (sym ends.same) (kept-unrepaired law (plan_of r) refl true w ends.behind None None ends.cause ends.fails kept)
 kept-ends law r json w t' fault (inr ends) kept =
-    kept-aloud law (plan_of r) refl json ends.moved t' ends.between ends.new ends.failed ends.counters fault ends.ends (kept-moved law (plan_of r) refl json w ends.moved ends.old ends.between ends.moves kept)
+    kept-aloud law (plan_of r) refl json ends.moved t' ends.between ends.new ends.failed ends.counters fault ends.ends
+    (elim ends.moves [
+      | inl moves ↦ kept-moved law (plan_of r) refl json w ends.moved ends.old ends.between ends.count moves kept
+      | inr fails ↦ kept-unrepaired law (plan_of r) refl true w ends.moved None None Write fails kept
+    ])
 
 -- the second attempt begins with the hash device that the first one left
 kept-again : OtherSectorsStay → (r : Release) (json : Bool) (w again : RepairWorld) (cause : TreeFault) → EndsOnce r json w again cause → Kept w → Kept again

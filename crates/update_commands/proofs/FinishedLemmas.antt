@@ -7,6 +7,7 @@ use Rattle.std.proofs.lemmas.List.Elements.{All-cons, All-tail}
 use Rattle.block_device.specs.Device.{Device, IsSector, IsWhole, filled_sector, sectors_of, spliced, zeros_image}
 use Rattle.block_device.specs.Whole.{length-sectors_of}
 use Rattle.image_commands.specs.Clearing.{IsCleared}
+use Rattle.image_commands.specs.Places.{IsStateOf}
 use Rattle.image_files.specs.Opener.{Opener}
 use Rattle.repair_commands.specs.declared.counters.Counters.{Counters}
 use Rattle.repair_commands.specs.Commands.{RepairsDevices, opened_world}
@@ -87,12 +88,12 @@ cleared-world s valid w looked cleared seen read begins steady =
 
 -- ---- so are those of blocks that moved
 
-moved-steady : (plan : Plan) (w w' : RepairWorld) (old new : Option (List ℕ)) → MovesBlocks plan w w' old new → IsWorldSteady w → IsWorldSteady w'
-moved-steady plan w w' old new moves steady = repaired-steady plan true moves.mid w' None None moves.moved (repaired-steady plan true w moves.mid old moves.between moves.tree steady)
+moved-steady : (plan : Plan) (w w' : RepairWorld) (old new : Option (List ℕ)) (count : ℕ) → MovesBlocks plan w w' old new count → IsWorldSteady w → IsWorldSteady w'
+moved-steady plan w w' old new count moves steady = repaired-steady plan true moves.mid w' None None moves.moved (repaired-steady plan true w moves.mid old moves.between moves.tree steady)
 
-listed-steady : (json : Bool) (plan : Plan) (w w' : RepairWorld) (old new : Option (List ℕ)) → MovesListed json plan w w' old new → IsWorldSteady w → IsWorldSteady w'
-listed-steady true plan w w' old new (moves, quiet) steady = moved-steady plan w w' None None moves steady
-listed-steady false plan w w' old new moves steady = moved-steady plan w w' old new moves steady
+listed-steady : (json : Bool) (plan : Plan) (w w' : RepairWorld) (old new : Option (List ℕ)) (count : ℕ) → MovesListed json plan w w' old new count → IsWorldSteady w → IsWorldSteady w'
+listed-steady true plan w w' old new count (moves, quiet) steady = moved-steady plan w w' None None count moves steady
+listed-steady false plan w w' old new count moves steady = moved-steady plan w w' old new count moves steady
 
 -- ---- blocks of a tree after hash block 0 stay when it is written
 
@@ -138,8 +139,8 @@ aloud-repairs true plan w t old new n (silent, quiet) = (None, (None, silent.0))
 aloud-repairs false plan w t old new n aloud = (old, (new, aloud.0))
 
 module _ (law : RepairedImagesAreValid) (r : Release) (super : IsSuperblock r.superblock) where
-  moved-held : (json : Bool) (tally : Tally) (w : RepairWorld) (t' : SurveyedDevices) (old new : Option (List ℕ)) → UpdatesMoved r json tally w t' old new → IsWorldSteady w → HoldsRelease r t' ⊎ Collide r.superblock.salt
-  moved-held json tally w t' old new begun steady =
+  moved-held : (Hash : Device → Type 0) (json : Bool) (tally : Tally) (w : RepairWorld) (t' : SurveyedDevices) (old new : Option (List ℕ)) → UpdatesMoved Hash r json tally w t' old new → IsWorldSteady w → HoldsRelease r t' ⊎ Collide r.superblock.salt
+  moved-held Hash json tally w t' old new begun steady =
       let t = begun.mended in
       let done = aloud-repairs json (plan_of r) w t old begun.between begun.counters begun.repairs in
       let repairs : RepairsDevices (plan_of r) true w t done.0 done.1.0 = done.1.1 in
@@ -165,13 +166,13 @@ module _ (law : RepairedImagesAreValid) (r : Release) (super : IsSuperblock r.su
         })
       ]
 
-  begun-held : (json : Bool) (w : RepairWorld) (t' : SurveyedDevices) (old new : Option (List ℕ)) → UpdatesBegun r json w t' old new → IsWorldSteady w → HoldsRelease r t' ⊎ Collide r.superblock.salt
-  begun-held json w t' old new begun steady =
-      moved-held json (tally_from w begun.count) begun.moved t' begun.between new begun.updates (listed-steady json (plan_of r) w begun.moved old begun.between begun.moves steady)
+  begun-held : (Hash : Device → Type 0) (json : Bool) (w : RepairWorld) (t' : SurveyedDevices) (old new : Option (List ℕ)) → UpdatesBegun Hash r json w t' old new → IsWorldSteady w → HoldsRelease r t' ⊎ Collide r.superblock.salt
+  begun-held Hash json w t' old new begun steady =
+      moved-held Hash json (tally_from w begun.count) begun.moved t' begun.between new begun.updates (listed-steady json (plan_of r) w begun.moved old begun.between begun.count begun.moves steady)
 
-  updated-held : (no_index json : Bool) (w : RepairWorld) (t' : SurveyedDevices) (old new : Option (List ℕ)) → UpdatesDevices r no_index json w t' old new → IsWorldSteady w → HoldsRelease r t' ⊎ Collide r.superblock.salt
-  updated-held no_index json w t' old new updates steady =
-      begun-held json (begun_world w updates.cleared updates.seen) t' old new updates.updates
+  updated-held : (Hash : Device → Type 0) (no_index json : Bool) (w : RepairWorld) (t' : SurveyedDevices) (old new : Option (List ℕ)) → UpdatesDevices Hash r no_index json w t' old new → IsWorldSteady w → HoldsRelease r t' ⊎ Collide r.superblock.salt
+  updated-held Hash no_index json w t' old new updates steady =
+      begun-held Hash json (begun_world w updates.cleared updates.seen) t' old new updates.updates
       (cleared-world r.superblock super.shape w updates.looked updates.cleared updates.seen updates.lists.hash_read updates.begins steady)
 
 -- from the files on
@@ -180,5 +181,5 @@ files-held relations state law old new o copies before behind u steady =
     let finds = u.is_ready.finds in
     let super = finds.reads.read.carried.valid in (
       record { is_super = super; pinned = finds.reads.pinned; root_is = finds.root_is },
-      updated-held law u.release super o.no_index o.json (opened_world state u.opened) (surveyed_devices (state u.updates.data_dev) (state u.updates.hash_dev)) before behind u.updates.holds steady,
+      updated-held law u.release super (IsStateOf state) o.no_index o.json (opened_world state u.opened) (surveyed_devices (state u.updates.data_dev) (state u.updates.hash_dev)) before behind u.updates.holds steady,
     )

@@ -4,6 +4,7 @@ pub mod EarlyEndLemmas
 pub mod EndingLemmas
 pub mod FinishedLemmas
 pub mod ListingLemmas
+pub mod PinApartLemmas
 pub mod PinnedDataLemmas
 pub mod SealLemmas
 pub mod TargetLemmas

@@ -1,5 +1,5 @@
 -- How many blocks an update kept, moved and fetched.
-use Rattle.std.specs.Prelude.{◌≡◌, ◌⊎◌, ℕ, ◌+◌, ◌-◌, ◌*◌, ◌&&◌, Bool, true, false, List, ◌++◌, codes, decimal, None, Option}
+use Rattle.std.specs.Prelude.{◌≡◌, ◌⊎◌, ℕ, ◌+◌, ◌-◌, ◌*◌, ◌&&◌, min, Bool, true, false, List, ◌++◌, codes, decimal, None, Option}
 use Rattle.std.specs.Io.KnownBytes.{Appends}
 use Rattle.block_device.specs.Device.{capped}
 use Rattle.program_io.specs.Counted.{CountedRecord}
@@ -12,7 +12,6 @@ use Rattle.verity_commands.specs.declared.tree_fault.TreeFault.{TreeFault}
 use Rattle.verity_commands.specs.declared.tree_fault.TreeFault.TheVariants.{Damaged, Survey, Write}
 use Rattle.verity_format.specs.declared.verifying.VerifyFault.TheVariants.{NoMemory}
 use Rattle.verity_format.specs.Formatting.{given_blocks}
-use Rattle.update_commands.specs.declared.counts.Blocks.{Blocks}
 use Rattle.update_commands.specs.declared.counts.Counts.{Counts}
 use Rattle.update_commands.specs.declared.counts.Tally.{Tally}
 
@@ -21,30 +20,26 @@ abbrev pub all_blocks : ShapeRecord → ℕ
 all_blocks shape = capped (shape.blocks + area_blocks shape)
 
 -- the data blocks and the hash blocks of so many sectors
-abbrev pub blocks_in : ShapeRecord → ℕ → ℕ → Blocks
-blocks_in shape data_sectors hash_sectors = record { «data» = given_blocks None shape.data_block data_sectors; hash = given_blocks None shape.hash_block hash_sectors }
+abbrev pub blocks_in : ShapeRecord → ℕ → ℕ → ℕ
+blocks_in shape data_sectors hash_sectors = capped (given_blocks None shape.data_block data_sectors + given_blocks None shape.hash_block hash_sectors)
 
 -- the blocks that were written between two states of the counters, and those that were read from the last copy, which is the release
-abbrev pub blocks_written : ShapeRecord → Counters → Counters → Blocks
-blocks_written shape a b = blocks_in shape (b.data_written - a.data_written) (b.hash_written - a.hash_written)
+abbrev pub blocks_written : ShapeRecord → Counters → Counters → ℕ
+blocks_written shape a b = min (blocks_in shape (b.data_written - a.data_written) (b.hash_written - a.hash_written)) (all_blocks shape)
 
-abbrev pub blocks_read : ShapeRecord → Counters → Counters → Blocks
+abbrev pub blocks_read : ShapeRecord → Counters → Counters → ℕ
 blocks_read shape a b = blocks_in shape (b.data_read - a.data_read) (b.hash_read - a.hash_read)
 
-abbrev pub both : Blocks → ℕ
-both blocks = capped (blocks.«data» + blocks.hash)
+-- As many of the blocks that were written, except those copied by lists, are the release's as were read from it.
+abbrev pub blocks_fetched : ShapeRecord → Tally → Counters → ℕ
+blocks_fetched shape tally b = min (blocks_written shape tally.before b - tally.copied) (blocks_read shape tally.before b)
 
--- Of the data blocks that were written, some were copied within the data device. Those that are neither these nor read from the release
--- are from another copy. Hash blocks that weren't read from the release are from another copy, or computed.
-abbrev pub moved_blocks : ℕ → Blocks → Blocks → ℕ
-moved_blocks within written read = capped (capped (within + (written.«data» - read.«data» - within)) + (written.hash - read.hash))
-
--- The blocks that weren't written were kept. What was read from the release was fetched.
+-- The blocks that weren't written were kept. Those that were written and aren't the release's were moved.
 abbrev pub counts_of : ShapeRecord → Tally → Counters → Counts
 counts_of shape tally b = record {
-  kept = all_blocks shape - both (blocks_written shape tally.before b);
-  moved = moved_blocks tally.moved (blocks_written shape tally.before b) (blocks_read shape tally.before b);
-  fetched = both (blocks_read shape tally.before b);
+  kept = all_blocks shape - blocks_written shape tally.before b;
+  moved = blocks_written shape tally.before b - blocks_fetched shape tally b;
+  fetched = blocks_fetched shape tally b;
   bytes = capped (capped ((b.data_read - tally.before.data_read) + (b.hash_read - tally.before.hash_read)) * 512);
 }
 
@@ -76,26 +71,25 @@ abbrev pub is_damaged : TreeFault → Bool
 is_damaged Damaged = true
 is_damaged fault = false
 
--- no block is lost, or no object is wanted: nothing was printed, and the fault stays
-pub record StaysQuiet (json : Bool) (cause : TreeFault) (old new : Option (List ℕ)) (was failed : Bool) (fault : TreeFault) : Type 0 where
+-- no block is lost, or no object is wanted: nothing was printed
+pub record StaysQuiet (json : Bool) (cause : TreeFault) (old new : Option (List ℕ)) (was failed : Bool) : Type 0 where
   pub other : (json && is_damaged cause) ≡ false
   pub quiet : new ≡ old
   pub same : failed ≡ was
-  pub is : fault ≡ cause
 
 -- blocks are lost, and the object was printed, or couldn't be
-pub record CountsLosses (counts : Counts) (json : Bool) (cause : TreeFault) (old new : Option (List ℕ)) (failed : Bool) (fault : TreeFault) : Type 0 where
+pub record CountsLosses (counts : Counts) (json : Bool) (cause : TreeFault) (old new : Option (List ℕ)) (failed : Bool) : Type 0 where
   pub lost : (json && is_damaged cause) ≡ true
-  pub counted : (Appends old new (counts_said json counts) × (fault ≡ cause)) ⊎ IsUncounted json failed fault
+  pub counted : Appends old new (counts_said json counts) ⊎ ((unprinted : TreeFault) × IsUncounted json failed unprinted)
 
-abbrev pub EndsWithCounts : Counts → Bool → TreeFault → Option (List ℕ) → Option (List ℕ) → Bool → Bool → TreeFault → Type 0
-EndsWithCounts counts json cause old new was failed fault = StaysQuiet json cause old new was failed fault ⊎ CountsLosses counts json cause old new failed fault
+abbrev pub EndsWithCounts : Counts → Bool → TreeFault → Option (List ℕ) → Option (List ℕ) → Bool → Bool → Type 0
+EndsWithCounts counts json cause old new was failed = StaysQuiet json cause old new was failed ⊎ CountsLosses counts json cause old new failed
 
 -- ---- in terms of a writer before and after
 
 abbrev pub SaysCounts : {W : Type 0} → (W → Option (List ℕ)) → CountedRecord W → CountedRecord W → Bool → Counts → Type 0
 SaysCounts contents before behind json counts = Appends (contents before.inner) (contents behind.inner) (counts_said json counts)
 
-abbrev pub SaysLosses : {W : Type 0} → (W → Option (List ℕ)) → Counts → Bool → TreeFault → CountedRecord W → CountedRecord W → TreeFault → Type 0
-SaysLosses contents counts json cause before behind fault =
-    EndsWithCounts counts json cause (contents before.inner) (contents behind.inner) before.failed behind.failed fault
+abbrev pub SaysLosses : {W : Type 0} → (W → Option (List ℕ)) → Counts → Bool → TreeFault → CountedRecord W → CountedRecord W → Type 0
+SaysLosses contents counts json cause before behind =
+    EndsWithCounts counts json cause (contents before.inner) (contents behind.inner) before.failed behind.failed

@@ -4,13 +4,14 @@ use Rattle.std.specs.List.{slice_index_or}
 use Rattle.block_device.specs.Device.{Device}
 use Rattle.image_commands.specs.Clearing.{begins_super}
 use Rattle.repair_commands.specs.declared.counters.Counters.{Counters}
+use Rattle.tree_repair.specs.declared.fault.RepairFault.TheVariants.{Write as Unprinted}
 use Rattle.tree_repair.specs.Worlds.{RepairWorld}
 use Rattle.verity_commands.specs.declared.tree_fault.TreeFault.{TreeFault}
 use Rattle.verity_commands.specs.Surveyed.{SurveyedDevices}
 use Rattle.verity_format.specs.Blocks.{IsOnlyRead}
 use Rattle.update_commands.specs.declared.release.Release.{Release}
 use Rattle.update_commands.specs.Beginnings.{Begins}
-use Rattle.update_commands.specs.Moving.{MovesListed}
+use Rattle.update_commands.specs.Moving.{FailsToMove, MovesListed}
 use Rattle.update_commands.specs.Releases.{plan_of}
 use Rattle.update_commands.specs.Repaired.{EndsAloud}
 use Rattle.update_commands.specs.Updates.{EndsMoving, begun_world}
@@ -19,7 +20,7 @@ use Rattle.update_commands.specs.Updates.{EndsMoving, begun_world}
 abbrev pub HasNoSuper : Device → Type 0
 HasNoSuper device = begins_super (slice_index_or device.image 0 []) ≡ false
 
--- the moves were made, and the repair ended early, or not all blocks are valid
+-- the moves were made, or ended because a line couldn't be written, and the repair ended early, or not all blocks are valid
 pub record EndsUnrepaired (r : Release) (json : Bool) (w : RepairWorld) (t' : SurveyedDevices) (fault : TreeFault) : Type 0 where
   pub moved : RepairWorld
   pub old : Option (List ℕ)
@@ -27,7 +28,8 @@ pub record EndsUnrepaired (r : Release) (json : Bool) (w : RepairWorld) (t' : Su
   pub new : Option (List ℕ)
   pub failed : Bool
   pub counters : Counters
-  pub moves : MovesListed json (plan_of r) w moved old between
+  pub count : ℕ
+  pub moves : MovesListed json (plan_of r) w moved old between count ⊎ FailsToMove (plan_of r) w moved Unprinted
   pub ends : EndsAloud json (plan_of r) moved t' between new failed counters fault
 
 -- the moves, or what came after them, ended early, and the update went on from these devices

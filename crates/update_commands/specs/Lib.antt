@@ -7,6 +7,7 @@ pub mod Laws
 pub mod Listings
 pub mod Moving
 pub mod Orders
+pub mod PinsApart
 pub mod Releases
 pub mod Repaired
 pub mod Seals

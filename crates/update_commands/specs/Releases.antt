@@ -55,11 +55,11 @@ LacksRoot t root device device' fault = IsTreeCut t device fault ⊎ IsRootUnver
 -- whose root hash is that of the release, and the root hash block has this root hash.
 pub record OpensRelease {S D : Type 0} (w : Calls S D) (path : List ℕ) (pin : Pin) (release : Release) : Type 0 where
   pub image : PlacedImage D
-  pub looked : Device
+  pub looked : D
   pub opened : OpensPlace w path false image
   pub reads : ReadsSuper (w.state image.device) 0 (Some pin) release.superblock
-  pub read : IsOnlyRead (w.state image.device) looked
-  pub rooted : HasRoot (superblock_tree release.superblock) pin.root looked
+  pub read : IsOnlyRead (w.state image.device) (w.state looked)
+  pub rooted : HasRoot (superblock_tree release.superblock) pin.root (w.state looked)
   pub root_is : release.root ≡ pin.root
 
 -- the image can't be opened
@@ -71,22 +71,22 @@ pub record IsReleaseUnopened {S D : Type 0} (w : Calls S D) (path : List ℕ) (f
 -- the image was opened, and has no superblock of the pin
 pub record IsOtherRelease {S D : Type 0} (w : Calls S D) (path : List ℕ) (pin : Pin) (fault : TreeFault) : Type 0 where
   pub image : PlacedImage D
-  pub after : Device
+  pub after : D
   pub cause : NoTree
   pub opened : OpensPlace w path false image
-  pub none : IsNoTree (w.state image.device) 0 (Some pin) after cause
+  pub none : IsNoTree (w.state image.device) 0 (Some pin) (w.state after) cause
   pub is : fault ≡ no_tree_fault cause
 
 -- the image was opened, and has a superblock of the pin, whose tree doesn't fit or whose root hash block wasn't verified
 pub record IsOtherTree {S D : Type 0} (w : Calls S D) (path : List ℕ) (pin : Pin) (fault : TreeFault) : Type 0 where
   pub image : PlacedImage D
-  pub looked : Device
-  pub after : Device
+  pub looked : D
+  pub after : D
   pub super : SuperRecord
   pub opened : OpensPlace w path false image
   pub reads : ReadsSuper (w.state image.device) 0 (Some pin) super
-  pub read : IsOnlyRead (w.state image.device) looked
-  pub lacks : LacksRoot (superblock_tree super) pin.root looked after fault
+  pub read : IsOnlyRead (w.state image.device) (w.state looked)
+  pub lacks : LacksRoot (superblock_tree super) pin.root (w.state looked) (w.state after) fault
 
 abbrev pub HasNoRelease : {S D : Type 0} → Calls S D → List ℕ → Pin → TreeFault → Type 0
 HasNoRelease w path pin fault = IsReleaseUnopened w path fault ⊎ (IsOtherRelease w path pin fault ⊎ IsOtherTree w path pin fault)

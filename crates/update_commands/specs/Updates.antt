@@ -1,7 +1,8 @@
 -- An image on two devices that is brought to a release.
-use Rattle.std.specs.Prelude.{◌≡◌, ◌⊎◌, ℕ, Bool, true, false, List, Option, None, map}
+use Rattle.std.specs.Prelude.{◌≡◌, ◌⊎◌, ℕ, Bool, true, false, if◌then◌else◌, List, Option, None, map}
 use Rattle.std.specs.Io.KnownBytes.{Appends}
 use Rattle.block_device.specs.Device.{Device}
+use Rattle.image_commands.specs.Places.{IsStateOf}
 use Rattle.program_io.specs.Counted.{CountedRecord}
 use Rattle.repair_commands.specs.declared.counters.Counters.{Counters}
 use Rattle.repair_commands.specs.Commands.{devices_in}
@@ -9,11 +10,10 @@ use Rattle.repair_commands.specs.Counters.{counters_of}
 use Rattle.repair_commands.specs.Endings.{ending_fault}
 use Rattle.tree_repair.specs.declared.fault.RepairFault.{RepairFault}
 use Rattle.tree_repair.specs.declared.fault.RepairFault.TheVariants as repair_fault
-use Rattle.tree_repair.specs.Moves.{MovesBlocks}
 use Rattle.tree_repair.specs.Worlds.{RepairWorld, repair_world}
 use Rattle.tree_survey.specs.declared.fault.SurveyFault.TheVariants.{Image}
 use Rattle.verity_commands.specs.declared.tree_fault.TreeFault.{TreeFault}
-use Rattle.verity_commands.specs.declared.tree_fault.TreeFault.TheVariants.{Survey, Write}
+use Rattle.verity_commands.specs.declared.tree_fault.TreeFault.TheVariants.{Damaged, Survey, Write}
 use Rattle.verity_commands.specs.Surveyed.{SurveyedDevices, surveyed_devices}
 use Rattle.verity_format.specs.declared.verifying.VerifyFault.TheVariants.{Device as DeviceFailed}
 use Rattle.verity_format.specs.Superblock.{SuperRecord, shape_of}
@@ -24,7 +24,7 @@ use Rattle.update_commands.specs.declared.release.Release.{Release}
 use Rattle.update_commands.specs.Beginnings.{Begins, IsUnbegun}
 use Rattle.update_commands.specs.Counts.{EndsWithCounts, IsUncounted, counts_of, counts_said}
 use Rattle.update_commands.specs.Listings.{ListsBlocks}
-use Rattle.update_commands.specs.Moving.{FailsToMove, MovesListed}
+use Rattle.update_commands.specs.Moving.{FailsToMove, MovesListed, MovesUnheard}
 use Rattle.update_commands.specs.Releases.{plan_of}
 use Rattle.update_commands.specs.Repaired.{EndsAloud, EndsSilently, RepairsAloud, RepairsSilently}
 use Rattle.update_commands.specs.Seals.{IsSealed, IsUnsealed}
@@ -56,11 +56,25 @@ IsUnfinished s json hash_dev hash_dev' old new failed fault = EndsUnsealed s has
 
 -- ---- after the writer failed
 
--- the moves ended early, and the superblock wasn't written
+-- the writer failed
+abbrev pub is_unprinted : RepairFault → Bool
+is_unprinted repair_fault.Write = true
+is_unprinted fault = false
+
+abbrev pub is_write : TreeFault → Bool
+is_write Write = true
+is_write fault = false
+
+-- the fault of an update that ended without a superblock, which `Write` isn't
+abbrev pub unsealed_fault : TreeFault → TreeFault
+unsealed_fault fault = if is_write fault then Damaged else fault
+
+-- the moves ended early, though not by the writer, and the superblock wasn't written
 pub record EndsMoving (r : Release) (w : RepairWorld) (t' : SurveyedDevices) (fault : TreeFault) : Type 0 where
   pub behind : RepairWorld
   pub cause : RepairFault
   pub fails : FailsToMove (plan_of r) w behind cause
+  pub heard : is_unprinted cause ≡ false
   pub is : fault ≡ ending_fault cause
   pub same : t' ≡ devices_in behind
 
@@ -75,28 +89,28 @@ pub record EndsSealing (r : Release) (w : RepairWorld) (t' : SurveyedDevices) (f
   pub seals : SealsUnheard r.superblock mended.hash_dev t'.hash_dev fault
   pub data_is : t'.data_dev ≡ mended.data_dev
 
--- that, or the repair ended early, or not all blocks are valid, and the superblock wasn't written
+-- without a writer the repair ended early, or not all blocks are valid, and the superblock wasn't written
+pub record EndsUnsealedUnheard (r : Release) (w : RepairWorld) (t' : SurveyedDevices) (fault : TreeFault) : Type 0 where
+  pub cause : TreeFault
+  pub ends : EndsSilently (plan_of r) w t' cause
+  pub is : fault ≡ unsealed_fault cause
+
 abbrev pub EndsMovedUnheard : Release → RepairWorld → SurveyedDevices → TreeFault → Type 0
-EndsMovedUnheard r w t' fault = EndsSilently (plan_of r) w t' fault ⊎ EndsSealing r w t' fault
+EndsMovedUnheard r w t' fault = EndsUnsealedUnheard r w t' fault ⊎ EndsSealing r w t' fault
 
 -- data blocks that moved were copied and others fetched, without a writer, and then that was done
 pub record EndsBehindUnheard (r : Release) (w : RepairWorld) (t' : SurveyedDevices) (fault : TreeFault) : Type 0 where
   pub moved : RepairWorld
-  pub moves : MovesBlocks (plan_of r) w moved None None
+  pub moves : MovesUnheard (plan_of r) w moved
   pub ends : EndsMovedUnheard r moved t' fault
 
 -- From some state on the image was brought to the release without a writer. The fault is `Write` if the superblock was written.
 abbrev pub EndsUnheard : Release → RepairWorld → SurveyedDevices → TreeFault → Type 0
 EndsUnheard r w t' fault = EndsMoving r w t' fault ⊎ EndsBehindUnheard r w t' fault
 
--- the writer failed
-abbrev pub is_unprinted : RepairFault → Bool
-is_unprinted repair_fault.Write = true
-is_unprinted fault = false
-
 -- what was done after moves that ended early: nothing; or the writer failed, and the update went on without it
 abbrev pub IsMovesEnd : Release → RepairWorld → SurveyedDevices → RepairFault → TreeFault → Type 0
-IsMovesEnd r w t' cause fault = ((fault ≡ ending_fault cause) × (t' ≡ devices_in w)) ⊎ ((is_unprinted cause ≡ true) × EndsUnheard r w t' fault)
+IsMovesEnd r w t' cause fault = ((is_unprinted cause ≡ false) × ((fault ≡ ending_fault cause) × (t' ≡ devices_in w))) ⊎ ((is_unprinted cause ≡ true) × EndsUnheard r w t' fault)
 
 -- the update went on without a writer, from these devices on
 pub record UpdatesAgain (r : Release) (t t' : SurveyedDevices) (fault : TreeFault) : Type 0 where
@@ -105,19 +119,20 @@ pub record UpdatesAgain (r : Release) (t t' : SurveyedDevices) (fault : TreeFaul
   pub hash_same : again.hash_dev ≡ t.hash_dev
   pub ends : EndsUnheard r again t' fault
 
--- no device was accessed, and the fault stays; or that was done
+-- a device may not be written, no device was accessed, and the fault stays; or that was done
 abbrev pub IsUpdatedAgain : Release → SurveyedDevices → SurveyedDevices → TreeFault → TreeFault → Type 0
-IsUpdatedAgain r t t' cause fault = ((fault ≡ cause) × (t' ≡ t)) ⊎ UpdatesAgain r t t' fault
+IsUpdatedAgain r t t' cause fault = (((t.data_dev.may_write ≡ false) ⊎ (t.hash_dev.may_write ≡ false)) × ((fault ≡ cause) × (t' ≡ t))) ⊎ UpdatesAgain r t t' fault
 
--- ---- after the moves
+-- ---- after the moves; `Hash` holds of the states that the hash device had between calls
 
 -- the counts, by the counters at the end of the repair
 abbrev pub counts_since : Release → Tally → Counters → Counts
 counts_since r tally counters = counts_of (shape_of r.superblock) tally counters
 
 -- All blocks were found or written valid, and synced. Then the superblock was written and synced, and the counts were printed.
-pub record UpdatesMoved (r : Release) (json : Bool) (tally : Tally) (w : RepairWorld) (t' : SurveyedDevices) (old new : Option (List ℕ)) : Type 0 where
+pub record UpdatesMoved (Hash : Device → Type 0) (r : Release) (json : Bool) (tally : Tally) (w : RepairWorld) (t' : SurveyedDevices) (old new : Option (List ℕ)) : Type 0 where
   pub mended : SurveyedDevices
+  pub left : Hash mended.hash_dev
   pub counters : Counters
   pub between : Option (List ℕ)
   pub repairs : RepairsAloud json (plan_of r) w mended old between counters
@@ -125,8 +140,9 @@ pub record UpdatesMoved (r : Release) (json : Bool) (tally : Tally) (w : RepairW
   pub data_is : t'.data_dev ≡ mended.data_dev
 
 -- all blocks were found or written valid, and the rest couldn't be done
-pub record EndsRepaired (r : Release) (json : Bool) (w : RepairWorld) (t' : SurveyedDevices) (old new : Option (List ℕ)) (failed : Bool) (fault : TreeFault) : Type 0 where
+pub record EndsRepaired (Hash : Device → Type 0) (r : Release) (json : Bool) (w : RepairWorld) (t' : SurveyedDevices) (old new : Option (List ℕ)) (failed : Bool) (fault : TreeFault) : Type 0 where
   pub mended : SurveyedDevices
+  pub left : Hash mended.hash_dev
   pub counters : Counters
   pub between : Option (List ℕ)
   pub repairs : RepairsAloud json (plan_of r) w mended old between counters
@@ -141,7 +157,8 @@ pub record EndsUnsound (r : Release) (json : Bool) (tally : Tally) (w : RepairWo
   pub was : Bool
   pub cause : TreeFault
   pub ends : EndsAloud json (plan_of r) w t' old between was counters cause
-  pub counted : EndsWithCounts (counts_since r tally counters) json cause between new was failed fault
+  pub is : fault ≡ unsealed_fault cause
+  pub counted : EndsWithCounts (counts_since r tally counters) json fault between new was failed
 
 -- the repair ended early, the writer had failed, and the update went on without it, or a device may not be written
 pub record EndsRepairedAgain (r : Release) (json : Bool) (w : RepairWorld) (t' : SurveyedDevices) (old new : Option (List ℕ)) (failed : Bool) (fault : TreeFault) : Type 0 where
@@ -152,42 +169,43 @@ pub record EndsRepairedAgain (r : Release) (json : Bool) (w : RepairWorld) (t' :
   pub told : failed ≡ true
   pub goes_on : IsUpdatedAgain r mended t' cause fault
 
-abbrev pub EndsMoved : Release → Bool → Tally → RepairWorld → SurveyedDevices → Option (List ℕ) → Option (List ℕ) → Bool → TreeFault → Type 0
-EndsMoved r json tally w t' old new failed fault =
-    EndsUnsound r json tally w t' old new failed fault ⊎ (EndsRepaired r json w t' old new failed fault ⊎ EndsRepairedAgain r json w t' old new failed fault)
+abbrev pub EndsMoved : (Device → Type 0) → Release → Bool → Tally → RepairWorld → SurveyedDevices → Option (List ℕ) → Option (List ℕ) → Bool → TreeFault → Type 0
+EndsMoved Hash r json tally w t' old new failed fault =
+    EndsUnsound r json tally w t' old new failed fault ⊎ (EndsRepaired Hash r json w t' old new failed fault ⊎ EndsRepairedAgain r json w t' old new failed fault)
 
 -- ---- after the superblock was cleared
 
--- what was counted of an update from some state on, when so many blocks were copied
+-- what was counted of an update from some state on, when so many blocks were copied by lists
 abbrev pub tally_from : RepairWorld → ℕ → Tally
-tally_from w moved = record { before = counters_of w; moved = moved }
+tally_from w copied = record { before = counters_of w; copied = copied }
 
 -- data blocks that moved were copied, and then the image was brought to the release
-pub record UpdatesBegun (r : Release) (json : Bool) (w : RepairWorld) (t' : SurveyedDevices) (old new : Option (List ℕ)) : Type 0 where
+pub record UpdatesBegun (Hash : Device → Type 0) (r : Release) (json : Bool) (w : RepairWorld) (t' : SurveyedDevices) (old new : Option (List ℕ)) : Type 0 where
   pub moved : RepairWorld
   pub count : ℕ
   pub between : Option (List ℕ)
-  pub moves : MovesListed json (plan_of r) w moved old between
-  pub updates : UpdatesMoved r json (tally_from w count) moved t' between new
+  pub moves : MovesListed json (plan_of r) w moved old between count
+  pub updates : UpdatesMoved Hash r json (tally_from w count) moved t' between new
 
 -- the moves were made, and what came after them ended early
-pub record EndsBehindMoves (r : Release) (json : Bool) (w : RepairWorld) (t' : SurveyedDevices) (old new : Option (List ℕ)) (failed : Bool) (fault : TreeFault) : Type 0 where
+pub record EndsBehindMoves (Hash : Device → Type 0) (r : Release) (json : Bool) (w : RepairWorld) (t' : SurveyedDevices) (old new : Option (List ℕ)) (failed : Bool) (fault : TreeFault) : Type 0 where
   pub moved : RepairWorld
   pub count : ℕ
   pub between : Option (List ℕ)
-  pub moves : MovesListed json (plan_of r) w moved old between
-  pub ends : EndsMoved r json (tally_from w count) moved t' between new failed fault
+  pub moves : MovesListed json (plan_of r) w moved old between count
+  pub ends : EndsMoved Hash r json (tally_from w count) moved t' between new failed fault
 
 -- the moves ended early because the writer failed, and the update went on without it
-pub record EndsCutMoves (r : Release) (w : RepairWorld) (t' : SurveyedDevices) (fault : TreeFault) : Type 0 where
+pub record EndsCutMoves (r : Release) (json : Bool) (w : RepairWorld) (t' : SurveyedDevices) (failed : Bool) (fault : TreeFault) : Type 0 where
   pub between : RepairWorld
   pub cause : RepairFault
   pub cut : FailsToMove (plan_of r) w between cause
   pub unprinted : is_unprinted cause ≡ true
+  pub told : json ≡ false → failed ≡ true
   pub ends : EndsUnheard r between t' fault
 
-abbrev pub EndsBegun : Release → Bool → RepairWorld → SurveyedDevices → Option (List ℕ) → Option (List ℕ) → Bool → TreeFault → Type 0
-EndsBegun r json w t' old new failed fault = EndsMoving r w t' fault ⊎ (EndsBehindMoves r json w t' old new failed fault ⊎ EndsCutMoves r w t' fault)
+abbrev pub EndsBegun : (Device → Type 0) → Release → Bool → RepairWorld → SurveyedDevices → Option (List ℕ) → Option (List ℕ) → Bool → TreeFault → Type 0
+EndsBegun Hash r json w t' old new failed fault = EndsMoving r w t' fault ⊎ (EndsBehindMoves Hash r json w t' old new failed fault ⊎ EndsCutMoves r json w t' failed fault)
 
 -- ---- the update
 
@@ -197,34 +215,37 @@ begun_world w cleared seen = record w { hash_dev = cleared; hash_copies = seen }
 
 -- Blocks were listed, the release fits on the devices, and the superblock was cleared and synced before anything else. Then the image
 -- was brought to the release, and the superblock written last.
-pub record UpdatesDevices (r : Release) (no_index json : Bool) (w : RepairWorld) (t' : SurveyedDevices) (old new : Option (List ℕ)) : Type 0 where
+pub record UpdatesDevices (Hash : Device → Type 0) (r : Release) (no_index json : Bool) (w : RepairWorld) (t' : SurveyedDevices) (old new : Option (List ℕ)) : Type 0 where
   pub looked : Device
   pub seen : List Device
   pub cleared : Device
+  pub left : Hash looked × Hash cleared
   pub lists : ListsBlocks no_index w.hash_dev looked w.hash_copies seen
   pub begins : Begins r.superblock w.data_dev looked cleared
-  pub updates : UpdatesBegun r json (begun_world w cleared seen) t' old new
+  pub updates : UpdatesBegun Hash r json (begun_world w cleared seen) t' old new
 
 -- the release doesn't fit, or the superblock couldn't be cleared; nothing else was written, and nothing printed
-pub record EndsUnbegun (r : Release) (no_index : Bool) (w : RepairWorld) (t' : SurveyedDevices) (old new : Option (List ℕ)) (fault : TreeFault) : Type 0 where
+pub record EndsUnbegun (Hash : Device → Type 0) (r : Release) (no_index : Bool) (w : RepairWorld) (t' : SurveyedDevices) (old new : Option (List ℕ)) (fault : TreeFault) : Type 0 where
   pub looked : Device
   pub seen : List Device
+  pub left : Hash looked
   pub lists : ListsBlocks no_index w.hash_dev looked w.hash_copies seen
   pub unbegun : IsUnbegun r.superblock w.data_dev looked t'.hash_dev fault
   pub data_is : t'.data_dev ≡ w.data_dev
   pub quiet : new ≡ old
 
 -- the superblock was cleared and synced, and then the update ended early
-pub record EndsCleared (r : Release) (no_index json : Bool) (w : RepairWorld) (t' : SurveyedDevices) (old new : Option (List ℕ)) (failed : Bool) (fault : TreeFault) : Type 0 where
+pub record EndsCleared (Hash : Device → Type 0) (r : Release) (no_index json : Bool) (w : RepairWorld) (t' : SurveyedDevices) (old new : Option (List ℕ)) (failed : Bool) (fault : TreeFault) : Type 0 where
   pub looked : Device
   pub seen : List Device
   pub cleared : Device
+  pub left : Hash looked × Hash cleared
   pub lists : ListsBlocks no_index w.hash_dev looked w.hash_copies seen
   pub begins : Begins r.superblock w.data_dev looked cleared
-  pub ends : EndsBegun r json (begun_world w cleared seen) t' old new failed fault
+  pub ends : EndsBegun Hash r json (begun_world w cleared seen) t' old new failed fault
 
-abbrev pub EndsUpdate : Release → Bool → Bool → RepairWorld → SurveyedDevices → Option (List ℕ) → Option (List ℕ) → Bool → TreeFault → Type 0
-EndsUpdate r no_index json w t' old new failed fault = EndsUnbegun r no_index w t' old new fault ⊎ EndsCleared r no_index json w t' old new failed fault
+abbrev pub EndsUpdate : (Device → Type 0) → Release → Bool → Bool → RepairWorld → SurveyedDevices → Option (List ℕ) → Option (List ℕ) → Bool → TreeFault → Type 0
+EndsUpdate Hash r no_index json w t' old new failed fault = EndsUnbegun Hash r no_index w t' old new fault ⊎ EndsCleared Hash r no_index json w t' old new failed fault
 
 -- ---- in terms of the devices that are returned, and a writer before and after
 
@@ -249,24 +270,24 @@ IsUpdatedAgainOf data_state hash_state d h r cause d' h' fault =
 
 abbrev pub AreMovedUpdated : {D H W : Type 0} → (D → Device) → (H → Device) → RepairWorld → Tally → Release → Bool → D → H → (W → Option (List ℕ)) → CountedRecord W → CountedRecord W → Type 0
 AreMovedUpdated data_state hash_state w tally r json d h contents before behind =
-    UpdatesMoved r json tally w (surveyed_devices (data_state d) (hash_state h)) (contents before.inner) (contents behind.inner)
+    UpdatesMoved (IsStateOf hash_state) r json tally w (surveyed_devices (data_state d) (hash_state h)) (contents before.inner) (contents behind.inner)
 
 abbrev pub AreMovedUnupdated : {D H W : Type 0} → (D → Device) → (H → Device) → RepairWorld → Tally → Release → Bool → D → H → (W → Option (List ℕ)) → CountedRecord W → CountedRecord W → TreeFault → Type 0
 AreMovedUnupdated data_state hash_state w tally r json d h contents before behind =
-    EndsMoved r json tally w (surveyed_devices (data_state d) (hash_state h)) (contents before.inner) (contents behind.inner) behind.failed
+    EndsMoved (IsStateOf hash_state) r json tally w (surveyed_devices (data_state d) (hash_state h)) (contents before.inner) (contents behind.inner) behind.failed
 
 abbrev pub AreBegunUpdated : {D H C W : Type 0} → (D → Device) → (H → Device) → (C → Device) → Target D H C → Release → Bool → D → H → (W → Option (List ℕ)) → CountedRecord W → CountedRecord W → Type 0
 AreBegunUpdated data_state hash_state copy_state t r json d h contents before behind =
-    UpdatesBegun r json (target_world data_state hash_state copy_state t) (surveyed_devices (data_state d) (hash_state h)) (contents before.inner) (contents behind.inner)
+    UpdatesBegun (IsStateOf hash_state) r json (target_world data_state hash_state copy_state t) (surveyed_devices (data_state d) (hash_state h)) (contents before.inner) (contents behind.inner)
 
 abbrev pub AreBegunUnupdated : {D H C W : Type 0} → (D → Device) → (H → Device) → (C → Device) → Target D H C → Release → Bool → D → H → (W → Option (List ℕ)) → CountedRecord W → CountedRecord W → TreeFault → Type 0
 AreBegunUnupdated data_state hash_state copy_state t r json d h contents before behind =
-    EndsBegun r json (target_world data_state hash_state copy_state t) (surveyed_devices (data_state d) (hash_state h)) (contents before.inner) (contents behind.inner) behind.failed
+    EndsBegun (IsStateOf hash_state) r json (target_world data_state hash_state copy_state t) (surveyed_devices (data_state d) (hash_state h)) (contents before.inner) (contents behind.inner) behind.failed
 
 abbrev pub AreUpdated : {D H C W : Type 0} → (D → Device) → (H → Device) → (C → Device) → Target D H C → Release → Bool → Bool → D → H → (W → Option (List ℕ)) → CountedRecord W → CountedRecord W → Type 0
 AreUpdated data_state hash_state copy_state t r no_index json d h contents before behind =
-    UpdatesDevices r no_index json (target_world data_state hash_state copy_state t) (surveyed_devices (data_state d) (hash_state h)) (contents before.inner) (contents behind.inner)
+    UpdatesDevices (IsStateOf hash_state) r no_index json (target_world data_state hash_state copy_state t) (surveyed_devices (data_state d) (hash_state h)) (contents before.inner) (contents behind.inner)
 
 abbrev pub AreUnupdated : {D H C W : Type 0} → (D → Device) → (H → Device) → (C → Device) → Target D H C → Release → Bool → Bool → D → H → (W → Option (List ℕ)) → CountedRecord W → CountedRecord W → TreeFault → Type 0
 AreUnupdated data_state hash_state copy_state t r no_index json d h contents before behind =
-    EndsUpdate r no_index json (target_world data_state hash_state copy_state t) (surveyed_devices (data_state d) (hash_state h)) (contents before.inner) (contents behind.inner) behind.failed
+    EndsUpdate (IsStateOf hash_state) r no_index json (target_world data_state hash_state copy_state t) (surveyed_devices (data_state d) (hash_state h)) (contents before.inner) (contents behind.inner) behind.failed

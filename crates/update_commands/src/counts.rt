@@ -1,9 +1,9 @@
 //! How many blocks an update kept, moved and fetched.
-ghost use Rattle.std.specs.Prelude.{◌≡◌, string_bytes, true, IfErr, IfOk, OnOk};
+ghost use Rattle.std.specs.Prelude.{◌≡◌, ◌+◌, string_bytes, true, IfErr, IfOk, OnOk};
 ghost use Rattle.program_io.specs.Counted.{Writes};
 ghost use Rattle.program_io.specs.JsonLines.{json_line};
 ghost use Rattle.serde_json.specs.View.{view};
-ghost use Rattle.update_commands.specs.Counts.{IsUncounted, SaysCounts, SaysLosses, blocks_in, counts_json, counts_of, counts_text, is_damaged};
+ghost use Rattle.update_commands.specs.Counts.{IsUncounted, SaysCounts, SaysLosses, all_blocks, blocks_in, counts_json, counts_of, counts_text, is_damaged};
 
 use program_io::{Counted, WriteFault, line_of};
 use repair_commands::Counters;
@@ -15,23 +15,17 @@ use tree_survey::SurveyFault;
 use verity_commands::TreeFault;
 use verity_format::{VerifyFault, given_blocks};
 
-/// What the devices had counted when the update began, and the data blocks that were copied within the data device since.
+/// What the devices had counted when the update began, and how many data blocks were copied by lists since.
 #[derive(Clone, Copy)]
 pub(crate) struct Tally {
     pub before: Counters,
-    pub moved: u64,
+    pub copied: u64,
 }
 
-/// How many data blocks, and how many hash blocks.
-#[derive(Clone, Copy)]
-pub(crate) struct Blocks {
-    pub data: u64,
-    pub hash: u64,
-}
-
-/// How many blocks of an image weren't written, how many were fetched, which is read from the release, and how many bytes these have;
-/// and how many were written but not fetched, so moved: copied within the data device, from another copy, or computed. Data blocks and
-/// hash blocks are counted.
+/// How many blocks of an image weren't written, how many were written with bytes of the release, and how many others were: copied by
+/// lists, found in other copies, or computed; data blocks and hash blocks are counted, and the sum is the number of the image's blocks.
+/// Lost blocks count as kept. `bytes` is what was read from the release, also in vain. A block that was found elsewhere counts as
+/// fetched instead of moved only for a block that the release sent in vain.
 #[derive(Clone, Copy)]
 pub(crate) struct Counts {
     pub kept: u64,
@@ -42,35 +36,32 @@ pub(crate) struct Counts {
 
 /// Returns the counts of an image of that shape, by the counters before and after.
 pub(crate) fn counts_of(shape: &Shape, tally: &Tally, after: &Counters) -> Counts
-    ensures { result ≡ counts_of shape.now tally.now after.now }
+    ensures value { result ≡ counts_of shape.now tally.now after.now }
+    ensures whole { result.kept + result.moved + result.fetched ≡ all_blocks shape.now }
 {
     let data_written = after.data_written.saturating_sub(tally.before.data_written);
     let hash_written = after.hash_written.saturating_sub(tally.before.hash_written);
     let data_read = after.data_read.saturating_sub(tally.before.data_read);
     let hash_read = after.hash_read.saturating_sub(tally.before.hash_read);
-    let written = blocks_in(shape, data_written, hash_written);
-    let read = blocks_in(shape, data_read, hash_read);
     let all = shape.blocks().saturating_add(shape.area_blocks());
-    let others = written
-        .data
-        .saturating_sub(read.data)
-        .saturating_sub(tally.moved);
-    let hashes = written.hash.saturating_sub(read.hash);
+    let written = blocks_in(shape, data_written, hash_written).min(all);
+    let read = blocks_in(shape, data_read, hash_read);
+    let fetched = written.saturating_sub(tally.copied).min(read);
     Counts {
-        kept: all.saturating_sub(written.data.saturating_add(written.hash)),
-        moved: tally.moved.saturating_add(others).saturating_add(hashes),
-        fetched: read.data.saturating_add(read.hash),
+        kept: all.saturating_sub(written),
+        moved: written.saturating_sub(fetched),
+        fetched,
         bytes: data_read.saturating_add(hash_read).saturating_mul(512),
     }
 }
 
-// Returns how many blocks so many sectors have.
-fn blocks_in(shape: &Shape, data_sectors: u64, hash_sectors: u64) -> Blocks
+// Returns how many data blocks and hash blocks so many sectors have.
+fn blocks_in(shape: &Shape, data_sectors: u64, hash_sectors: u64) -> u64
     ensures { result ≡ blocks_in shape.now data_sectors hash_sectors }
 {
     let data = given_blocks(None, shape.data_block(), data_sectors);
     let hash = given_blocks(None, shape.hash_block(), hash_sectors);
-    Blocks { data, hash }
+    data.saturating_add(hash)
 }
 
 /// Prints the counts: `kept N moved N fetched N bytes N`, or as a JSON object.
@@ -95,26 +86,26 @@ pub(crate) fn say_counts<'a, W: Write>(
     Ok(())
 }
 
-/// Prints the counts as a JSON object, if that is wanted and blocks are lost, and returns the fault that ends the update: the cause, or
-/// that the counts can't be printed.
-pub(crate) fn say_losses<'a, W: Write>(
+/// Prints the counts as a JSON object, if that is wanted and blocks are lost. If they can't be printed, the update ends by its cause
+/// nevertheless.
+pub(crate) fn say_losses<W: Write>(
     alloc: Global,
     counts: &Counts,
     json: bool,
-    cause: TreeFault<'a>,
+    cause: TreeFault<'_>,
     writer: &mut Counted<W>,
-) -> TreeFault<'a>
-    ensures { SaysLosses W.contents counts.now json cause.entry writer.old writer.new result }
+)
+    ensures { SaysLosses W.contents counts.now json cause.entry writer.old writer.new }
 {
     if !json {
-        return cause;
+        return;
     }
     if !is_damaged(cause) {
-        return cause;
+        return;
     }
     match say_counts(alloc, counts, true, writer) {
-        Ok(()) => cause,
-        Err(fault) => fault,
+        Ok(()) => {}
+        Err(_) => {}
     }
 }
 

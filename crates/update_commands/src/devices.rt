@@ -10,7 +10,7 @@ use crate::listing::list_all;
 use crate::moving::move_listed;
 use crate::release::{Release, plan_of};
 use crate::sealing::seal;
-use crate::unheard::{end_moving, update_again};
+use crate::unheard::{end_moving, unsealed_fault, update_again};
 use block_device::{BlockDev, SyncDev};
 use program_io::Counted;
 use repair_commands::{Copies, Counters, Nowhere, counters_of, repair_devices};
@@ -107,8 +107,8 @@ fn update_begun<'a, D: SyncDev + Drop, H: SyncDev + Drop, C: BlockDev + Drop, W:
     let mut image = image_of(target);
     let before = counters_of(&image);
     match move_listed(alloc, &mut image, lists, &plan, json, writer) {
-        Ok(moved) => {
-            let tally = Tally { before, moved };
+        Ok(copied) => {
+            let tally = Tally { before, copied };
             update_moved(alloc, image, &tally, release, json, writer)
         }
         Err(fault) => {
@@ -148,7 +148,8 @@ fn update_moved<'a, D: SyncDev + Drop, H: SyncDev + Drop, C: BlockDev + Drop, W:
                 );
                 return (data_again, hash_again, Err(ended));
             }
-            let ended = say_losses(alloc, &counts, json, fault, writer);
+            let ended = unsealed_fault(fault);
+            say_losses(alloc, &counts, json, ended, writer);
             (data_dev, hash_dev, Err(ended))
         }
     }

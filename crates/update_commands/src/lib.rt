@@ -9,6 +9,7 @@ pub mod laws;
 mod listing;
 mod moving;
 mod order;
+mod pin_apart;
 mod release;
 mod sealing;
 mod unheard;

@@ -5,7 +5,7 @@ ghost use Rattle.update_commands.specs.Orders.{places_of};
 use image_pin::Pin;
 use repair_commands::RepairPlaces;
 
-/// The arguments that name the two images to be updated and the hash image of the release, the pin of the release, whether
+/// The arguments that name the two images to be updated and the hash image of the release, the pin of the release and its file, whether
 /// blocks aren't listed, whether progress is shown, and whether what was done is printed as a JSON object.
 #[derive(Clone, Copy)]
 pub struct UpdateOrder<'a> {
@@ -13,6 +13,7 @@ pub struct UpdateOrder<'a> {
     pub hash: &'a str,
     pub release_hash: &'a str,
     pub pin: Pin,
+    pub pin_path: &'a str,
     pub no_index: bool,
     pub progress: bool,
     pub json: bool,

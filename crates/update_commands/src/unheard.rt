@@ -1,7 +1,7 @@
 //! An update that goes on without a writer after the writer failed.
 ghost use Rattle.std.specs.Prelude.{true, ◌≡◌};
 ghost use Rattle.tree_repair.specs.Repairs.{IsAllowed};
-ghost use Rattle.update_commands.specs.Updates.{EndsMovedUnheardOf, EndsUnheardOf, IsMovesEndOf, IsUpdatedAgainOf, SealsUnheard, is_unprinted};
+ghost use Rattle.update_commands.specs.Updates.{EndsMovedUnheardOf, EndsUnheardOf, IsMovesEndOf, IsUpdatedAgainOf, SealsUnheard, is_unprinted, is_write, unsealed_fault};
 
 use crate::devices::{Target, image_of, repair_silently};
 use crate::moving::move_silently;
@@ -77,7 +77,7 @@ pub(crate) fn update_again<'a, D: SyncDev + Drop, H: SyncDev + Drop>(
 }
 
 // Copies the blocks that moved, fetches runs, seeks all others in the copies, and writes the superblock if all blocks are valid then.
-// Returns the fault: `Write` if this completed.
+// Returns the fault: `Write` exactly if this completed.
 fn update_unheard<'a, D: SyncDev + Drop, H: SyncDev + Drop, C: BlockDev + Drop>(
     alloc: Global,
     image: DamagedImage<D, H, C>,
@@ -90,15 +90,18 @@ fn update_unheard<'a, D: SyncDev + Drop, H: SyncDev + Drop, C: BlockDev + Drop>(
     let plan = plan_of(release);
     let mut image = image;
     match move_silently(alloc, &mut image, lists, &plan) {
-        Ok(_moved) => repair_unheard(alloc, image, release),
+        Ok(_copied) => repair_unheard(alloc, image, release),
         Err(fault) => {
+            if is_unprinted(fault) {
+                return repair_unheard(alloc, image, release);
+            }
             let (data_dev, hash_dev) = devices_of(image);
             (data_dev, hash_dev, fault_of(fault))
         }
     }
 }
 
-// Does that once the blocks that moved are copied.
+// Does that once the blocks that moved are copied, as far as they are.
 fn repair_unheard<'a, D: SyncDev + Drop, H: SyncDev + Drop, C: BlockDev + Drop>(
     alloc: Global,
     image: DamagedImage<D, H, C>,
@@ -115,8 +118,24 @@ fn repair_unheard<'a, D: SyncDev + Drop, H: SyncDev + Drop, C: BlockDev + Drop>(
             let ended = seal_unheard(&mut sealed, &release.superblock);
             (data_dev, sealed, ended)
         }
-        Err(fault) => (data_dev, hash_dev, fault),
+        Err(fault) => (data_dev, hash_dev, unsealed_fault(fault)),
     }
+}
+
+/// Returns the fault of an update that ends without a superblock. `Write` would say that it is written, so blocks may be lost.
+pub(crate) fn unsealed_fault(fault: TreeFault<'_>) -> TreeFault<'_>
+    ensures { result ≡ unsealed_fault fault.entry }
+{
+    if is_write(fault) {
+        return TreeFault::Damaged;
+    }
+    fault
+}
+
+fn is_write(fault: TreeFault<'_>) -> bool
+    ensures { result ≡ is_write fault.entry }
+{
+    matches!(fault, TreeFault::Write)
 }
 
 // Writes the superblock, and returns the fault: `Write` if it is written.

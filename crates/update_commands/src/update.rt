@@ -5,6 +5,7 @@ ghost use Rattle.update_commands.specs.Commands.{AreImagesUnupdated, AreImagesUp
 use crate::devices::{Target, update_devices};
 use crate::growing::{grow_both, shrink_both};
 use crate::order::{UpdateOrder, places_of};
+use crate::pin_apart::check_pin_apart;
 use crate::release::find_release;
 use block_device::BlockDev;
 use command_line::ImageCopy;
@@ -25,7 +26,7 @@ use verity_format::{Superblock, data_sectors};
 ///
 /// # Errors
 ///
-/// - `Open` if a file can't be opened or made longer, or conflicts with an open one; or if one can't be shortened, after the image was
+/// - `Open` if the file of the pin is DATA or HASH; if a file can't be opened or made longer, or conflicts with an open one; or if one can't be shortened, after the image was
 ///   brought to the release and the counts were printed.
 /// - `Survey` if there is no superblock of the release, it doesn't fit, a device failed, or memory ran out.
 /// - `Unpinned` if the superblock of the release differs from the pin.
@@ -43,6 +44,7 @@ pub fn update_images<'a, I: Images, S: Watchers, W: Write>(
     ensures ok { OnOk result (AreImagesUpdated I.relations I.Dev.state images.old images.new order.now copies.now W.contents writer.old writer.new) }
     ensures err { IfErr result (AreImagesUnupdated I.relations I.Dev.state images.old images.new order.now copies.now W.contents writer.old writer.new) }
 {
+    check_pin_apart(images, order)?;
     let release = find_release(alloc, images, order.release_hash, &order.pin)?;
     let places = places_of(order);
     grow_both(images, places, &release.superblock)?;

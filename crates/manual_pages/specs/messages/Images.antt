@@ -9,7 +9,7 @@ use Rattle.verity_format.specs.declared.verifying.VerifyFault.TheVariants as ver
 
 -- a superblock that isn't supported
 unfoldable pub super_message : SuperFault → List ℕ
-super_message super.Signature = codes "there is no superblock: check that the hash image isn't DATA, and '--hash-offset'; else it is damaged"
+super_message super.Signature = codes "there is no superblock: check that the hash image isn't DATA, and '--hash-offset'; else run an interrupted 'format' or 'update' again, or it is damaged"
 super_message super.Version = codes "the version of the superblock isn't 1: the hash image is damaged, or of another format"
 super_message super.HashType = codes "the hash type isn't 1: format the image anew without 'veritysetup --format 0', or the hash image is damaged"
 super_message super.Algorithm = codes "the hash algorithm isn't sha256: format the image anew with it, or the hash image is damaged"
@@ -24,12 +24,12 @@ format_message format.Shape = Some (codes "a block size isn't allowed, DATA has 
 format_message format.DataTooSmall = Some (codes "DATA has fewer data blocks than '--blocks' says, or they overlap the tree in the same file")
 format_message (format.HashTooSmall needed) = Some (codes "HASH or OUT has too few sectors: extend it with '--grow', or take a larger disk")
 format_message format.HashReadOnly = Some (codes "HASH can't be written: check its permissions")
-format_message format.Device = Some (codes "an image can't be read, written or synced: 'dmesg' may say why")
+format_message format.Device = Some (codes "an image can't be read, written or synced: look for free space with 'df', and for the cause with 'dmesg'")
 format_message format.NoMemory = None
 
 -- an image that isn't compared
 unfoldable pub verify_message : VerifyFault → Option (List ℕ)
 verify_message (verify.Super fault) = Some (super_message fault)
-verify_message verify.TooSmall = Some (codes "DATA or HASH ends before its last block: it was cut short, or HASH is of another image")
-verify_message verify.Device = Some (codes "an image can't be read, written or synced: 'dmesg' may say why")
+verify_message verify.TooSmall = Some (codes "DATA or HASH ends before its last block: it was cut short, is too small for the release, or HASH is of another image")
+verify_message verify.Device = Some (codes "an image can't be read, written or synced: look for free space with 'df', and for the cause with 'dmesg'")
 verify_message verify.NoMemory = None

@@ -12,7 +12,7 @@ pub fn super_message(fault: SuperFault) -> &'static str
 {
     match fault {
         SuperFault::Signature =>
-            "there is no superblock: check that the hash image isn't DATA, and '--hash-offset'; else it is damaged",
+            "there is no superblock: check that the hash image isn't DATA, and '--hash-offset'; else run an interrupted 'format' or 'update' again, or it is damaged",
         SuperFault::Version =>
             "the version of the superblock isn't 1: the hash image is damaged, or of another format",
         SuperFault::HashType =>
@@ -46,7 +46,7 @@ pub fn format_message(fault: FormatFault) -> Option<&'static str>
         ),
         FormatFault::HashReadOnly => Some("HASH can't be written: check its permissions"),
         FormatFault::Device => Some(
-            "an image can't be read, written or synced: 'dmesg' may say why",
+            "an image can't be read, written or synced: look for free space with 'df', and for the cause with 'dmesg'",
         ),
         FormatFault::NoMemory => None,
     }
@@ -60,10 +60,10 @@ pub fn verify_message(fault: VerifyFault) -> Option<&'static str>
     match fault {
         VerifyFault::Super(fault) => Some(super_message(fault)),
         VerifyFault::TooSmall => Some(
-            "DATA or HASH ends before its last block: it was cut short, or HASH is of another image",
+            "DATA or HASH ends before its last block: it was cut short, is too small for the release, or HASH is of another image",
         ),
         VerifyFault::Device => Some(
-            "an image can't be read, written or synced: 'dmesg' may say why",
+            "an image can't be read, written or synced: look for free space with 'df', and for the cause with 'dmesg'",
         ),
         VerifyFault::NoMemory => None,
     }

@@ -21,13 +21,13 @@ pub fn open_message(fault: OpenFault) -> Option<&'static str>
             "the file has more than 2^54 sectors: bind a part of it with 'ro@FIRST+COUNT:FILE'",
         ),
         OpenFault::OtherFault => Some(
-            "this is neither a file nor a block device (behind 'ro%': no map of the file), or it can't be opened or read: 'dmesg' may say why",
+            "this is neither a file nor a block device (of '--map': no regular file; behind 'ro%': no map of the file), or it can't be opened or read: 'dmesg' may say why",
         ),
         OpenFault::SameFile => Some(
-            "an earlier argument leads to the same file, and one of the two is opened for writing: bind both with 'ro:'",
+            "an earlier argument leads to the same file, and one of the two is opened for writing: name another file, or bind both with 'ro:'",
         ),
         OpenFault::InUse => Some(
-            "another process holds the file's lock: wait until it ends, or bind the file with 'ro:'",
+            "another process holds the file's lock: wait until it ends; a file bound with 'ro:' needs no lock",
         ),
         OpenFault::NoMemory => None,
     }

@@ -12,7 +12,7 @@ pub fn parity_message(fault: ParityFault) -> Option<&'static str>
 {
     match fault {
         ParityFault::TooSmall { .. } => Some(
-            "the parity file has fewer sectors than needed: extend it with '--grow', and check '--fec-roots'",
+            "the parity file has fewer sectors than needed: check '--fec-roots'; 'format' extends it with '--grow'",
         ),
         ParityFault::ReadOnly => Some("the parity file can't be written: check its permissions"),
         ParityFault::Device => Some(

@@ -13,6 +13,6 @@ service_message service.TooManyOptions = Some (codes "the client sent more than 
 service_message service.ReadFault = None
 service_message service.WriteFault = None
 
--- requests that were answered with an input/output error
+-- requests that ended with a fault
 abbrev pub faults_message : List ℕ
 faults_message = codes "requests of the client failed: 'scan' on the same stack prints the sectors"

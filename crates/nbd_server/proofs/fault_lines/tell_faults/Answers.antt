@@ -6,8 +6,8 @@ use Rattle.nbd_server.specs.declared.first_faults.FirstFault.{FirstFault}
 use Rattle.nbd_server.proofs.FaultLineLemmas.{printed-or}
 use Rattle.nbd_server.proofs.fault_lines.tell_faults.Goals as goal
 
-pub returns-clause-told : goal.returns-clause-told
-returns-clause-told g c =
+pub returns : goal.returns
+returns g c =
     let faults = c.args.faults.now in
     let rest = drop c.args.told faults in
     let whole : take (length faults - c.args.told) rest ≡ rest = take_all (length faults - c.args.told) rest (omega (arith, length-drop c.args.told faults)) in

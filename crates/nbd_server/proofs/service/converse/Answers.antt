@@ -1,128 +1,41 @@
-use Rattle.std.proofs.Common.{◌≡◌, ◌∙◌, List, ap, arith, length, subst, sym}
-use Rattle.std.proofs.lemmas.List.{length-append}
+use Rattle.std.proofs.Common.{◌≡◌, ◌∙◌, arith, subst, sym}
 use Rattle.std.proofs.lemmas.Result.{err_from_is_err_and}
 use Rattle.program_io.specs.Streams.{streams}
 use Rattle.nbd_protocol.specs.declared.fault.ServiceFault.TheVariants as fault
+use Rattle.nbd_protocol.specs.declared.phase.Phase.{Phase}
 use Rattle.nbd_protocol.specs.Exports.{export_records}
 use Rattle.nbd_protocol.proofs.lemmas.CountedLemmas.{read-none, read-then, read-fewer, read-over, read-other, written-ok, written-other, written-then, written-failed}
 use Rattle.nbd_server.specs.FaultLines.{IsPrinted, fault_lines}
-use Rattle.nbd_server.specs.declared.first_faults.FirstFault.{FirstFault}
+use Rattle.nbd_server.specs.Premises.{IsExportPlaced}
 use Rattle.nbd_server.specs.declared.session_log.SessionLog.{SessionLog}
 use Rattle.nbd_server.proofs.FaultLineLemmas.{printed-more, printed-none}
-use Rattle.nbd_server.proofs.LogLemmas.{left-over, turn-grows}
-use Rattle.nbd_server.proofs.ServiceLemmas.{held-starts, held-kept, held-more, held-none, held-ends, held-over, held-stops, held-stuck, held-unsaid, exports-kept, placed-next}
+use Rattle.nbd_server.proofs.ServiceLemmas.{BusyOr, held-starts, held-kept, held-more, held-none, held-ends, held-over, held-stops, held-unsaid, exports-kept, placed-next}
 use Rattle.nbd_server.proofs.service.converse.Goals as goal
 
+-- ---- the greeting
+
 pub loop-turn-init : goal.loop-turn-init
-loop-turn-init g c = record {
-  held = held-starts (export_records c.args.exports.now) c.args.queue.now c.args.state.now.log (g.R.Read.remaining c.args.reader.now.inner) (g.W.Write.contents c.args.writer.now.inner) (g.W.Write.contents c.put.new.self.inner) c.requires.log c.in_ok-put.ensures.writes.ok;
-  exports_are = c.requires.exports;
-  placed = tt;
-  read = read-none c.args.reader.now;
-  written = written-ok c.in_ok-put.ensures.writes.kept;
-  told = sym (ap (λ (t : SessionLog). length t.first) c.requires.log);
-  printed = subst (λ (t : SessionLog). IsPrinted g.E.Write.contents c.args.errors.now c.args.errors.now (fault_lines (export_records c.args.exports.now) t.first)) (sym c.requires.log) (printed-none g.E.Write.contents c.args.errors.now);
-}
-
-pub returns-in_err-next-in_default-clause-service : goal.returns-in_err-next-in_default-clause-service
-returns-in_err-next-in_default-clause-service g c =
-    let input = g.R.Read.remaining c.loop-turn.reader.inner in
-    let held = held-kept input (g.W.Write.contents c.loop-turn.writer.inner) (g.W.Write.contents c.flush.new.self.inner) c.loop-turn.invariant.held c.in_ok-flush.ensures.ok.0 in
-    let p = err_from_is_err_and c.from_residual-in_err-next-in_default.result c.from_residual-in_err-next-in_default.ensures.1 in
-    rw (p.1, p.2) (held-ends c.take_message.new.queue c.take_message.new.state.log (streams (g.R.Read.remaining c.take_message.new.reader.inner) (g.W.Write.contents c.take_message.new.writer.inner)) c.in_err-next-in_default.field-0.0 held
-    c.in_err-next-in_default.ensures.turn)
-
-pub returns-in-None-clause-service : goal.returns-in-None-clause-service
-returns-in-None-clause-service g c =
-    let input = g.R.Read.remaining c.loop-turn.reader.inner in
-    let held = held-kept input (g.W.Write.contents c.loop-turn.writer.inner) (g.W.Write.contents c.flush.new.self.inner) c.loop-turn.invariant.held c.in_ok-flush.ensures.ok.0 in
-    held-none c.take_message.new.queue c.take_message.new.state.log (streams (g.R.Read.remaining c.take_message.new.reader.inner) (g.W.Write.contents c.take_message.new.writer.inner)) tt held
-    (rw c.in-None.is at c.in_ok-next-in_default.ensures.turn)
-
-pub loop-turn-preserved : goal.loop-turn-preserved
-loop-turn-preserved g c =
-    let input = g.R.Read.remaining c.loop-turn.reader.inner in
-    let mid = streams input (g.W.Write.contents c.flush.new.self.inner) in
-    let new = streams (g.R.Read.remaining c.take_message.new.reader.inner) (g.W.Write.contents c.take_message.new.writer.inner) in
-    let held = held-kept input (g.W.Write.contents c.loop-turn.writer.inner) (g.W.Write.contents c.flush.new.self.inner) c.loop-turn.invariant.held c.in_ok-flush.ensures.ok.0 in
-    let taken = rw c.in-Some.is at c.in_ok-next-in_default.ensures.turn in
-    let more = turn-grows (export_records c.args.exports.now) c.loop-turn.phase c.loop-turn.queue c.take_message.new.queue c.loop-turn.state.log c.take_message.new.state.log mid new c.in-Some.next taken in
+loop-turn-init g c =
+    let es = export_records c.args.exports.now in
+    let input = g.R.Read.remaining c.args.reader.now.inner in
+    let old = streams input (g.W.Write.contents c.args.writer.now.inner) in
+    let new = streams input (g.W.Write.contents c.flush.new.self.inner) in
+    let first = held-starts es c.args.queue.now c.args.state.now.log input (g.W.Write.contents c.args.writer.now.inner) (g.W.Write.contents c.put.new.self.inner) c.requires.log c.in_ok-put.ensures.writes.ok in
     record {
-      held = held-more c.in-Some.next c.take_message.new.queue c.take_message.new.state.log new held taken;
-      read = read-then c.loop-turn.invariant.read c.in_ok-next-in_default.ensures.reader;
-      written = written-then c.loop-turn.invariant.written (written-then (written-ok c.in_ok-flush.ensures.kept) c.in_ok-next-in_default.ensures.writer);
-      exports_are = exports-kept c.args.exports.now c.loop-turn.phase c.loop-turn.queue c.take_message.new.queue c.loop-turn.state.log c.take_message.new.state.log mid new c.in-Some.next c.loop-turn.invariant.exports_are taken;
-      placed = placed-next (export_records c.args.exports.now) c.loop-turn.phase c.loop-turn.queue c.take_message.new.queue c.loop-turn.state.log c.take_message.new.state.log mid new c.in-Some.next c.loop-turn.invariant.placed taken;
-      told = c.tell_faults-told.ensures.count ∙ ap length c.as_slice.ensures;
-      printed = printed-more
-          g.E.Write.contents
-          (export_records c.args.exports.now)
-          c.args.errors.now
-          c.loop-turn.errors
-          c.tell_faults-told.new.errors
-          c.loop-turn.state.log.first
-          more.0
-          c.take_message.new.state.log.first
-          more.1
-          c.loop-turn.invariant.printed
-          (subst (λ (l : List FirstFault). IsPrinted g.E.Write.contents c.loop-turn.errors c.tell_faults-told.new.errors (fault_lines (export_records c.args.exports.now) l)) (left-over c.loop-turn.told c.loop-turn.state.log.first more.0 c.as_slice.result.now c.loop-turn.invariant.told (c.as_slice.ensures ∙ more.1)) c.tell_faults-told.ensures.told);
+      held = subst (λ (p : Phase). BusyOr es c.args.queue.now p c.args.queue.now c.args.state.now.log old new) (sym c.requires.phase)
+          (held-kept {old = old} input (g.W.Write.contents c.put.new.self.inner) (g.W.Write.contents c.flush.new.self.inner) first c.in_ok-flush.ensures.ok.0);
+      exports_are = c.requires.exports;
+      placed = subst (IsExportPlaced es) (sym c.requires.phase) tt;
+      read = read-none c.args.reader.now;
+      written = written-ok (c.in_ok-flush.ensures.kept ∙ c.in_ok-put.ensures.writes.kept);
+      flushed = c.in_ok-flush.ensures.ok.1;
+      printed = subst (λ (t : SessionLog). IsPrinted g.E.Write.contents c.args.errors.now c.args.errors.now (fault_lines es t.first)) (sym c.requires.log) (printed-none g.E.Write.contents c.args.errors.now);
     }
 
-pub tell_faults-told-requires : goal.tell_faults-told-requires
-tell_faults-told-requires g c =
-    let mid = streams (g.R.Read.remaining c.loop-turn.reader.inner) (g.W.Write.contents c.flush.new.self.inner) in
-    let new = streams (g.R.Read.remaining c.take_message.new.reader.inner) (g.W.Write.contents c.take_message.new.writer.inner) in
-    let more = turn-grows (export_records c.args.exports.now) c.loop-turn.phase c.loop-turn.queue c.take_message.new.queue c.loop-turn.state.log c.take_message.new.state.log mid new c.in-Some.next (rw c.in-Some.is at c.in_ok-next-in_default.ensures.turn) in
-    omega (arith, c.loop-turn.invariant.told, ap length (c.as_slice.ensures ∙ more.1), length-append c.loop-turn.state.log.first more.0)
-
--- ---- the lines of the faults, however it ends
-
-pub returns-in_err-put-clause-printed : goal.returns-in_err-put-clause-printed
-returns-in_err-put-clause-printed g c =
-    subst (λ (t : SessionLog). IsPrinted g.E.Write.contents c.args.errors.now c.args.errors.now (fault_lines (export_records c.args.exports.now) t.first)) (sym c.requires.log) (printed-none g.E.Write.contents c.args.errors.now)
-
-pub returns-in_err-flush-clause-printed : goal.returns-in_err-flush-clause-printed
-returns-in_err-flush-clause-printed g c = c.loop-turn.invariant.printed
-
-pub returns-in-Over-clause-printed : goal.returns-in-Over-clause-printed
-returns-in-Over-clause-printed g c = c.loop-turn.invariant.printed
-
-pub returns-in_err-next-in_default-clause-printed : goal.returns-in_err-next-in_default-clause-printed
-returns-in_err-next-in_default-clause-printed g c =
-    subst (λ (t : SessionLog). IsPrinted g.E.Write.contents c.args.errors.now c.loop-turn.errors (fault_lines (export_records c.args.exports.now) t.first)) (sym c.in_err-next-in_default.ensures.turn.1) c.loop-turn.invariant.printed
-
-pub returns-in-None-clause-printed : goal.returns-in-None-clause-printed
-returns-in-None-clause-printed g c =
-    let turn = rw c.in-None.is at c.in_ok-next-in_default.ensures.turn in
-    subst (λ (t : SessionLog). IsPrinted g.E.Write.contents c.args.errors.now c.loop-turn.errors (fault_lines (export_records c.args.exports.now) t.first)) (sym turn.1) c.loop-turn.invariant.printed
-
-pub returns-clause-printed : goal.returns-clause-printed
-returns-clause-printed g c = c.loop-turn.invariant.printed
-
-pub returns-in_err-next-in_default-clause-reader : goal.returns-in_err-next-in_default-clause-reader
-returns-in_err-next-in_default-clause-reader g c =
-    let p = err_from_is_err_and c.from_residual-in_err-next-in_default.result c.from_residual-in_err-next-in_default.ensures.1 in
-    rw (p.1, p.2) (read-fewer 0 (read-then c.loop-turn.invariant.read c.in_err-next-in_default.ensures.reader) (omega arith))
-
-pub returns-in_err-next-in_default-clause-writer : goal.returns-in_err-next-in_default-clause-writer
-returns-in_err-next-in_default-clause-writer g c =
-    let p = err_from_is_err_and c.from_residual-in_err-next-in_default.result c.from_residual-in_err-next-in_default.ensures.1 in
-    rw (p.1, p.2) (written-then c.loop-turn.invariant.written (written-then (written-ok c.in_ok-flush.ensures.kept) c.in_err-next-in_default.ensures.writer))
-
-pub returns-in-None-clause-reader : goal.returns-in-None-clause-reader
-returns-in-None-clause-reader g c = read-fewer 0 (read-then c.loop-turn.invariant.read c.in_ok-next-in_default.ensures.reader) (omega arith)
-
-pub returns-in-None-clause-writer : goal.returns-in-None-clause-writer
-returns-in-None-clause-writer g c = written-then c.loop-turn.invariant.written (written-then (written-ok c.in_ok-flush.ensures.kept) c.in_ok-next-in_default.ensures.writer)
-
-pub returns-clause-service : goal.returns-clause-service
-returns-clause-service g c = held-stops (streams (g.R.Read.remaining c.loop-turn.reader.inner) (g.W.Write.contents c.loop-turn.writer.inner)) c.loop-turn.invariant.held
-
-pub returns-clause-reader : goal.returns-clause-reader
-returns-clause-reader g c = read-fewer 0 (read-over c.loop-turn.invariant.read (omega arith)) (omega arith)
-
-pub returns-clause-writer : goal.returns-clause-writer
-returns-clause-writer g c = written-other fault.ReadFault c.loop-turn.invariant.written (λ is. (cc))
+pub returns-in_err-put-clause-service : goal.returns-in_err-put-clause-service
+returns-in_err-put-clause-service g c =
+    let p = err_from_is_err_and c.from_residual.result c.from_residual.ensures.1 in
+    rw (p.1, p.2) (held-unsaid (export_records c.args.exports.now) c.args.queue.now c.args.state.now.log (g.R.Read.remaining c.args.reader.now.inner) (g.W.Write.contents c.args.writer.now.inner) (g.W.Write.contents c.put.new.self.inner) c.requires.log)
 
 pub returns-in_err-put-clause-reader : goal.returns-in_err-put-clause-reader
 returns-in_err-put-clause-reader g c =
@@ -134,34 +47,109 @@ returns-in_err-put-clause-writer g c =
     let p = err_from_is_err_and c.from_residual.result c.from_residual.ensures.1 in
     rw (p.1, p.2) (written-failed c.in_err-put.ensures.writes.failed)
 
+pub returns-in_err-put-clause-printed : goal.returns-in_err-put-clause-printed
+returns-in_err-put-clause-printed g c =
+    subst (λ (t : SessionLog). IsPrinted g.E.Write.contents c.args.errors.now c.args.errors.now (fault_lines (export_records c.args.exports.now) t.first)) (sym c.requires.log) (printed-none g.E.Write.contents c.args.errors.now)
+
+pub returns-in_err-flush-clause-service : goal.returns-in_err-flush-clause-service
+returns-in_err-flush-clause-service g c =
+    let p = err_from_is_err_and c.from_residual-in_err-flush.result c.from_residual-in_err-flush.ensures.1 in
+    rw (p.1, p.2) (held-unsaid (export_records c.args.exports.now) c.args.queue.now c.args.state.now.log (g.R.Read.remaining c.args.reader.now.inner) (g.W.Write.contents c.args.writer.now.inner) (g.W.Write.contents c.flush.new.self.inner) c.requires.log)
+
 pub returns-in_err-flush-clause-reader : goal.returns-in_err-flush-clause-reader
 returns-in_err-flush-clause-reader g c =
     let p = err_from_is_err_and c.from_residual-in_err-flush.result c.from_residual-in_err-flush.ensures.1 in
-    rw (p.1, p.2) (read-other fault.WriteFault (read-fewer 0 c.loop-turn.invariant.read (omega arith)) (λ is. (cc)))
+    rw (p.1, p.2) (read-other fault.WriteFault (read-none c.args.reader.now) (λ is. (cc)))
 
 pub returns-in_err-flush-clause-writer : goal.returns-in_err-flush-clause-writer
 returns-in_err-flush-clause-writer g c =
     let p = err_from_is_err_and c.from_residual-in_err-flush.result c.from_residual-in_err-flush.ensures.1 in
     rw (p.1, p.2) (written-failed c.in_err-flush.ensures.failed)
 
+pub returns-in_err-flush-clause-printed : goal.returns-in_err-flush-clause-printed
+returns-in_err-flush-clause-printed g c =
+    subst (λ (t : SessionLog). IsPrinted g.E.Write.contents c.args.errors.now c.args.errors.now (fault_lines (export_records c.args.exports.now) t.first)) (sym c.requires.log) (printed-none g.E.Write.contents c.args.errors.now)
+
+-- ---- a message
+
+pub loop-turn-preserved : goal.loop-turn-preserved
+loop-turn-preserved g c =
+    let es = export_records c.args.exports.now in
+    let old = streams (g.R.Read.remaining c.loop-turn.reader.inner) (g.W.Write.contents c.loop-turn.writer.inner) in
+    let new = streams (g.R.Read.remaining c.take_turn.new.reader.inner) (g.W.Write.contents c.take_turn.new.writer.inner) in
+    let taken = rw c.in-Some.is at c.in_ok-next-in_default.ensures.turn in
+    let shown = c.in_ok-next-in_default.ensures.printed in
+    record {
+      held = held-more c.in-Some.next c.take_turn.new.queue c.take_turn.new.state.log new c.loop-turn.invariant.held taken;
+      exports_are = exports-kept c.args.exports.now c.loop-turn.state.phase c.loop-turn.queue c.take_turn.new.queue c.loop-turn.state.log c.take_turn.new.state.log old new c.in-Some.next c.loop-turn.invariant.exports_are taken;
+      placed = placed-next es c.loop-turn.state.phase c.loop-turn.queue c.take_turn.new.queue c.loop-turn.state.log c.take_turn.new.state.log old new c.in-Some.next c.loop-turn.invariant.placed taken;
+      read = read-then c.loop-turn.invariant.read c.in_ok-next-in_default.ensures.reader;
+      written = written-then c.loop-turn.invariant.written c.in_ok-next-in_default.ensures.writer;
+      flushed = c.in_ok-next-in_default.ensures.flushed;
+      printed = printed-more g.E.Write.contents es c.args.errors.now c.loop-turn.errors c.take_turn.new.errors c.loop-turn.state.log.first shown.rest c.take_turn.new.state.log.first shown.grows c.loop-turn.invariant.printed shown.lines;
+    }
+
+pub returns-in_err-next-in_default-clause-service : goal.returns-in_err-next-in_default-clause-service
+returns-in_err-next-in_default-clause-service g c =
+    let p = err_from_is_err_and c.from_residual-in_err-next-in_default.result c.from_residual-in_err-next-in_default.ensures.1 in
+    rw (p.1, p.2) (held-ends c.take_turn.new.queue c.take_turn.new.state.log (streams (g.R.Read.remaining c.take_turn.new.reader.inner) (g.W.Write.contents c.take_turn.new.writer.inner)) c.in_err-next-in_default.field-0.0 c.loop-turn.invariant.held
+    c.in_err-next-in_default.ensures.turn)
+
+pub returns-in_err-next-in_default-clause-reader : goal.returns-in_err-next-in_default-clause-reader
+returns-in_err-next-in_default-clause-reader g c =
+    let p = err_from_is_err_and c.from_residual-in_err-next-in_default.result c.from_residual-in_err-next-in_default.ensures.1 in
+    rw (p.1, p.2) (read-fewer 0 (read-then c.loop-turn.invariant.read c.in_err-next-in_default.ensures.reader) (omega arith))
+
+pub returns-in_err-next-in_default-clause-writer : goal.returns-in_err-next-in_default-clause-writer
+returns-in_err-next-in_default-clause-writer g c =
+    let p = err_from_is_err_and c.from_residual-in_err-next-in_default.result c.from_residual-in_err-next-in_default.ensures.1 in
+    rw (p.1, p.2) (written-then c.loop-turn.invariant.written c.in_err-next-in_default.ensures.writer)
+
+pub returns-in_err-next-in_default-clause-printed : goal.returns-in_err-next-in_default-clause-printed
+returns-in_err-next-in_default-clause-printed g c =
+    let shown = c.in_err-next-in_default.ensures.printed in
+    printed-more g.E.Write.contents (export_records c.args.exports.now) c.args.errors.now c.loop-turn.errors c.take_turn.new.errors c.loop-turn.state.log.first shown.rest c.take_turn.new.state.log.first shown.grows c.loop-turn.invariant.printed shown.lines
+
+-- ---- no further message
+
+pub returns-in-None-clause-service : goal.returns-in-None-clause-service
+returns-in-None-clause-service g c =
+    held-none c.take_turn.new.queue c.take_turn.new.state.log (streams (g.R.Read.remaining c.take_turn.new.reader.inner) (g.W.Write.contents c.take_turn.new.writer.inner)) c.in_default.not-Over c.loop-turn.invariant.held
+    (rw c.in-None.is at c.in_ok-next-in_default.ensures.turn)
+
+pub returns-in-None-clause-reader : goal.returns-in-None-clause-reader
+returns-in-None-clause-reader g c = read-fewer 0 (read-then c.loop-turn.invariant.read c.in_ok-next-in_default.ensures.reader) (omega arith)
+
+pub returns-in-None-clause-writer : goal.returns-in-None-clause-writer
+returns-in-None-clause-writer g c = written-then c.loop-turn.invariant.written c.in_ok-next-in_default.ensures.writer
+
+pub returns-in-None-clause-printed : goal.returns-in-None-clause-printed
+returns-in-None-clause-printed g c =
+    let shown = c.in_ok-next-in_default.ensures.printed in
+    printed-more g.E.Write.contents (export_records c.args.exports.now) c.args.errors.now c.loop-turn.errors c.take_turn.new.errors c.loop-turn.state.log.first shown.rest c.take_turn.new.state.log.first shown.grows c.loop-turn.invariant.printed shown.lines
+
+-- ---- the end
+
+pub returns-in-Over-clause-service : goal.returns-in-Over-clause-service
+returns-in-Over-clause-service g c = held-over c.loop-turn.invariant.held c.in-Over.is
+
 pub returns-in-Over-clause-reader : goal.returns-in-Over-clause-reader
 returns-in-Over-clause-reader g c = read-fewer 0 c.loop-turn.invariant.read (omega arith)
 
 pub returns-in-Over-clause-writer : goal.returns-in-Over-clause-writer
-returns-in-Over-clause-writer g c = written-then c.loop-turn.invariant.written (written-ok c.in_ok-flush.ensures.kept)
+returns-in-Over-clause-writer g c = c.loop-turn.invariant.written
 
-pub returns-in_err-put-clause-service : goal.returns-in_err-put-clause-service
-returns-in_err-put-clause-service g c =
-    let p = err_from_is_err_and c.from_residual.result c.from_residual.ensures.1 in
-    rw (p.1, p.2) (held-unsaid (export_records c.args.exports.now) c.args.queue.now c.args.state.now.log (g.R.Read.remaining c.args.reader.now.inner) (g.W.Write.contents c.args.writer.now.inner) (g.W.Write.contents c.put.new.self.inner) c.requires.log)
+pub returns-in-Over-clause-printed : goal.returns-in-Over-clause-printed
+returns-in-Over-clause-printed g c = c.loop-turn.invariant.printed
 
-pub returns-in_err-flush-clause-service : goal.returns-in_err-flush-clause-service
-returns-in_err-flush-clause-service g c =
-    let p = err_from_is_err_and c.from_residual-in_err-flush.result c.from_residual-in_err-flush.ensures.1 in
-    rw (p.1, p.2) (held-stuck (g.R.Read.remaining c.loop-turn.reader.inner) (g.W.Write.contents c.loop-turn.writer.inner) (g.W.Write.contents c.flush.new.self.inner) c.loop-turn.invariant.held)
+pub returns-clause-service : goal.returns-clause-service
+returns-clause-service g c = held-stops (streams (g.R.Read.remaining c.loop-turn.reader.inner) (g.W.Write.contents c.loop-turn.writer.inner)) c.loop-turn.invariant.held
 
-pub returns-in-Over-clause-service : goal.returns-in-Over-clause-service
-returns-in-Over-clause-service g c =
-    let input = g.R.Read.remaining c.loop-turn.reader.inner in
-    let held = held-kept input (g.W.Write.contents c.loop-turn.writer.inner) (g.W.Write.contents c.flush.new.self.inner) c.loop-turn.invariant.held c.in_ok-flush.ensures.ok.0 in
-    held-over tt held c.in-Over.is
+pub returns-clause-reader : goal.returns-clause-reader
+returns-clause-reader g c = read-fewer 0 (read-over c.loop-turn.invariant.read (omega arith)) (omega arith)
+
+pub returns-clause-writer : goal.returns-clause-writer
+returns-clause-writer g c = written-other fault.ReadFault c.loop-turn.invariant.written (λ is. (cc))
+
+pub returns-clause-printed : goal.returns-clause-printed
+returns-clause-printed g c = c.loop-turn.invariant.printed

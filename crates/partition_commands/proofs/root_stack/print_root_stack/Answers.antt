@@ -19,7 +19,7 @@ returns-in_err-both-clause-err g c =
     err-from c.from_residual-in_err-both.result _ (Refused c.in_err-both.field-0.0) c.from_residual-in_err-both.ensures.1
     (inr (inl (record {
       table = c.in_ok-table.table;
-      read_device = g.D.BlockDev.state c.find_noted.new.device;
+      read_device = c.find_noted.new.device;
       found = c.in_ok-table.ensures.ok.found;
       refused = ap (λ (ps : List Partition). image_partitions ps c.args.trusted.now.root) (sym c.deref.ensures.value) ∙ sym c.in_err-both.ensures;
     })))
@@ -43,14 +43,14 @@ returns-in_err-superblock-clause-err g c =
 
 pub returns-in_err-text-clause-err : goal.returns-in_err-text-clause-err
 returns-in_err-text-clause-err g c =
-    let pair : FindsPair (g.D.BlockDev.state c.args.device) c.args.plan.now.size c.args.trusted.now = record {
+    let pair : FindsPair g.D.BlockDev.state c.args.device c.args.plan.now.size c.args.trusted.now = record {
       table = c.in_ok-table.table;
-      read_device = g.D.BlockDev.state c.find_noted.new.device;
+      read_device = c.find_noted.new.device;
       found = c.in_ok-table.ensures.ok.found;
       both = c.in_ok-both.both;
       both_is = ap (λ (ps : List Partition). image_partitions ps c.args.trusted.now.root) (sym c.deref.ensures.value) ∙ sym c.in_ok-both.ensures;
       super = c.in_ok-superblock.superblock;
-      signed_device = g.D.BlockDev.state c.find_signature-signed.new.device;
+      signed_device = c.find_signature-signed.new.device;
       signed = c.find_signature-signed.result;
       sought = rw c.deref-2.ensures.value at c.find_signature-signed.ensures;
       fitting = c.in_ok-superblock.ensures.ok;
@@ -59,14 +59,14 @@ returns-in_err-text-clause-err g c =
 
 pub returns-in_err-push_signature-clause-err : goal.returns-in_err-push_signature-clause-err
 returns-in_err-push_signature-clause-err g c =
-    let pair : FindsPair (g.D.BlockDev.state c.args.device) c.args.plan.now.size c.args.trusted.now = record {
+    let pair : FindsPair g.D.BlockDev.state c.args.device c.args.plan.now.size c.args.trusted.now = record {
       table = c.in_ok-table.table;
-      read_device = g.D.BlockDev.state c.find_noted.new.device;
+      read_device = c.find_noted.new.device;
       found = c.in_ok-table.ensures.ok.found;
       both = c.in_ok-both.both;
       both_is = ap (λ (ps : List Partition). image_partitions ps c.args.trusted.now.root) (sym c.deref.ensures.value) ∙ sym c.in_ok-both.ensures;
       super = c.in_ok-superblock.superblock;
-      signed_device = g.D.BlockDev.state c.find_signature-signed.new.device;
+      signed_device = c.find_signature-signed.new.device;
       signed = c.find_signature-signed.result;
       sought = rw c.deref-2.ensures.value at c.find_signature-signed.ensures;
       fitting = c.in_ok-superblock.ensures.ok;
@@ -77,14 +77,14 @@ returns-in_err-push_signature-clause-err g c =
 
 pub returns-clause-ok : goal.returns-clause-ok
 returns-clause-ok g c =
-    let pair : FindsPair (g.D.BlockDev.state c.args.device) c.args.plan.now.size c.args.trusted.now = record {
+    let pair : FindsPair g.D.BlockDev.state c.args.device c.args.plan.now.size c.args.trusted.now = record {
       table = c.in_ok-table.table;
-      read_device = g.D.BlockDev.state c.find_noted.new.device;
+      read_device = c.find_noted.new.device;
       found = c.in_ok-table.ensures.ok.found;
       both = c.in_ok-both.both;
       both_is = ap (λ (ps : List Partition). image_partitions ps c.args.trusted.now.root) (sym c.deref.ensures.value) ∙ sym c.in_ok-both.ensures;
       super = c.in_ok-superblock.superblock;
-      signed_device = g.D.BlockDev.state c.find_signature-signed.new.device;
+      signed_device = c.find_signature-signed.new.device;
       signed = c.find_signature-signed.result;
       sought = rw c.deref-2.ensures.value at c.find_signature-signed.ensures;
       fitting = c.in_ok-superblock.ensures.ok;
@@ -94,14 +94,14 @@ returns-clause-ok g c =
 
 pub returns-clause-err : goal.returns-clause-err
 returns-clause-err g c =
-    let pair : FindsPair (g.D.BlockDev.state c.args.device) c.args.plan.now.size c.args.trusted.now = record {
+    let pair : FindsPair g.D.BlockDev.state c.args.device c.args.plan.now.size c.args.trusted.now = record {
       table = c.in_ok-table.table;
-      read_device = g.D.BlockDev.state c.find_noted.new.device;
+      read_device = c.find_noted.new.device;
       found = c.in_ok-table.ensures.ok.found;
       both = c.in_ok-both.both;
       both_is = ap (λ (ps : List Partition). image_partitions ps c.args.trusted.now.root) (sym c.deref.ensures.value) ∙ sym c.in_ok-both.ensures;
       super = c.in_ok-superblock.superblock;
-      signed_device = g.D.BlockDev.state c.find_signature-signed.new.device;
+      signed_device = c.find_signature-signed.new.device;
       signed = c.find_signature-signed.result;
       sought = rw c.deref-2.ensures.value at c.find_signature-signed.ensures;
       fitting = c.in_ok-superblock.ensures.ok;

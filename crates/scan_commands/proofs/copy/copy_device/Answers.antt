@@ -8,9 +8,14 @@ use Rattle.scan_commands.proofs.copy.copy_device.Goals as goal
 pub copy_synced-left-requires : goal.copy_synced-left-requires
 copy_synced-left-requires g c = record { device = c.in_ok-stack.ensures.there; room = c.in_ok-stack.ensures.room; allowed = c.in_ok-stack.ensures.writable }
 
+pub returns-in_err-used-clause-err : goal.returns-in_err-used-clause-err
+returns-in_err-used-clause-err g c =
+    err-from c.from_residual.result _ c.in_err-used.field-0.0 c.from_residual.ensures.1 (inl (refl, inl c.in_err-used.ensures.err))
+
 pub returns-in_err-stack-clause-err : goal.returns-in_err-stack-clause-err
 returns-in_err-stack-clause-err g c =
-    err-from c.from_residual.result _ c.in_err-stack.field-0.0 c.from_residual.ensures.1 (inl (refl, c.in_err-stack.ensures.err))
+    err-from c.from_residual-in_err-stack.result _ c.in_err-stack.field-0.0 c.from_residual-in_err-stack.ensures.1
+    (inl (refl, inr (record { used = c.in_ok-used.used; first = c.use_map_beside.new.images; map_used = c.in_ok-used.ensures.ok; fails = rw c.source_beside-read.ensures at c.in_err-stack.ensures.err })))
 
 pub returns-clause-err : goal.returns-clause-err
 returns-clause-err g c = inr (inl (record {
@@ -22,9 +27,12 @@ returns-clause-err g c = inr (inl (record {
     image = c.in_ok-stack.image;
     image' = c.copy_synced-left.result.0.out;
     left = c.copy_synced-left.result.0.stack;
+    used = c.in_ok-used.used;
+    first = c.use_map_beside.new.images;
     between = c.open_with_room.new.images;
     behind = c.copy_synced-left.new.images;
-    found = c.in_ok-stack.ensures.ok;
+    map_used = c.in_ok-used.ensures.ok;
+    found = rw c.source_beside-read.ensures at c.in_ok-stack.ensures.ok;
     stops = rw c.in-Err.is at c.copy_synced-left.ensures.err;
     back = c.close.ensures;
   };
@@ -42,9 +50,12 @@ returns-in-Ok-clause-ok g c = on_ok_weaker c.tell_counts.result (λ told. record
     image = c.in_ok-stack.image;
     image' = c.copy_synced-left.result.0.out;
     left = _;
+    used = c.in_ok-used.used;
+    first = c.use_map_beside.new.images;
     between = c.open_with_room.new.images;
     behind = c.copy_synced-left.new.images;
-    found = c.in_ok-stack.ensures.ok;
+    map_used = c.in_ok-used.ensures.ok;
+    found = rw c.source_beside-read.ensures at c.in_ok-stack.ensures.ok;
     copied = rw c.in-Ok.is at c.copy_synced-left.ensures.ok;
     back = c.close.ensures;
   };
@@ -62,9 +73,12 @@ returns-in-Ok-clause-err g c = IfErr-weaker c.tell_counts.result _ _ (λ fault e
     image = c.in_ok-stack.image;
     image' = c.copy_synced-left.result.0.out;
     left = _;
+    used = c.in_ok-used.used;
+    first = c.use_map_beside.new.images;
     between = c.open_with_room.new.images;
     behind = c.copy_synced-left.new.images;
-    found = c.in_ok-stack.ensures.ok;
+    map_used = c.in_ok-used.ensures.ok;
+    found = rw c.source_beside-read.ensures at c.in_ok-stack.ensures.ok;
     copied = rw c.in-Ok.is at c.copy_synced-left.ensures.ok;
     back = c.close.ensures;
   };

@@ -1,14 +1,14 @@
-use Rattle.std.proofs.Common.{◌≤◌, ◌<◌, ℕ, inl, inr, length, sym, refl, ap, subst, ◌∙◌}
+use Rattle.std.proofs.Common.{◌≡◌, ◌≤◌, ◌<◌, ℕ, inl, inr, length, sym, refl, ap, subst, ◌∙◌}
+use Rattle.std.proofs.lemmas.Result.{IfErr-weaker, IfOk-weaker}
 use Rattle.image_files.specs.Opener.{calls}
-use Rattle.rescue_map.specs.declared.totals.Totals.{Totals}
 use Rattle.stack_rules.specs.Names.{mapped, size}
 use Rattle.stack_rules.specs.Records.{Configuration}
 use Rattle.stack_recovery.specs.PassPieces.{Scanned, scanned}
 use Rattle.stack_recovery.specs.Recoveries.{sides}
 use Rattle.scan_commands.specs.MapFiles.{IsMapRead, IsMapUnread, map_path_of}
-use Rattle.scan_commands.specs.PassesInTurns.{EndsRetries, RetriesInTurns, after_turns, counts_of, phase_after}
+use Rattle.scan_commands.specs.PassesInTurns.{EndsRetries, RetriesInTurns, after_turns, phase_after}
 use Rattle.scan_commands.specs.Turns.{kept, progressed}
-use Rattle.scan_commands.proofs.RetryTurnLemmas.{ended-turns, whole-turns}
+use Rattle.scan_commands.proofs.LastPassLemmas.{last-as, last_end-as}
 use Rattle.scan_commands.proofs.TurnLemmas.{err-from}
 use Rattle.scan_commands.proofs.passing.pass_by_map.Goals as goal
 
@@ -32,25 +32,28 @@ pub retry_in_turns-requires-clause-fits : goal.retry_in_turns-requires-clause-fi
 retry_in_turns-requires-clause-fits g c =
     c.in_ok-skimmed.ensures.goes_on.map ∙ ap (λ (x : Configuration). size x (mapped c.args.passing.now.device.0)) (sym c.in_ok-skimmed.ensures.goes_on.config)
 
-pub read_in_turns-requires-2-clause-device : goal.read_in_turns-requires-2-clause-device
-read_in_turns-requires-2-clause-device g c =
-    let left = c.in_ok-tried.ensures.left in
-    subst (λ (x : Configuration). c.args.passing.now.device.0 < length x.devices) (sym (left.config ∙ c.in_ok-skimmed.ensures.goes_on.config)) c.requires.device
-
-pub read_in_turns-requires-2-clause-fits : goal.read_in_turns-requires-2-clause-fits
-read_in_turns-requires-2-clause-fits g c =
-    let left = c.in_ok-tried.ensures.left in
-    left.map ∙ ap (λ (x : Configuration). size x (mapped c.args.passing.now.device.0)) (sym left.config)
-
-pub read_in_turns-requires-2-clause-room : goal.read_in_turns-requires-2-clause-room
-read_in_turns-requires-2-clause-room g c =
+pub report_last-requires-clause-can : goal.report_last-requires-clause-can
+report_last-requires-clause-can g c =
     let left = c.in_ok-tried.ensures.left in
     let skimmed = c.in_ok-skimmed.ensures.goes_on in
-    subst (λ (x : Configuration). size x (mapped c.args.passing.now.device.0) ≤ (g.O.BlockDev.state c.retry_in_turns.new.passing.out).size) (sym (left.config ∙ skimmed.config))
-    (subst (λ (m : ℕ). size c.args.passing.now.stack.config (mapped c.args.passing.now.device.0) ≤ m) (sym (left.same_size ∙ skimmed.same_size)) c.requires.room)
+    let new = c.retry_in_turns.new.passing in
+    let d : ℕ = c.args.passing.now.device.0 in
+    let same : d ≡ new.device.0 = sym left.device in
+    let config : c.args.passing.now.stack.config ≡ new.stack.config = sym (left.config ∙ skimmed.config) in
+    record {
+      device = subst (λ (n : ℕ). n < length new.stack.config.devices) same (subst (λ (x : Configuration). d < length x.devices) config c.requires.device);
+      room = subst (λ (n : ℕ). size new.stack.config (mapped n) ≤ (g.O.BlockDev.state new.out).size) same
+          (subst (λ (x : Configuration). size x (mapped d) ≤ (g.O.BlockDev.state new.out).size) config
+          (subst (λ (m : ℕ). size c.args.passing.now.stack.config (mapped d) ≤ m) (sym (left.same_size ∙ skimmed.same_size)) c.requires.room));
+      allowed = left.allowed;
+    }
 
-pub read_in_turns-requires-2-clause-allowed : goal.read_in_turns-requires-2-clause-allowed
-read_in_turns-requires-2-clause-allowed g c = c.in_ok-tried.ensures.left.allowed
+pub report_last-requires-clause-fits : goal.report_last-requires-clause-fits
+report_last-requires-clause-fits g c =
+    let left = c.in_ok-tried.ensures.left in
+    let new = c.retry_in_turns.new.passing in
+    let same : c.args.passing.now.device.0 ≡ new.device.0 = sym left.device in
+    left.map ∙ ap (λ (x : Configuration). size x (mapped c.args.passing.now.device.0)) (sym left.config) ∙ ap (λ (n : ℕ). size new.stack.config (mapped n)) same
 
 pub returns-in_err-skimmed-clause-err : goal.returns-in_err-skimmed-clause-err
 returns-in_err-skimmed-clause-err g c =
@@ -80,17 +83,17 @@ returns-in_err-tried-clause-err g c =
       ends = inr (record {
         between = between;
         skims = c.in_ok-skimmed.ensures.ok;
-        later = inl (
-          subst (λ (x : Configuration). EndsRetries (kept replaces file scan (size x (mapped d))) c.args.passing.now.retries
+        later = (
+          inl (subst (λ (x : Configuration). EndsRetries (kept replaces file scan (size x (mapped d))) c.args.passing.now.retries
               (after_turns c.read_in_turns.new.images c.read_in_turns.new.stack (g.O.BlockDev.state c.read_in_turns.new.out) c.in_ok-skimmed.skimmed.map)
-              c.retry_in_turns.new.images c.retry_in_turns.new.passing.stack (g.O.BlockDev.state c.retry_in_turns.new.passing.out) c.in_err-tried.field-0.0) skimmed.config c.in_err-tried.ensures.err,
+              c.retry_in_turns.new.images c.retry_in_turns.new.passing.stack (g.O.BlockDev.state c.retry_in_turns.new.passing.out) c.in_err-tried.field-0.0) skimmed.config c.in_err-tried.ensures.err),
           refl,
         );
       });
     }))
 
-pub returns-in_err-rescued-clause-err : goal.returns-in_err-rescued-clause-err
-returns-in_err-rescued-clause-err g c =
+pub returns-clause-err : goal.returns-clause-err
+returns-clause-err g c =
     let all = c.sectors-sectors.ensures ∙ ap (λ (x : Configuration). size x (mapped c.args.passing.now.device.0)) c.config.ensures.value in
     let d : ℕ = c.args.passing.now.device.0 in
     let scan : Scanned = scanned d c.args.passing.now.no_scrape in
@@ -102,24 +105,24 @@ returns-in_err-rescued-clause-err g c =
     let after = after_turns c.retry_in_turns.new.images c.retry_in_turns.new.passing.stack (g.O.BlockDev.state c.retry_in_turns.new.passing.out) c.in_ok-tried.tried.map in
     let again = subst (λ (x : Configuration). RetriesInTurns (kept replaces file scan (size x (mapped d))) c.args.passing.now.retries (after_turns c.read_in_turns.new.images c.read_in_turns.new.stack (g.O.BlockDev.state c.read_in_turns.new.out) c.in_ok-skimmed.skimmed.map)
     c.in_ok-tried.tried.passes after) skimmed.config c.in_ok-tried.ensures.ok in
-    err-from c.from_residual-in_err-rescued.result _ c.in_err-rescued.field-0.0 c.from_residual-in_err-rescued.ensures.1
-    (inr (record {
+    IfErr-weaker c.report_last.result _ _ (λ fault ends. inr (record {
       runs = c.in_ok-map.map;
       between = c.read_map.new.images;
       read = subst (λ (n : ℕ). IsMapRead (calls g.I.Images.relations g.I.Dev.BlockDev.state c.args.images.now c.read_map.new.images) file n c.in_ok-map.map) all c.in_ok-map.ensures.ok;
       ends = inr (record {
         between = between;
         skims = c.in_ok-skimmed.ensures.ok;
-        later = inr (record {
-          left = after;
-          passes = c.in_ok-tried.tried.passes;
-          told = g.L.Listing.told c.tell_known.new.listing;
-          again = again;
-          known = c.tell_known.ensures;
-          ends = ended-turns replaces file scan _ _ (phase_after c.in_ok-tried.tried.passes) _ _ _ _ _ (left.config ∙ skimmed.config) c.phase_after.ensures c.in_err-rescued.ensures.err;
-        });
+        later = (
+          inr (record {
+            left = after;
+            passes = c.in_ok-tried.tried.passes;
+            again = again;
+            ends = last_end-as replaces file c.args.passing.now.no_scrape _ d _ _ (phase_after c.in_ok-tried.tried.passes) _ _ _ _ _ _ left.device (left.config ∙ skimmed.config) c.phase_after.ensures ends.0;
+          }),
+          ends.1,
+        );
       });
-    }))
+    })) c.report_last.ensures.err
 
 pub returns-clause-ok : goal.returns-clause-ok
 returns-clause-ok g c =
@@ -134,7 +137,7 @@ returns-clause-ok g c =
     let after = after_turns c.retry_in_turns.new.images c.retry_in_turns.new.passing.stack (g.O.BlockDev.state c.retry_in_turns.new.passing.out) c.in_ok-tried.tried.map in
     let again = subst (λ (x : Configuration). RetriesInTurns (kept replaces file scan (size x (mapped d))) c.args.passing.now.retries (after_turns c.read_in_turns.new.images c.read_in_turns.new.stack (g.O.BlockDev.state c.read_in_turns.new.out) c.in_ok-skimmed.skimmed.map)
     c.in_ok-tried.tried.passes after) skimmed.config c.in_ok-tried.ensures.ok in
-    record {
+    IfOk-weaker c.report_last.result _ _ (λ counts last. record {
       runs = c.in_ok-map.map;
       between = c.read_map.new.images;
       read = subst (λ (n : ℕ). IsMapRead (calls g.I.Images.relations g.I.Dev.BlockDev.state c.args.images.now c.read_map.new.images) file n c.in_ok-map.map) all c.in_ok-map.ensures.ok;
@@ -142,12 +145,8 @@ returns-clause-ok g c =
         between = between;
         passes = c.in_ok-tried.tried.passes;
         left = after;
-        made = c.in_ok-rescued.rescued;
-        told = g.L.Listing.told c.tell_known.new.listing;
         skims = c.in_ok-skimmed.ensures.ok;
         again = again;
-        known = c.tell_known.ensures;
-        rescues = whole-turns replaces file scan _ _ (phase_after c.in_ok-tried.tried.passes) _ _ _ _ _ (left.config ∙ skimmed.config) c.phase_after.ensures c.in_ok-rescued.ensures.ok;
-        counted = c.counts_of.ensures ∙ ap (λ (t : Totals). counts_of t c.in_ok-rescued.rescued.untried) c.totals_of.ensures;
+        last = last-as replaces file c.args.passing.now.no_scrape _ d _ _ (phase_after c.in_ok-tried.tried.passes) _ _ _ _ _ _ counts left.device (left.config ∙ skimmed.config) c.phase_after.ensures refl last;
       };
-    }
+    }) c.report_last.ensures.ok

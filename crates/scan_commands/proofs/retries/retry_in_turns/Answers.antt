@@ -15,7 +15,7 @@ pub passes-init : goal.passes-init
 passes-init g c = record {
   steps = no_step;
   few = omega arith;
-  left = record { map = c.requires.fits; config = refl; same_size = refl; allowed = c.requires.can.allowed };
+  left = record { map = c.requires.fits; device = refl; config = refl; same_size = refl; allowed = c.requires.can.allowed };
 }
 
 pub read_in_turns-requires-clause-device : goal.read_in_turns-requires-clause-device
@@ -49,6 +49,7 @@ passes-preserved g c =
       few = omega (arith, c.passes-test.true);
       left = record {
         map = goes.map ∙ ap (λ (x : Configuration). size x (mapped d)) u.left.config;
+        device = u.left.device;
         config = goes.config ∙ u.left.config;
         same_size = goes.same_size ∙ u.left.same_size;
         allowed = goes.allowed;

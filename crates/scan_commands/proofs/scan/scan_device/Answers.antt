@@ -4,7 +4,7 @@ use Rattle.stack_rules.specs.Names.{mapped, size}
 use Rattle.stack_rules.specs.Records.{Configuration}
 use Rattle.stack_config.proofs.lemmas.LoadedLineLemmas.{size-most}
 use Rattle.stack_files.specs.NamedDevices.{device_place}
-use Rattle.scan_commands.specs.declared.recovering_fault.RecoveringFault.TheVariants.{Stack}
+use Rattle.scan_commands.specs.declared.recovering_fault.RecoveringFault.TheVariants.{Pass, Stack}
 use Rattle.scan_commands.proofs.OpeningLemmas.{err-from}
 use Rattle.scan_commands.proofs.ReportLemmas.{reports-more, unreported-more}
 use Rattle.scan_commands.proofs.scan.scan_device.Goals as goal
@@ -24,9 +24,14 @@ report_scan-requires g c =
       allowed = c.new-out.ensures.may_write;
     }
 
+pub returns-in_err-used-clause-err : goal.returns-in_err-used-clause-err
+returns-in_err-used-clause-err g c =
+    err-from c.from_residual.result _ (Pass c.in_err-used.field-0.0) c.from_residual.ensures.1 (inl (refl, inl c.in_err-used.ensures.err))
+
 pub returns-in_err-stack-clause-err : goal.returns-in_err-stack-clause-err
 returns-in_err-stack-clause-err g c =
-    err-from c.from_residual.result _ (Stack c.in_err-stack.field-0.0) c.from_residual.ensures.1 (inl (refl, c.in_err-stack.ensures.err))
+    err-from c.from_residual-in_err-stack.result _ (Stack c.in_err-stack.field-0.0) c.from_residual-in_err-stack.ensures.1
+    (inl (refl, inr (record { used = c.in_ok-used.used; first = c.use_map.new.images; map_used = c.in_ok-used.ensures.ok; fails = c.in_err-stack.ensures.err })))
 
 pub returns-clause-ok : goal.returns-clause-ok
 returns-clause-ok g c = on_ok_weaker c.report_scan.result (λ told. reports-more _ _ _ _ _ (λ before counts told passed. record {
@@ -34,7 +39,10 @@ returns-clause-ok g c = on_ok_weaker c.report_scan.result (λ told. reports-more
   out = _;
   out' = _;
   left = _;
+  used = c.in_ok-used.used;
+  first = c.use_map.new.images;
   between = c.open_source.new.images;
+  map_used = c.in_ok-used.ensures.ok;
   found = c.in_ok-stack.ensures.ok;
   passed = passed;
 }) told) c.report_scan.ensures.ok
@@ -46,7 +54,10 @@ returns-clause-err g c = IfErr-weaker c.report_scan.result _ _ (λ fault ends. i
       out = _;
       out' = _;
       left = _;
+      used = c.in_ok-used.used;
+      first = c.use_map.new.images;
       between = c.open_source.new.images;
+      map_used = c.in_ok-used.ensures.ok;
       found = c.in_ok-stack.ensures.ok;
       sure = refl;
       stops = stops;
@@ -56,7 +67,10 @@ returns-clause-err g c = IfErr-weaker c.report_scan.result _ _ (λ fault ends. i
       out = _;
       out' = _;
       left = _;
+      used = c.in_ok-used.used;
+      first = c.use_map.new.images;
       between = c.open_source.new.images;
+      map_used = c.in_ok-used.ensures.ok;
       found = c.in_ok-stack.ensures.ok;
       passed = passed;
     })

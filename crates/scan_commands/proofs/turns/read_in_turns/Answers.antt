@@ -1,4 +1,5 @@
-use Rattle.std.proofs.Common.{◌≡◌, ◌+◌, ◌≤◌, inl, refl, sym, ap, ◌∙◌, arith}
+use Rattle.std.proofs.Common.{◌≡◌, ◌+◌, ◌≤◌, true, length, replicate, inl, refl, sym, ap, ◌∙◌, arith}
+use Rattle.rescue_map.specs.Maps.{marks, settled_marks}
 use Rattle.stack_rules.specs.Names.{mapped, size}
 use Rattle.stack_rules.specs.Records.{Configuration}
 use Rattle.stack_rules.proofs.lemmas.PassingLemmas.{out_of_memory-more}
@@ -7,8 +8,9 @@ use Rattle.scan_commands.specs.declared.rescue_fault.PassFault.TheVariants.{NoMe
 use Rattle.stack_recovery.specs.PassPieces.{scanned}
 use Rattle.stack_recovery.specs.Recoveries.{sides}
 use Rattle.scan_commands.specs.MapFiles.{map_path_of}
-use Rattle.scan_commands.specs.Turns.{begins, goes_on, passes, made_map}
-use Rattle.scan_commands.proofs.TurnLemmas.{ends-as, err-from, turn-config, turn-out, whole-as}
+use Rattle.scan_commands.specs.Turns.{begins, goes_on, is_again, passes, made_map}
+use Rattle.scan_commands.proofs.SpanLemmas.{drop-more, settled-length, spliced-same}
+use Rattle.scan_commands.proofs.TurnLemmas.{ends-as, err-from, turn-config, turn-out, turned-wanted, whole-as}
 use Rattle.scan_commands.proofs.turns.read_in_turns.Goals.{then-is_had, else-is_had+in_ok-ended}
 use Rattle.scan_commands.proofs.turns.read_in_turns.Goals as goal
 
@@ -18,6 +20,7 @@ turns-init g c =
     record {
       turns = begins;
       map = c.requires.fits ∙ sym all;
+      wanted = c.in_ok-maps.ensures.done;
       within = omega arith;
       all = all;
       config = refl;
@@ -25,10 +28,25 @@ turns-init g c =
       allowed = c.requires.allowed;
     }
 
+pub pass_maps-requires : goal.pass_maps-requires
+pass_maps-requires g c = c.requires.fits ∙ sym (c.sectors-sectors.ensures ∙ ap (λ (x : Configuration). size x (mapped c.args.d.0)) c.config.ensures.value)
+
+pub asked-requires-clause-done : goal.asked-requires-clause-done
+asked-requires-clause-done g c =
+    let all = c.sectors-sectors.ensures ∙ ap (λ (x : Configuration). size x (mapped c.args.d.0)) c.config.ensures.value in
+    ap length c.in_ok-maps.ensures.done ∙ settled-length (is_again c.args.kept.phase) c.args.kept.map ∙ c.requires.fits ∙ sym all
+
+pub returns-in_err-maps-clause-err : goal.returns-in_err-maps-clause-err
+returns-in_err-maps-clause-err g c =
+    let all = c.sectors-sectors.ensures ∙ ap (λ (x : Configuration). size x (mapped c.args.d.0)) c.config.ensures.value in
+    err-from c.from_residual.result _ NoMemory c.from_residual.ensures.1
+    (ends-as g.I.Images.relations.replaces (map_path_of c.args.kept.file) c.args.kept.phase (scanned c.args.d.0 c.args.kept.no_scrape) c.sectors-sectors.result _ _ _ c.args.images.now
+    (sides c.args.stack.now (g.O.BlockDev.state c.args.out.now) (g.L.Listing.told c.args.listing.now)) NoMemory all begins (refl, refl, out_of_memory-more 1 largest_allocation (omega arith) c.in_err-maps.ensures.err, inl refl))
+
 pub returns-in_err-wanted-clause-err : goal.returns-in_err-wanted-clause-err
 returns-in_err-wanted-clause-err g c =
     let u = c.turns.invariant in
-    err-from c.from_residual.result _ NoMemory c.from_residual.ensures.1
+    err-from c.from_residual-in_err-wanted.result _ NoMemory c.from_residual-in_err-wanted.ensures.1
     (ends-as g.I.Images.relations.replaces (map_path_of c.args.kept.file) c.args.kept.phase (scanned c.args.d.0 c.args.kept.no_scrape) c.sectors-sectors.result _ _ _ c.turns.images
     (sides c.turns.stack (g.O.BlockDev.state c.turns.out) (g.L.Listing.told c.turns.listing)) NoMemory u.all u.turns (refl, refl, out_of_memory-more 1 largest_allocation (omega arith) c.in_err-wanted.ensures.err, inl refl))
 
@@ -55,11 +73,12 @@ turns-preserved g c =
             inside = more;
           };
           runs = c.in_ok-wanted.wanted;
-          asked = c.in_ok-wanted.ensures.ok;
+          asked = c.in_ok-wanted.ensures.ok ∙ spliced-same (record { first = c.turns.at; count = c.min-count.result }) (replicate c.sectors-sectors.result true) (marks c.in_ok-maps.maps.done) (settled_marks (is_again c.args.kept.phase) c.turns.map) u.wanted;
           none = sym c.is_had.ensures ∙ w.if-is_had.true;
           same = refl;
         });
         map = u.map;
+        wanted = drop-more c.turns.at c.min-count.result (marks c.in_ok-maps.maps.done) (settled_marks (is_again c.args.kept.phase) c.turns.map) u.wanted;
         within = more;
         all = u.all;
         config = u.config;
@@ -70,6 +89,7 @@ turns-preserved g c =
           rw (w.images-is, w.stack-is, w.out-is, w.listing-is, w.map-is, w.at-is, w.untried-is) (record {
             turns = goes_on u.turns t;
             map = w.in_ok-ended.ensures.sectors;
+            wanted = turned-wanted _ _ _ _ _ u.map u.wanted t;
             within = omega (arith, t.here, t.next.inside);
             all = u.all;
             config = turn-config _ _ _ _ t ∙ u.config;

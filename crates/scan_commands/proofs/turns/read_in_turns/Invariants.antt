@@ -1,10 +1,10 @@
-use Rattle.std.proofs.Common.{◌≡◌, ◌≤◌, ◌-◌, IsTrue, length}
-use Rattle.rescue_map.specs.Maps.{marks}
+use Rattle.std.proofs.Common.{◌≡◌, ◌≤◌, ◌-◌, IsTrue, drop, length}
+use Rattle.rescue_map.specs.Maps.{marks, settled_marks}
 use Rattle.stack_rules.specs.Names.{mapped, size}
 use Rattle.stack_recovery.specs.PassPieces.{scanned}
 use Rattle.stack_recovery.specs.Recoveries.{sides}
 use Rattle.scan_commands.specs.MapFiles.{map_path_of}
-use Rattle.scan_commands.specs.Turns.{Turns, kept, progressed}
+use Rattle.scan_commands.specs.Turns.{Turns, is_again, kept, progressed}
 use Rattle.scan_commands.proofs.turns.read_in_turns.Given as goal
 
 -- the turns so far, and what the next one needs
@@ -14,6 +14,7 @@ invariant-turns g l = record {
       (progressed l.fn.images (sides l.fn.stack (g.O.BlockDev.state l.fn.out) (g.L.Listing.told l.fn.listing)) l.fn.kept.map 0 0)
       (progressed l.images (sides l.stack (g.O.BlockDev.state l.out) (g.L.Listing.told l.listing)) l.map l.at l.untried);
   map : length (marks l.map) ≡ l.sectors;
+  wanted : drop l.at (marks l.maps.done) ≡ drop l.at (settled_marks (is_again l.fn.kept.phase) l.map);
   within : l.at ≤ l.sectors;
   all : l.sectors ≡ size l.fn.stack.config (mapped l.fn.d.0);
   config : l.stack.config ≡ l.fn.stack.config;

@@ -11,7 +11,7 @@ use Rattle.stack_recovery.specs.Recoveries.{Sides, sides}
 use Rattle.scan_commands.specs.declared.rescue_fault.PassFault.TheVariants.{NoMemory, Output}
 use Rattle.scan_commands.specs.MapFiles.{map_path_of, recovery_ending}
 use Rattle.scan_commands.specs.Turns.{ReadsSectors, is_again, kept, progressed}
-use Rattle.scan_commands.proofs.KnownLemmas.{settled-length, spliced-length}
+use Rattle.scan_commands.proofs.SpanLemmas.{settled-length, spliced-length}
 use Rattle.scan_commands.proofs.TurnLemmas.{err-from, failed-behind, reads-out, reads-unfailed, stops-reading, stops-unwritten}
 use Rattle.scan_commands.proofs.turns.take_turn.Goals as goal
 

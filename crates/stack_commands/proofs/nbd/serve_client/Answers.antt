@@ -52,8 +52,11 @@ returns-in_err-synced-clause-err g c =
     err-from c.from_residual-in_err-synced.result _ (Io c.in_err-synced.field-0.0) c.from_residual-in_err-synced.ensures.1
     (inr (inr (inl (
       c.serve_noted-outcome.new.log,
-      client-served _ c.open_loaded.new.images _ c.in_ok-stack.stack c.new-queue.result c.serve_noted-outcome.new.queue e _ c.serve_noted-outcome.new.log _ _
-          c.in_ok-stack.ensures.ok c.new-queue.ensures.value (subst (λ (x : Configuration). IsExport x e) at c.in-Some.ensures.some.0) named c.in_ok-outcome.ensures.served (rw c.into_stack.ensures at c.in_err-synced.ensures),
+      (
+        _,
+        client-served _ c.open_loaded.new.images _ c.in_ok-stack.stack c.new-queue.result c.serve_noted-outcome.new.queue e _ c.serve_noted-outcome.new.log _ _
+            c.in_ok-stack.ensures.ok c.new-queue.ensures.value (subst (λ (x : Configuration). IsExport x e) at c.in-Some.ensures.some.0) named c.in_ok-outcome.ensures.served (rw c.into_stack.ensures at c.in_err-synced.ensures),
+      ),
     ))))
 
 pub returns-then-tally-eq0-clause-ok : goal.returns-then-tally-eq0-clause-ok
@@ -63,8 +66,11 @@ returns-then-tally-eq0-clause-ok g c =
     let named = ap (λ (b : Bor (List ℕ)). b.now) c.in-Some.ensures.some.1 ∙ c.as_bytes.ensures.value in (
       c.serve_noted-outcome.new.log,
       c.if-tally-eq0.true,
-      client-served _ c.open_loaded.new.images _ c.in_ok-stack.stack c.new-queue.result c.serve_noted-outcome.new.queue e _ c.serve_noted-outcome.new.log _ _
-          c.in_ok-stack.ensures.ok c.new-queue.ensures.value (subst (λ (x : Configuration). IsExport x e) at c.in-Some.ensures.some.0) named c.in_ok-outcome.ensures.served (rw c.into_stack.ensures at c.in_ok-synced.ensures),
+      (
+        _,
+        client-served _ c.open_loaded.new.images _ c.in_ok-stack.stack c.new-queue.result c.serve_noted-outcome.new.queue e _ c.serve_noted-outcome.new.log _ _
+            c.in_ok-stack.ensures.ok c.new-queue.ensures.value (subst (λ (x : Configuration). IsExport x e) at c.in-Some.ensures.some.0) named c.in_ok-outcome.ensures.served (rw c.into_stack.ensures at c.in_ok-synced.ensures),
+      ),
     )
 
 pub returns-clause-err : goal.returns-clause-err
@@ -77,8 +83,11 @@ returns-clause-err g c =
       (
         c.serve_noted-outcome.new.log,
         refl,
-        client-served _ c.open_loaded.new.images _ c.in_ok-stack.stack c.new-queue.result c.serve_noted-outcome.new.queue e _ c.serve_noted-outcome.new.log _ _
-            c.in_ok-stack.ensures.ok c.new-queue.ensures.value (subst (λ (x : Configuration). IsExport x e) at c.in-Some.ensures.some.0) named c.in_ok-outcome.ensures.served (rw c.into_stack.ensures at c.in_ok-synced.ensures),
+        (
+          _,
+          client-served _ c.open_loaded.new.images _ c.in_ok-stack.stack c.new-queue.result c.serve_noted-outcome.new.queue e _ c.serve_noted-outcome.new.log _ _
+              c.in_ok-stack.ensures.ok c.new-queue.ensures.value (subst (λ (x : Configuration). IsExport x e) at c.in-Some.ensures.some.0) named c.in_ok-outcome.ensures.served (rw c.into_stack.ensures at c.in_ok-synced.ensures),
+        ),
       ),
     )))
 

@@ -67,8 +67,11 @@ returns-in_err-synced-clause-err g c =
     err-from c.from_residual-in_err-synced.result _ (Io c.in_err-synced.field-0.0) c.from_residual-in_err-synced.ensures.1
     (inr (inr (inl (
       c.serve_noted-outcome.new.log,
-      exports-served _ c.open_loaded.new.images _ _ c.in_ok-stack.stack c.new-queue.result c.serve_noted-outcome.new.queue names es _ c.serve_noted-outcome.new.log _ _
-          c.in_ok-stack.ensures.ok c.new-queue.ensures.value named offered c.in_ok-outcome.ensures.served (rw c.into_stack.ensures at c.in_err-synced.ensures),
+      (
+        _,
+        exports-served _ c.open_loaded.new.images _ _ c.in_ok-stack.stack c.new-queue.result c.serve_noted-outcome.new.queue names es _ c.serve_noted-outcome.new.log _ _
+            c.in_ok-stack.ensures.ok c.new-queue.ensures.value named offered c.in_ok-outcome.ensures.served (rw c.into_stack.ensures at c.in_err-synced.ensures),
+      ),
     ))))
 
 pub returns-then-tally-eq0-clause-ok : goal.returns-then-tally-eq0-clause-ok
@@ -82,8 +85,11 @@ returns-then-tally-eq0-clause-ok g c =
     let offered = subst (λ (x : Configuration). Offers x names es) at held in (
       c.serve_noted-outcome.new.log,
       c.if-tally-eq0.true,
-      exports-served _ c.open_loaded.new.images _ _ c.in_ok-stack.stack c.new-queue.result c.serve_noted-outcome.new.queue names es _ c.serve_noted-outcome.new.log _ _
-          c.in_ok-stack.ensures.ok c.new-queue.ensures.value named offered c.in_ok-outcome.ensures.served (rw c.into_stack.ensures at c.in_ok-synced.ensures),
+      (
+        _,
+        exports-served _ c.open_loaded.new.images _ _ c.in_ok-stack.stack c.new-queue.result c.serve_noted-outcome.new.queue names es _ c.serve_noted-outcome.new.log _ _
+            c.in_ok-stack.ensures.ok c.new-queue.ensures.value named offered c.in_ok-outcome.ensures.served (rw c.into_stack.ensures at c.in_ok-synced.ensures),
+      ),
     )
 
 pub returns-clause-err : goal.returns-clause-err
@@ -100,7 +106,10 @@ returns-clause-err g c =
       (
         c.serve_noted-outcome.new.log,
         refl,
-        exports-served _ c.open_loaded.new.images _ _ c.in_ok-stack.stack c.new-queue.result c.serve_noted-outcome.new.queue names es _ c.serve_noted-outcome.new.log _ _
-            c.in_ok-stack.ensures.ok c.new-queue.ensures.value named offered c.in_ok-outcome.ensures.served (rw c.into_stack.ensures at c.in_ok-synced.ensures),
+        (
+          _,
+          exports-served _ c.open_loaded.new.images _ _ c.in_ok-stack.stack c.new-queue.result c.serve_noted-outcome.new.queue names es _ c.serve_noted-outcome.new.log _ _
+              c.in_ok-stack.ensures.ok c.new-queue.ensures.value named offered c.in_ok-outcome.ensures.served (rw c.into_stack.ensures at c.in_ok-synced.ensures),
+        ),
       ),
     )))

@@ -32,11 +32,11 @@ returns-in_err-stack-clause-err g c =
 
 pub returns-in_err-image-clause-err : goal.returns-in_err-image-clause-err
 returns-in_err-image-clause-err g c =
-    let w = calls g.I.Images.relations g.I.Dev.BlockDev.state c.open_place.new.images c.open_output.new.images in
+    let w = calls g.I.Images.relations g.I.Dev.BlockDev.state c.open_place_apart.new.images c.open_output.new.images in
     let file = c.in_err-image.field-0.0 in
     err-from c.from_residual-in_err-image.result _ (Open file) c.from_residual-in_err-image.ensures.1
     (inr (record {
-      between = c.open_place.new.images;
+      between = c.open_place_apart.new.images;
       disk = c.in_ok-opened.opened;
       over = c.in_ok-over.over;
       found = device_place c.in_ok-stack.stack c.in_ok-stack.device.0;
@@ -44,19 +44,19 @@ returns-in_err-image-clause-err g c =
       opened = c.in_ok-opened.ensures.ok;
       is_stack = c.in_ok-over.ensures.ok;
       has = c.in_ok-stack.ensures.ok;
-      lacks = subst₂ (λ (n : ℕ) (file_use : FileUse). LacksOutput w (file_use ∷ []) c.args.disk.grow c.args.out.now n file) c.sectors-sectors.ensures.size c.place_use.ensures c.in_err-image.ensures.err;
+      lacks = subst₂ (λ (n : ℕ) (file_use : FileUse). LacksOutput w (file_use ∷ c.args.used ∷ []) c.args.disk.grow c.args.out.now n file) c.sectors-sectors.ensures.size c.place_use.ensures c.in_err-image.ensures.err;
       is = refl;
     }))
 
 pub returns-clause-ok : goal.returns-clause-ok
 returns-clause-ok g c =
-    let w = calls g.I.Images.relations g.I.Dev.BlockDev.state c.open_place.new.images c.open_output.new.images in
+    let w = calls g.I.Images.relations g.I.Dev.BlockDev.state c.open_place_apart.new.images c.open_output.new.images in
     record {
-      between = c.open_place.new.images;
+      between = c.open_place_apart.new.images;
       disk = c.in_ok-opened.opened;
       over = c.in_ok-over.over;
       opened = c.in_ok-opened.ensures.ok;
       is = c.in_ok-over.ensures.ok;
       has = c.in_ok-stack.ensures.ok;
-      output = subst₂ (λ (n : ℕ) (file_use : FileUse). OpensWithRoom w (file_use ∷ []) c.args.disk.grow c.args.out.now n c.in_ok-image.image) c.sectors-sectors.ensures.size c.place_use.ensures c.in_ok-image.ensures.ok;
+      output = subst₂ (λ (n : ℕ) (file_use : FileUse). OpensWithRoom w (file_use ∷ c.args.used ∷ []) c.args.disk.grow c.args.out.now n c.in_ok-image.image) c.sectors-sectors.ensures.size c.place_use.ensures c.in_ok-image.ensures.ok;
     }

@@ -1,4 +1,4 @@
-use Rattle.std.proofs.Common.{inl, inr, refl, ap, map, sym, subst, ◌∙◌}
+use Rattle.std.proofs.Common.{inl, inr, refl, ap, map, ◌∙◌}
 use Rattle.stack_engine.specs.Pieces.{stack_over}
 use Rattle.stack_rules.specs.Records.{Configuration}
 use Rattle.stack_files.specs.declared.stack_fault.StackFault.TheVariants.{Leaves}

@@ -1,4 +1,4 @@
-use Rattle.std.proofs.Common.{ℕ, Bool, List, Ok, Err, inl, subst}
+use Rattle.std.proofs.Common.{ℕ, Bool, List, inl, subst}
 use Rattle.std.proofs.lemmas.Result.{err_from_is_err_and}
 use Rattle.block_device.specs.Call.{DeviceDoes}
 use Rattle.stack_recovery.specs.LeafReads.{CopiesLeaves, EndsCopying}

@@ -1,13 +1,12 @@
-use Rattle.std.proofs.Common.{◌≡◌, ◌≤◌, ◌<◌, ℕ, suc, ◌+◌, IsTrue, length, inl, inr, refl, sym, ap, ◌∙◌, subst, arith}
+use Rattle.std.proofs.Common.{◌≤◌, ◌<◌, ℕ, IsTrue, length, sym, subst, arith}
 use Rattle.std.proofs.lemmas.Result.{err_from_is_err_and}
 use Rattle.block_device.specs.Call.{DeviceDoes}
-use Rattle.block_device.specs.Device.{Device}
 use Rattle.rescue_map.specs.Maps.{marks}
 use Rattle.stack_rules.specs.Names.{mapped, size}
 use Rattle.stack_rules.specs.Records.{Configuration}
 use Rattle.stack_recovery.specs.LeafReads.{no_pass, one_pass}
 use Rattle.stack_recovery.specs.Recoveries.{counted_sectors}
-use Rattle.stack_recovery.specs.Retries.{AfterPass, IsSilentHanding, IsSilentPass, after_pass, no_step, retried_by, scan_of}
+use Rattle.stack_recovery.specs.Retries.{IsSilentHanding, IsSilentPass, after_pass, no_step, retried_by, scan_of}
 use Rattle.stack_recovery.proofs.LeafReadLemmas.{passes-end}
 use Rattle.stack_recovery.proofs.RetryLemmas.{counted-whole, goes-whole, silent-handing, silent-part, steps-kept}
 use Rattle.stack_recovery.proofs.lemmas.StepLemmas.{more-steps}

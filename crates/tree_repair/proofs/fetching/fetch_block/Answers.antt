@@ -1,9 +1,9 @@
 use Rattle.std.proofs.Common.{refl, ◌∙◌}
-use Rattle.tree_repair.proofs.MoveLemmas.{lines-none}
-use Rattle.tree_repair.proofs.RunLemmas.{can-read, has-behind, has-none, has-read}
+use Rattle.std.proofs.lemmas.Result.{IfOk-weaker}
+use Rattle.tree_repair.proofs.MoveLemmas.{copies-behind, copies-read}
+use Rattle.tree_repair.proofs.RunLemmas.{can-read, has-behind, has-none, has-read, world-none}
 use Rattle.block_device.specs.Call.{DeviceDoes}
 use Rattle.tree_repair.specs.Jobs.{job}
-use Rattle.tree_repair.specs.Moves.{fetched_line}
 use Rattle.tree_repair.proofs.RepairCallLemmas.{hash-both}
 use Rattle.tree_repair.proofs.RunCallLemmas.{hands-behind, hands-none, hands-read}
 use Rattle.tree_repair.proofs.fetching.fetch_block.Goals as goal
@@ -12,7 +12,7 @@ pub returns-then-not-is_place-clause-run : goal.returns-then-not-is_place-clause
 returns-then-not-is_place-clause-run g c = has-none
 
 pub returns-then-not-is_place-clause-said : goal.returns-then-not-is_place-clause-said
-returns-then-not-is_place-clause-said g c = lines-none (fetched_line (job c.args.repair.now)) (g.W.Write.contents c.args.writer.now.inner)
+returns-then-not-is_place-clause-said g c = copies-read (world-none c.args.image.now.world)
 
 pub reach-requires-clause-place : goal.reach-requires-clause-place
 reach-requires-clause-place g c = c.is_place.ensures.some c.if-not-is_place.false
@@ -21,7 +21,7 @@ pub returns-then-not-reach-clause-run : goal.returns-then-not-reach-clause-run
 returns-then-not-reach-clause-run g c = has-read c.reach.ensures.read
 
 pub returns-then-not-reach-clause-said : goal.returns-then-not-reach-clause-said
-returns-then-not-reach-clause-said g c = lines-none (fetched_line (job c.args.repair.now)) (g.W.Write.contents c.args.writer.now.inner)
+returns-then-not-reach-clause-said g c = copies-read c.reach.ensures.read
 
 pub put_fetched-requires-clause-can : goal.put_fetched-requires-clause-can
 put_fetched-requires-clause-can g c = can-read c.reach.ensures.read c.requires.can
@@ -36,7 +36,7 @@ pub returns-clause-run : goal.returns-clause-run
 returns-clause-run g c = has-behind c.reach.ensures.read c.put_fetched.ensures.run
 
 pub returns-clause-said : goal.returns-clause-said
-returns-clause-said g c = c.put_fetched.ensures.said
+returns-clause-said g c = IfOk-weaker c.put_fetched.result _ _ (λ count copies. copies-behind c.reach.ensures.read copies) c.put_fetched.ensures.said
 
 pub returns-then-not-is_place-clause-handed : goal.returns-then-not-is_place-clause-handed
 returns-then-not-is_place-clause-handed g c =

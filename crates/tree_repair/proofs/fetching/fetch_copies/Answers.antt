@@ -2,19 +2,18 @@ use Rattle.std.proofs.Common.{true, ◌+◌}
 use Rattle.block_device.specs.Call.{DeviceDoes}
 use Rattle.tree_repair.specs.CopyReads.{copy_block}
 use Rattle.tree_repair.specs.Jobs.{job}
-use Rattle.tree_repair.specs.Moves.{fetched_line}
 use Rattle.tree_repair.proofs.CopyReadLemmas.{reads-none, reads-then}
-use Rattle.tree_repair.proofs.MoveLemmas.{lines-none, lines-then}
+use Rattle.tree_repair.proofs.MoveLemmas.{fetches-read, fetches-then}
 use Rattle.tree_repair.proofs.OutcomeLemmas.{on_ok-from}
 use Rattle.tree_repair.proofs.RunCallLemmas.{hands-ended, hands-none, hands-then}
-use Rattle.tree_repair.proofs.RunLemmas.{can-later, ended-from, has-none, has-then}
+use Rattle.tree_repair.proofs.RunLemmas.{can-later, ended-from, has-none, has-then, world-none}
 use Rattle.tree_repair.proofs.fetching.fetch_copies.Goals as goal
 
 pub copies-init : goal.copies-init
 copies-init g c = record {
   run = has-none;
   handed = hands-none (DeviceDoes g.D.BlockDev.state g.D.BlockDev.does) (DeviceDoes g.H.BlockDev.state g.H.BlockDev.does) (job c.args.repair.now) c.args.image.now;
-  said = lines-none (fetched_line (job c.args.repair.now)) (g.W.Write.contents c.args.writer.now.inner);
+  said = fetches-read (job c.args.repair.now) (world-none c.args.image.now.world);
   reads = reads-none (job c.args.repair.now) (copy_block 0 0) c.args.image.now.world;
 }
 
@@ -25,7 +24,7 @@ pub copies-preserved : goal.copies-preserved
 copies-preserved g c = record {
   run = has-then c.copies.invariant.run c.in_ok-fetch_each.ensures.run;
   handed = hands-then (DeviceDoes g.D.BlockDev.state g.D.BlockDev.does) (DeviceDoes g.H.BlockDev.state g.H.BlockDev.does) (job c.args.repair.now) true c.args.image.now c.copies.image c.fetch_each.new.image c.copies.invariant.handed c.in_ok-fetch_each.ensures.handed;
-  said = lines-then (fetched_line (job c.args.repair.now)) (g.W.Write.contents c.args.writer.now.inner) (g.W.Write.contents c.copies.writer.inner) (g.W.Write.contents c.fetch_each.new.writer.inner) c.copies.invariant.said c.in_ok-fetch_each.ensures.said;
+  said = fetches-then (job c.args.repair.now) c.copies.invariant.said c.in_ok-fetch_each.ensures.said;
   reads = reads-then (job c.args.repair.now) (copy_block 0 0) (copy_block c.copies.copy 0) (copy_block (c.copies.copy + 1) 0) c.args.image.now.world c.copies.image.world c.fetch_each.new.image.world c.copies.invariant.reads c.in_ok-fetch_each.ensures.reads;
 }
 

@@ -3,9 +3,8 @@ use Rattle.std.proofs.lemmas.List.{length-replicate}
 use Rattle.block_device.specs.Call.{DeviceDoes}
 use Rattle.tree_repair.specs.CopyReads.{copy_block, copy_read}
 use Rattle.tree_repair.specs.Jobs.{job}
-use Rattle.tree_repair.specs.Moves.{fetched_line}
 use Rattle.tree_repair.proofs.CopyReadLemmas.{leaves-none, leaves-read, reads-end, reads-none, reads-run, reads-then}
-use Rattle.tree_repair.proofs.MoveLemmas.{lines-none, lines-then}
+use Rattle.tree_repair.proofs.MoveLemmas.{fetches-behind, fetches-read, fetches-then}
 use Rattle.tree_repair.proofs.OutcomeLemmas.{on_ok-from}
 use Rattle.tree_repair.proofs.ParityLemmas.{size-block}
 use Rattle.tree_repair.proofs.RunCallLemmas.{hands-behind, hands-ended, hands-none, hands-read, hands-then}
@@ -41,7 +40,7 @@ runs-init g c = record {
   tree = c.in_ok-last_path.ensures.ok;
   run = has-none;
   handed = hands-none (DeviceDoes g.D.BlockDev.state g.D.BlockDev.does) (DeviceDoes g.H.BlockDev.state g.H.BlockDev.does) (job c.args.repair.now) c.args.image.now;
-  said = lines-none (fetched_line (job c.args.repair.now)) (g.W.Write.contents c.args.writer.now.inner);
+  said = fetches-read (job c.args.repair.now) (world-none c.args.image.now.world);
   reads = reads-none (job c.args.repair.now) (copy_block c.args.copy 0) c.args.image.now.world;
 }
 
@@ -61,7 +60,7 @@ runs-preserved g c = record {
   run = has-then c.runs.invariant.run (has-behind c.next_run.ensures.read c.in_ok-fetch_run.ensures.run);
   handed = hands-then (DeviceDoes g.D.BlockDev.state g.D.BlockDev.does) (DeviceDoes g.H.BlockDev.state g.H.BlockDev.does) (job c.args.repair.now) true c.args.image.now c.runs.image c.fetch_run.new.image c.runs.invariant.handed
       (hands-behind (DeviceDoes g.D.BlockDev.state g.D.BlockDev.does) (DeviceDoes g.H.BlockDev.state g.H.BlockDev.does) (job c.args.repair.now) true c.runs.image c.next_run.new.image c.fetch_run.new.image c.next_run.ensures.called c.in_ok-fetch_run.ensures.handed);
-  said = lines-then (fetched_line (job c.args.repair.now)) (g.W.Write.contents c.args.writer.now.inner) (g.W.Write.contents c.runs.writer.inner) (g.W.Write.contents c.fetch_run.new.writer.inner) c.runs.invariant.said c.in_ok-fetch_run.ensures.said;
+  said = fetches-then (job c.args.repair.now) c.runs.invariant.said (fetches-behind (job c.args.repair.now) c.next_run.ensures.read c.in_ok-fetch_run.ensures.said);
   reads = let j = job c.args.repair.now in
       let r = copy_read c.args.copy c.in-Some.run'.first c.in-Some.run'.end in
       reads-then j (copy_block c.args.copy 0) (copy_block c.args.copy c.runs.next) (copy_block c.args.copy c.in-Some.run'.end) c.args.image.now.world c.runs.image.world c.fetch_run.new.image.world c.runs.invariant.reads
@@ -73,7 +72,7 @@ pub returns-in_default-clause-run : goal.returns-in_default-clause-run
 returns-in_default-clause-run g c = has-then c.runs.invariant.run (has-read c.next_run.ensures.read)
 
 pub returns-in_default-clause-said : goal.returns-in_default-clause-said
-returns-in_default-clause-said g c = c.runs.invariant.said
+returns-in_default-clause-said g c = fetches-then (job c.args.repair.now) c.runs.invariant.said (fetches-read (job c.args.repair.now) c.next_run.ensures.read)
 
 pub returns-in_default-clause-handed : goal.returns-in_default-clause-handed
 returns-in_default-clause-handed g c =

@@ -3,9 +3,8 @@ use Rattle.std.proofs.lemmas.List.{length-take}
 use Rattle.block_device.specs.Call.{DeviceDoes}
 use Rattle.tree_repair.specs.CopyReads.{ReadsCopyOnce, copy_read}
 use Rattle.tree_repair.specs.Jobs.{job}
-use Rattle.tree_repair.specs.Moves.{fetched_line}
 use Rattle.tree_repair.proofs.CopyReadLemmas.{at-sector, leaves-run, once-read, once-then}
-use Rattle.tree_repair.proofs.MoveLemmas.{lines-none, lines-then}
+use Rattle.tree_repair.proofs.MoveLemmas.{fetches-read, fetches-then}
 use Rattle.tree_repair.proofs.OutcomeLemmas.{on_ok-from}
 use Rattle.tree_repair.proofs.RunCallLemmas.{hands-ended, hands-read, hands-then}
 use Rattle.tree_repair.proofs.RunLemmas.{can-later, ended-from, has-read, has-then}
@@ -15,7 +14,7 @@ pub returns-then-not-read_from_copy-clause-run : goal.returns-then-not-read_from
 returns-then-not-read_from_copy-clause-run g c = has-read c.read_from_copy.ensures.read
 
 pub returns-then-not-read_from_copy-clause-said : goal.returns-then-not-read_from_copy-clause-said
-returns-then-not-read_from_copy-clause-said g c = lines-none (fetched_line (job c.args.repair.now)) (g.W.Write.contents c.args.writer.now.inner)
+returns-then-not-read_from_copy-clause-said g c = fetches-read (job c.args.repair.now) c.read_from_copy.ensures.read
 
 pub returns-then-not-read_from_copy-clause-handed : goal.returns-then-not-read_from_copy-clause-handed
 returns-then-not-read_from_copy-clause-handed g c =
@@ -26,7 +25,7 @@ each-init g c = record {
   tree = c.requires.tree;
   run = has-read c.read_from_copy.ensures.read;
   handed = hands-read (DeviceDoes g.D.BlockDev.state g.D.BlockDev.does) (DeviceDoes g.H.BlockDev.state g.H.BlockDev.does) (job c.args.repair.now) c.args.image.now c.read_from_copy.new.image c.read_from_copy.ensures.called;
-  said = lines-none (fetched_line (job c.args.repair.now)) (g.W.Write.contents c.args.writer.now.inner);
+  said = fetches-read (job c.args.repair.now) c.read_from_copy.ensures.read;
   once =
       let r = copy_read c.args.fetch.now.copy c.args.fetch.now.run.first c.args.fetch.now.run.end in
       once-read (job c.args.repair.now) r c.read_from_copy.new.bytes c.args.image.now.world c.read_from_copy.new.image.world c.read_from_copy.ensures.read (grind (arith, c.read_from_copy.auto.bytes, length-take c.min-len.result c.args.memory.now, c.block_size-size.ensures))
@@ -41,7 +40,7 @@ each-preserved g c = record {
   tree = c.fetch_block.ensures.tree;
   run = has-then c.each.invariant.run c.in_ok-fetch_block.ensures.run;
   handed = hands-then (DeviceDoes g.D.BlockDev.state g.D.BlockDev.does) (DeviceDoes g.H.BlockDev.state g.H.BlockDev.does) (job c.args.repair.now) true c.args.image.now c.each.image c.fetch_block.new.image c.each.invariant.handed c.in_ok-fetch_block.ensures.handed;
-  said = lines-then (fetched_line (job c.args.repair.now)) (g.W.Write.contents c.args.writer.now.inner) (g.W.Write.contents c.each.writer.inner) (g.W.Write.contents c.fetch_block.new.writer.inner) c.each.invariant.said c.in_ok-fetch_block.ensures.said;
+  said = fetches-then (job c.args.repair.now) c.each.invariant.said (_, c.in_ok-fetch_block.ensures.said);
   once = once-then (job c.args.repair.now) (copy_read c.args.fetch.now.copy c.args.fetch.now.run.first c.args.fetch.now.run.end) c.args.image.now.world c.each.image.world c.fetch_block.new.image.world c.each.invariant.once
       (leaves-run (job c.args.repair.now) c.each.image.world c.fetch_block.new.image.world c.in_ok-fetch_block.ensures.run c.fetch_block.ensures.kept);
 }

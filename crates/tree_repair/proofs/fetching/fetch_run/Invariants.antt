@@ -2,7 +2,7 @@ use Rattle.std.proofs.Common.{None, true}
 use Rattle.block_device.specs.Call.{DeviceDoes}
 use Rattle.tree_repair.specs.CopyReads.{ReadsRunOnce, copy_read}
 use Rattle.tree_repair.specs.Jobs.{job}
-use Rattle.tree_repair.specs.Moves.{TellsFetches}
+use Rattle.tree_repair.specs.Moves.{FetchesBlocks}
 use Rattle.tree_repair.specs.ParitySearches.{IsOfTree}
 use Rattle.tree_repair.specs.RunCalls.{MakesRepair}
 use Rattle.tree_repair.specs.Runs.{HasRun}
@@ -14,6 +14,6 @@ invariant-each g l = record {
   tree : IsOfTree (job l.fn.repair).tree l.last_path.path;
   run : HasRun (job l.fn.repair) l.fn.image.world l.image.world None None None;
   handed : MakesRepair (DeviceDoes g.D.BlockDev.state g.D.BlockDev.does) (DeviceDoes g.H.BlockDev.state g.H.BlockDev.does) (job l.fn.repair) true l.fn.image l.image;
-  said : TellsFetches (job l.fn.repair) (g.W.Write.contents l.fn.writer.inner) (g.W.Write.contents l.writer.inner);
+  said : FetchesBlocks (job l.fn.repair) l.fn.image.world l.image.world (g.W.Write.contents l.fn.writer.inner) (g.W.Write.contents l.writer.inner);
   once : ReadsRunOnce (job l.fn.repair) (copy_read l.fn.fetch.copy l.fn.fetch.run.first l.fn.fetch.run.end) l.fn.image.world l.image.world;
 }

@@ -1,11 +1,10 @@
 use Rattle.block_device.specs.Call.{DeviceDoes}
 use Rattle.tree_repair.specs.CopyReads.{copy_block}
 use Rattle.tree_repair.specs.Jobs.{job}
-use Rattle.tree_repair.specs.Moves.{fetched_line}
 use Rattle.tree_repair.proofs.CopyReadLemmas.{reads-none}
-use Rattle.tree_repair.proofs.MoveLemmas.{lines-none}
+use Rattle.tree_repair.proofs.MoveLemmas.{fetches-read}
 use Rattle.tree_repair.proofs.RunCallLemmas.{hands-none}
-use Rattle.tree_repair.proofs.RunLemmas.{has-none}
+use Rattle.tree_repair.proofs.RunLemmas.{has-none, world-none}
 use Rattle.tree_repair.proofs.fetching.fetch_runs.Goals as goal
 
 pub returns-in-Ok-clause-run : goal.returns-in-Ok-clause-run
@@ -21,7 +20,7 @@ pub returns-in-Err-clause-run : goal.returns-in-Err-clause-run
 returns-in-Err-clause-run g c = has-none
 
 pub returns-in-Err-clause-said : goal.returns-in-Err-clause-said
-returns-in-Err-clause-said g c = lines-none (fetched_line (job c.args.repair.now)) (g.W.Write.contents c.args.writer.now.inner)
+returns-in-Err-clause-said g c = fetches-read (job c.args.repair.now) (world-none c.args.image.now.world)
 
 pub returns-in-Err-clause-handed : goal.returns-in-Err-clause-handed
 returns-in-Err-clause-handed g c =

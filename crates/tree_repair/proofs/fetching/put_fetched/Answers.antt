@@ -3,10 +3,8 @@ use Rattle.std.proofs.lemmas.List.{length-replicate}
 use Rattle.tree_shape.specs.Shape.{levels}
 use Rattle.block_device.specs.Call.{DeviceDoes}
 use Rattle.tree_repair.specs.Jobs.{job}
-use Rattle.tree_repair.specs.Moves.{fetched_line}
-use Rattle.tree_repair.proofs.MoveLemmas.{fetched-one, lines-none}
-use Rattle.tree_repair.proofs.OutcomeLemmas.{on_ok-from}
-use Rattle.tree_repair.proofs.ParityLemmas.{size-block}
+use Rattle.tree_repair.proofs.MoveLemmas.{copies-one, copies-read}
+use Rattle.tree_repair.proofs.ParityLemmas.{if_ok-from, size-block}
 use Rattle.tree_repair.proofs.RunCallLemmas.{hands-ended, hands-none, hands-visit, visit-restored}
 use Rattle.tree_repair.proofs.RunLemmas.{ended-from, ends-read, ends-unsaid, ends-unwritten, has-none, has-one, has-read, refused-within, world-none}
 use Rattle.tree_repair.proofs.fetching.put_fetched.Goals as goal
@@ -15,7 +13,7 @@ pub returns-in_err-made-clause-run : goal.returns-in_err-made-clause-run
 returns-in_err-made-clause-run g c = ended-from c.from_residual.result c.from_residual.ensures.1 (ends-read (world-none c.args.image.now.world) (refused-within c.block_size-size.result (omega (arith, c.block_size-size.ensures, (size-block c.args.missing.now.repair.now.shape c.args.missing.now.place.height c.requires.can.valid).most)) c.in_err-made.ensures.err.1))
 
 pub returns-in_err-made-clause-said : goal.returns-in_err-made-clause-said
-returns-in_err-made-clause-said g c = on_ok-from c.from_residual.result _ _ c.from_residual.ensures.1
+returns-in_err-made-clause-said g c = if_ok-from c.from_residual.result _ _ c.from_residual.ensures.1
 
 pub returns-in_err-made-clause-handed : goal.returns-in_err-made-clause-handed
 returns-in_err-made-clause-handed g c =
@@ -27,7 +25,7 @@ pub returns-in_err-read-clause-run : goal.returns-in_err-read-clause-run
 returns-in_err-read-clause-run g c = ended-from c.from_residual-in_err-read.result c.from_residual-in_err-read.ensures.1 (ends-read (world-none c.args.image.now.world) (refused-within c.block_size-size.result (omega (arith, c.block_size-size.ensures, (size-block c.args.missing.now.repair.now.shape c.args.missing.now.place.height c.requires.can.valid).most)) c.in_err-read.ensures.err.1))
 
 pub returns-in_err-read-clause-said : goal.returns-in_err-read-clause-said
-returns-in_err-read-clause-said g c = on_ok-from c.from_residual-in_err-read.result _ _ c.from_residual-in_err-read.ensures.1
+returns-in_err-read-clause-said g c = if_ok-from c.from_residual-in_err-read.result _ _ c.from_residual-in_err-read.ensures.1
 
 pub returns-in_err-read-clause-handed : goal.returns-in_err-read-clause-handed
 returns-in_err-read-clause-handed g c =
@@ -42,7 +40,7 @@ pub returns-then-not-has_digest-clause-run : goal.returns-then-not-has_digest-cl
 returns-then-not-has_digest-clause-run g c = has-none
 
 pub returns-then-not-has_digest-clause-said : goal.returns-then-not-has_digest-clause-said
-returns-then-not-has_digest-clause-said g c = lines-none (fetched_line (job c.args.missing.now.repair.now)) (g.W.Write.contents c.args.writer.now.inner)
+returns-then-not-has_digest-clause-said g c = copies-read (world-none c.args.image.now.world)
 
 pub returns-then-not-has_digest-clause-handed : goal.returns-then-not-has_digest-clause-handed
 returns-then-not-has_digest-clause-handed g c =
@@ -65,13 +63,13 @@ pub returns-in_err-back-clause-run : goal.returns-in_err-back-clause-run
 returns-in_err-back-clause-run g c = ended-from c.from_residual-in_err-back.result c.from_residual-in_err-back.ensures.1 (ends-unwritten c.in_err-back.ensures.err tt refl)
 
 pub returns-in_err-back-clause-said : goal.returns-in_err-back-clause-said
-returns-in_err-back-clause-said g c = on_ok-from c.from_residual-in_err-back.result _ _ c.from_residual-in_err-back.ensures.1
+returns-in_err-back-clause-said g c = if_ok-from c.from_residual-in_err-back.result _ _ c.from_residual-in_err-back.ensures.1
 
 pub returns-then-not-back-clause-run : goal.returns-then-not-back-clause-run
 returns-then-not-back-clause-run g c = has-read (rw c.if-not-back.true at c.in_ok-back.ensures.ok).0
 
 pub returns-then-not-back-clause-said : goal.returns-then-not-back-clause-said
-returns-then-not-back-clause-said g c = lines-none (fetched_line (job c.args.missing.now.repair.now)) (g.W.Write.contents c.args.writer.now.inner)
+returns-then-not-back-clause-said g c = copies-read (rw c.if-not-back.true at c.in_ok-back.ensures.ok).0
 
 pub say_mended-requires : goal.say_mended-requires
 say_mended-requires g c = c.requires.place.inside
@@ -81,14 +79,13 @@ returns-in_err-say_mended-clause-run g c =
     ended-from c.from_residual-in_err-say_mended.result c.from_residual-in_err-say_mended.ensures.1 (ends-unsaid (rw c.if-not-back.false at c.in_ok-back.ensures.ok) refl)
 
 pub returns-in_err-say_mended-clause-said : goal.returns-in_err-say_mended-clause-said
-returns-in_err-say_mended-clause-said g c = on_ok-from c.from_residual-in_err-say_mended.result _ _ c.from_residual-in_err-say_mended.ensures.1
+returns-in_err-say_mended-clause-said g c = if_ok-from c.from_residual-in_err-say_mended.result _ _ c.from_residual-in_err-say_mended.ensures.1
 
 pub returns-clause-run : goal.returns-clause-run
 returns-clause-run g c = has-one (rw c.if-not-back.false at c.in_ok-back.ensures.ok) refl tt
 
 pub returns-clause-said : goal.returns-clause-said
-returns-clause-said g c =
-    fetched-one (job c.args.missing.now.repair.now) (g.W.Write.contents c.args.writer.now.inner) (g.W.Write.contents c.say_mended.new.writer.inner) c.args.missing.now.place.index c.saturating_add-number.result c.in_ok-say_mended.ensures.ok
+returns-clause-said g c = copies-one c.saturating_add-number.result c.requires.low (rw c.if-not-back.false at c.in_ok-back.ensures.ok) c.in_ok-say_mended.ensures.ok
 
 pub returns-in_err-back-clause-handed : goal.returns-in_err-back-clause-handed
 returns-in_err-back-clause-handed g c =

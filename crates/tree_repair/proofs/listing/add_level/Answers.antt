@@ -1,4 +1,4 @@
-use Rattle.std.proofs.Common.{◌≤◌, List, ℕ, ap, arith, length, ◌∙◌}
+use Rattle.std.proofs.Common.{List, ℕ, ap, arith, length, ◌∙◌}
 use Rattle.std.proofs.lemmas.List.{length-replicate}
 use Rattle.verity_format.proofs.lemmas.DeviceLemmas.{only_read-none, only_read-then}
 use Rattle.tree_repair.proofs.listing.add_level.Goals as goal

@@ -1,5 +1,4 @@
 use Rattle.std.proofs.Common.{refl}
-use Rattle.std.specs.Prelude.{true, false}
 use Rattle.tree_repair.proofs.mending.put.Goals as goal
 
 pub returns-then-not-write-clause-handed : goal.returns-then-not-write-clause-handed

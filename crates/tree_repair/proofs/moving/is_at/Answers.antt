@@ -1,4 +1,4 @@
-use Rattle.std.proofs.Common.{◌≤◌, ◌<◌, ◌^◌, ap, arith, map, refl, subst, ◌∙◌}
+use Rattle.std.proofs.Common.{ap, arith, map, refl, subst, ◌∙◌}
 use Rattle.tree_shape.specs.Shape.{levels}
 use Rattle.tree_repair.specs.Worlds.{IsWorldRead, RepairWorld, image_record, repair_world, world_of}
 use Rattle.tree_repair.proofs.ParityLemmas.{size-block}
@@ -50,3 +50,9 @@ returns-clause-called g c =
     let b = image_record (repair_world (g.D.BlockDev.state c.has.new.device) w.hash_dev w.data_copies w.hash_copies) c.has.new.device i.hash in
     subst (λ x. ReadsBoth asks does x b) c.image.view_is
     (data-both asks does a b (c.has.ensures.called, refl))
+
+pub returns-then-is_far-clause-kept : goal.returns-then-is_far-clause-kept
+returns-then-is_far-clause-kept g c = refl
+
+pub returns-clause-kept : goal.returns-clause-kept
+returns-clause-kept g c = ap (λ i. (world_of i).data_copies) c.image.view_is

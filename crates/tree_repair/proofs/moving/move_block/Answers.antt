@@ -1,8 +1,8 @@
-use Rattle.std.proofs.Common.{◌≤◌, ap, arith}
+use Rattle.std.proofs.Common.{ap, arith, refl, ◌∙◌}
 use Rattle.tree_shape.specs.Shape.{levels}
-use Rattle.tree_repair.specs.Moves.{move_line}
-use Rattle.tree_repair.proofs.MoveLemmas.{lines-none}
-use Rattle.tree_repair.proofs.RunLemmas.{can-read, has-behind, has-none, has-read}
+use Rattle.std.proofs.lemmas.Result.{IfOk-weaker}
+use Rattle.tree_repair.proofs.MoveLemmas.{copies-behind, copies-read}
+use Rattle.tree_repair.proofs.RunLemmas.{can-read, has-behind, has-none, has-read, world-none}
 use Rattle.block_device.specs.Call.{DeviceDoes}
 use Rattle.tree_repair.specs.Jobs.{job}
 use Rattle.tree_repair.proofs.RepairCallLemmas.{hash-both}
@@ -13,7 +13,7 @@ pub returns-then-not-is_place-clause-run : goal.returns-then-not-is_place-clause
 returns-then-not-is_place-clause-run g c = has-none
 
 pub returns-then-not-is_place-clause-said : goal.returns-then-not-is_place-clause-said
-returns-then-not-is_place-clause-said g c = lines-none move_line (g.W.Write.contents c.args.writer.now.inner)
+returns-then-not-is_place-clause-said g c = copies-read (world-none c.args.image.now.world)
 
 pub reach-requires-clause-place : goal.reach-requires-clause-place
 reach-requires-clause-place g c = c.is_place.ensures.some c.if-not-is_place.false
@@ -22,7 +22,7 @@ pub returns-then-not-reach-clause-run : goal.returns-then-not-reach-clause-run
 returns-then-not-reach-clause-run g c = has-read c.reach.ensures.read
 
 pub returns-then-not-reach-clause-said : goal.returns-then-not-reach-clause-said
-returns-then-not-reach-clause-said g c = lines-none move_line (g.W.Write.contents c.args.writer.now.inner)
+returns-then-not-reach-clause-said g c = copies-read c.reach.ensures.read
 
 pub digest_at-digest-requires : goal.digest_at-digest-requires
 digest_at-digest-requires g c = let way = rw c.if-not-reach.false at c.reach.ensures.way in omega (arith, way.few, ap levels way.is.shape_is)
@@ -31,7 +31,7 @@ pub returns-in-None-clause-run : goal.returns-in-None-clause-run
 returns-in-None-clause-run g c = has-read c.reach.ensures.read
 
 pub returns-in-None-clause-said : goal.returns-in-None-clause-said
-returns-in-None-clause-said g c = lines-none move_line (g.W.Write.contents c.args.writer.now.inner)
+returns-in-None-clause-said g c = copies-read c.reach.ensures.read
 
 pub copy_from-requires-clause-can : goal.copy_from-requires-clause-can
 copy_from-requires-clause-can g c = can-read c.reach.ensures.read c.requires.can
@@ -46,7 +46,7 @@ pub returns-clause-run : goal.returns-clause-run
 returns-clause-run g c = has-behind c.reach.ensures.read c.copy_from.ensures.run
 
 pub returns-clause-said : goal.returns-clause-said
-returns-clause-said g c = c.copy_from.ensures.said
+returns-clause-said g c = IfOk-weaker c.copy_from.result _ _ (λ count copies. copies-behind c.reach.ensures.read copies) c.copy_from.ensures.said
 
 pub returns-then-not-is_place-clause-handed : goal.returns-then-not-is_place-clause-handed
 returns-then-not-is_place-clause-handed g c =
@@ -71,3 +71,15 @@ returns-clause-handed g c =
     let asks = DeviceDoes g.D.BlockDev.state g.D.BlockDev.does in
     let does = DeviceDoes g.H.BlockDev.state g.H.BlockDev.does in
     hands-behind asks does (job c.args.repair.now) _ c.args.image.now c.reach.new.image c.copy_from.new.image (hash-both asks does c.args.image.now c.reach.new.image c.reach.ensures.called) c.copy_from.ensures.handed
+
+pub returns-then-not-is_place-clause-kept : goal.returns-then-not-is_place-clause-kept
+returns-then-not-is_place-clause-kept g c = refl
+
+pub returns-then-not-reach-clause-kept : goal.returns-then-not-reach-clause-kept
+returns-then-not-reach-clause-kept g c = c.reach.ensures.kept
+
+pub returns-in-None-clause-kept : goal.returns-in-None-clause-kept
+returns-in-None-clause-kept g c = c.reach.ensures.kept
+
+pub returns-clause-kept : goal.returns-clause-kept
+returns-clause-kept g c = c.copy_from.ensures.kept ∙ c.reach.ensures.kept

@@ -1,8 +1,9 @@
 use Rattle.std.proofs.Common.{None, ap, inl, subst, true}
 use Rattle.tree_repair.specs.Jobs.{job}
 use Rattle.tree_repair.specs.Runs.{Job}
-use Rattle.tree_repair.specs.Moves.{fetched_line}
-use Rattle.tree_repair.proofs.MoveLemmas.{lines-then, moves-of, unheard}
+use Rattle.tree_repair.specs.AccessBudgets.{LeavesWorld, nothing_due, pass_over}
+use Rattle.tree_repair.proofs.BillLemmas.{one-pass}
+use Rattle.tree_repair.proofs.MoveLemmas.{moves-of, unheard}
 use Rattle.tree_repair.proofs.RepairLemmas.{can-begin, err-from, whole-err}
 use Rattle.tree_repair.proofs.RunLemmas.{can-later, ended-from, has-then}
 use Rattle.block_device.specs.Call.{DeviceDoes}
@@ -50,15 +51,15 @@ copy_from_seeds-requires-clause-can g c =
     (can-later c.in_ok-repair_heights.ensures.notes.run
     (can-begin c.args.plan.now true (job c.repair_of-repair.result) c.args.image.now.world c.repair_of-repair.ensures c.in_ok-check_room.ensures.ok c.requires.allowed c.requires.first))
 
-pub returns-in_err-copy_from_seeds-clause-err : goal.returns-in_err-copy_from_seeds-clause-err
-returns-in_err-copy_from_seeds-clause-err g c =
-    whole-err c.args.plan.now true (job c.repair_of-repair.result) c.args.image.now.world c.repair_of-repair.ensures c.in_ok-check_room.ensures.ok c.copy_from_seeds.new.image.world None None c.from_residual-in_err-copy_from_seeds.result
-    (ended-from c.from_residual-in_err-copy_from_seeds.result c.from_residual-in_err-copy_from_seeds.ensures.1
-    (has-then (unheard c.in_ok-repair_heights.ensures.notes.run) (has-then c.in_ok-moved.ensures.run c.in_err-copy_from_seeds.ensures.run)))
+pub returns-in_err-copied-clause-err : goal.returns-in_err-copied-clause-err
+returns-in_err-copied-clause-err g c =
+    whole-err c.args.plan.now true (job c.repair_of-repair.result) c.args.image.now.world c.repair_of-repair.ensures c.in_ok-check_room.ensures.ok c.copy_from_seeds.new.image.world None None c.from_residual-in_err-copied.result
+    (ended-from c.from_residual-in_err-copied.result c.from_residual-in_err-copied.ensures.1
+    (has-then (unheard c.in_ok-repair_heights.ensures.notes.run) (has-then c.in_ok-moved.ensures.run c.in_err-copied.ensures.run)))
 
 pub fetch_runs-requires-clause-can : goal.fetch_runs-requires-clause-can
 fetch_runs-requires-clause-can g c =
-    can-later (has-then c.in_ok-moved.ensures.run c.in_ok-copy_from_seeds.ensures.run)
+    can-later (has-then c.in_ok-moved.ensures.run c.in_ok-copied.ensures.run)
     (can-later c.in_ok-repair_heights.ensures.notes.run
     (can-begin c.args.plan.now true (job c.repair_of-repair.result) c.args.image.now.world c.repair_of-repair.ensures c.in_ok-check_room.ensures.ok c.requires.allowed c.requires.first))
 
@@ -66,18 +67,15 @@ pub returns-in_err-fetch_runs-clause-err : goal.returns-in_err-fetch_runs-clause
 returns-in_err-fetch_runs-clause-err g c =
     whole-err c.args.plan.now true (job c.repair_of-repair.result) c.args.image.now.world c.repair_of-repair.ensures c.in_ok-check_room.ensures.ok c.fetch_runs.new.image.world None None c.from_residual-in_err-fetch_runs.result
     (ended-from c.from_residual-in_err-fetch_runs.result c.from_residual-in_err-fetch_runs.ensures.1
-    (has-then (unheard c.in_ok-repair_heights.ensures.notes.run) (has-then (has-then c.in_ok-moved.ensures.run c.in_ok-copy_from_seeds.ensures.run) c.in_err-fetch_runs.ensures.run)))
+    (has-then (unheard c.in_ok-repair_heights.ensures.notes.run) (has-then (has-then c.in_ok-moved.ensures.run c.in_ok-copied.ensures.run) c.in_err-fetch_runs.ensures.run)))
 
 pub returns-clause-ok : goal.returns-clause-ok
 returns-clause-ok g c =
-    let j = job c.repair_of-repair.result in
-    let contents = g.W.Write.contents in
-    let settles = has-then c.in_ok-moved.ensures.run c.in_ok-copy_from_seeds.ensures.run in
-    moves-of c.args.plan.now j c.args.image.now.world c.repair_heights.new.image.world c.copy_from_seeds.new.image.world c.fetch_runs.new.image.world (contents c.args.writer.now.inner) (contents c.repair_heights.new.writer.inner)
-    (contents c.move_if_listed.new.writer.inner) (contents c.fetch_runs.new.writer.inner) c.repair_of-repair.ensures c.in_ok-check_room.ensures.ok c.in_ok-repair_heights.ensures.notes.run
-    (has-then settles c.in_ok-fetch_runs.ensures.run) c.in_ok-moved.ensures.said
-    (lines-then (fetched_line j) (contents c.move_if_listed.new.writer.inner) (contents c.copy_from_seeds.new.writer.inner) (contents c.fetch_runs.new.writer.inner) c.in_ok-copy_from_seeds.ensures.said c.in_ok-fetch_runs.ensures.said)
-    settles c.in_ok-fetch_runs.ensures.reads
+    moves-of c.args.plan.now (job c.repair_of-repair.result) c.repair_of-repair.ensures c.in_ok-check_room.ensures.ok c.in_ok-repair_heights.ensures.notes.run
+    (has-then (has-then c.in_ok-moved.ensures.run c.in_ok-copied.ensures.run) c.in_ok-fetch_runs.ensures.run) c.in_ok-moved.ensures.said c.in_ok-copied.ensures.said c.in_ok-fetch_runs.ensures.said
+    (one-pass c.args.plan.now.tree.shape c.args.image.now.world c.repair_heights.new.image.world
+    (subst (λ (j : Job). LeavesWorld (pass_over j.tree.shape) nothing_due c.args.image.now.world c.repair_heights.new.image.world) c.repair_of-repair.ensures c.repair_heights.ensures.asked))
+    c.move_if_listed.ensures.kept c.in_ok-copied.ensures.reads c.in_ok-fetch_runs.ensures.reads c.saturating_add.ensures
 
 pub returns-in_err-check_room-clause-handed : goal.returns-in_err-check_room-clause-handed
 returns-in_err-check_room-clause-handed g c =
@@ -110,17 +108,17 @@ returns-in_err-fetch_runs-clause-handed g c =
     (hands-then asks does (job c.repair_of-repair.result) _ c.args.image.now c.copy_from_seeds.new.image c.fetch_runs.new.image
     (hands-then asks does (job c.repair_of-repair.result) true c.args.image.now c.move_if_listed.new.image c.copy_from_seeds.new.image
     (hands-then asks does (job c.repair_of-repair.result) true c.args.image.now c.repair_heights.new.image c.move_if_listed.new.image c.in_ok-repair_heights.ensures.handed c.in_ok-moved.ensures.handed)
-    c.in_ok-copy_from_seeds.ensures.handed) c.in_err-fetch_runs.ensures.handed))
+    c.in_ok-copied.ensures.handed) c.in_err-fetch_runs.ensures.handed))
 
-pub returns-in_err-copy_from_seeds-clause-handed : goal.returns-in_err-copy_from_seeds-clause-handed
-returns-in_err-copy_from_seeds-clause-handed g c =
+pub returns-in_err-copied-clause-handed : goal.returns-in_err-copied-clause-handed
+returns-in_err-copied-clause-handed g c =
     let asks = DeviceDoes g.D.BlockDev.state g.D.BlockDev.does in
     let does = DeviceDoes g.H.BlockDev.state g.H.BlockDev.does in
-    subst (λ (k : Job). MakesRepair asks does k (wrote_all c.from_residual-in_err-copy_from_seeds.result) c.args.image.now c.copy_from_seeds.new.image) c.repair_of-repair.ensures
-    (hands-ended asks does (job c.repair_of-repair.result) c.args.image.now c.copy_from_seeds.new.image c.from_residual-in_err-copy_from_seeds.result _ c.from_residual-in_err-copy_from_seeds.ensures.1
+    subst (λ (k : Job). MakesRepair asks does k (wrote_all c.from_residual-in_err-copied.result) c.args.image.now c.copy_from_seeds.new.image) c.repair_of-repair.ensures
+    (hands-ended asks does (job c.repair_of-repair.result) c.args.image.now c.copy_from_seeds.new.image c.from_residual-in_err-copied.result _ c.from_residual-in_err-copied.ensures.1
     (hands-then asks does (job c.repair_of-repair.result) _ c.args.image.now c.move_if_listed.new.image c.copy_from_seeds.new.image
     (hands-then asks does (job c.repair_of-repair.result) true c.args.image.now c.repair_heights.new.image c.move_if_listed.new.image c.in_ok-repair_heights.ensures.handed c.in_ok-moved.ensures.handed)
-    c.in_err-copy_from_seeds.ensures.handed))
+    c.in_err-copied.ensures.handed))
 
 pub returns-clause-handed : goal.returns-clause-handed
 returns-clause-handed g c =
@@ -130,4 +128,4 @@ returns-clause-handed g c =
     (hands-then asks does (job c.repair_of-repair.result) true c.args.image.now c.copy_from_seeds.new.image c.fetch_runs.new.image
     (hands-then asks does (job c.repair_of-repair.result) true c.args.image.now c.move_if_listed.new.image c.copy_from_seeds.new.image
     (hands-then asks does (job c.repair_of-repair.result) true c.args.image.now c.repair_heights.new.image c.move_if_listed.new.image c.in_ok-repair_heights.ensures.handed c.in_ok-moved.ensures.handed)
-    c.in_ok-copy_from_seeds.ensures.handed) c.in_ok-fetch_runs.ensures.handed)
+    c.in_ok-copied.ensures.handed) c.in_ok-fetch_runs.ensures.handed)

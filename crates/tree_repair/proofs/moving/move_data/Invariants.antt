@@ -1,7 +1,7 @@
-use Rattle.std.proofs.Common.{None, true}
+use Rattle.std.proofs.Common.{◌≡◌, None, true}
 use Rattle.block_device.specs.Call.{DeviceDoes}
 use Rattle.tree_repair.specs.Jobs.{job}
-use Rattle.tree_repair.specs.Moves.{TellsMoves}
+use Rattle.tree_repair.specs.Moves.{CopiesBlocks, moved_line}
 use Rattle.tree_repair.specs.ParitySearches.{IsOfTree}
 use Rattle.tree_repair.specs.RunCalls.{MakesRepair}
 use Rattle.tree_repair.specs.Runs.{HasRun}
@@ -13,5 +13,6 @@ invariant-each g l = record {
   tree : IsOfTree (job l.fn.repair).tree l.last_path.path;
   run : HasRun (job l.fn.repair) l.fn.image.world l.image.world None None None;
   handed : MakesRepair (DeviceDoes g.D.BlockDev.state g.D.BlockDev.does) (DeviceDoes g.H.BlockDev.state g.H.BlockDev.does) (job l.fn.repair) true l.fn.image l.image;
-  said : TellsMoves (g.W.Write.contents l.fn.writer.inner) (g.W.Write.contents l.writer.inner);
+  said : CopiesBlocks (job l.fn.repair) moved_line l.moved l.fn.image.world l.image.world (g.W.Write.contents l.fn.writer.inner) (g.W.Write.contents l.writer.inner);
+  kept : l.image.world.data_copies ≡ l.fn.image.world.data_copies;
 }

@@ -1,16 +1,16 @@
+use Rattle.std.proofs.Common.{refl}
 use Rattle.block_device.specs.Call.{DeviceDoes}
 use Rattle.tree_repair.specs.Jobs.{job}
-use Rattle.tree_repair.specs.Moves.{move_line}
-use Rattle.tree_repair.proofs.MoveLemmas.{lines-none}
+use Rattle.tree_repair.proofs.MoveLemmas.{copies-read}
 use Rattle.tree_repair.proofs.RunCallLemmas.{hands-none}
-use Rattle.tree_repair.proofs.RunLemmas.{has-none}
+use Rattle.tree_repair.proofs.RunLemmas.{has-none, world-none}
 use Rattle.tree_repair.proofs.moving.move_if_listed.Goals as goal
 
 pub returns-in-None-clause-run : goal.returns-in-None-clause-run
 returns-in-None-clause-run g c = has-none
 
 pub returns-in-None-clause-said : goal.returns-in-None-clause-said
-returns-in-None-clause-said g c = lines-none move_line (g.W.Write.contents c.args.writer.now.inner)
+returns-in-None-clause-said g c = copies-read (world-none c.args.image.now.world)
 
 pub returns-in-None-clause-handed : goal.returns-in-None-clause-handed
 returns-in-None-clause-handed g c =
@@ -26,3 +26,9 @@ returns-in-Some-clause-said g c = c.move_both.ensures.said
 
 pub returns-in-Some-clause-handed : goal.returns-in-Some-clause-handed
 returns-in-Some-clause-handed g c = c.move_both.ensures.handed
+
+pub returns-in-None-clause-kept : goal.returns-in-None-clause-kept
+returns-in-None-clause-kept g c = refl
+
+pub returns-in-Some-clause-kept : goal.returns-in-Some-clause-kept
+returns-in-Some-clause-kept g c = c.move_both.ensures.kept

@@ -1,7 +1,8 @@
 use Rattle.std.proofs.Common.{None, true}
 use Rattle.block_device.specs.Call.{DeviceDoes}
+use Rattle.tree_repair.specs.CopyReads.{ReadsSeeds, copy_block}
 use Rattle.tree_repair.specs.Jobs.{job}
-use Rattle.tree_repair.specs.Moves.{TellsFetches}
+use Rattle.tree_repair.specs.Moves.{CopiesBlocks, fetched_line}
 use Rattle.tree_repair.specs.RunCalls.{MakesRepair}
 use Rattle.tree_repair.specs.Runs.{HasRun}
 use Rattle.tree_repair.proofs.seeds.copy_from_seeds.Given as goal
@@ -11,5 +12,6 @@ abbrev pub invariant-copies : goal.invariant-copies
 invariant-copies g l = record {
   run : HasRun (job l.fn.repair) l.fn.image.world l.image.world None None None;
   handed : MakesRepair (DeviceDoes g.D.BlockDev.state g.D.BlockDev.does) (DeviceDoes g.H.BlockDev.state g.H.BlockDev.does) (job l.fn.repair) true l.fn.image l.image;
-  said : TellsFetches (job l.fn.repair) (g.W.Write.contents l.fn.writer.inner) (g.W.Write.contents l.writer.inner);
+  said : CopiesBlocks (job l.fn.repair) (fetched_line (job l.fn.repair)) l.copied l.fn.image.world l.image.world (g.W.Write.contents l.fn.writer.inner) (g.W.Write.contents l.writer.inner);
+  reads : ReadsSeeds (job l.fn.repair) (copy_block 0 0) (copy_block l.copy 0) l.fn.image.world l.image.world;
 }

@@ -19,6 +19,7 @@ returns-in-Ok-clause-ok g c =
       looked = g.H.BlockDev.state c.list_all-lists.new.hash_dev;
       seen = map g.C.BlockDev.state c.list_all-lists.new.hash_copies.items;
       cleared = g.H.BlockDev.state c.begin.new.hash_dev;
+      left = ((c.list_all-lists.new.hash_dev, refl), (c.begin.new.hash_dev, refl));
       lists = c.list_all-lists.ensures;
       begins = c.in-Ok.ensures.ok;
       updates = updates;
@@ -32,6 +33,7 @@ returns-in-Ok-clause-err g c =
       looked = g.H.BlockDev.state c.list_all-lists.new.hash_dev;
       seen = map g.C.BlockDev.state c.list_all-lists.new.hash_copies.items;
       cleared = g.H.BlockDev.state c.begin.new.hash_dev;
+      left = ((c.list_all-lists.new.hash_dev, refl), (c.begin.new.hash_dev, refl));
       lists = c.list_all-lists.ensures;
       begins = c.in-Ok.ensures.ok;
       ends = ends;
@@ -39,4 +41,4 @@ returns-in-Ok-clause-err g c =
     c.update_begun.ensures.err
 
 pub returns-clause-err : goal.returns-clause-err
-returns-clause-err g c = inl (record { looked = g.H.BlockDev.state c.list_all-lists.new.hash_dev; seen = map g.C.BlockDev.state c.list_all-lists.new.hash_copies.items; lists = c.list_all-lists.ensures; unbegun = c.in-Err.ensures.err; data_is = refl; quiet = refl })
+returns-clause-err g c = inl (record { looked = g.H.BlockDev.state c.list_all-lists.new.hash_dev; seen = map g.C.BlockDev.state c.list_all-lists.new.hash_copies.items; left = (c.list_all-lists.new.hash_dev, refl); lists = c.list_all-lists.ensures; unbegun = c.in-Err.ensures.err; data_is = refl; quiet = refl })

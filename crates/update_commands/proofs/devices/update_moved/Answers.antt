@@ -25,10 +25,11 @@ returns-in-Ok-clause-ok g c =
     let new = g.W.Write.contents c.finish-ended.new.writer.inner in
     let counters = c.repair_aloud-data_dev.result.2 in
     let mended = surveyed_devices (g.D.BlockDev.state c.repair_aloud-data_dev.result.0) (g.H.BlockDev.state c.repair_aloud-data_dev.result.1) in
-    let counted = c.counts_of-counts.ensures ∙ ap (λ (p : Plan). counts_of p.tree.shape tally counters) c.plan_of-plan.ensures in
+    let counted = c.counts_of-counts.ensures.value ∙ ap (λ (p : Plan). counts_of p.tree.shape tally counters) c.plan_of-plan.ensures in
     on_ok_weaker c.finish-ended.result
     (λ finishes. record {
       mended = mended;
+      left = (c.repair_aloud-data_dev.result.1, refl);
       counters = counters;
       between = between;
       repairs = subst (λ (p : Plan). RepairsAloud json p w mended old between counters) c.plan_of-plan.ensures (rw c.in-Ok.is at c.repair_aloud-data_dev.ensures.ok);
@@ -48,6 +49,7 @@ returns-in-Ok-clause-err g c =
     IfErr-weaker c.finish-ended.result _ _
     (λ fault unfinished. inr (inl (record {
       mended = mended;
+      left = (c.repair_aloud-data_dev.result.1, refl);
       counters = counters;
       between = between;
       repairs = subst (λ (p : Plan). RepairsAloud json p w mended old between counters) c.plan_of-plan.ensures (rw c.in-Ok.is at c.repair_aloud-data_dev.ensures.ok);
@@ -81,17 +83,18 @@ returns-else-failed-clause-err g c =
     let tally = c.args.tally.now in
     let old = g.W.Write.contents c.args.writer.now.inner in
     let between = g.W.Write.contents c.repair_aloud-data_dev.new.writer.inner in
-    let new = g.W.Write.contents c.say_losses-ended.new.writer.inner in
+    let new = g.W.Write.contents c.say_losses.new.writer.inner in
     let was = c.repair_aloud-data_dev.new.writer.failed in
-    let failed = c.say_losses-ended.new.writer.failed in
+    let failed = c.say_losses.new.writer.failed in
     let counters = c.repair_aloud-data_dev.result.2 in
     let mended = surveyed_devices (g.D.BlockDev.state c.repair_aloud-data_dev.result.0) (g.H.BlockDev.state c.repair_aloud-data_dev.result.1) in
-    let counted = c.counts_of-counts.ensures ∙ ap (λ (p : Plan). counts_of p.tree.shape tally counters) c.plan_of-plan.ensures in
+    let counted = c.counts_of-counts.ensures.value ∙ ap (λ (p : Plan). counts_of p.tree.shape tally counters) c.plan_of-plan.ensures in
     inl (record {
       counters = counters;
       between = between;
       was = was;
       cause = c.in-Err.fault;
       ends = subst (λ (p : Plan). EndsAloud json p w mended old between was counters c.in-Err.fault) c.plan_of-plan.ensures (rw c.in-Err.is at c.repair_aloud-data_dev.ensures.err);
-      counted = subst (λ (n : Counts). EndsWithCounts n json c.in-Err.fault between new was failed c.say_losses-ended.result) counted c.say_losses-ended.ensures;
+      counted = subst (λ (n : Counts). EndsWithCounts n json c.unsealed_fault-ended.result between new was failed) counted c.say_losses.ensures;
+      is = c.unsealed_fault-ended.ensures;
     })

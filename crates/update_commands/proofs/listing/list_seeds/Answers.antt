@@ -1,4 +1,4 @@
-use Rattle.std.proofs.Common.{ap, arith, length, map}
+use Rattle.std.proofs.Common.{arith, map}
 use Rattle.update_commands.proofs.ListingLemmas.{each-next, each-none}
 use Rattle.update_commands.proofs.listing.list_seeds.Goals as goal
 

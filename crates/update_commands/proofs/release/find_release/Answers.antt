@@ -17,7 +17,7 @@ returns-in_err-superblock-clause-err g c =
     err-from c.from_residual-in_err-superblock.result _ (no_tree_fault cause) c.from_residual-in_err-superblock.ensures.1
     (inr (inl (record {
       image = c.in_ok-image.image;
-      after = g.I.Dev.BlockDev.state c.find_tree.new.hash_dev;
+      after = c.find_tree.new.hash_dev;
       cause = cause;
       opened = c.in_ok-image.ensures.ok;
       none = c.in_err-superblock.ensures.err;
@@ -33,8 +33,8 @@ returns-in_err-check_root-clause-err g c =
     err-from c.from_residual-in_err-check_root.result _ fault c.from_residual-in_err-check_root.ensures.1
     (inr (inr (record {
       image = c.in_ok-image.image;
-      looked = looked;
-      after = after;
+      looked = c.find_tree.new.hash_dev;
+      after = c.check_root.new.hash_dev;
       super = c.in_ok-superblock.superblock;
       opened = c.in_ok-image.ensures.ok;
       reads = c.in_ok-superblock.ensures.ok;
@@ -48,7 +48,7 @@ returns-clause-ok g c =
     let looked = g.I.Dev.BlockDev.state c.find_tree.new.hash_dev in
     record {
       image = c.in_ok-image.image;
-      looked = looked;
+      looked = c.find_tree.new.hash_dev;
       opened = c.in_ok-image.ensures.ok;
       reads = c.in_ok-superblock.ensures.ok;
       read = c.find_tree.ensures.read;

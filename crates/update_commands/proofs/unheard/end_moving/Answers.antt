@@ -10,6 +10,6 @@ pub returns : goal.returns
 returns g c =
     let w = c.args.image.world in
     inl (
-      c.fault_of.ensures,
-      ap (λ (d : Device). surveyed_devices d (g.H.BlockDev.state c.devices_of-data_dev.result.1)) c.devices_of-data_dev.ensures.data ∙ ap (λ (h : Device). surveyed_devices w.data_dev h) c.devices_of-data_dev.ensures.hash,
+      sym c.is_unprinted.ensures ∙ c.if-is_unprinted.false,
+      (c.fault_of.ensures, ap (λ (d : Device). surveyed_devices d (g.H.BlockDev.state c.devices_of-data_dev.result.1)) c.devices_of-data_dev.ensures.data ∙ ap (λ (h : Device). surveyed_devices w.data_dev h) c.devices_of-data_dev.ensures.hash),
     )

@@ -27,4 +27,8 @@ returns-in-Err g c =
     let w = c.args.image.world in
     let mended = surveyed_devices (g.D.BlockDev.state c.repair_silently-data_dev.result.0) (g.H.BlockDev.state c.repair_silently-data_dev.result.1) in
     let ends = rw c.in-Err.is at c.repair_silently-data_dev.ensures.err in
-    inl (subst (λ (p : Plan). EndsSilently p w mended c.in-Err.fault) c.plan_of-plan.ensures (ends.0, counted-ends c.plan_of-plan.result true w mended None None ends.0 c.repair_silently-data_dev.result.2 c.in-Err.fault ends.1))
+    inl (record {
+      cause = c.in-Err.fault;
+      ends = subst (λ (p : Plan). EndsSilently p w mended c.in-Err.fault) c.plan_of-plan.ensures (ends.0, counted-ends c.plan_of-plan.result true w mended None None ends.0 c.repair_silently-data_dev.result.2 c.in-Err.fault ends.1);
+      is = c.unsealed_fault.ensures;
+    })

@@ -3,10 +3,10 @@ use Rattle.tree_repair.specs.Worlds.{RepairWorld}
 use Rattle.update_commands.proofs.unheard.update_again.Goals as goal
 
 pub returns-then-not-data_writable : goal.returns-then-not-data_writable
-returns-then-not-data_writable g c = inl (refl, refl)
+returns-then-not-data_writable g c = inl (inl (sym c.writable-data_writable.ensures ∙ c.if-not-data_writable.true), (refl, refl))
 
 pub returns-then-not-hash_writable : goal.returns-then-not-hash_writable
-returns-then-not-hash_writable g c = inl (refl, refl)
+returns-then-not-hash_writable g c = inl (inr (sym c.writable-hash_writable.ensures ∙ c.if-not-hash_writable.true), (refl, refl))
 
 pub update_unheard-requires : goal.update_unheard-requires
 update_unheard-requires g c =

@@ -1,0 +1,77 @@
+-- A `verity` line with parity over the devices of an image whose parity was written.
+use Rattle.std.specs.Prelude.{◌≡◌, ◌⊎◌, ℕ, ◌+◌, ◌-◌, ◌*◌, ◌/◌, ◌%◌, ◌<◌, ◌≤◌, List, [], Some, Ok, All, length}
+use Rattle.std.specs.List.{slice_index_or}
+use Rattle.block_device.specs.Device.{IsSector}
+use Rattle.dm_table.specs.declared.parity.Parity.{Parity}
+use Rattle.dm_table.specs.declared.table.Line.{Line}
+use Rattle.dm_table.specs.declared.verity.Verity.{Verity}
+use Rattle.stack_rules.specs.Names.{mapped}
+use Rattle.stack_rules.specs.Records.{Configuration}
+use Rattle.stack_rules.specs.Rules.{IsLoaded}
+use Rattle.stack_rules.specs.Trees.{block_sectors, round_count}
+use Rattle.stack_meaning.specs.Meaning.{sector}
+use Rattle.stack_meaning.specs.Outcomes.{AreWhole, Images}
+use Rattle.stack_meaning.specs.Spares.{BlockSources, IsFormerRound, IsWholeBeside, covered_block}
+use Rattle.stack_engine.specs.DamagedData.{BlockCollides, IsTreeOnHash, line_sources}
+use Rattle.stack_engine.specs.Laws.{LiesInVerity, formatted_sector}
+use Rattle.verity_format.specs.Blocks.{block_at, blocks_at}
+use Rattle.fec_area.specs.declared.layout.Layout.{Layout}
+use Rattle.fec_area.specs.Layouts.{IsLayout, IsProtected, covered, covered_blocks, round_bytes}
+
+-- the sectors of the data, hash and parity devices when the parity was written
+pub record ProtectedImage : Type 0 where
+  pub data_image : List (List ℕ)
+  pub hash_image : List (List ℕ)
+  pub parity_image : List (List ℕ)
+
+-- the devices have whole sectors and the blocks that the layout covers, and the parity is that of these blocks
+pub record IsProtectedImage (l : Layout) (f : ProtectedImage) : Type 0 where
+  pub data_sectors : All IsSector f.data_image
+  pub hash_sectors : All IsSector f.hash_image
+  pub data_fits : l.data_blocks * (l.block / 512) ≤ length f.data_image
+  pub hash_fits : (l.hash_first + l.hash_blocks) * (l.block / 512) ≤ length f.hash_image
+  pub parity_is : IsProtected l f.data_image f.hash_image f.parity_image
+
+-- covered block j, the parity of round n, and the data blocks, when the parity was written
+abbrev pub protected_block : Layout → ProtectedImage → ℕ → List ℕ
+protected_block l f j = covered l f.data_image f.hash_image j
+
+abbrev pub protected_parity : Layout → ProtectedImage → ℕ → List ℕ
+protected_parity l f n = block_at f.parity_image (round_bytes l) n
+
+abbrev pub protected_data : Verity → ProtectedImage → List (List ℕ)
+protected_data v f = blocks_at f.data_image v.data_block 0 v.blocks
+
+-- the arguments of the line's parity state that layout
+pub record IsLayoutOfLine (v : Verity) (p : Parity) (l : Layout) : Type 0 where
+  pub layout : IsLayout l
+  pub size : l.block ≡ v.data_block
+  pub data_blocks : l.data_blocks ≡ v.blocks
+  pub first : l.hash_first ≡ v.start
+  pub all : covered_blocks l ≡ p.blocks
+  pub roots : l.roots ≡ p.roots
+
+abbrev pub ProtectedRoundsAreFormer : Type 0
+ProtectedRoundsAreFormer =
+    (v : Verity) (p : Parity) (l : Layout) (f : ProtectedImage) → IsLayoutOfLine v p l → IsProtectedImage l f
+    → (n : ℕ) → n < round_count p → IsFormerRound v p (protected_block l f) n (protected_parity l f n)
+
+-- the line has the parity of the image, whose tree is on the hash device
+pub record IsProtectedLine (c : Configuration) (images : Images) (v : Verity) (p : Parity) (l : Layout) (f : ProtectedImage) : Type 0 where
+  pub has : v.parity ≡ Some p
+  pub laid : IsLayoutOfLine v p l
+  pub protected : IsProtectedImage l f
+  pub tree : IsTreeOnHash c images v (protected_data v f)
+
+-- covered block i is unchanged, or each other block of its round is, and so is the round's parity
+abbrev pub HasKeptRound : Verity → Parity → Layout → ProtectedImage → BlockSources → ℕ → Type 0
+HasKeptRound v p l f from i = (covered_block v from i ≡ Ok (protected_block l f i)) ⊎ IsWholeBeside v p from (protected_block l f) i (protected_parity l f (i % round_count p))
+
+-- a sector of such a line, in data block i, is the image's, or block i is one of two different inputs of one digest
+abbrev pub ProtectedDataIsRead : Type 0
+ProtectedDataIsRead = (c : Configuration) → IsLoaded c → (images : Images) → AreWhole images
+    → (d s k : ℕ) (line : Line) (v : Verity) → LiesInVerity c d s k line v
+    → (p : Parity) (l : Layout) (f : ProtectedImage) → IsProtectedLine c images v p l f
+    → HasKeptRound v p l f (line_sources c images v) ((s - line.start) / block_sectors v)
+    → (sector c images (mapped d) s ≡ Ok (formatted_sector v (protected_data v f) (s - line.start)))
+    ⊎ BlockCollides v (slice_index_or (protected_data v f) ((s - line.start) / block_sectors v) [])

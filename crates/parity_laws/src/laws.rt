@@ -1,0 +1,23 @@
+//! Laws of the definitions: each function's contract is the law, and its call gives it.
+ghost use Rattle.parity_laws.specs.ProtectedLines.{ProtectedDataIsRead, ProtectedRoundsAreFormer};
+
+use fec_area::laws::rounds_sum_to_zeros;
+use stack_engine::laws::damaged_data_is_read;
+
+/// The blocks of each round of an image with parity, and the round's parity, are what a `verity` line with that parity takes them to
+/// be.
+pub fn protected_rounds_are_former()
+    ensures { ProtectedRoundsAreFormer }
+{
+    rounds_sum_to_zeros();
+}
+
+/// If a `verity` line has the parity that was written with an image, and its tree is whole, a sector of a data block is the image's, if
+/// the block is unchanged, or each other block of its round and the round's parity are; or another block has the digest of that one, and
+/// the two, each after the salt, are two different inputs of one SHA-256 digest.
+pub fn protected_data_is_read()
+    ensures { ProtectedDataIsRead }
+{
+    rounds_sum_to_zeros();
+    damaged_data_is_read();
+}

@@ -1,0 +1,173 @@
+-- The lost runs that a pass found, among the bad sectors that it left.
+use Rattle.std.proofs.Common.{◌≡◌, ℕ, zero, suc, ◌+◌, ◌<◌, ◌≤◌, ◌&&◌, not, Bool, true, false, cond, List, [], ◌∷◌, ◌++◌, length, drop, get_or, replicate, Option, Some, None, refl, sym, ap, ◌∙◌, subst, append-nil, append_assoc, arith}
+use Rattle.std.specs.Prelude.{nat_le, nat_lt}
+use Rattle.std.proofs.lemmas.Bool.{cond-false, cond-true}
+use Rattle.std.proofs.lemmas.List.{length-append, length-replicate}
+use Rattle.rescue_map.specs.declared.ahead.Ahead.{Ahead}
+use Rattle.rescue_map.specs.declared.map.Run.{Run as MapRun}
+use Rattle.rescue_map.specs.Aheads.{losts_ahead, marks_ahead}
+use Rattle.rescue_map.specs.Maps.{losts, marks}
+use Rattle.runs.specs.Runs.{runs_of}
+use Rattle.runs.specs.Tallies.{listed}
+use Rattle.runs.proofs.lemmas.RunLemmas.{IsTallied, tallied-all, tallied-had, tallied-lost, tallied-none}
+use Rattle.stack_meaning.specs.declared.fault.IoFault.TheVariants.{Device}
+use Rattle.stack_recovery.specs.declared.lost_run.Loss.{Loss}
+use Rattle.stack_recovery.specs.declared.lost_run.Loss.TheVariants.{Lost, Unscraped}
+use Rattle.stack_recovery.specs.declared.tally.Tally.{Tally}
+use Rattle.stack_recovery.specs.Joins.{AreSameFrom, EndsAfter, HaveState, closed_with, joined_state, joined_states, opened_with, state_in}
+use Rattle.stack_recovery.specs.Listings.{Listed, Tells}
+use Rattle.stack_recovery.specs.LostRuns.{LostRun, is_same_loss, lost_count, untried_count}
+use Rattle.stack_recovery.specs.Surveys.{SectorState}
+use Rattle.stack_recovery.proofs.lemmas.WritingLemmas.{runs-then, tells_nothing}
+use Rattle.stack_recovery.proofs.LostRunLemmas.{is_same-equality}
+
+lt-true : (a b : ℕ) → a < b → nat_lt a b ≡ true
+lt-true a b low = grind (arith, low)
+
+lt-false : (a b : ℕ) → b ≤ a → nat_lt a b ≡ false
+lt-false a b low = grind (arith, low)
+
+le-true : (a b : ℕ) → a ≤ b → nat_le a b ≡ true
+le-true a b low = grind (arith, low)
+
+le-false : (a b : ℕ) → b < a → nat_le a b ≡ false
+le-false a b low = grind (arith, low)
+
+-- ---- runs that end before a sector
+
+pub state-skip : (runs : List LostRun) (d : LostRun) (s : ℕ) → 1 ≤ length runs → (get_or runs 0 d).first + (get_or runs 0 d).count ≤ s → state_in runs s ≡ state_in (drop 1 runs) s
+state-skip [] d s some ends = absurd (omega (arith, some))
+state-skip (r ∷ more) d s some ends = cond-false (nat_lt s (r.first + r.count)) _ _ (lt-false s (r.first + r.count) ends)
+
+pub ends_after-none : (at : ℕ) (runs : List LostRun) → length runs ≡ 0 → EndsAfter at runs
+ends_after-none at [] none = tt
+ends_after-none at (r ∷ more) none = absurd (omega (arith, none))
+
+pub ends_after-first : (at : ℕ) (runs : List LostRun) (d : LostRun) → 1 ≤ length runs → at < (get_or runs 0 d).first + (get_or runs 0 d).count → EndsAfter at runs
+ends_after-first at [] d some low = absurd (omega (arith, some))
+ends_after-first at (r ∷ more) d some low = low
+
+pub first-ends_after : (at : ℕ) (runs : List LostRun) (d : LostRun) → 1 ≤ length runs → EndsAfter at runs → at < (get_or runs 0 d).first + (get_or runs 0 d).count
+first-ends_after at [] d some low = absurd (omega (arith, some))
+first-ends_after at (r ∷ more) d some low = low
+
+-- ---- the state of some sectors
+
+pub have-bad : (again bad : Bool) (runs : List LostRun) (at n : ℕ) → bad && not again ≡ true → HaveState again bad runs at n (Some (Lost (Device 0)))
+have-bad again bad runs at n is j low = cond-true (bad && not again) _ _ is
+
+pub have-none : (again bad : Bool) (runs : List LostRun) (at n : ℕ) → bad && not again ≡ false → length runs ≡ 0 → HaveState again bad runs at n None
+have-none again bad [] at n not_bad none j low = cond-false (bad && not again) _ _ not_bad
+have-none again bad (r ∷ more) at n not_bad none j low = absurd (omega (arith, none))
+
+pub have-before : (again bad : Bool) (runs : List LostRun) (d : LostRun) (at n : ℕ) → bad && not again ≡ false → 1 ≤ length runs → EndsAfter at runs → at + n ≤ (get_or runs 0 d).first → HaveState again bad runs at n None
+have-before again bad [] d at n not_bad some ends first j low = absurd (omega (arith, some))
+have-before again bad (r ∷ more) d at n not_bad some ends first j low =
+    cond-false (bad && not again) _ _ not_bad
+    ∙ cond-true (nat_lt (at + j) (r.first + r.count)) _ _ (lt-true (at + j) (r.first + r.count) (omega (arith, low, first)))
+    ∙ cond-false (nat_le r.first (at + j)) _ _ (le-false r.first (at + j) (omega (arith, low, first)))
+
+pub have-within : (again bad : Bool) (runs : List LostRun) (d : LostRun) (at n : ℕ) → bad && not again ≡ false → 1 ≤ length runs → (get_or runs 0 d).first ≤ at → at + n ≤ (get_or runs 0 d).first + (get_or runs 0 d).count
+    → HaveState again bad runs at n (Some (get_or runs 0 d).kind)
+have-within again bad [] d at n not_bad some first end j low = absurd (omega (arith, some))
+have-within again bad (r ∷ more) d at n not_bad some first end j low =
+    cond-false (bad && not again) _ _ not_bad
+    ∙ cond-true (nat_lt (at + j) (r.first + r.count)) _ _ (lt-true (at + j) (r.first + r.count) (omega (arith, low, end)))
+    ∙ cond-true (nat_le r.first (at + j)) _ _ (le-true r.first (at + j) (omega (arith, first)))
+
+-- ---- the states of all sectors
+
+states-same : (again : Bool) (at : ℕ) (bads : List Bool) (runs others : List LostRun) → AreSameFrom at runs others → joined_states again at bads runs ≡ joined_states again at bads others
+states-same again at [] runs others same = refl
+states-same again at (bad ∷ bads) runs others same =
+    let here : joined_state again bad runs at ≡ joined_state again bad others at = ap (λ (s : SectorState). cond (bad && not again) (Some (Lost (Device 0))) s) (same at (omega arith)) in
+    ap (λ (s : SectorState). s ∷ joined_states again (suc at) bads runs) here
+    ∙ ap (λ (l : List SectorState). joined_state again bad others at ∷ l) (states-same again (suc at) bads runs others (λ s low. same s (omega (arith, low))))
+
+states-alike : (again : Bool) (at n : ℕ) (bad : Bool) (rest : List Bool) (runs : List LostRun) (state : SectorState) → HaveState again bad runs at n state
+    → joined_states again at (replicate n bad ++ rest) runs ≡ replicate n state ++ joined_states again (at + n) rest runs
+states-alike again at zero bad rest runs state have = let here : at ≡ at + 0 = omega arith in ap (λ (k : ℕ). joined_states again k rest runs) here
+states-alike again at (suc n) bad rest runs state have =
+    let first : at + 0 ≡ at = omega arith in
+    let next : suc at + n ≡ at + suc n = omega arith in
+    ap (λ (s : SectorState). s ∷ joined_states again (suc at) (replicate n bad ++ rest) runs) (ap (λ (k : ℕ). joined_state again bad runs k) (sym first) ∙ have 0 (omega arith))
+    ∙ ap (λ (l : List SectorState). state ∷ l) (states-alike again (suc at) n bad rest runs state
+    (λ j low. let step : suc at + j ≡ at + suc j = omega arith in ap (λ (k : ℕ). joined_state again bad runs k) step ∙ have (suc j) (omega (arith, low))))
+    ∙ ap (λ (k : ℕ). state ∷ (replicate n state ++ joined_states again k rest runs)) next
+
+-- ---- the runs that were reported
+
+-- the sectors before `at` were added to the tally, and what comes after them is ahead
+pub record IsJoining (again : Bool) (bads : List Bool) (found : List LostRun) (old now : Listed) (tally : Tally) (at : ℕ) (left : List Bool) (rest : List LostRun) : Type 0 where
+  pub done : List SectorState
+  pub closed : List LostRun
+  pub tallied : IsTallied is_same_loss done closed tally.last
+  pub here : at ≡ length done
+  pub whole : joined_states again 0 bads found ≡ done ++ joined_states again at left rest
+  pub told : Tells old now closed
+  pub few : tally.lost + tally.untried ≤ at
+
+pub joining-none : (again : Bool) (bads : List Bool) (found : List LostRun) (old : Listed) (tally : Tally) → tally ≡ record { last = None; lost = 0; untried = 0 } → IsJoining again bads found old old tally 0 bads found
+joining-none again bads found old tally is = rw is (record {
+  done = [];
+  closed = [];
+  tallied = tallied-none is_same_loss is_same-equality;
+  here = refl;
+  whole = refl;
+  told = tells_nothing old;
+  few = omega arith;
+})
+
+tallied-with : (states : List SectorState) (closed : List LostRun) (last : Option LostRun) (at n : ℕ) (state : SectorState) → at ≡ length states → 1 ≤ n → IsTallied is_same_loss states closed last
+    → IsTallied is_same_loss (states ++ replicate n state) (closed ++ closed_with last at n state) (opened_with last at n state)
+tallied-with states closed last at n None here some t = tallied-had is_same_loss is_same-equality states closed last n some t
+tallied-with states closed last at n (Some kind) here some t = tallied-lost is_same_loss is_same-equality states closed last at n kind here some t
+
+pub joining-more : (again : Bool) (bads : List Bool) (found : List LostRun) (old now new : Listed) (tally next : Tally) (at n : ℕ) (bad : Bool) (left left' : List Bool) (rest rest' : List LostRun) (state : SectorState)
+    → IsJoining again bads found old now tally at left rest → AreSameFrom at rest rest' → left ≡ replicate n bad ++ left' → 1 ≤ n → HaveState again bad rest' at n state
+    → Tells now new (closed_with tally.last at n state) → next.last ≡ opened_with tally.last at n state → next.lost + next.untried ≤ at + n
+    → IsJoining again bads found old new next (at + n) left' rest'
+joining-more again bads found old now new tally next at n bad left left' rest rest' state u same is some have told last few = record {
+  done = u.done ++ replicate n state;
+  closed = u.closed ++ closed_with tally.last at n state;
+  tallied = rw last (tallied-with u.done u.closed tally.last at n state u.here some u.tallied);
+  here = ap (λ (k : ℕ). k + n) u.here ∙ ap (λ (k : ℕ). length u.done + k) (sym (length-replicate {A = SectorState} n state)) ∙ sym (length-append u.done (replicate n state));
+  whole = u.whole ∙ ap (λ (l : List SectorState). u.done ++ l) (states-same again at left rest rest' same ∙ ap (λ (l : List Bool). joined_states again at l rest') is ∙ states-alike again at n bad left' rest' state have)
+      ∙ sym (append_assoc u.done (replicate n state) (joined_states again (at + n) left' rest'));
+  told = runs-then old now new u.closed (closed_with tally.last at n state) u.told told;
+  few = few;
+}
+
+pub joining-all : (again : Bool) (bads : List Bool) (found : List LostRun) (old now new : Listed) (tally : Tally) (at : ℕ) (left : List Bool) (rest : List LostRun)
+    → IsJoining again bads found old now tally at left rest → length left ≡ 0 → Tells now new (listed tally.last) → Tells old new (runs_of is_same_loss 0 (joined_states again 0 bads found))
+joining-all again bads found old now new tally at (bad ∷ left) rest u none told = absurd (omega (arith, none))
+joining-all again bads found old now new tally at [] rest u none told =
+    subst (λ (l : List LostRun). Tells old new l) (sym (ap (runs_of is_same_loss 0) (u.whole ∙ append-nil u.done) ∙ tallied-all is_same_loss is_same-equality u.done u.closed tally.last u.tallied))
+    (runs-then old now new u.closed (listed tally.last) u.told told)
+
+pub count-sum : (loss : Loss) (n : ℕ) → lost_count loss n + untried_count loss n ≡ n
+count-sum (Lost fault) n = omega arith
+count-sum (Unscraped fault) n = omega arith
+
+-- ---- what is ahead in a map
+
+losts-length : (runs : List MapRun) → length (losts runs) ≡ length (marks runs)
+losts-length [] = refl
+losts-length (r ∷ more) =
+    length-append (replicate r.count r.lost) (losts more) ∙ ap (λ (n : ℕ). n + length (losts more)) (length-replicate {A = Bool} r.count r.lost)
+    ∙ ap (λ (n : ℕ). r.count + n) (losts-length more)
+    ∙ ap (λ (n : ℕ). n + length (marks more)) (sym (length-replicate {A = Bool} r.count r.had)) ∙ sym (length-append (replicate r.count r.had) (marks more))
+
+ahead-parts : (a : Ahead) → length (marks_ahead a) ≡ a.first.count + length (marks a.rest.now)
+ahead-parts a = length-append (replicate a.first.count a.first.had) (marks a.rest.now) ∙ ap (λ (n : ℕ). n + length (marks a.rest.now)) (length-replicate {A = Bool} a.first.count a.first.had)
+
+pub ahead-first : (a : Ahead) → a.first.count ≤ length (marks_ahead a)
+ahead-first a = omega (arith, ahead-parts a)
+
+pub losts_ahead-length : (a : Ahead) → length (losts_ahead a) ≡ length (marks_ahead a)
+losts_ahead-length a =
+    length-append (replicate a.first.count a.first.lost) (losts a.rest.now) ∙ ap (λ (n : ℕ). n + length (losts a.rest.now)) (length-replicate {A = Bool} a.first.count a.first.lost)
+    ∙ ap (λ (n : ℕ). a.first.count + n) (losts-length a.rest.now) ∙ sym (ahead-parts a)
+
+pub ahead-passed : (n : ℕ) (had : Bool) (old new : List Bool) → old ≡ replicate n had ++ new → length old ≡ n + length new
+ahead-passed n had old new is = ap length is ∙ length-append (replicate n had) new ∙ ap (λ (m : ℕ). m + length new) (length-replicate {A = Bool} n had)
