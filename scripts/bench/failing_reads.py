@@ -4,7 +4,7 @@
 failing_reads.py PROGRAM: for each disk a line without and one with `--no-scrape` (`-n`): how many reads failed before the last
 64 KiB were read, and in all, of PROGRAM and of ddrescue (`-b 512 -c 128`), and how many sectors each lacks. A line that ends in
 `more` has more than 1.1 times ddrescue's failing reads, or lacks a sector that ddrescue has. Without `--no-scrape` that is a
-failure if PROGRAM also has more than 16 further ones, or lacks such a sector. Then one of the two goes on by the map and the copy that
+failure. Then one of the two goes on by the map and the copy that
 the other one left with `--no-scrape`, and by a map of the other's whole copy: it must lack the unreadable sectors alone. It needs cc and
 ddrescue.
 """
@@ -17,8 +17,8 @@ import tempfile
 
 SECTOR = 512
 SECTORS = 65536
-# By how much the program may fail more reads than ddrescue.
-RATIO, MORE = 1.1, 16
+# How many times as many reads as of ddrescue may fail.
+RATIO = 1.1
 
 # Logs each read of the file `disk`, and fails those of a sector that BAD names: `at n ok`.
 LIBRARY = r"""
@@ -123,7 +123,7 @@ def compare(room, program, name, bad, scrapes):
     more = lacks or any(a > RATIO * b for a, b in zip(ours, theirs))
     print(f"{name}{'' if scrapes else ', --no-scrape'}: {ours[0]} of {ours[1]} failed, ddrescue {theirs[0]} of {theirs[1]};"
           f" lacks {len(mine)}, {len(others)}" + (" more" if more else ""))
-    return scrapes and (lacks or any(a > RATIO * b + MORE for a, b in zip(ours, theirs)))
+    return scrapes and more
 
 
 def hand_over(room, program, name, bad, scrapes):

@@ -86,7 +86,10 @@ keep partition_copies one.img
 disk hybrid.img home
 sgdisk -h 1 hybrid.img > /dev/null
 keep partition_copies hybrid.img
-cp "$top/tests/rows/partition_copies/files/hybrid.img.hex" "$top/tests/rows/partition_bindings/files/disk.img.hex"
+disk disk.img home
+keep partition_bindings disk.img
+xxd hybrid.img | sed -n '29,30p' > "$top/tests/rows/partition_bindings/files/hybrid.hex"
+xxd other.img | grep -E '^0000(be30|be40|fe10|fe50)' > "$top/tests/rows/partition_bindings/files/other.hex"
 
 # Sectors of 4,096 bytes, and a label that looks like an option.
 truncate -s $((64 * 4096)) large.img

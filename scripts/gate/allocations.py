@@ -40,7 +40,7 @@ PLACES = {
     "partition_commands": (15, VALUES),
     "program_io": (4, VALUES),
     "runs": (9, VALUES),
-    "scan_commands": (25, VALUES),
+    "scan_commands": (27, VALUES),
     "stack_commands": (15, VALUES),
     "stack_lines": (2, CACHE),
     "update_commands": (4, VALUES),

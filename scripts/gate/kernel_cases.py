@@ -18,6 +18,8 @@ FEATURES = features_without([])
 # More sectors of a device aren't read.
 MOST_READ = 4096
 LARGEST_LEAF = 2600
+# Words by which Linux itself ends at a damaged block, and what it gets for them: a word that changes no answer either.
+ENDS_LINUX, ENDS_NOTHING = re.compile(rb"(?<= )(?:restart|panic)_on_corruption(?= |$)"), b"try_verify_in_tasklet"
 PROGRAM = os.path.join(os.path.dirname(os.path.realpath(__file__)), "../../crates/dmstack/out/dmstack")
 
 
@@ -101,6 +103,8 @@ class Case:
         for minor, (name, flag, table) in enumerate(self.entries(), len(self.leaves)):
             numbers.setdefault(PREFIX + name, minor)
             lines.append(b"device %s %d %s %d" % (name, minor, flag, len(table)))
+            if not self.fault:
+                table = [ENDS_LINUX.sub(ENDS_NOTHING, line) for line in table]
             lines += [b" ".join(b"/dev/dm-%d" % numbers[word] if word in numbers else word for word in line.split(b" ")) for line in table]
         self.minors = numbers
         if self.linux and not self.fault:
@@ -265,15 +269,42 @@ class Cases(Sessions):
         return loaded_case(Case(number, [it for it in leaves if it.content], text), self.drawn_writes)
 
 
-def formatted_case(program, number):
-    """An image that the program formats, and the line that its `table` prints; the files are left in this folder."""
-    data = random.Random(number).randbytes(300 * 1024)
-    open("data", "wb").write(data)
-    made = subprocess.run([program, "format", "--grow", "--salt", "5a" * 32, "--uuid", "0" * 32, "data", "tree"], capture_output=True, check=True).stdout
+def made_image(program, options, data, *line_options):
+    """The root hash of an image that the program formats of `data`, and the line that its `table` prints; the files are left in this folder."""
+    for name in ("data", "tree", "parity"):
+        open(name, "wb").write(data if name == "data" else b"")
+    made = subprocess.run([program, "format", "--grow", "--uuid", "0" * 32, *options, "data", "tree"], capture_output=True, check=True).stdout
     root = re.search(rb"^root (\w+)$", made, re.MULTILINE)[1]
-    line = subprocess.run([program, "table", "tree", root, "D", "H"], capture_output=True, check=True).stdout.strip()
+    return subprocess.run([program, "table", *line_options, "tree", root, "D", "H"], capture_output=True, check=True).stdout.strip()
+
+
+def formatted_case(program, number):
+    """An image that the program formats, and the line that its `table` prints."""
+    data = random.Random(number).randbytes(300 * 1024)
+    line = made_image(program, ("--salt", "5a" * 32), data)
     leaves = [Leaf(b"D", data, False, b"data"), Leaf(b"H", open("tree", "rb").read(), False, b"tree")]
     return loaded_case(Case(number, leaves, b"formatted,,,ro," + line))
+
+
+def healed_case(program, number):
+    """An image with parity that the program formats, and the line that its `table` prints. Afterwards blocks are damaged: of each round
+    one data block, and in half of the images of one round a second one, or a hash block."""
+    drawn = random.Random(f"healed {number}")
+    size, roots = drawn.choice((512, 1024, 4096)), drawn.choice((2, 2, 3, 8, 24))
+    data = bytearray(drawn.randbytes(drawn.randint(300, 520) * size))
+    options = ("--data-block", str(size), "--hash-block", str(size), "--salt", "5a" * 32, "--fec", "parity", "--fec-roots", str(roots))
+    line = made_image(program, options, data, "--fec", "P", "--fec-roots", str(roots))
+    tree, parity = (bytearray(open(it, "rb").read()) for it in ("tree", "parity"))
+    rounds, blocks = len(parity) // size // roots, len(data) // size
+    lost = [drawn.randrange(at, blocks, rounds) for at in range(rounds)]
+    if drawn.random() < 0.3:
+        lost.append((lost[0] + rounds) % (blocks - blocks % rounds))
+    for at in lost:
+        data[at * size + drawn.randrange(size)] ^= drawn.randint(1, 255)
+    if drawn.random() < 0.2:
+        tree[-1 - drawn.randrange(size)] ^= 1
+    leaves = [Leaf(name, bytes(it), False, name) for name, it in ((b"D", data), (b"H", tree), (b"P", parity))]
+    return loaded_case(Case(number, leaves, b"healed,,,ro," + line))
 
 
 def loaded_case(case, draw_writes=lambda _: []):

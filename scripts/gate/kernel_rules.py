@@ -123,6 +123,11 @@ class Linux:
         lines = (line for line in device.lines if ZERO_BLOCKS in getattr(line.target, "options", ()))
         return any(self.may_fail(self.lowers(line)[0]) for line in lines) or any(map(self.reads_ignored_blocks, self.configuration.lowers(device)))
 
+    def heals_more(self, device):
+        """Whether there is a `verity` line with parity: Linux restores up to as many lost blocks of a round as it has roots, and
+        hash blocks too; dmstack one data block."""
+        return self.has(device, lambda it: any(getattr(line.target, "parity", None) for line in it.lines))
+
     def may_fail(self, device):
         if isinstance(device, Leaf):
             return False

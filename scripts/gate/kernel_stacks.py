@@ -1,14 +1,15 @@
 #!/usr/bin/env python3
 """Compares random stacks with Linux's own device mapper, in a virtual machine that boots once.
 
-kernel_stacks.py [--cases N] [--seed S] [--only K] [--kernel FILE] [PROGRAM]: draws stacks of the model's (all targets, several lines
-and levels, trees over changed blocks, texts with a rule broken or a word changed) and writes through them, and takes as the last one
-an image that PROGRAM formats, by the line that its `table` prints. The machine has the newest kernel of /boot. It makes the same
-tables, writes the same bytes and reads each device. PROGRAM must load what Linux loads and refuse what Linux refuses. What PROGRAM
-reads by the tables that Linux prints must be the same in every sector, and fail in the same logical blocks; and after the writes the
-backing devices must be equal. kernel_rules.py has the tables that only one of both accepts, and those that aren't compared since
-Linux reads them otherwise. What `load --linux` loads must all be compared; the device that it refuses Linux must refuse or read
-otherwise. `--seed S --only K` runs case K of seed S alone. Tried with Linux 6.1.
+kernel_stacks.py [--cases N] [--seed S] [--only K] [--kernel FILE] [PROGRAM]: draws stacks of the model's (all targets, several
+lines and levels, trees over changed blocks, texts with a rule broken or a word changed) and writes through them, and takes as the
+last ones images that PROGRAM formats, one without parity and others damaged and with parity, by the lines that its `table` prints.
+The machine has the newest kernel of /boot. It makes the same tables, writes the same bytes and reads each device. PROGRAM must load
+what Linux loads and refuse what Linux refuses. What PROGRAM reads by the tables that Linux prints must be the same in every sector,
+and fail in the same logical blocks, but for those that Linux alone restores by parity; and after the writes the backing devices
+must be equal. kernel_rules.py has the tables that only one of both accepts, and those that aren't compared since Linux reads them
+otherwise. What `load --linux` loads must all be compared; the device that it refuses Linux must refuse or read otherwise. `--seed S
+--only K` runs case K of seed S alone. Tried with Linux 6.1.
 
 If QEMU, a kernel or its modules are missing, that is printed, and the status is 0 (Debian: qemu-system-x86, linux-image-amd64).
 """
@@ -26,12 +27,14 @@ sys.path[1:1] = [os.path.join(HERE, "../model"), os.path.join(HERE, "../lib")]
 
 from checks import Checks  # noqa: E402
 from kernel_answers import Answers, Seen  # noqa: E402
-from kernel_cases import Case, arguments, drawn_case, formatted_case  # noqa: E402
+from kernel_cases import Case, arguments, drawn_case, formatted_case, healed_case  # noqa: E402
 from kernel_machine import Broken, Missing, needed, run_machine  # noqa: E402
 from kernel_rules import divides_a_unit, may_read  # noqa: E402
 from stack import SECTOR, Stack  # noqa: E402
 from tables import TextFault  # noqa: E402
 
+# So many images with parity.
+HEALED = 12
 # The rules of `load --linux` on what Linux loads and reads otherwise.
 READ_OTHERWISE = ("UnitStart", "DividedChunk")
 
@@ -67,7 +70,7 @@ class Program:
 class Comparison:
     def __init__(self, words):
         self.words, self.checks = words, Checks()
-        self.tables = self.alone = self.sectors = self.failed = self.refused = self.skipped = 0
+        self.tables = self.alone = self.sectors = self.failed = self.healed = self.refused = self.skipped = 0
         self.verdicts_of_load = Counter()
 
     def unlike(self, case, what):
@@ -163,6 +166,8 @@ class Comparison:
             self.failed += len(there)
         elif there[0] is None and linux.reads_ignored_blocks(device):
             self.sectors -= len(there)
+        elif is_failed and linux.heals_more(device):
+            self.healed += len(there)
         elif here != there:
             return f"{name.decode()} at {at}: {here[0].decode() if is_failed else 'bytes'}, and Linux {'fails' if there[0] is None else 'has others'}"
         return None
@@ -197,7 +202,7 @@ class Comparison:
     def end(self, version, count):
         used = sum(sum(resource.getrusage(it)[:2]) for it in (resource.RUSAGE_SELF, resource.RUSAGE_CHILDREN))
         print(f"Linux {version}: {count} stacks of seed {self.words.seed}, {self.refused} of them refused alike; {self.tables} tables in the others, {self.alone} "
-              f"refused by Linux alone, by its rules; {self.sectors} sectors compared, {self.failed} fail alike; {self.skipped} stacks or tables not compared ({used:.0f} s of CPU)")
+              f"refused by Linux alone, by its rules; {self.sectors} sectors compared, {self.failed} fail alike, {self.healed} Linux alone restores; {self.skipped} stacks or tables not compared ({used:.0f} s of CPU)")
         print("load --linux: " + ", ".join(f"{it} {self.verdicts_of_load[it]}" for it in sorted(self.verdicts_of_load)))
 
 
@@ -217,6 +222,7 @@ def compare(words):
     kernel, modules = needed(words.kernel)
     cases = [drawn_case(words.seed, number) for number in (range(words.cases) if words.only is None else [words.only])]
     cases = [it for it in cases if it.is_compared()] + [formatted_case(words.program, words.cases)]
+    cases += [healed_case(words.program, words.cases + 1 + number) for number in range(HEALED)]
     put_leaves(cases)
     commands = b"".join(map(Case.commands, cases)) + b"end\n"
     answers = Answers(run_machine(kernel, modules, "first", commands, sum(map(Case.most_of_answers, cases)) + 4 * len(commands)))

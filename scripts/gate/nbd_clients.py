@@ -241,7 +241,7 @@ def changed_block(data):
 def log_told(size, requests, lost):
     """What the service of the volume has printed by its end, which may be a moment after the client's."""
     first = list(dict.fromkeys(lost))
-    listed = "".join(f"dmstack: export v: sector {sector}: Mismatch\n" for sector in first)
+    listed = "".join(f"dmstack: export v: sector {sector}: Mismatch, data block {sector // 8}\n" for sector in first)
     more = f"dmstack: {len(lost) - len(first)} more faulty requests\n" if len(first) < len(lost) else ""
     log = f"dmstack: export v {size} bytes ro\n{listed}{more}dmstack: served {requests} requests of "
     lines = 4 + len(first) + bool(more)

@@ -49,12 +49,17 @@ def talks(chunked, failing=None, error=EIO):
 
 
 def lost_by(asked, chunked, failing):
-    """The sectors of the requests that report an error where the request of that number fails, and None for each flush: a piece is read
-    again, and goes well."""
+    """What may be reported where the request of that number fails: the sector of a request, and None for each flush. A piece of a READ
+    in parts is read again, and goes well, as the sectors of another READ do: it has the piece's first sector. Of a write a sector is
+    lost in which it begins or ends, or the piece."""
     kind, *rest = asked[failing]
     if kind == "flush":
-        return [None for later, *_ in asked[failing:] if later == "flush"]
-    return [] if kind == "read" and chunked else [rest[0] // SECTOR]
+        return [[None for later, *_ in asked[failing:] if later == "flush"]]
+    if kind == "read" and chunked:
+        return [[]]
+    first = rest[0] // SECTOR
+    ends = [(rest[0] + len(rest[1])) // SECTOR] if kind == "write" and (rest[0] + len(rest[1])) % SECTOR else []
+    return [[it] for it in dict.fromkeys([first, *ends])]
 
 
 def forced(runner):
@@ -113,11 +118,11 @@ def device_ends(asked, chunked, synced):
     e, ends = exports()["file"], []
     for failing in [k for k, it in enumerate(asked) if (it[0] == "flush") == synced] + [None] * synced:
         _, told, left, _ = talks(chunked, failing)
-        lost = [] if failing is None else lost_by(asked, chunked, failing)
-        line = b"fault 3 Device 3\n" if synced else faults_line(1, len(asked)) if lost else b""
-        counts = counts_of(talks(chunked)[0], len(e.content), True)
-        log = start_of([e]) + log_of("file", counts, lost, b"Device 3", reason_of(talks(chunked)[0]))
-        ends.append((told, 3 if line else 0, left, log + line))
+        for lost in [[]] if failing is None else lost_by(asked, chunked, failing):
+            line = b"fault 3 Device 3\n" if synced else faults_line(1, len(asked)) if lost else b""
+            counts = counts_of(talks(chunked)[0], len(e.content), True)
+            log = start_of([e]) + log_of("file", counts, lost, b"Device 3", reason_of(talks(chunked)[0]))
+            ends.append((told, 3 if line else 0, left, log + line))
     return ends
 
 

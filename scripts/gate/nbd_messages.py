@@ -290,7 +290,7 @@ def faults_line(faults, requests):
 # The lines on standard error on a service, unless it is quiet: one for each export before the greeting, one for each sector that a
 # request lost and one for a failed sync, and those at its end.
 START = re.compile(rb"(?:dmstack: export [!-~]+ [0-9]+ bytes r[ow]\n)+")
-LOG = re.compile(START.pattern + rb"(?:dmstack: export [!-~]+: (?:sector [0-9]+|flush): [A-Za-z]+(?: [0-9]+)?\n)*(?:dmstack: [0-9]+ more faulty requests\n)?dmstack: served .*\n")
+LOG = re.compile(START.pattern + rb"(?:dmstack: export [!-~]+: (?:sector [0-9]+|flush): [A-Za-z]+(?: [0-9]+|, data block [0-9]+)?\n)*(?:dmstack: [0-9]+ more faulty requests\n)?dmstack: served .*\n")
 MOST_LISTED = 60
 
 
@@ -358,14 +358,17 @@ def reason_of(sent):
 
 
 def lost_in(sent, export):
-    """The sector of each request that ends with a fault: its first one, or the one that a READ in parts can't read."""
-    parts, found = option(STRUCTURED) in sent, []
+    """The sector of each request that ends with a fault: the one that a READ can't read, or a write in which it begins or ends; else
+    the first one of the write, which is a single piece."""
+    found = []
     for kind, bits, offset, length in requests_of(sent):
         if kind in (READ, WRITE, ZEROES) and offset + length <= len(export.content) and export.fails(offset, length):
-            first = offset // SECTOR
-            if parts and kind == READ and not bits & DF:
+            first, end = offset // SECTOR, offset + length
+            parts = [first] * (offset % SECTOR > 0) + [end // SECTOR] * (end % SECTOR > 0)
+            parts = [it for it in parts if export.fails(it * SECTOR, SECTOR)]
+            if kind == READ:
                 first = next(max(first, low) for low, high in export.lost if first < high)
-            found.append(first)
+            found.append(parts[0] if parts and kind != READ else first)
     return found
 
 

@@ -7,12 +7,12 @@ from device_tree import Tree
 from files import WHOLE, Files, Noted, Stop, not_opened
 from images import Drawn, run_diff, run_dump, run_format, run_partitions, run_table, run_verify
 from nbd import Service
-from partitions import part_named
+from partitions import is_sound, part_named, table_of
 from places import grow_file, open_place
 from recovery import chart_of, check_size, facts_of as lost_facts, lines_of, looked_up, recovered, runs_of, with_map
 from repairs import run_repair
 from replies import Json, Octets, ending_object
-from rescue_map import MapFault, marks_of
+from rescue_map import MapFault, is_finished, is_of_scan, marks_of
 from session import MOST_SECTORS, SUBMISSION_RULES, Session, Usage, check_request, costs
 from stack import SECTOR, Fault, FileImage, MemoryImage, Stack
 from tables import TextFault, read_stack
@@ -91,6 +91,8 @@ def resolved(words, files):
             part = part_named(bytes(disk), word)
             if part is None:
                 raise not_opened("NotFound", path)
+            if kind == b"rw" and not is_sound(bytes(disk), table_of(bytes(disk), SECTOR)):
+                raise not_opened("NotAllowed", path)
             value = path, part
         found.append((name, kind, value))
     return found
@@ -197,6 +199,15 @@ def check_map(options):
         raise Usage
 
 
+def is_complete(node, of_scan, again):
+    """Whether a map's file is left as it is, since no sector is read: the command goes on by it, and it is finished."""
+    return node is not None and (of_scan or not is_of_scan(bytes(node))) and is_finished(bytes(node), again)
+
+
+def retries_in(options):
+    return int(options.get(b"retries", b"0")) > 0
+
+
 def use_map(options, files, out=None):
     """Whether there is a map's file. It is in use then as one that is written, is a regular one, and isn't the copy's image."""
     if b"map" not in options:
@@ -209,7 +220,7 @@ def use_map(options, files, out=None):
             raise
     if not (node is None or isinstance(node, bytearray)):
         raise not_opened("OtherFault", path)
-    if not files.can_replace(path):
+    if not files.can_replace(path) and not is_complete(node, out is None, retries_in(options)):
         raise Stop(b"refused 31 MapWrite")
     if node is not None:
         files.opened.append((node, True, WHOLE))
@@ -224,7 +235,7 @@ def gone_over(options, name, stack, out, files):
     if out is not None:
         check_size(device, out)
     if b"map" in options:
-        runs, had = with_map(stack, device, out, options[b"map"], files, int(options.get(b"retries", b"0")) > 0)
+        runs, had = with_map(stack, device, out, options[b"map"], files, retries_in(options))
     else:
         faults, had = recovered(stack, device, out)
         runs = runs_of(faults)

@@ -11,7 +11,7 @@ from protection import check_aligned, check_one_size, check_parity_of, compared_
 from replies import Json, ending_object
 from stack import SECTOR
 from tables import digits_of
-from verity import (ImageFault, Superblock, bare_tree, check_data, check_sizes, dump_facts, format_images, read_superblock,
+from verity import (ImageFault, Superblock, Tree, bare_tree, check_data, check_sizes, dump_facts, format_images, read_superblock,
                     spelled_uuid, survey, table_line, verify_images)
 from words import exactly, read_diff, read_fec, read_format, read_offset, read_partitions, read_table, read_verify
 
@@ -44,13 +44,23 @@ def two_images(files, paths, first, writable):
     return seen, image
 
 
-def check_kept(files, paths, path):
-    """The file of a pin or a root hash is neither image, nor is it to be made where HASH is, and another can be made beside it."""
+def check_apart(files, paths, path):
+    """The file of a pin or a root hash is neither image, nor is it to be made where HASH is."""
     one = files.known(path)
     if files.same_name(path, paths[1]) or one is not None and any(one is files.known(it) for it in paths):
         raise not_opened("SameFile", path)
-    if not files.can_replace(path):
-        raise Stop(b"refused 43 PinWrite")
+
+
+def check_old_pin(files, path):
+    """A pin replaces a pin or an empty file, if there is one."""
+    try:
+        text = files.content(path)
+    except Stop as stop:
+        if not stop.line.startswith(b"refused 1 "):
+            raise
+        return
+    if text:
+        read_pin(files, path)
 
 
 def run_format(options, words, files, _given, _features):
@@ -64,9 +74,13 @@ def run_format(options, words, files, _given, _features):
         else:
             measured(files, paths, fec, first, (*sizes, blocks, salt), is_bare)
     if kept is not None:
-        check_kept(files, paths, kept)
         if fec:
-            check_kept(files, (fec[0], fec[0]), kept)
+            check_apart(files, (fec[0], fec[0]), kept)
+        check_apart(files, paths, kept)
+        if not files.can_replace(kept):
+            raise Stop(b"refused 43 PinWrite")
+        if b"pin" in options:
+            check_old_pin(files, kept)
     check_aligned(first, sizes[1])
     if b"grow" in options:
         check_data(files.image(paths[0], False), *sizes, blocks)
@@ -158,16 +172,28 @@ def run_dump(options, words, files, _given, _features):
 def run_table(options, words, files, _given, _features):
     path, root, names, (*sizes, blocks, salt), first = read_table(options, words)
     root = told_root(root, files)
+    fec = read_fec(options)
     if b"no-superblock" in options:
         check_aligned(first, sizes[1])
+        image = files.image(path, False)[first * SECTOR:] if fec else b""
         bare_tree((*sizes, blocks, salt), 0)
         made, ahead = Superblock(bytes(16), *sizes, blocks, salt), 0
     else:
-        made, ahead = placed_superblock(files, path, first), 1
+        image = files.image(path, False)[first * SECTOR:]
+        made, ahead = read_superblock(image), 1
         check_aligned(first, made.hash_block)
     line = table_line(made, root, *names, first // (made.hash_block // SECTOR) + ahead)
     head = options[b"name"] + b",,,ro," if b"name" in options else b""
-    return [head + line], DONE
+    return [head + line + (parity_words(made, image, ahead, fec) if fec else b"")], DONE
+
+
+def parity_words(made, image, ahead, fec):
+    """The options of a table line for parity over the data and the hash image, from the tree on to its end."""
+    check_one_size(made.data_block, made.hash_block)
+    whole = len(image) // made.hash_block
+    if whole < ahead + sum(Tree(made.data_block, made.hash_block, made.blocks).levels):
+        raise Stop(b"refused 9 TooSmall")
+    return b" 8 use_fec_from_device %s fec_blocks %d fec_start 0 fec_roots %d" % (fec[0], made.blocks + whole - ahead, fec[1])
 
 
 def run_diff(options, words, files, _given, _features):

@@ -3,7 +3,7 @@
 import itertools
 import struct
 
-from stack import IGNORES_ZEROS, SECTOR, ZEROS, Fault
+from stack import IGNORES_ZEROS, MISMATCH, SECTOR, ZEROS, Fault
 from tables import Verity
 
 OLD_MAGIC, OPTION_MAGIC, OPTION_REPLY_MAGIC = b"NBDMAGIC", b"IHAVEOPT", 0x3E889045565A9
@@ -42,6 +42,8 @@ MOST_OF_AN_OPTION, MOST_OF_A_REQUEST, MOST_OPTIONS = 65536, 32 * 1024 * 1024, 10
 # Where the pieces of a READ end, and the blocks at the ends of one that are holes where they are zeros. A BLOCK_STATUS that
 # reads does so up to the end of a piece, or of a part of one where one extent is asked for, and tells zeros by such blocks.
 PIECE, PART, BLOCK = 256 * 1024, 64 * 1024, 4096
+# The most sectors of a run of zeros that is written, and of a piece of a write.
+RUN, PUT = 2048, 128
 DONE, FAULTS, BROKEN = 0, 3, 4
 # So many faults are listed, each the first of its sector.
 MOST_LISTED = 60
@@ -118,11 +120,27 @@ class Service:
         served = b"dmstack: served %d requests of %d bytes, %d with an input/output error, 0 with NoSpace; %s" % counts
         return [*devices, *listed, *more, served]
 
-    def lose(self, at, fault):
-        """A request ends with a fault at the sector of that byte."""
+    def lose(self, sector, fault, is_alone=True):
+        """A request ends with a fault at a sector, or at the piece that begins with it. Returns what the chunk of an error says of it:
+        of a sector that fails verification its data block."""
         kind = b" ".join(fault.text.encode().split()[2:])
+        block = self.stack.data_block(self.device, sector) if is_alone and fault.text == MISMATCH else None
         self.faults += 1
-        self.listed.setdefault(at // SECTOR, b"dmstack: export %s: sector %d: %s" % (self.device.name, at // SECTOR, kind))
+        told = kind if block is None else b"%s, data block %d" % (kind, block)
+        self.listed.setdefault(sector, b"dmstack: export %s: sector %d: %s" % (self.device.name, sector, told))
+        return TEXTS[kind.split()[0]] if block is None else b"data block %d fails verification" % block
+
+    def lose_asked(self, command, offset, length, fault):
+        """A request that isn't answered in pieces ends with a fault: the sectors of a READ are read one by one; of a write the piece is
+        known that failed."""
+        if command != READ:
+            return self.lose(*self.put_failed)
+        for sector in range(offset // SECTOR, -(-(offset + length) // SECTOR)):
+            try:
+                self.stack.read_run(self.device, sector, 1)
+            except Fault as own:
+                return self.lose(sector, own)
+        raise fault
 
     def begin(self):
         """A message begins: where the input has ended, the client went away between two of them."""
@@ -273,8 +291,7 @@ class Service:
         except Refused as refused:
             error, answer, text = refused.error, b"", TEXTS[refused.error]
         except Fault as fault:
-            error, answer, text = EIO, b"", text_of(fault)
-            self.lose(offset, fault)
+            error, answer, text = EIO, b"", self.lose_asked(command, offset, length, fault)
         if self.structured and command in (READ, BLOCK_STATUS):
             octets = framed(cookie, True, *self.chunk(command, offset, answer, error, text))
         else:
@@ -298,8 +315,7 @@ class Service:
                 octets = self.read(at, behind - at)
             except Fault as fault:
                 if at // SECTOR == (behind - 1) // SECTOR:
-                    self.lose(at, fault)
-                    yield True, ERROR_OFFSET, error_told(EIO, text_of(fault)) + struct.pack(">Q", at)
+                    yield True, ERROR_OFFSET, error_told(EIO, self.lose(at // SECTOR, fault)) + struct.pack(">Q", at)
                     return
                 slow = behind
                 continue
@@ -358,9 +374,9 @@ class Service:
         if command == BLOCK_STATUS:
             return self.status(offset, length, 1 if flags & REQ_ONE else MOST_EXTENTS)
         if command == WRITE and data:
-            self.write(offset, data)
+            self.write(offset, data, len(data))
         if command == WRITE_ZEROES and length:
-            self.write(offset, bytes(length))
+            self.write(offset, bytes(length), RUN)
         return b""
 
     def read(self, offset, length):
@@ -409,21 +425,36 @@ class Service:
             at = behind
         return extents_told(offset, extents[:most])
 
-    def write(self, offset, data):
-        """Puts whole sectors: what stands around the bytes is read first."""
+    def write(self, offset, data, most):
+        """Writes whole sectors, run by run of at most so many, and each piece by piece: what is around the bytes is read first."""
         before, behind = offset % SECTOR, -(offset + len(data)) % SECTOR
-        sectors = self.read(offset - before, before) + data + self.read(offset + len(data), behind)
+        sectors = self.read_end(offset - before, before) + data + self.read_end(offset + len(data), behind)
         at, end = offset // SECTOR, (offset + len(data) - 1) // SECTOR + 1
         while at < end:
-            place = (at - offset // SECTOR) * SECTOR
+            run = at + self.stack.aligned_len(self.device, at, end - at, most)
+            while at < run:
+                piece = at + self.stack.aligned_len(self.device, at, run - at, PUT)
+                self.write_piece(at, sectors[(at - offset // SECTOR) * SECTOR:(piece - offset // SECTOR) * SECTOR])
+                at = piece
+
+    def read_end(self, offset, length):
+        """The bytes around those of a write, of one sector."""
+        try:
+            return self.read(offset, length)
+        except Fault as fault:
+            self.put_failed = offset // SECTOR, fault
+            raise
+
+    def write_piece(self, first, sectors):
+        at, end = first, first + len(sectors) // SECTOR
+        while at < end:
             count = self.stack.piece(self.device, at, end - at)
-            self.stack.write_run(self.device, at, sectors[place:place + count * SECTOR])
+            try:
+                self.stack.write_run(self.device, at, sectors[(at - first) * SECTOR:(at + count - first) * SECTOR])
+            except Fault as fault:
+                self.put_failed = first, fault, False
+                raise
             at += count
-
-
-def text_of(fault):
-    """What the chunk of an error says of a fault."""
-    return TEXTS[fault.text.encode().split()[2]]
 
 
 def error_told(error, text):

@@ -261,6 +261,11 @@ def table_of(image, size):
         return table_with(image, size)
 
 
+def is_sound(image, table):
+    """Whether partitions are written by this table: by a valid primary copy, no valid backup that differs, and a protective record."""
+    return table.copies.startswith(("both", "primary")) and not master_record(image)
+
+
 def part_named(image, word):
     """The part, in sectors of 512 bytes, that the partition of that number, UUID or label is; None unless exactly one is."""
     try:

@@ -3,7 +3,7 @@
 from dataclasses import dataclass
 
 from files import OUTSIDE, WHOLE, Stop, not_opened
-from partitions import table_of
+from partitions import is_sound, table_of
 from session import Usage
 from stack import SECTOR
 from tables import number
@@ -55,8 +55,8 @@ def named_part(text):
     return path, word
 
 
-def partition_part(files, path, word):
-    """The sectors of the only partition of that number, UUID or label."""
+def partition_part(files, path, word, writable):
+    """The sectors of the only partition of that number, UUID or label, which is written by a sound table alone."""
     node = files.find(path)
     if not isinstance(node, bytearray):
         raise not_opened("OtherFault", path)
@@ -73,12 +73,14 @@ def partition_part(files, path, word):
         found = [it for it in table.partitions if it.label.encode() == word]
     if len(found) != 1:
         raise not_opened("NotFound", path)
+    if writable and not is_sound(bytes(node), table):
+        raise not_opened("NotAllowed", path)
     unit = table.size // SECTOR
     return found[0].first * unit, found[0].count * unit
 
 
-def open_place(files, text, writable):
-    """The place that an argument names; a file of that whole name comes first."""
+def open_place(files, text, writable, is_written=False):
+    """The place that an argument names; a file of that whole name comes first. Some are written though they are in use as read ones."""
     try:
         return Place(files.image(text, writable), WHOLE)
     except Stop as stop:
@@ -87,7 +89,7 @@ def open_place(files, text, writable):
             raise
     path, part = named
     try:
-        part = part if isinstance(part, tuple) else partition_part(files, path, part)
+        part = part if isinstance(part, tuple) else partition_part(files, path, part, writable or is_written)
         return Place(files.image(path, writable, part), part)
     except Stop as stop:
         kind = "NotFound" if stop.line.startswith(OUTSIDE) else stop.line.split(b" ")[2].decode()

@@ -218,7 +218,11 @@ class Trees(Dice):
             words = [b"--json"] if self.has("forms", "json") and self.chance(0.4) else []
             return Run([b"dump"] + self.shuffled(words, place) + names[1:])
         words = [b"--name", self.pick([b"v", b"n" * 127, b"n" * 128, b"a/b", b"x"])] if self.chance(0.4) else []
-        words = self.shuffled(words, self.bare_words(it, True), place, said)
+        fec = []
+        if self.has("forms", "fec") and self.chance(0.3):
+            fec = [b"--fec", self.pick([b"P", b"P", PREFIX + b"p", b"a b"]), b"--fec-roots=%d" % self.pick([2, 2, 24, 25, 1])]
+            fec = self.pick([fec, fec, fec[:2], fec[2:]])
+        words = self.shuffled(words, self.bare_words(it, True), place, said, fec)
         devices = [self.pick([b"D", PREFIX + b"a", b"/dev/sda1", b"", b"a b"]) if self.chance(0.3) else b"D"] + [b"H"]
         return Run([b"table"] + words + names[1:] + rest + devices)
 
@@ -248,6 +252,8 @@ class Trees(Dice):
         """In some cases the file to which `format` writes a pin or the root hash."""
         if self.chance(0.8):
             return []
+        if self.chance(0.4):
+            self.files[b"kept"] = self.pick([b"", b"note\n", bytes(5000), Pin(bytes(32), b"", 512, 512, 1).text()])
         return [self.pick([b"--pin", b"--root-hash-file"]), self.pick([b"kept"] * 8 + [b"data", b"hash", b"parity", b"none/kept", b"-"])]
 
     def drawn_pin(self, it, root):

@@ -3,7 +3,7 @@
 from charts import chart_lines
 from configuration import Refused
 from files import Stop
-from rescue_map import FAULTS, MapFault, is_of_scan, lost_runs_of, marks_of, text_of
+from rescue_map import FAULTS, MapFault, bad_sectors_of, is_of_scan, marks_of, tail_of, text_of
 from session import SUBMISSION_RULES
 from stack import SECTOR, Fault
 
@@ -85,16 +85,16 @@ def with_map(stack, device, out, path, files, again):
     try:
         text = bytes(files.text(path))
         marks = marks_of(text, device.sectors)
-        bad = lost_runs_of(text)
+        bad, tail = bad_sectors_of(text, device.sectors), tail_of(text, device.sectors)
         if is_of_scan(text) and not of_scan:
-            marks, bad = (), []
+            marks, bad, tail = (), [], []
     except MapFault as fault:
         raise Stop(b"refused %d Map%s" % (24 + FAULTS.index(str(fault)), str(fault).encode())) from None
     except Stop as stop:
         if not stop.line.startswith(b"refused 1 "):
             raise
-        marks, bad = (), []
-    lost = {at for first, count in bad for at in range(first, first + count)}
+        marks, bad, tail = (), [], []
+    lost = set(bad)
     settled = [had or not again and at in lost for at, had in enumerate(marks)]
     faults, had = recovered(stack, device, out, settled)
     reads = not marks or not all(settled)
@@ -102,7 +102,7 @@ def with_map(stack, device, out, path, files, again):
         had = [it and at not in lost for at, it in enumerate(had)]
         faults = ["fault 3 Device 0" if at in lost else it for at, it in enumerate(faults)]
     if reads:
-        files.replace(path, text_of(had, of_scan, lost))
+        files.replace(path, text_of(had, of_scan, lost, tail))
     return runs_of(faults), had
 
 

@@ -23,7 +23,7 @@ def parts_of(places, first):
 def opened(files, paths, first, copies, writes):
     """The bytes of the data and of the hash image's place, the length of the data, and the copies of each."""
     files.opened.clear()
-    places = [open_place(files, path, False) for path in paths]
+    places = [open_place(files, path, False, writes) for path in paths]
     files.opened.clear()
     parts = parts_of(places, first)
     for place, part, path in zip(places, parts, paths):

@@ -7,6 +7,7 @@ from tables import WORD
 
 FAULTS = ["Status", "Block", "PartSector", "Gap", "Overlap", "Size"]
 UNFINISHED = (b"-", b"?", b"*", b"/")
+RANKS = b"?*/-+"  # the less advanced status of a sector's bytes is that of the sector
 SCAN_MARK = b"# dmstack scan"
 
 
@@ -41,32 +42,57 @@ def is_status(words):
             and words[1] in (*UNFINISHED, b"+", b"F", b"G"))
 
 
-def marks_of(text, sectors):
-    """Of each sector whether it was had."""
+def blocks_in(text, sectors):
+    """The blocks of the map of a device, as (size, letter), in bytes: they end in a part of the sector after it at most."""
     lines = said_lines(text)
     if not lines or not is_status(lines[0]):
         raise MapFault("Status")
-    marks = []
+    blocks, end = [], 0
     for words in lines[1:]:
         numbers = [number_of(word) for word in words[:2]]
         if len(words) != 3 or None in numbers or words[2] not in (*UNFINISHED, b"+"):
             raise MapFault("Block")
         at, size = numbers
-        if at % SECTOR or size % SECTOR or not size:
+        if not size:
             raise MapFault("PartSector")
-        if at != len(marks) * SECTOR:
-            raise MapFault("Gap" if at > len(marks) * SECTOR else "Overlap")
-        if len(marks) + size // SECTOR > sectors:
+        if at != end:
+            raise MapFault("Gap" if at > end else "Overlap")
+        end += size
+        if end >= (sectors + 1) * SECTOR:
             raise MapFault("Size")
-        marks += [words[2] == b"+"] * (size // SECTOR)
-    if len(marks) != sectors:
+        blocks.append((size, words[2]))
+    if end // SECTOR != sectors:
         raise MapFault("Size")
-    return marks
+    return blocks
 
 
-def lost_runs_of(text):
-    """The blocks of a map that are bad, as [first, count], in sectors."""
-    return [[number_of(words[0]) // SECTOR, number_of(words[1]) // SECTOR] for words in said_lines(text)[1:] if words[2] == b"-"]
+def letters_of(text, sectors):
+    """The letter of each sector, the least advanced one of its bytes; at the end that of a part of a sector, if there is one."""
+    bytes_ = b"".join(size * letter for size, letter in blocks_in(text, sectors))
+    return [min(bytes_[at : at + SECTOR], key=RANKS.index) for at in range(0, len(bytes_), SECTOR)]
+
+
+def marks_of(text, sectors):
+    """Of each sector whether it was had."""
+    return [letter == ord("+") for letter in letters_of(text, sectors)[:sectors]]
+
+
+def is_finished(text, again):
+    """Whether each line after the first is a block that was had or, unless bad ones are read again, is bad."""
+    lines = said_lines(text)
+    return bool(lines) and all(len(words) == 3 and None not in map(number_of, words[:2]) and
+                               (words[2] == b"+" or words[2] == b"-" and not again) for words in lines[1:])
+
+
+def bad_sectors_of(text, sectors):
+    """The sectors that are bad."""
+    return [at for at, letter in enumerate(letters_of(text, sectors)[:sectors]) if letter == ord("-")]
+
+
+def tail_of(text, sectors):
+    """The line of the bytes after the device's sectors, if there are any, and of their least advanced letter."""
+    size = sum(size for size, _ in blocks_in(text, sectors)) - sectors * SECTOR
+    return [b"%d %d %c" % (sectors * SECTOR, size, letters_of(text, sectors)[sectors])] if size else []
 
 
 def blocks_of(marks):
@@ -80,9 +106,9 @@ def blocks_of(marks):
     return found
 
 
-def text_of(marks, of_scan, known=()):
+def text_of(marks, of_scan, known=(), tail=()):
     """The map that is written: finished, and of each longest run whether it was had; what was known to be lost is in runs of its
-    own, and a scan's is marked."""
+    own, and a scan's is marked. The tail follows."""
     alike = [(had, not had and at in known) for at, had in enumerate(marks)]
     lines = [b"%d %d %s" % (first * SECTOR, count * SECTOR, b"+" if had else b"-") for (had, _), first, count in blocks_of(alike)]
-    return b"\n".join([*[SCAN_MARK] * of_scan, b"0 +", *lines, b""])
+    return b"\n".join([*[SCAN_MARK] * of_scan, b"0 +", *lines, *tail, b""])

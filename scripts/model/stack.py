@@ -194,6 +194,20 @@ class Stack:
             size, place = target.data_block // SECTOR, at
         return (at + 1) % size == 0 and self.ends_units(self.configuration.lower(target.device), place)
 
+    def data_block(self, lower, sector):
+        """The data block in which a sector lies, of the first `verity` line on its way down; None if there is no such line."""
+        if isinstance(lower, Leaf):
+            return None
+        target, at, _ = next(self.runs(lower, sector, 1))
+        if isinstance(target, (Zero, Error)):
+            return None
+        if isinstance(target, Verity):
+            return at // (target.data_block // SECTOR)
+        if isinstance(target, Crypt):
+            return self.data_block(self.configuration.lower(target.device), target.offset + at)
+        below, place, _ = next(self.lower_runs(target, at, 1))
+        return self.data_block(below, place)
+
     def aligned_len(self, device, first, rest, most):
         """How many sectors the next piece of a transfer has: up to the last one that ends units and data blocks, if one does."""
         if rest <= most:

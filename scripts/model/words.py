@@ -19,7 +19,7 @@ OPTIONS = {
     "verify": (*TREE, b"hash-offset", b"root-hash-file", b"no-superblock", b"all", b"json", b"chart", b"progress",
                b"fec", b"fec-roots", b"pin"),
     "dump": (b"hash-offset", b"json", b"pin"),
-    "table": (*TREE, b"hash-offset", b"root-hash-file", b"name", b"no-superblock", b"pin"),
+    "table": (*TREE, b"hash-offset", b"root-hash-file", b"name", b"no-superblock", b"fec", b"fec-roots", b"pin"),
     "repair": (*TREE, b"hash-offset", b"root-hash-file", b"no-superblock", b"check", b"fec", b"fec-roots", b"pin"),
     "update": (b"json", b"no-index", b"progress", b"pin"),
     "load": (b"json", b"tree"), "read": (b"cache",), "write": (b"cache",), "session": (b"cache",), "nbd": (b"cache", b"all"),
@@ -304,6 +304,9 @@ def read_table(options, words):
     if not all(map(is_device_argument, names)):
         raise Usage
     if b"name" in options and not is_mapped_name(options[b"name"]):
+        raise Usage
+    fec = read_fec(options)
+    if fec and not is_device_argument(fec[0]):
         raise Usage
     return hash_path, root, names, read_sizes(options), read_offset(options)
 

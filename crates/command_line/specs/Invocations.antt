@@ -21,6 +21,7 @@ use Rattle.command_line.specs.OptionGroups.{has_fec_value}
 use Rattle.command_line.specs.Positional.{no_more}
 use Rattle.command_line.specs.declared.misuse.Cause.TheVariants.{Unknown, WithNoSuperblock, WithPin}
 use Rattle.command_line.specs.words.FecFormat.{FecFormatRecord, fec_format_record, fec_format_said}
+use Rattle.command_line.specs.words.FecTable.{FecTableRecord, fec_table_record, fec_table_said}
 use Rattle.command_line.specs.words.FecVerify.{FecVerifyRecord, fec_verify_record, fec_verify_said}
 use Rattle.command_line.specs.words.Format.{FormatRecord, format_record, format_said}
 use Rattle.command_line.specs.words.Verify.{VerifyRecord, verify_record, verify_said}
@@ -32,7 +33,7 @@ use Rattle.command_line.specs.words.Diff.{DiffRecord, diff_record, diff_said}
 use Rattle.command_line.specs.words.TreeVerify.{TreeVerifyRecord, tree_verify_record, tree_verify_said}
 use Rattle.command_line.specs.words.TreeTable.{TreeTableRecord, tree_table_record, tree_table_said}
 use Rattle.command_line.specs.declared.invocation.Invocation.{Invocation}
-use Rattle.command_line.specs.declared.invocation.Invocation.TheVariants.{Load, Read, Write, Session, Nbd, Exports, Scan, Copy, Cat, Store, Format, Verify, Dump, Table, Partitions, Diff, Repair, Update, Find, Assemble, VerifyTree, TableTree, FormatFec, VerifyFec, Manual, Version}
+use Rattle.command_line.specs.declared.invocation.Invocation.TheVariants.{Load, Read, Write, Session, Nbd, Exports, Scan, Copy, Cat, Store, Format, Verify, Dump, Table, Partitions, Diff, Repair, Update, Find, Assemble, VerifyTree, TableTree, FormatFec, VerifyFec, TableFec, Manual, Version}
 
 pub data InvocationRecord : Type 0 where
   load : LoadRecord → InvocationRecord
@@ -62,6 +63,7 @@ pub data InvocationRecord : Type 0 where
   -- `format --fec`
   format_fec : FecFormatRecord → InvocationRecord
   verify_fec : FecVerifyRecord → InvocationRecord
+  table_fec : FecTableRecord → InvocationRecord
   -- the name of the command whose page is printed, if there is one
   manual : Option (List ℕ) → InvocationRecord
   version : InvocationRecord
@@ -80,6 +82,7 @@ unfoldable pub fec_said : List ℕ → OptionTexts → List (List ℕ) → Readi
 fec_said name texts words =
     if bytes_eq name (codes "format") then said_as format_fec (fec_format_said texts words)
     else if bytes_eq name (codes "verify") then said_as verify_fec (fec_verify_said texts words)
+    else if bytes_eq name (codes "table") then said_as table_fec (fec_table_said texts words)
     else misused (codes "--fec") Unknown
 
 -- an image with a pin has a superblock
@@ -169,5 +172,6 @@ invocation_record (VerifyTree w) = verify_tree (tree_verify_record w)
 invocation_record (TableTree w) = table_tree (tree_table_record w)
 invocation_record (FormatFec w) = format_fec (fec_format_record w)
 invocation_record (VerifyFec w) = verify_fec (fec_verify_record w)
+invocation_record (TableFec w) = table_fec (fec_table_record w)
 invocation_record (Manual command) = manual (text_of command)
 invocation_record Version = version

@@ -23,3 +23,13 @@ in_superblock texts =
 -- of a tree without a superblock the salt is given, of another one none of these options
 unfoldable pub tree_stated : OptionTexts → Reading (Unit {0})
 tree_stated texts = if texts.no_superblock then refuse_if (not (is_some texts.salt)) (codes "--salt") Missing else in_superblock texts
+
+-- the number of data blocks and the salt are given, which no superblock says
+unfoldable pub tree_given : OptionTexts → Reading (Unit {0})
+tree_given texts =
+    when (refuse_if (not (is_some texts.blocks)) (codes "--blocks") Missing) (λ a.
+    refuse_if (not (is_some texts.salt)) (codes "--salt") Missing)
+
+-- of a tree without a superblock these are given, of another one no option whose value the superblock holds
+unfoldable pub table_stated : OptionTexts → Reading (Unit {0})
+table_stated texts = if texts.no_superblock then tree_given texts else in_superblock texts

@@ -5,6 +5,7 @@ pub mod Diff
 pub mod Dump
 pub mod Exports
 pub mod FecFormat
+pub mod FecTable
 pub mod FecVerify
 pub mod Find
 pub mod Format

@@ -17,6 +17,7 @@ use crate::words::diff::diff_of;
 use crate::words::dump::dump_of;
 use crate::words::exports::exports_of;
 use crate::words::fec_format::fec_format_of;
+use crate::words::fec_table::fec_table_of;
 use crate::words::fec_verify::fec_verify_of;
 use crate::words::find::find_of;
 use crate::words::format::format_of;
@@ -122,6 +123,8 @@ fn fec_of<'a>(
         fec_format_of(options, words)
     } else if name == b"verify".as_slice() {
         fec_verify_of(options, words)
+    } else if name == b"table".as_slice() {
+        fec_table_of(options, words)
     } else {
         Err(WordsFault::Usage(Misuse::new("--fec", Cause::Unknown)))
     }

@@ -1,10 +1,11 @@
 //! The parity of an image, by the options `--fec` and `--fec-roots`.
 ghost use Rattle.std.specs.Prelude.{option_map};
 ghost use Rattle.command_line.specs.FormatOptions.{text_of};
-ghost use Rattle.command_line.specs.FecFiles.{fec_choice_of, fec_file_of, fec_record, roots_of};
+ghost use Rattle.command_line.specs.FecFiles.{fec_choice_of, fec_device_of, fec_device_record, fec_file_of, fec_record, roots_of};
 ghost use Rattle.command_line.specs.Misuses.{ReadsValue};
 
 use crate::misuse::{Cause, Misuse};
+use dm_table::is_device;
 use table_text::number;
 
 const ROOTS: u32 = 2;
@@ -15,6 +16,13 @@ const MOST_ROOTS: u64 = 24;
 #[derive(Clone, Copy)]
 pub struct FecFile<'a> {
     pub path: &'a str,
+    pub roots: u32,
+}
+
+/// The device argument of the parity in a table line, and how many bytes of parity a codeword has, from 2 to 24.
+#[derive(Clone, Copy)]
+pub struct FecDevice<'a> {
+    pub device: &'a str,
     pub roots: u32,
 }
 
@@ -55,6 +63,28 @@ pub fn fec_choice_of<'a>(
     }
     let fec = fec_file_of(path, roots)?;
     Ok(Some(fec))
+}
+
+/// Returns the device of `--fec FECNAME`, with the bytes of parity of a codeword as `fec_file_of` does.
+///
+/// # Errors
+///
+/// The misuse of `fec_file_of`, or `DeviceName` of `--fec` if its value isn't a device argument.
+#[tactic(auto, unfolding(crate::specs::FecFiles::fec_device_of))]
+pub fn fec_device_of<'a>(
+    device: Option<&'a str>,
+    roots: Option<&'a str>,
+) -> Result<FecDevice<'a>, Misuse<'a>>
+    ensures { ReadsValue fec_device_record (fec_device_of (text_of device.entry) (text_of roots.entry)) result }
+{
+    let fec = fec_file_of(device, roots)?;
+    if is_device(fec.path.as_bytes()) {
+        return Ok(FecDevice {
+            device: fec.path,
+            roots: fec.roots,
+        });
+    }
+    Err(Misuse::new("--fec", Cause::DeviceName))
 }
 
 // How many bytes of parity a codeword has: 2 unless the word says another number up to 24.

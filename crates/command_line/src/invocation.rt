@@ -12,6 +12,7 @@ use crate::words::diff::DiffWords;
 use crate::words::dump::DumpWords;
 use crate::words::exports::ExportsWords;
 use crate::words::fec_format::FecFormatWords;
+use crate::words::fec_table::FecTableWords;
 use crate::words::fec_verify::FecVerifyWords;
 use crate::words::find::FindWords;
 use crate::words::format::FormatWords;
@@ -84,6 +85,7 @@ pub enum Invocation<'a> {
     /// `format --fec`
     FormatFec(FecFormatWords<'a>),
     VerifyFec(FecVerifyWords<'a>),
+    TableFec(FecTableWords<'a>),
     /// The name of the command whose page is printed, if there is one.
     Manual(Option<&'a str>),
     Version,
@@ -118,6 +120,7 @@ pub fn bindings_in<'a, 'b>(invocation: &'b Invocation<'a>) -> &'b [Binding<'a>]
         | Invocation::TableTree(_)
         | Invocation::FormatFec(_)
         | Invocation::VerifyFec(_)
+        | Invocation::TableFec(_)
         | Invocation::Manual(_)
         | Invocation::Version => &[],
     }
@@ -182,6 +185,7 @@ pub fn with_bindings<'a>(invocation: Invocation<'a>, bindings: Vec<Binding<'a>>)
         Invocation::TableTree(words) => Invocation::TableTree(words),
         Invocation::FormatFec(words) => Invocation::FormatFec(words),
         Invocation::VerifyFec(words) => Invocation::VerifyFec(words),
+        Invocation::TableFec(words) => Invocation::TableFec(words),
         Invocation::Manual(command) => Invocation::Manual(command),
         Invocation::Version => Invocation::Version,
     }

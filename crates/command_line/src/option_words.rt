@@ -1,7 +1,7 @@
 //! The options of a command line, as words.
 ghost use Rattle.std.specs.Prelude.{◌≡◌};
 ghost use Rattle.command_line.specs.FormatOptions.{option_texts};
-ghost use Rattle.command_line.specs.OptionGroups.{has_fec_value, in_superblock, is_writable_table, tree_stated};
+ghost use Rattle.command_line.specs.OptionGroups.{has_fec_value, in_superblock, is_writable_table, table_stated, tree_given, tree_stated};
 ghost use Rattle.command_line.specs.Misuses.{ReadsValue};
 
 use crate::misuse::{Cause, Misuse, refuse_if};
@@ -107,4 +107,34 @@ pub fn tree_stated<'a>(options: &OptionWords<'a>) -> Result<(), Misuse<'a>>
     } else {
         in_superblock(options)
     }
+}
+
+/// Refuses the options of the tree whose values the superblock holds. With `--no-superblock` they are allowed, and those of
+/// `tree_given` are required.
+///
+/// # Errors
+///
+/// The misuse of `tree_given` if `--no-superblock` is given, otherwise that of `in_superblock`.
+#[tactic(auto, unfolding(crate::specs::OptionGroups::table_stated))]
+pub fn table_stated<'a>(options: &OptionWords<'a>) -> Result<(), Misuse<'a>>
+    ensures { ReadsValue (λ none. none) (table_stated (option_texts options.now)) result }
+{
+    if options.no_superblock {
+        tree_given(options)
+    } else {
+        in_superblock(options)
+    }
+}
+
+/// Requires the options without which no tree is known before the data are.
+///
+/// # Errors
+///
+/// `Missing` of the first of `--blocks` and `--salt` that isn't given.
+#[tactic(auto, unfolding(crate::specs::OptionGroups::tree_given))]
+pub fn tree_given<'a>(options: &OptionWords<'a>) -> Result<(), Misuse<'a>>
+    ensures { ReadsValue (λ none. none) (tree_given (option_texts options.now)) result }
+{
+    refuse_if(options.blocks.is_none(), "--blocks", Cause::Missing)?;
+    refuse_if(options.salt.is_none(), "--salt", Cause::Missing)
 }

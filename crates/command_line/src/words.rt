@@ -6,6 +6,7 @@ pub mod diff;
 pub mod dump;
 pub mod exports;
 pub mod fec_format;
+pub mod fec_table;
 pub mod fec_verify;
 pub mod find;
 pub mod format;

@@ -52,7 +52,7 @@ pin = value_option (codes "pin")
 abbrev pub root_options : List OptionText → List OptionText
 root_options more = value_option (codes "old-root-hash-file") ∷ root_file ∷ value_option (codes "old-pin") ∷ pin ∷ more
 
--- parity: its file, and how many bytes of it a codeword has
+-- parity: its file or, of `table`, its device, and how many bytes of it a codeword has
 abbrev pub fec_options : List OptionText → List OptionText
 fec_options more = value_or (codes "fec") (codes "fec-device") ∷ value_option (codes "fec-roots") ∷ more
 
@@ -78,7 +78,7 @@ image_commands more =
     command (codes "format") (tree_options (value_option (codes "uuid") ∷ offset ∷ root_file ∷ bare_option ∷ flag (codes "grow") ∷ progress ∷ fec_options (pin ∷ [])))
     ∷ command (codes "verify") (tree_options (offset ∷ root_file ∷ bare_option ∷ flag (codes "all") ∷ json ∷ chart ∷ progress ∷ fec_options (pin ∷ [])))
     ∷ command (codes "dump") (offset ∷ json ∷ pin ∷ [])
-    ∷ command (codes "table") (tree_options (offset ∷ root_file ∷ value_option (codes "name") ∷ bare_option ∷ pin ∷ []))
+    ∷ command (codes "table") (tree_options (offset ∷ root_file ∷ value_option (codes "name") ∷ bare_option ∷ fec_options (pin ∷ [])))
     ∷ command (codes "repair") (tree_options (offset ∷ root_file ∷ bare_option ∷ flag (codes "check") ∷ fec_options (pin ∷ [])))
     ∷ command (codes "update") (json ∷ flag (codes "no-index") ∷ progress ∷ pin ∷ [])
     ∷ command (codes "find") (json ∷ [])

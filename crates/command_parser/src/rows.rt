@@ -71,6 +71,8 @@ pub static COMMANDS: [CommandRow; 21] = [
             ROOT_HASH_FILE,
             NAME,
             NO_SUPERBLOCK,
+            FEC,
+            FEC_ROOTS,
             PIN,
         ],
     },

@@ -1,9 +1,11 @@
 //! The program: passes the command line, standard input and standard output to `stack_commands`.
 #![tactic(auto)]
 
+mod output;
 mod system;
 
 use image_files::{FileImages, SystemCalls};
+use output::Output;
 use program_io::Counted;
 use stack_commands::{CommandFault, command, end, writes_data};
 use std::fs::File;
@@ -19,7 +21,7 @@ fn main(rt: HostRuntime) -> ExitCode {
     let _output = File::open(&rt, "/");
     let _errors = File::open(&rt, "/");
     let mut errors = Counted::new(rt.stderr());
-    let Ok(buffered) = BufWriter::new(rt.alloc(), io::writer(&rt)) else {
+    let Ok(buffered) = BufWriter::new(rt.alloc(), Output::new(io::writer(&rt))) else {
         let mut writer = Counted::new(io::writer(&rt));
         return ExitCode::from(end_unread(&rt, &mut writer, &mut errors, CommandFault::NoMemory));
     };
@@ -43,8 +45,9 @@ fn main(rt: HostRuntime) -> ExitCode {
         Err(_) => end_unread(&rt, &mut writer, &mut errors, CommandFault::Usage(None)),
     };
     let status = if writer.flush().is_ok() { status } else { 1 };
-    // The readers of `cat` and `nbd` may close the output; this isn't reported.
-    if writer.failed() && !is_data(&rt) {
+    let failed = writer.failed();
+    let is_closed = writer.into_inner().get_ref().is_closed();
+    if failed && !is_silent(&rt, is_closed) {
         let _said = errors.put(b"dmstack: standard output failed\n");
     }
     ExitCode::from(status)
@@ -72,6 +75,18 @@ fn is_data<R: Env>(rt: &R) -> bool {
     };
     match buffer.get(..length) {
         Some(name) => writes_data(name),
+        None => false,
+    }
+}
+
+// Whether a failed output isn't reported: `nbd` has lines of its own, and the reader of `cat` may close it.
+fn is_silent<R: Env>(rt: &R, is_closed: bool) -> bool {
+    let mut buffer = [0; 4];
+    let Ok(length) = rt.arg(1, &mut buffer) else {
+        return false;
+    };
+    match buffer.get(..length) {
+        Some(name) => name == b"nbd".as_slice() || is_closed && name == b"cat".as_slice(),
         None => false,
     }
 }

@@ -1,4 +1,5 @@
 pub mod EndingLemmas
+pub mod TableLemmas
 pub mod LayingLemmas
 mod NeededLemmas
 mod ProtectingLemmas

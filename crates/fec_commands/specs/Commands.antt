@@ -4,6 +4,7 @@ use Rattle.block_device.specs.Device.{Device}
 use Rattle.command_line.specs.declared.option_words.OptionWords.{OptionWords}
 use Rattle.command_line.specs.declared.words.fec_verify.FecVerifyWords.{FecVerifyWords}
 use Rattle.command_line.specs.FormatOptions.{OptionTexts, option_texts}
+use Rattle.command_line.specs.Values.{RootOrPinRecord}
 use Rattle.command_line.specs.words.Verify.{VerifyRecord}
 use Rattle.program_io.specs.Counted.{CountedRecord}
 use Rattle.image_commands.specs.declared.fault.ImageFault.TheVariants.{Unaligned}
@@ -29,12 +30,21 @@ use Rattle.fec_commands.specs.Verifying.{IsVerifyThreeEnd, VerifiesThree}
 abbrev pub verify_places : VerifyRecord → TwoPlaces
 verify_places v = image_places v.data_path v.hash_path v.hash_offset
 
+-- where a tree is stated and its root told: in a superblock or, without one, in options; and the sector of the hash image
+pub record TreeWords : Type 0 where
+  pub no_superblock : Bool
+  pub root : RootOrPinRecord
+  pub first : ℕ
+
+abbrev pub verify_tree : FecVerifyRecord → TreeWords
+verify_tree v = record { no_superblock = v.no_superblock; root = v.verify.root; first = v.verify.hash_offset / 512 }
+
 -- the tree and its root were told, the tree may begin at its sector, and then this was done
-pub record SeeksThen {S D : Type 0} (texts : OptionTexts) (w : Calls S D) (v : FecVerifyRecord) (Then : Calls S D → SoughtTree → Type 0) : Type 0 where
+pub record SeeksThen {S D : Type 0} (texts : OptionTexts) (w : Calls S D) (t : TreeWords) (Then : Calls S D → SoughtTree → Type 0) : Type 0 where
   pub told_at : S
   pub sought : SoughtTree
-  pub told : TellsEither texts (record w { new = told_at }) v.no_superblock v.verify.root sought
-  pub aligned : may_seek sought.source (v.verify.hash_offset / 512) ≡ true
+  pub told : TellsEither texts (record w { new = told_at }) t.no_superblock t.root sought
+  pub aligned : may_seek sought.source t.first ≡ true
   pub follows : Then (record w { old = told_at }) sought
 
 -- all three files were opened for reading; the image was compared with its tree, and then its parity with the file's
@@ -46,7 +56,7 @@ pub record VerifiesSought {S D : Type 0} (v : FecVerifyRecord) (old new : Option
 -- `--all` wasn't given
 pub record VerifiesFec {S D : Type 0} (texts : OptionTexts) (w : Calls S D) (v : FecVerifyRecord) (old new : Option (List ℕ)) : Type 0 where
   pub one : v.verify.all ≡ false
-  pub sought : SeeksThen texts w v (VerifiesSought v old new)
+  pub sought : SeeksThen texts w (verify_tree v) (VerifiesSought v old new)
 
 -- a file can't be opened
 pub record IsVerifyUnopened {S D : Type 0} (v : FecVerifyRecord) (old new : Option (List ℕ)) (w : Calls S D) (fault : FecFault) : Type 0 where
@@ -71,24 +81,24 @@ pub record EndsMisused {S D : Type 0} (w : Calls S D) (v : FecVerifyRecord) (fau
   pub same : w.new ≡ w.old
 
 -- the tree or its root isn't told
-pub record EndsUnsought {S D : Type 0} (texts : OptionTexts) (w : Calls S D) (v : FecVerifyRecord) (fault : FecFault) : Type 0 where
+pub record EndsUnsought {S D : Type 0} (texts : OptionTexts) (w : Calls S D) (t : TreeWords) (fault : FecFault) : Type 0 where
   pub cause : VerityFault
-  pub untold : IsEitherUntold texts w v.no_superblock v.verify.root cause
+  pub untold : IsEitherUntold texts w t.no_superblock t.root cause
   pub is : fault ≡ Verity cause
 
 -- the tree and its root were told, and no hash block begins at the sector; no image was opened
-pub record EndsUnaligned {S D : Type 0} (texts : OptionTexts) (w : Calls S D) (v : FecVerifyRecord) (fault : FecFault) : Type 0 where
+pub record EndsUnaligned {S D : Type 0} (texts : OptionTexts) (w : Calls S D) (t : TreeWords) (fault : FecFault) : Type 0 where
   pub sought : SoughtTree
-  pub told : TellsEither texts w v.no_superblock v.verify.root sought
-  pub unaligned : may_seek sought.source (v.verify.hash_offset / 512) ≡ false
+  pub told : TellsEither texts w t.no_superblock t.root sought
+  pub unaligned : may_seek sought.source t.first ≡ false
   pub is : fault ≡ Verity (Image Unaligned)
 
 -- one of these, before an image was opened and anything was printed
 abbrev pub IsUnbegun : {S D : Type 0} → OptionTexts → Calls S D → FecVerifyRecord → FecFault → Type 0
-IsUnbegun texts w v fault = EndsMisused w v fault ⊎ (EndsUnsought texts w v fault ⊎ EndsUnaligned texts w v fault)
+IsUnbegun texts w v fault = EndsMisused w v fault ⊎ (EndsUnsought texts w (verify_tree v) fault ⊎ EndsUnaligned texts w (verify_tree v) fault)
 
 abbrev pub IsVerifyFecEnd : {S D : Type 0} → OptionTexts → Calls S D → FecVerifyRecord → Option (List ℕ) → Option (List ℕ) → Bool → FecFault → Type 0
-IsVerifyFecEnd texts w v old new failed fault = (IsUnbegun texts w v fault × (new ≡ old)) ⊎ SeeksThen texts w v (IsSoughtEnd v old new failed fault)
+IsVerifyFecEnd texts w v old new failed fault = (IsUnbegun texts w v fault × (new ≡ old)) ⊎ SeeksThen texts w (verify_tree v) (IsSoughtEnd v old new failed fault)
 
 -- ---- in terms of the program's arguments, the opener and the writer, each before and after
 

@@ -38,33 +38,33 @@ wanted_tree options f = record { options = options; bare = f.format.no_superbloc
 -- FILE of the parity is large enough; that of the pin or the root hash, if there is one, is none of the other files and can be written
 pub record ChecksFiles {S D : Type 0} (wanted : WantedTree) (w : Calls S D) (f : FecFormatRecord) : Type 0 where
   pub measured : S
-  pub tried : S
+  pub told : S
   pub fits : FitsFile f.format.grow wanted (record w { new = measured }) (format_places f.format) f.fec
-  pub path : CanWriteRoot (record w { old = measured; new = tried }) f.format.data_path f.format.hash_path f.format.file
-  pub other : IsOtherFile (record w { old = tried }) f.fec.path f.format.file
+  pub other : IsOtherFile (record w { old = measured; new = told }) f.fec.path f.format.file
+  pub path : CanWriteRoot (record w { old = told }) f.format.data_path f.format.hash_path f.format.file
 
--- FILE of the pin or the root hash is one of the images, or can't be written
-pub record IsRootPathEnd {S D : Type 0} (wanted : WantedTree) (w : Calls S D) (f : FecFormatRecord) (fault : FecFault) : Type 0 where
-  pub measured : S
-  pub cause : ImageFault
-  pub fits : FitsFile f.format.grow wanted (record w { new = measured }) (format_places f.format) f.fec
-  pub refused : IsRootRefused (record w { old = measured }) f.format.data_path f.format.hash_path f.format.file cause
-  pub is : fault ≡ Verity (Image cause)
-
--- it is FILE of the parity
+-- FILE of the pin or the root hash is FILE of the parity
 pub record IsOneFileEnd {S D : Type 0} (wanted : WantedTree) (w : Calls S D) (f : FecFormatRecord) (fault : FecFault) : Type 0 where
   pub measured : S
-  pub tried : S
   pub cause : ImageFault
   pub fits : FitsFile f.format.grow wanted (record w { new = measured }) (format_places f.format) f.fec
-  pub path : CanWriteRoot (record w { old = measured; new = tried }) f.format.data_path f.format.hash_path f.format.file
-  pub same : IsSameFile (record w { old = tried }) f.fec.path f.format.file cause
+  pub same : IsSameFile (record w { old = measured }) f.fec.path f.format.file cause
+  pub is : fault ≡ Verity (Image cause)
+
+-- it is one of the images, or can't be written
+pub record IsRootPathEnd {S D : Type 0} (wanted : WantedTree) (w : Calls S D) (f : FecFormatRecord) (fault : FecFault) : Type 0 where
+  pub measured : S
+  pub told : S
+  pub cause : ImageFault
+  pub fits : FitsFile f.format.grow wanted (record w { new = measured }) (format_places f.format) f.fec
+  pub other : IsOtherFile (record w { old = measured; new = told }) f.fec.path f.format.file
+  pub refused : IsRootRefused (record w { old = told }) f.format.data_path f.format.hash_path f.format.file cause
   pub is : fault ≡ Verity (Image cause)
 
 -- FILE of the parity isn't large enough for what the options make, or one of these
 abbrev pub IsCheckEnd : {S D : Type 0} → WantedTree → Calls S D → FecFormatRecord → FecFault → Type 0
 IsCheckEnd wanted w f fault =
-    IsUnfit f.format.grow wanted w (format_places f.format) f.fec fault ⊎ (IsRootPathEnd wanted w f fault ⊎ IsOneFileEnd wanted w f fault)
+    IsUnfit f.format.grow wanted w (format_places f.format) f.fec fault ⊎ (IsOneFileEnd wanted w f fault ⊎ IsRootPathEnd wanted w f fault)
 
 -- ---- after it was made
 

@@ -36,9 +36,9 @@ pub record AreDataShort (data_dev hash_dev : Device) (first : ℕ) (source : Tre
   pub is : fault ≡ Verity (Image (Verify TooSmall))
 
 -- the tree's data blocks and hash blocks have different sizes
-pub record HasOtherSizes (data_dev hash_dev : Device) (first : ℕ) (source : TreeSource) (hash_dev' : Device) (fault : FecFault) : Type 0 where
+pub record HasOtherSizes (data_size : ℕ) (hash_dev : Device) (first : ℕ) (source : TreeSource) (hash_dev' : Device) (fault : FecFault) : Type 0 where
   pub tree : VerityTree
-  pub tree_of : IsTreeOf source data_dev.size hash_dev first hash_dev' tree
+  pub tree_of : IsTreeOf source data_size hash_dev first hash_dev' tree
   pub differ : tree.shape.data_block ≢ tree.shape.hash_block
   pub is : fault ≡ BlockSizes
 
@@ -46,7 +46,7 @@ pub record HasOtherSizes (data_dev hash_dev : Device) (first : ℕ) (source : Tr
 abbrev pub IsLayoutEnd : Device → Device → ℕ → TreeSource → Device → FecFault → Type 0
 IsLayoutEnd data_dev hash_dev first source hash_dev' fault =
     IsSourceRefused no_source_fault (IsNoTreeOf source data_dev.size hash_dev first hash_dev') fault
-    ⊎ (AreDataShort data_dev hash_dev first source hash_dev' fault ⊎ HasOtherSizes data_dev hash_dev first source hash_dev' fault)
+    ⊎ (AreDataShort data_dev hash_dev first source hash_dev' fault ⊎ HasOtherSizes data_dev.size hash_dev first source hash_dev' fault)
 
 -- ---- in terms of devices of any type
 

@@ -13,3 +13,4 @@ pub mod Fitting
 pub mod Sizes
 pub mod Formatting
 pub mod Commands
+pub mod Tables

@@ -85,8 +85,8 @@ fn check_files<'a, I: Images>(
     let watched = places_of(&words.format);
     let grow = words.format.grow;
     check_file(alloc, images, &watched.places, &words.fec, wanted, grow)?;
-    check_root_path(images, watched.places, &words.format.file)?;
     check_other_file(images, words.fec.path, &words.format.file)?;
+    check_root_path(images, watched.places, &words.format.file)?;
     Ok(())
 }
 

@@ -1,4 +1,4 @@
-//! The commands on images with parity: `format --fec` and `verify --fec`.
+//! The commands on images with parity: `format --fec`, `verify --fec` and `table --fec`.
 #![tactic(auto)]
 
 mod fault;
@@ -13,6 +13,7 @@ mod invoke;
 mod needed;
 mod protect;
 mod sizes;
+mod table;
 mod verifying;
 mod wanted;
 
@@ -22,3 +23,4 @@ pub use formatting::invoke_format_fec;
 pub use invoke::invoke_verify_fec;
 pub use needed::parity_of;
 pub use protect::write_synced;
+pub use table::invoke_table_fec;

@@ -9,6 +9,8 @@ use Rattle.block_device.specs.Device.{Device}
 use Rattle.program_io.specs.Counted.{CountedRecord}
 use Rattle.stack_recovery.specs.declared.recovery.Counts.{Counts}
 use Rattle.stack_recovery.specs.Listings.{listed}
+use Rattle.scan_commands.specs.declared.pass_counts.PassCounts.{PassCounts}
+use Rattle.scan_commands.specs.CountedPasses.{unrestored}
 use Rattle.scan_commands.specs.Counting.{IsCountsEnd, counts_text, has_missing}
 use Rattle.scan_commands.specs.declared.recovering_fault.RecoveringFault.{RecoveringFault}
 use Rattle.scan_commands.specs.declared.recovering_fault.RecoveringFault.TheVariants.{Lost, LostAsSaid, NoMemory, OutputTooSmall, Pass, Stack, Write}
@@ -81,17 +83,20 @@ prints-lines state does contents old new counts s = record {
 
 -- and then the counts
 pub prints-counts : {D : Type 0} (state : D → Device) (device device' : D) (old mid new : Option (List ℕ)) (counts : Counts) → has_missing counts ≡ false → (p : PrintsFound state found_lines_text (printing device device' old mid) counts)
-    → Appends mid new (counts_text counts) → PrintsWhole state found_whole_text (printing device device' old new)
+    → Appends mid new (counts_text (unrestored counts)) → PrintsWhole state found_whole_text (printing device device' old new)
 prints-counts state device device' old mid new counts none p printed =
-    (counts, none, record { found = p.found; finds = p.finds; text_is = Appends-trans old mid new (found_lines p.found) (counts_text counts) p.text_is printed })
+    (counts, none, record { found = p.found; finds = p.finds; text_is = Appends-trans old mid new (found_lines p.found) (counts_text (unrestored counts)) p.text_is printed })
 
 -- sectors are lost, or a line can't be written
 pub lines-lossy : {D : Type 0} (state : D → Device) (device device' : D) (old mid new : Option (List ℕ)) (counts : Counts) (mid_failed failed : Bool) (fault : RecoveringFault) → PrintsFound state found_lines_text (printing device device' old mid) counts
-    → IsCountsEnd counts (listed mid mid_failed) new failed fault → IsFoundLinesEnd state (printing device device' old new) failed fault
-lines-lossy state device device' old mid new counts mid_failed failed (Lost of) p e = subst (LosesSome state (printing device device' old new)) (sym e.0) (record {
-  some = e.1;
-  prints = record { found = p.found; finds = p.finds; text_is = subst (λ (x : Option (List ℕ)). Appends old x (found_lines p.found)) (sym e.2) p.text_is };
-})
+    → IsCountsEnd (unrestored counts) (listed mid mid_failed) new failed fault → IsFoundLinesEnd state (printing device device' old new) failed fault
+lines-lossy state device device' old mid new counts mid_failed failed (Lost of) p e = subst (λ (c : PassCounts). LosesSome state (printing device device' old new) c.sectors × (c ≡ unrestored c.sectors)) (sym e.0) (
+  record {
+    some = e.1;
+    prints = record { found = p.found; finds = p.finds; text_is = subst (λ (x : Option (List ℕ)). Appends old x (found_lines p.found)) (sym e.2) p.text_is };
+  },
+  refl,
+)
 lines-lossy state device device' old mid new counts mid_failed failed Write p e = e
 lines-lossy state device device' old mid new counts mid_failed failed NoMemory p e = absurd e
 lines-lossy state device device' old mid new counts mid_failed failed (Stack fault) p e = absurd e

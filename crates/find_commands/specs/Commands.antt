@@ -14,6 +14,7 @@ use Rattle.image_files.specs.Opener.{Calls as Openings, Opener, calls}
 use Rattle.image_files.specs.OpenPlaces.{OpensPlace, RefusesPlace}
 use Rattle.stack_files.specs.declared.stack_fault.StackFault.TheVariants as stack_fault
 use Rattle.stack_recovery.specs.declared.recovery.Counts.{Counts}
+use Rattle.scan_commands.specs.CountedPasses.{unrestored}
 use Rattle.scan_commands.specs.Counting.{counts_text, has_missing}
 use Rattle.scan_commands.specs.declared.recovering_fault.RecoveringFault.{RecoveringFault}
 use Rattle.scan_commands.specs.declared.recovering_fault.RecoveringFault.TheVariants.{Lost, LostAsSaid, NoMemory, Stack, Write}
@@ -70,7 +71,7 @@ abbrev pub found_lines_text : List Finding → Counts → List ℕ
 found_lines_text found counts = found_lines found
 
 abbrev pub found_whole_text : List Finding → Counts → List ℕ
-found_whole_text found counts = found_lines found ++ counts_text counts
+found_whole_text found counts = found_lines found ++ counts_text (unrestored counts)
 
 -- no sector is lost
 abbrev pub PrintsWhole : {D : Type 0} → (D → Device) → (List Finding → Counts → List ℕ) → Printing D → Type 0
@@ -96,7 +97,7 @@ pub record LacksFindMemory {D : Type 0} (state : D → Device) (o : Printing D) 
 
 -- how a search ends early, or with lost sectors
 abbrev pub IsFoundLinesEnd : {D : Type 0} → (D → Device) → Printing D → Bool → RecoveringFault → Type 0
-IsFoundLinesEnd state o failed (Lost counts) = LosesSome state o counts
+IsFoundLinesEnd state o failed (Lost counts) = LosesSome state o counts.sectors × (counts ≡ unrestored counts.sectors)
 IsFoundLinesEnd state o failed Write = failed ≡ true
 IsFoundLinesEnd state o failed fault = ⊥
 

@@ -9,7 +9,7 @@ use block_device::BlockDev;
 use command_line::FindWords;
 use image_files::{Images, open_place};
 use program_io::Counted;
-use scan_commands::{RecoveringFault, has_missing, tell_counts};
+use scan_commands::{PassCounts, RecoveringFault, has_missing, tell_counts};
 use stack_files::StackFault;
 use std::alloc::Global;
 use std::io::Write;
@@ -55,7 +55,7 @@ fn find_on<'a, D: BlockDev, W: Write>(
     find_lines(device, writer)
 }
 
-// Prints a line for each thing that is found on an open device, and the counts.
+// Prints a line for each thing that is found on an open device, and the counts. A search restores no block.
 fn find_lines<'a, D: BlockDev, W: Write>(
     device: &mut D,
     writer: &mut Counted<W>,
@@ -63,11 +63,12 @@ fn find_lines<'a, D: BlockDev, W: Write>(
     ensures ok { OnOk result (PrintsFoundLines D.state device.old device.new W.contents writer.old writer.new) }
     ensures err { IfErr result (EndsFoundLines D.state device.old device.new W.contents writer.old writer.new) }
 {
-    let counts = match find_in(device, writer) {
+    let sectors = match find_in(device, writer) {
         Ok(counts) => counts,
         Err(fault) => return Err(list_end(fault)),
     };
-    tell_counts(counts, writer)
+    let restored = 0;
+    tell_counts(PassCounts { sectors, restored }, writer)
 }
 
 // Prints one object of what is found on an open device, with the segments of LUKS2 volumes. Their JSON areas are read after the

@@ -5,6 +5,7 @@ pub mod Clearing
 pub mod Refusals
 pub mod Formats
 pub mod Offsets
+pub mod OldPins
 pub mod Comparing
 pub mod Openings
 pub mod PlacedFormats

@@ -24,6 +24,7 @@ use Rattle.verity_format.specs.Superblock.{SuperRecord}
 use Rattle.image_commands.specs.declared.fault.ImageFault.{ImageFault}
 use Rattle.image_commands.specs.declared.fault.ImageFault.TheVariants as image
 use Rattle.image_commands.specs.declared.format.MadeImage.{MadeImage}
+use Rattle.image_commands.specs.OldPins.{RefusesOld, ReplacesOld}
 
 -- the text of the file under the path, of which at most 4,097 bytes are taken, says that pin
 pub record ReadsPin {S D : Type 0} (w : Calls S D) (path : List ℕ) (pin : Pin) : Type 0 where
@@ -101,11 +102,13 @@ AreOne w data_path hash_path path (image.Open file) =
     (ToldApart w data_path hash_path path true × (file.fault ≡ SameFile) × (file.path.now ≡ path)) ⊎ FailsToCompare w path hash_path file
 AreOne w data_path hash_path path fault = ⊥
 
--- it is neither of them, and a file can be created beside it
-pub record IsPinPath {S D : Type 0} (w : Calls S D) (data_path hash_path path : List ℕ) : Type 0 where
+-- it is neither of them, a file can be created beside it, and what it holds may be replaced
+pub record IsPinPath {S D : Type 0} (w : Calls S D) (data_path hash_path : List ℕ) (file : RootFileRecord) : Type 0 where
   pub told : S
-  pub apart : AreApart (record w { new = told }) data_path hash_path path
-  pub tried : w.relations.tries told path (Ok tt) w.new
+  pub drafted : S
+  pub apart : AreApart (record w { new = told }) data_path hash_path file.path
+  pub tried : w.relations.tries told file.path (Ok tt) drafted
+  pub replaces : ReplacesOld (record w { old = drafted }) file.form file.path
 
 -- it is neither of them, but no file can be created beside it
 pub record HasNoPinFile {S D : Type 0} (w : Calls S D) (data_path hash_path path : List ℕ) (fault : ImageFault) : Type 0 where
@@ -115,15 +118,26 @@ pub record HasNoPinFile {S D : Type 0} (w : Calls S D) (data_path hash_path path
   pub tried : w.relations.tries told path (Err cause) w.new
   pub is : fault ≡ image.PinUnwritten cause
 
--- one of these; no file was changed
-abbrev pub IsNoPinPath : {S D : Type 0} → Calls S D → List ℕ → List ℕ → List ℕ → ImageFault → Type 0
-IsNoPinPath w data_path hash_path path fault = AreOne w data_path hash_path path fault ⊎ HasNoPinFile w data_path hash_path path fault
+-- it is neither of them, but what it holds may not be replaced
+pub record HoldsOther {S D : Type 0} (w : Calls S D) (data_path hash_path : List ℕ) (file : RootFileRecord) (fault : ImageFault) : Type 0 where
+  pub told : S
+  pub drafted : S
+  pub apart : AreApart (record w { new = told }) data_path hash_path file.path
+  pub tried : w.relations.tries told file.path (Ok tt) drafted
+  pub refuses : RefusesOld (record w { old = drafted }) file.form file.path fault
 
--- the file is neither of two images, and then the pin or its root hash replaced what it held
+-- one of these; no file was changed
+abbrev pub IsNoPinPath : {S D : Type 0} → Calls S D → List ℕ → List ℕ → RootFileRecord → ImageFault → Type 0
+IsNoPinPath w data_path hash_path file fault =
+    AreOne w data_path hash_path file.path fault ⊎ (HasNoPinFile w data_path hash_path file.path fault ⊎ HoldsOther w data_path hash_path file fault)
+
+-- the file is neither of two images, and then the pin or its root hash replaced what it held, which may be replaced
 pub record WritesPin {S D : Type 0} (w : Calls S D) (data_path hash_path : List ℕ) (file : RootFileRecord) (pin : Pin) : Type 0 where
   pub told : S
+  pub read : S
   pub apart : AreApart (record w { new = told }) data_path hash_path file.path
-  pub replaced : w.relations.replaces told file.path (root_file_text file.form pin) (Ok tt) w.new
+  pub replaces : ReplacesOld (record w { old = told; new = read }) file.form file.path
+  pub replaced : w.relations.replaces read file.path (root_file_text file.form pin) (Ok tt) w.new
 
 -- it didn't, or an allocation for the text was refused and nothing was called
 abbrev pub IsUnreplaced : {S D : Type 0} → Calls S D → RootFileRecord → Pin → ImageFault → Type 0
@@ -131,27 +145,36 @@ IsUnreplaced w file pin (image.PinUnwritten fault) = w.relations.replaces w.old 
 IsUnreplaced w file pin image.NoMemory = (w.new ≡ w.old) × IsOutOfMemory 512
 IsUnreplaced w file pin fault = ⊥
 
--- it is neither of them, but wasn't replaced
+-- it is neither of them and may be replaced, but wasn't
 pub record FailsToReplace {S D : Type 0} (w : Calls S D) (data_path hash_path : List ℕ) (file : RootFileRecord) (pin : Pin) (fault : ImageFault) : Type 0 where
   pub told : S
+  pub read : S
   pub apart : AreApart (record w { new = told }) data_path hash_path file.path
-  pub unreplaced : IsUnreplaced (record w { old = told }) file pin fault
+  pub replaces : ReplacesOld (record w { old = told; new = read }) file.form file.path
+  pub unreplaced : IsUnreplaced (record w { old = read }) file pin fault
 
--- it is one of them, or wasn't replaced
+-- it is neither of them, but what it holds may not be replaced
+pub record KeepsOld {S D : Type 0} (w : Calls S D) (data_path hash_path : List ℕ) (file : RootFileRecord) (fault : ImageFault) : Type 0 where
+  pub told : S
+  pub apart : AreApart (record w { new = told }) data_path hash_path file.path
+  pub refuses : RefusesOld (record w { old = told }) file.form file.path fault
+
+-- it is one of them, may not be replaced, or wasn't
 abbrev pub IsPinUnwritten : {S D : Type 0} → Calls S D → List ℕ → List ℕ → RootFileRecord → Pin → ImageFault → Type 0
-IsPinUnwritten w data_path hash_path file pin fault = AreOne w data_path hash_path file.path fault ⊎ FailsToReplace w data_path hash_path file pin fault
+IsPinUnwritten w data_path hash_path file pin fault =
+    AreOne w data_path hash_path file.path fault ⊎ (KeepsOld w data_path hash_path file fault ⊎ FailsToReplace w data_path hash_path file pin fault)
 
 -- ---- the file of a format's pin or root hash, if it has one
 
 -- it has none, or it can be written
 abbrev pub CanWriteRoot : {S D : Type 0} → Calls S D → List ℕ → List ℕ → Option RootFileRecord → Type 0
 CanWriteRoot w data_path hash_path None = w.new ≡ w.old
-CanWriteRoot w data_path hash_path (Some file) = IsPinPath w data_path hash_path file.path
+CanWriteRoot w data_path hash_path (Some file) = IsPinPath w data_path hash_path file
 
 -- it has one, which can't be written
 abbrev pub IsRootRefused : {S D : Type 0} → Calls S D → List ℕ → List ℕ → Option RootFileRecord → ImageFault → Type 0
 IsRootRefused w data_path hash_path None fault = ⊥
-IsRootRefused w data_path hash_path (Some file) fault = IsNoPinPath w data_path hash_path file.path fault
+IsRootRefused w data_path hash_path (Some file) fault = IsNoPinPath w data_path hash_path file fault
 
 -- it has none, or that isn't the file which another argument names
 abbrev pub IsOtherFile : {S D : Type 0} → Calls S D → List ℕ → Option RootFileRecord → Type 0

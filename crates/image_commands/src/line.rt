@@ -3,28 +3,30 @@ ghost use Rattle.std.specs.Prelude.{◌++◌, codes, IfErr, OnOk};
 ghost use Rattle.allocation.specs.Refusal.{IsOutOfMemory};
 ghost use Rattle.program_io.specs.Counted.{Writes};
 ghost use Rattle.image_commands.specs.Endings.{IsCommonEnd, IsQuiet};
-ghost use Rattle.image_commands.specs.TableLines.{SaysNamedLine, entry_head, words_room};
+ghost use Rattle.image_commands.specs.TableLines.{SaysNamedLine, entry_head, said_room};
 
 use crate::fault::ImageFault;
-use crate::table::LineWords;
+use crate::table::{LineTree, LineWords};
 use program_io::{Counted, WriteFault};
 use std::alloc::Global;
 use std::io::Write;
-use verity_format::{Superblock, table_line_at};
+use verity_format::{LineDevices, table_line_at};
 
-/// Prints the line of an image whose tree begins at block `start` of the hash device; with a name the whole entry of a
-/// read-only device.
+/// Prints the line of an image with that tree; with a name the whole entry of a read-only device.
+///
+/// # Errors
+///
+/// `NoMemory` if memory for the line was refused, or `Write` if it can't be written.
 #[tactic(auto, using(crate::proofs::lemmas::EndingLemmas::quiet))]
-pub(crate) fn say_line<'a, W: Write>(
+pub fn say_line<'a, 'b, W: Write>(
     alloc: Global,
     writer: &mut Counted<W>,
     name: Option<&str>,
-    superblock: &Superblock,
-    words: LineWords<'_>,
-    start: u64,
+    tree: LineTree<'b>,
+    words: LineWords<'b>,
 ) -> Result<(), ImageFault<'a>>
-    ensures ok { OnOk result (SaysNamedLine W.contents writer.old writer.new name.entry superblock.now words.entry start) }
-    ensures err { IfErr result (IsCommonEnd (IsOutOfMemory (words_room superblock.now words.entry start)) writer.new.failed) }
+    ensures ok { OnOk result (SaysNamedLine W.contents writer.old writer.new name.entry tree.entry words.entry) }
+    ensures err { IfErr result (IsCommonEnd (IsOutOfMemory (said_room tree.entry words.entry)) writer.new.failed) }
     ensures quiet { IfErr result (λ fault. IsQuiet fault (W.contents writer.old.inner) (W.contents writer.new.inner)) }
 {
     let LineWords {
@@ -32,14 +34,17 @@ pub(crate) fn say_line<'a, W: Write>(
         data_name,
         hash_name,
     } = words;
-    let line = table_line_at(
-        alloc,
-        superblock,
-        data_name.as_bytes(),
-        hash_name.as_bytes(),
-        &root.root,
+    let LineTree {
+        tree,
         start,
-    )?;
+        parity,
+    } = tree;
+    let devices = LineDevices {
+        data: data_name.as_bytes(),
+        hash: hash_name.as_bytes(),
+        parity,
+    };
+    let line = table_line_at(alloc, tree, devices, &root.root, start)?;
     say_entry(writer, name, line.as_slice())?;
     Ok(())
 }

@@ -9,6 +9,7 @@ ghost use Rattle.image_commands.specs.PinFiles.{AreApart, AreOne, CanWriteRoot, 
 
 use crate::fault::ImageFault;
 use crate::format::MadeImage;
+use crate::old_pin::check_old_text;
 use crate::places::ImagePlaces;
 use allocation::{OutOfMemory, copied};
 use block_device::{FileId, OpenFault};
@@ -69,7 +70,9 @@ pub(crate) fn pin_in(root: Digest, superblock: &Superblock) -> Pin
 ///
 /// # Errors
 ///
-/// - `Open` with `SameFile` if the file is one of the two images, or with `NoMemory` if memory ran out.
+/// - `Open` with `SameFile` if the file is one of the two images, or with `NoMemory` if memory ran out; of a pin also if the file can't
+///   be read.
+/// - `Pin` if a pin would replace something else than a pin.
 /// - `NoMemory` if an allocation of at most 512 bytes was refused.
 /// - `PinUnwritten` if the file can't be replaced.
 pub fn write_root<'a, I: Images>(
@@ -89,7 +92,7 @@ pub fn write_root<'a, I: Images>(
 }
 
 // Replaces what a file holds by a pin, or by the digits of its root hash. Another process may have made the file one of the two
-// images since `check_root_path`, so that is checked again.
+// images since `check_root_path`, or written it, so that is checked again.
 fn write_pin<'a, I: Images>(
     alloc: Global,
     images: &mut I,
@@ -102,6 +105,7 @@ fn write_pin<'a, I: Images>(
 {
     let RootFile { path, form } = file;
     check_apart(images, places, path)?;
+    check_old_text(images, form, path)?;
     let text = root_file_text(alloc, form, pin)?;
     match images.replace(path, text.as_slice()) {
         Ok(()) => Ok(()),
@@ -132,12 +136,15 @@ fn root_digits(alloc: Global, root: Digest) -> Result<Vec<u8>, OutOfMemory>
 }
 
 /// Checks that a format can write a pin or a root hash to its file, if it has one, before an image is made: the file isn't one of the
-/// two images, which would be replaced, also if neither exists yet, and another one can be created in its folder.
+/// two images, which would be replaced, also if neither exists yet, another one can be created in its folder, and a pin replaces nothing
+/// else than a pin.
 ///
 /// # Errors
 ///
-/// - `Open` with `SameFile` if the file is one of the two images, or with `NoMemory` if memory ran out.
+/// - `Open` with `SameFile` if the file is one of the two images, or with `NoMemory` if memory ran out; of a pin also if the file can't
+///   be read.
 /// - `PinUnwritten` if no file can be created in the folder.
+/// - `Pin` if a pin would replace something else than a pin.
 pub fn check_root_path<'a, I: Images>(
     images: &mut I,
     places: ImagePlaces<'a>,
@@ -147,7 +154,7 @@ pub fn check_root_path<'a, I: Images>(
     ensures err { IfErr result (IsRootRefused (calls I.relations I.Dev.state images.old images.new) places.entry.data.now places.entry.hash.now (option_map root_file_record file.now)) }
 {
     match file {
-        Some(file) => check_pin_path(images, places, file.path),
+        Some(file) => check_pin_path(images, places, *file),
         None => Ok(()),
     }
 }
@@ -179,20 +186,21 @@ pub fn check_other_file<'a, I: Images>(
     }
 }
 
-// Checks that a pin can be written to a file.
+// Checks that a pin or a root hash can be written to a file.
 fn check_pin_path<'a, I: Images>(
     images: &mut I,
     places: ImagePlaces<'a>,
-    path: &'a str,
+    file: RootFile<'a>,
 ) -> Result<(), ImageFault<'a>>
-    ensures ok { OnOk result (IsPinPath (calls I.relations I.Dev.state images.old images.new) places.entry.data.now places.entry.hash.now path.now) }
-    ensures err { IfErr result (IsNoPinPath (calls I.relations I.Dev.state images.old images.new) places.entry.data.now places.entry.hash.now path.now) }
+    ensures ok { OnOk result (IsPinPath (calls I.relations I.Dev.state images.old images.new) places.entry.data.now places.entry.hash.now (root_file_record file.entry)) }
+    ensures err { IfErr result (IsNoPinPath (calls I.relations I.Dev.state images.old images.new) places.entry.data.now places.entry.hash.now (root_file_record file.entry)) }
 {
+    let RootFile { path, form } = file;
     if let Err(fault) = check_apart(images, places, path) {
         return Err(fault);
     }
     match images.try_replace(path) {
-        Ok(()) => Ok(()),
+        Ok(()) => check_old_text(images, form, path),
         Err(fault) => Err(ImageFault::PinUnwritten(fault)),
     }
 }

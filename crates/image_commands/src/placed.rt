@@ -8,7 +8,7 @@ use crate::fault::ImageFault;
 use crate::line::say_line;
 use crate::places::{HashPlace, tree_start};
 use crate::superblock_json::say_dump;
-use crate::table::LineWords;
+use crate::table::{LineTree, LineWords};
 use block_device::BlockDev;
 use command_line::DumpForm;
 use device_adapters::Window;
@@ -108,5 +108,11 @@ fn table_behind<'a, H: BlockDev + Drop, W: Write>(
     let superblock = find_tree(&mut window, first, &words.root.pin)?;
     let size = superblock.hash_block();
     let start = tree_start(first, size, 1);
-    say_line(alloc, writer, name, &superblock, words, start)
+    let tree = superblock.tree();
+    let placed = LineTree {
+        tree: &tree,
+        start,
+        parity: None,
+    };
+    say_line(alloc, writer, name, placed, words)
 }

@@ -6,7 +6,7 @@ ghost use Rattle.image_commands.specs.TreeImages.{IsTreeLineEnd, SaysTreeLine, t
 use crate::fault::ImageFault;
 use crate::line::say_line;
 use crate::places::tree_start;
-use crate::table::LineWords;
+use crate::table::{LineTree, LineWords};
 use crate::tree_place::tree_of;
 use image_pin::is_aligned;
 use program_io::Counted;
@@ -43,5 +43,11 @@ pub fn print_tree_line<'a, W: Write>(
     }
     let params = tree_of(options, 0)?;
     let start = tree_start(first, size, 0);
-    say_line(alloc, writer, name, &params, words, start)
+    let tree = params.tree_alone();
+    let placed = LineTree {
+        tree: &tree,
+        start,
+        parity: None,
+    };
+    say_line(alloc, writer, name, placed, words)
 }

@@ -1,8 +1,7 @@
 -- What files hold after the calls of a history.
-use Rattle.std.proofs.Common.{◌≡◌, ◌+◌, ◌*◌, ◌/◌, ◌≤◌, ◌++◌, ◌||◌, ◌==◌, ℕ, zero, suc, Bool, true, false, IsSome, List, [], ◌∷◌, length, take, drop, Option, Some, None, Result, Ok, Err, arith, refl, sym, ap, subst, ◌∙◌, add-zero}
+use Rattle.std.proofs.Common.{◌≡◌, ◌+◌, ◌*◌, ◌/◌, ◌≤◌, ◌++◌, ◌||◌, ℕ, zero, suc, Bool, true, false, IsSome, List, [], ◌∷◌, length, drop, Option, Some, None, Result, Ok, Err, arith, refl, sym, ap, subst, ◌∙◌, add-zero}
 use Rattle.std.specs.Prelude.{slice_get}
 use Rattle.std.specs.List.{concat}
-use Rattle.std.specs.Option.{option_map}
 use Rattle.std.specs.Str.{bytes_eq}
 use Rattle.std.proofs.lemmas.Bool.{eq-eqb, false≢true}
 use Rattle.std.proofs.lemmas.List.{append-nil}
@@ -13,14 +12,14 @@ use Rattle.block_device.specs.declared.file_id.FileId.{FileId}
 use Rattle.block_device.specs.declared.file_id.FileId.TheVariants.{Inode, BlockDevice}
 use Rattle.block_device.specs.Device.{Device, IsWhole, sectors_of}
 use Rattle.device_adapters.specs.declared.part.Part.{Part}
-use Rattle.image_files.proofs.lemmas.OverwriteLemmas.{IsOverwritten, overwritten}
+use Rattle.image_files.proofs.lemmas.OverwriteLemmas.{overwritten}
 use Rattle.image_files.specs.declared.texts.ReplaceFault.{ReplaceFault}
 use Rattle.image_files.specs.FileLaws.{CallsChangeFiles}
 use Rattle.image_files.specs.FilesAfter.{files_after, files_at, grown_files, id_under, is_name_of, overwritten_bytes, with_changed, with_new}
 use Rattle.image_files.specs.Histories.{IsCallAt}
-use Rattle.image_files.specs.ImageCalls.{ImageCall, Grow, Replace}
+use Rattle.image_files.specs.ImageCalls.{ImageCall, Replace}
 use Rattle.image_files.specs.OneFile.{is_one_file}
-use Rattle.image_files.specs.Promises.{AreApart, FileRecord, Files, HoldsSectors, IsApartFrom, TakesPart, grown_bytes, shrunk_bytes}
+use Rattle.image_files.specs.Promises.{AreApart, FileRecord, Files, IsApartFrom, TakesPart, grown_bytes, shrunk_bytes}
 
 -- ---- names of one file
 

@@ -5,10 +5,12 @@ use Rattle.block_device.specs.declared.file.FileDev.{FileDev}
 use Rattle.block_device.specs.declared.file_id.FileId.{FileId}
 use Rattle.block_device.specs.declared.open_fault.OpenFault.{OpenFault}
 use Rattle.block_device.specs.FileCalls.{Opened}
-use Rattle.block_device.specs.FileId.{file_of}
+use Rattle.block_device.specs.FileId.{file_id, file_of}
 use Rattle.block_device.specs.Unopened.{IsUnopenedImage}
 use Rattle.image_files.specs.FileLocks.{IsNoLock, IsUnopenedFile, Locks, LocksAtMost}
+use Rattle.image_files.specs.FileRelations.{LocksOpened}
 use Rattle.image_files.specs.ImageCalls.{ImageCall, WasMade, was-made}
+use Rattle.image_files.specs.Sizes.{IsSized}
 use Rattle.image_files.specs.SystemFiles.{SystemCall, WasAsked, was-asked}
 use Rattle.image_files.specs.declared.seal.Seal.TheVariants.{Files}
 
@@ -23,6 +25,10 @@ pub locks_at_most : (writable : Bool) (id : Option FileId) (old new : List FileI
 locks_at_most false id old new same = inl same
 locks_at_most true None old new same = inl same
 locks_at_most true (Some id) old new more = inr (id, more)
+
+-- it is locked by its identity
+pub locks_opened : (device : FileDev) (sectors : ℕ) (old new : List FileId) → IsSized device sectors → Locks true (file_id device) old new → LocksOpened (file_of device) old new
+locks_opened device sectors old new sized locked = record { id = file_id device; said = sized.0; of = sized.1; told = sized.2.identity; locked = locked }
 
 -- a file that was opened, and isn't locked
 pub unlocked : {T : Type 0} (result : Result T OpenFault) (path : List ℕ) (writable : Bool) (fault : OpenFault) (device : FileDev) → IsErrAnd result (λ e. e ≡ fault) → Opened path writable (file_of device) → IsNoLock device fault

@@ -4,10 +4,9 @@ use Rattle.std.specs.Prelude.{slice_get}
 use Rattle.std.proofs.lemmas.Option.{none-some, same_Some}
 use Rattle.block_device.specs.Device.{Device}
 use Rattle.image_files.specs.FileLaws.{HistoriesKeepFiles}
-use Rattle.image_files.specs.Histories.{AreMade, IsCallAt, IsMade, in_history}
+use Rattle.image_files.specs.Histories.{AreMade, IsCallAt, IsMade}
 use Rattle.image_files.specs.ImageCalls.{ImageCall}
 use Rattle.image_files.specs.Opener.{Opener}
-use Rattle.image_files.specs.Promises.{Files}
 
 -- the opener after n of its calls
 abbrev pub value-at : {S D : Type 0} (o : Opener S D) (old : S) (calls : List (ImageCall D)) (new : S) → AreMade o old calls new → ℕ → S

@@ -5,11 +5,11 @@ use Rattle.std.specs.declared.fs.File.{File}
 use Rattle.std.specs.declared.fs.attrs.Metadata.{Metadata}
 use Rattle.block_device.specs.declared.file_id.FileId.{FileId}
 use Rattle.block_device.specs.declared.open_fault.OpenFault.{OpenFault}
-use Rattle.block_device.specs.declared.open_fault.OpenFault.TheVariants.{OtherFault, TooLarge}
+use Rattle.block_device.specs.declared.open_fault.OpenFault.TheVariants.{NoMemory, OtherFault, TooLarge}
 use Rattle.block_device.specs.Call.{Sync}
 use Rattle.block_device.specs.Device.{Device}
 use Rattle.block_device.specs.File.{IsOpened}
-use Rattle.block_device.specs.FileCalls.{Called, IsOfFile, IsOfPath, IsUnsaidOfPath, Opened}
+use Rattle.block_device.specs.FileCalls.{Called, IsOfFile, IsOfPath, IsUnsaidOfFile, IsUnsaidOfPath, Opened}
 use Rattle.block_device.specs.Identity.{IsLongEnough, IsNotLengthened, IsNotShortened, IsShortEnough, IsToldId}
 use Rattle.device_adapters.specs.declared.part.Part.{Part}
 use Rattle.device_adapters.specs.Parts.{LiesInside}
@@ -23,7 +23,6 @@ use Rattle.image_files.specs.ImageCalls.{WasMade, Open, OpenPart, Narrow, Lack, 
 use Rattle.image_files.specs.NewFiles.{FailsToMake, Makes}
 use Rattle.image_files.specs.OnePlace.{IsPlaceUnknown, ResolvesAtMost}
 use Rattle.image_files.specs.Opener.{IsLacking, Opener}
-use Rattle.image_files.specs.declared.texts.ReplaceFault.{ReplaceFault}
 
 -- What a proof sees of a device, which file it is, whether the system opened it under a path, for writing too or not, which
 -- files an opener has locked, and the file system by whose calls it makes and replaces files.
@@ -37,8 +36,9 @@ pub record FileView (S D C F : Type 0) : Type 1 where
   pub sized : D → ℕ → Type 0
   -- the parts of its file whose sectors it lacks
   pub lost : D → List Part
-  -- which file the system opened under a path to read a text
+  -- which file the system opened under a path to read a text, or why it opened none
   pub read : List ℕ → File → Type 0
+  pub unread : List ℕ → OpenFault → Type 0
   -- what each call of the file system leaves, and the file system of an opener
   pub relations : FileRelations C F
   pub calls : S → C
@@ -92,20 +92,52 @@ pub record IsTextOf (Read : File → Type 0) (path : List ℕ) (text : FileText)
   pub input : path ≡ codes "-" → text.id ≡ None
   pub file : (path ≡ codes "-" → ⊥) → (file : File) × Read file × ((said : Metadata) × IsOfFile file said × IsToldId said text.id)
 
--- the system said that no regular file is under the path, and the file system isn't called
-pub record IsOfFixedSize {C : Type 0} (old : C) (path : List ℕ) (new : C) : Type 0 where
+-- a text that was opened isn't read: memory ran out, or the system failed
+abbrev pub IsReadingFault : OpenFault → Type 0
+IsReadingFault fault = (fault ≡ NoMemory) ⊎ (fault ≡ OtherFault)
+
+-- a file was opened to read its text, and the system refused to say which one it is, or it isn't read
+pub record IsOpenUnread (Read : File → Type 0) (fault : OpenFault) : Type 0 where
+  pub file : File
+  pub opened : Read file
+  pub cause : IsUnsaidOfFile file fault ⊎ IsReadingFault fault
+
+-- why there is no text: the standard input isn't read; another file isn't opened, or was opened and isn't read
+pub record IsNoText (Read : File → Type 0) (Unread : OpenFault → Type 0) (path : List ℕ) (fault : OpenFault) : Type 0 where
+  pub input : path ≡ codes "-" → IsReadingFault fault
+  pub file : (path ≡ codes "-" → ⊥) → Unread fault ⊎ IsOpenUnread Read fault
+
+-- the file system of an opener, and which files it has locked
+pub record OpenerState (C : Type 0) : Type 0 where
+  pub calls : C
+  pub locked : List FileId
+
+abbrev pub opener_state : {S D C F : Type 0} → FileView S D C F → S → OpenerState C
+opener_state view opener = record { calls = view.calls opener; locked = view.locked opener }
+
+-- a file that was opened for writing is locked from then on, by the identity that the system reported
+pub record LocksOpened (file : File) (old new : List FileId) : Type 0 where
+  pub id : Option FileId
+  pub said : Metadata
+  pub of : IsOfFile file said
+  pub told : IsToldId said id
+  pub locked : Locks true id old new
+
+-- the system said that no regular file is under the path; the file system isn't called, and no file is locked
+pub record IsOfFixedSize {C : Type 0} (old : OpenerState C) (path : List ℕ) (new : OpenerState C) : Type 0 where
   pub said : Metadata
   pub of : IsOfPath path said
   pub kind : IsFile (file_type said) → ⊥
   pub same : new ≡ old
 
--- The file was made if there was none, by no other call of the file system, and has that many sectors. It is called on only if
--- it had fewer bytes.
-pub record IsGrownFile {C F : Type 0} (r : FileRelations C F) (old : C) (path : List ℕ) (sectors : ℕ) (new : C) : Type 0 where
-  pub makes : Makes r old path new
+-- The file was made if there was none, by no other call of the file system, is locked and has that many sectors. It is called on only
+-- if it had fewer bytes.
+pub record IsGrownFile {C F : Type 0} (r : FileRelations C F) (old : OpenerState C) (path : List ℕ) (sectors : ℕ) (new : OpenerState C) : Type 0 where
+  pub makes : Makes r old.calls path new.calls
   pub file : File
   pub left : File
   pub opened : Opened path true file
+  pub locks : LocksOpened file old.locked new.locked
   pub long : IsLongEnough file (sectors * 512) left
 
 -- more sectors than a file may have
@@ -126,16 +158,17 @@ IsUngrown r old path sectors fault new =
     ⊎ (FailsToMake r old path fault new ⊎ (Makes r old path new × (IsUnopenedFile path true fault ⊎ IsOpenUngrown path sectors fault)))
 
 -- which calls of the file system are made to grow a file, or why it isn't grown
-abbrev pub Grows : {C F : Type 0} → FileRelations C F → C → List ℕ → ℕ → Result (Unit {0}) OpenFault → C → Type 0
+abbrev pub Grows : {C F : Type 0} → FileRelations C F → OpenerState C → List ℕ → ℕ → Result (Unit {0}) OpenFault → OpenerState C → Type 0
 Grows r old path sectors (Ok done) new = IsOfFixedSize old path new ⊎ IsGrownFile r old path sectors new
-Grows r old path sectors (Err fault) new = IsUngrown r old path sectors fault new
+Grows r old path sectors (Err fault) new = IsUngrown r old.calls path sectors fault new.calls
 
--- The file that was opened has at most that many sectors, and was synced. It is resized only if it had more bytes.
-pub record IsShrunkFile (path : List ℕ) (sectors : ℕ) : Type 0 where
+-- The file that was opened is locked, has at most that many sectors, and was synced. It is resized only if it had more bytes.
+pub record IsShrunkFile {C : Type 0} (old : OpenerState C) (path : List ℕ) (sectors : ℕ) (new : OpenerState C) : Type 0 where
   pub file : File
   pub left : File
   pub synced : File
   pub opened : Opened path true file
+  pub locks : LocksOpened file old.locked new.locked
   pub short : IsShortEnough file (sectors * 512) left
   pub syncs : Called left (Sync true) synced
 
@@ -159,8 +192,8 @@ abbrev pub IsUnshrunk : List ℕ → ℕ → OpenFault → Type 0
 IsUnshrunk path sectors fault = IsUnsaidOfPath path fault ⊎ (IsBeyondFiles sectors fault ⊎ (IsUnopenedFile path true fault ⊎ IsOpenUnshrunk path sectors fault))
 
 -- a regular file is opened, shortened and synced, or there is a reason why not
-abbrev pub Shrinks : {C : Type 0} → C → List ℕ → ℕ → Result (Unit {0}) OpenFault → C → Type 0
-Shrinks old path sectors (Ok done) new = IsOfFixedSize old path new ⊎ IsShrunkFile path sectors
+abbrev pub Shrinks : {C : Type 0} → OpenerState C → List ℕ → ℕ → Result (Unit {0}) OpenFault → OpenerState C → Type 0
+Shrinks old path sectors (Ok done) new = IsOfFixedSize old path new ⊎ IsShrunkFile old path sectors new
 Shrinks old path sectors (Err fault) new = IsUnshrunk path sectors fault
 
 -- whether a regular file ends inside a sector, by the size that the system said of the path
@@ -176,11 +209,11 @@ file_relations {D = D} view = record {
   opens_part = λ old path writable part outcome new. WasMade old (OpenPart path writable part outcome) new × CallsNothing view old new × LocksFile view writable outcome old new × OpensFile (λ image. IsOpenPart view image path writable part) outcome;
   narrows = λ old device part narrowed new. WasMade old (Narrow device part narrowed) new × CallsNothing view old new × LocksNoMore view old new × IsNarrowedFile view device part narrowed;
   lacks = λ old device lost lacking new. WasMade old (Lack device lost lacking) new × CallsNothing view old new × LocksNoMore view old new × IsLackingFile view device lost lacking;
-  tells = λ old path most outcome new. WasMade {D = D} old (ReadText path most outcome) new × CallsNothing view old new × LocksNoMore view old new × IfOk outcome (IsTextOf (view.read path) path);
+  tells = λ old path most outcome new. WasMade {D = D} old (ReadText path most outcome) new × CallsNothing view old new × LocksNoMore view old new × IfOk outcome (IsTextOf (view.read path) path) × IfErr outcome (IsNoText (view.read path) (view.unread path) path);
   takes = λ old path device new. WasMade old (Close path device) new × CallsNothing view old new × LocksNoMore view old new;
   takes_part = λ old path part device new. WasMade old (ClosePart path part device) new × CallsNothing view old new × LocksNoMore view old new;
-  grows = λ old path sectors outcome new. WasMade {D = D} old (Grow path sectors outcome) new × LocksAtMost (view.locked old) (view.locked new) × Grows view.relations (view.calls old) path sectors outcome (view.calls new);
-  shrinks = λ old path sectors outcome new. WasMade {D = D} old (Shrink path sectors outcome) new × CallsNothing view old new × LocksAtMost (view.locked old) (view.locked new) × Shrinks (view.calls old) path sectors outcome (view.calls new);
+  grows = λ old path sectors outcome new. WasMade {D = D} old (Grow path sectors outcome) new × LocksAtMost (view.locked old) (view.locked new) × Grows view.relations (opener_state view old) path sectors outcome (opener_state view new);
+  shrinks = λ old path sectors outcome new. WasMade {D = D} old (Shrink path sectors outcome) new × CallsNothing view old new × LocksAtMost (view.locked old) (view.locked new) × Shrinks (opener_state view old) path sectors outcome (opener_state view new);
   measures = λ old path outcome new. WasMade {D = D} old (Measure path outcome) new × CallsNothing view old new × LocksNoMore view old new × EndsInPart path outcome × IfErr outcome (IsUnsaidOfPath path);
   compares = λ old path other outcome new. WasMade {D = D} old (Compare path other outcome) new × LocksNoMore view old new × ResolvesAtMost view.relations (view.calls old) path other (view.calls new) × OnErr outcome (IsPlaceUnknown view.relations (view.calls old) path other (view.calls new));
   replaces = λ old path bytes outcome new. WasMade {D = D} old (Replace path bytes outcome) new × LocksNoMore view old new × Replaces view.relations (view.calls old) path bytes outcome (view.calls new);

@@ -22,6 +22,10 @@ is_clash a b = is_one_file a.id b.id && (a.writable || b.writable) && do_meet a.
 abbrev pub has_clash : List FileUse → FileUse → Bool
 has_clash files file = list_any (λ other. is_clash other file) files
 
+-- no file is in use
+abbrev pub no_use : FileUse
+no_use = record { id = None; writable = false; part = None }
+
 -- how an image uses its file that was opened with this right
 abbrev pub image_use : {D : Type 0} → Bool → OpenImage D → FileUse
 image_use writable image = record { id = image.id; writable = writable; part = None }

@@ -29,18 +29,18 @@ pub record OpensAt {S D : Type 0} (w : Calls S D) (path : List ℕ) (part : Part
   pub path_is : image.place.path.now ≡ path
   pub part_is : image.place.part ≡ Some part
 
--- the disk under a path was opened for reading, and the partition of that name is this part
-pub record FindsPartition {S D : Type 0} (w : Calls S D) (path : List ℕ) (named : NamedPartitionRecord) (part : Part) : Type 0 where
+-- the disk under a path was opened for reading, and the partition of that name, which may be opened with this right, is this part
+pub record FindsPartition {S D : Type 0} (w : Calls S D) (path : List ℕ) (named : NamedPartitionRecord) (writable : Bool) (part : Part) : Type 0 where
   pub disk : OpenImage D
   pub disk' : D
   pub opened : w.relations.opens w.old path false (Ok disk) w.new
-  pub is : IsPartition (w.state disk.device) (w.state disk') named part
+  pub is : IsPartition (w.state disk.device) (w.state disk') named writable part
 
 -- its partition was found, and opened
 pub record OpensPartition {S D : Type 0} (w : Calls S D) (path : List ℕ) (named : NamedPartitionRecord) (writable : Bool) (image : PlacedImage D) : Type 0 where
   pub between : S
   pub part : Part
-  pub found : FindsPartition (record w { new = between }) path named part
+  pub found : FindsPartition (record w { new = between }) path named writable part
   pub opened : OpensAt (record w { old = between }) path part writable image
 
 -- by what part it is
@@ -88,27 +88,27 @@ pub record RefusesAt {S D : Type 0} (w : Calls S D) (path : List ℕ) (part : Pa
   pub refused : w.relations.opens_part w.old path writable part (Err cause) w.new
   pub is : fault ≡ part_cause cause
 
--- the disk under a path was opened, and no partition of that name is found
-pub record HasNoPartition {S D : Type 0} (w : Calls S D) (path : List ℕ) (named : NamedPartitionRecord) (fault : OpenFault) : Type 0 where
+-- the disk under a path was opened, and no partition of that name is found that may be opened with this right
+pub record HasNoPartition {S D : Type 0} (w : Calls S D) (path : List ℕ) (named : NamedPartitionRecord) (writable : Bool) (fault : OpenFault) : Type 0 where
   pub disk : OpenImage D
   pub disk' : D
   pub opened : w.relations.opens w.old path false (Ok disk) w.new
-  pub none : IsNoPartition (w.state disk.device) (w.state disk') named fault
+  pub none : IsNoPartition (w.state disk.device) (w.state disk') named writable fault
 
 -- that, or it wasn't opened
-abbrev pub FailsToFindPartition : {S D : Type 0} → Calls S D → List ℕ → NamedPartitionRecord → OpenFault → Type 0
-FailsToFindPartition w path named fault = w.relations.opens w.old path false (Err fault) w.new ⊎ HasNoPartition w path named fault
+abbrev pub FailsToFindPartition : {S D : Type 0} → Calls S D → List ℕ → NamedPartitionRecord → Bool → OpenFault → Type 0
+FailsToFindPartition w path named writable fault = w.relations.opens w.old path false (Err fault) w.new ⊎ HasNoPartition w path named writable fault
 
 -- its partition was found, and isn't opened
 pub record RefusesFound {S D : Type 0} (w : Calls S D) (path : List ℕ) (named : NamedPartitionRecord) (writable : Bool) (fault : OpenFault) : Type 0 where
   pub between : S
   pub part : Part
-  pub found : FindsPartition (record w { new = between }) path named part
+  pub found : FindsPartition (record w { new = between }) path named writable part
   pub refused : RefusesAt (record w { old = between }) path part writable fault
 
 -- one of these
 abbrev pub RefusesPartition : {S D : Type 0} → Calls S D → List ℕ → NamedPartitionRecord → Bool → OpenFault → Type 0
-RefusesPartition w path named writable fault = FailsToFindPartition w path named fault ⊎ RefusesFound w path named writable fault
+RefusesPartition w path named writable fault = FailsToFindPartition w path named writable fault ⊎ RefusesFound w path named writable fault
 
 -- by what part it is
 abbrev pub RefusesBy : {S D : Type 0} → Calls S D → List ℕ → NamedPartRecord → Bool → OpenFault → Type 0

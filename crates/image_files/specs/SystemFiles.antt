@@ -1,11 +1,13 @@
 -- Calls of the operating system by which a text is replaced or a file made, as evidence: the definition isn't unfoldable, so code knows it
 -- only from a call of `SystemCalls`.
-use Rattle.std.specs.Prelude.{ℕ, Bool, true, false, List, Result, Ok, Err}
+use Rattle.std.specs.Prelude.{◌≡◌, ℕ, Bool, true, false, List, Result, Ok, Err}
 use Rattle.std.specs.Fs.{new_options, with_create_new, with_read, with_write}
 use Rattle.std.specs.declared.fs.File.{File}
 use Rattle.std.specs.declared.fs.options.OpenOptions.{OpenOptions}
 use Rattle.std.specs.declared.io.ErrorKind.{ErrorKind}
 use Rattle.std.specs.declared.io.ErrorKind.TheVariants.{AlreadyExists}
+use Rattle.block_device.specs.declared.open_fault.OpenFault.{OpenFault}
+use Rattle.block_device.specs.OpenFault.{fault_of}
 use Rattle.image_files.specs.Calls.{FileRelations}
 use Rattle.image_files.specs.declared.calls.CallFault.{CallFault}
 use Rattle.image_files.specs.declared.calls.CreateFault.{CreateFault}
@@ -46,6 +48,10 @@ CreatesNew old name (Err Failed) new = Unit {0}
 -- the system opened the file under a path for reading alone
 abbrev pub IsOpenText : (S : Type 0) → List ℕ → File → Type 0
 IsOpenText S path file = (s : S) × WasAsked s (OpenBy (with_read new_options true) path (Ok file)) s
+
+-- it didn't, for this reason
+abbrev pub IsUnopenedText : (S : Type 0) → List ℕ → OpenFault → Type 0
+IsUnopenedText S path fault = (s : S) × (kind : ErrorKind) × WasAsked s (OpenBy (with_read new_options true) path (Err kind)) s × (fault ≡ fault_of kind)
 
 abbrev pub system_relations : {S : Type 0} → FileRelations S File
 system_relations = record {

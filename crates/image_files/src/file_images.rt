@@ -6,6 +6,7 @@ ghost use Rattle.block_device.specs.FileCalls.{Opened};
 ghost use Rattle.block_device.specs.FileId.{file_id, file_of};
 ghost use Rattle.block_device.specs.LostWrites.{has_lost_writes};
 ghost use Rattle.image_files.specs.FileLocks.{IsUnopenedFile, Locks, LocksAtMost};
+ghost use Rattle.image_files.specs.FileRelations.{IsReadingFault};
 ghost use Rattle.image_files.specs.Sizes.{IsSized, any_sized};
 
 use crate::calls::FileCalls;
@@ -44,7 +45,8 @@ fn is_input(path: &str) -> bool
 
 // At most so many first bytes of what can be read.
 fn first_bytes<S: Read + Drop>(alloc: Global, source: S, most: usize) -> Result<Vec<u8>, OpenFault>
-    ensures { IfOk result (λ bytes. length bytes.items ≤ most) }
+    ensures most { IfOk result (λ bytes. length bytes.items ≤ most) }
+    ensures err { IfErr result IsReadingFault }
 {
     let mut bytes = Vec::new(alloc);
     match source.take(most as u64).read_to_end(&mut bytes) {
@@ -95,7 +97,7 @@ impl<'a, R: AllocGlobal, C> FileImages<'a, R, C> {
 impl<R: Files<File = File> + AllocGlobal + Input, C: FileCalls> Images for FileImages<'_, R, C> {
     ghost use Rattle.device_adapters.specs.Lacking.{parts_in};
     ghost use Rattle.image_files.specs.FileRelations.{file_relations};
-    ghost use Rattle.image_files.specs.SystemFiles.{IsOpenText};
+    ghost use Rattle.image_files.specs.SystemFiles.{IsOpenText, IsUnopenedText};
     ghost use Rattle.image_files.specs.declared.system_calls.SystemCalls.{SystemCalls};
 
     type Dev = Window<Lacking<AnyDev>>;
@@ -109,6 +111,7 @@ impl<R: Files<File = File> + AllocGlobal + Input, C: FileCalls> Images for FileI
       sized = λ window sectors. any_sized window.inner.inner sectors;
       lost = λ window. parts_in window.inner.lost;
       read = IsOpenText (SystemCalls R);
+      unread = IsUnopenedText (SystemCalls R);
       relations = C.relations;
       calls = λ images. images.texts.calls;
     }) };

@@ -1,7 +1,8 @@
 //! Which files are open, and how.
 ghost use Rattle.std.specs.Prelude.{◌≡◌};
-ghost use Rattle.image_files.specs.FileUses.{do_meet, has_clash, is_clash};
+ghost use Rattle.image_files.specs.FileUses.{do_meet, has_clash, image_use, is_clash, no_use, part_use};
 
+use crate::images::OpenImage;
 use crate::one_file::is_one_file;
 use block_device::FileId;
 use device_adapters::Part;
@@ -12,6 +13,39 @@ pub struct FileUse {
     pub id: Option<FileId>,
     pub writable: bool,
     pub part: Option<Part>,
+}
+
+/// Returns the use of no file, which clashes with none.
+pub fn no_use() -> FileUse
+    ensures { result ≡ no_use }
+{
+    FileUse {
+        id: None,
+        writable: false,
+        part: None,
+    }
+}
+
+/// Returns how an image uses its file: for reading, or for writing too.
+pub fn image_use<D>(image: &OpenImage<D>, writable: bool) -> FileUse
+    ensures { result ≡ image_use writable image.now }
+{
+    FileUse {
+        id: image.id,
+        writable,
+        part: None,
+    }
+}
+
+/// Returns how a part of an image uses its file: for reading, or for writing too.
+pub fn part_use<D>(image: &OpenImage<D>, writable: bool, part: Part) -> FileUse
+    ensures { result ≡ part_use writable part image.now }
+{
+    FileUse {
+        id: image.id,
+        writable,
+        part: Some(part),
+    }
 }
 
 /// Whether one of the files clashes with another one.

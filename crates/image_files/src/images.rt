@@ -61,6 +61,10 @@ pub trait Images {
         ensures holds { IsLacking (Self.Dev.state device) (Self.Dev.state result) };
 
     /// Returns at most `most` first bytes of the file under this path.
+    ///
+    /// # Errors
+    ///
+    /// What the system answered; `NoMemory` if memory ran out. A file that was opened isn't `NotFound`.
     fn read_text(&mut self, path: &str, most: usize) -> Result<FileText, OpenFault>
         ensures told { relations.tells self.old path.now most result self.new }
         ensures most { IfOk result (λ text. length text.bytes.items ≤ most) };

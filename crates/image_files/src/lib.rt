@@ -26,7 +26,7 @@ mod texts;
 pub use calls::{CallFault, CreateFault, FileCalls};
 pub use file_images::FileImages;
 pub use file_texts::FileTexts;
-pub use file_use::{FileUse, has_clash, is_clash};
+pub use file_use::{FileUse, has_clash, image_use, is_clash, no_use, part_use};
 pub use images::{FileText, Images, OpenImage};
 pub use memory_text::MemoryText;
 pub use named_parts::partition_under;
@@ -36,7 +36,8 @@ pub use partitions::part_of;
 pub use parts::{PartFault, UnopenedPart, device_part, open_part};
 pub use placed_image::{Place, PlacedImage, has_own_size, is_one_image, place_use};
 pub use places::{
-    close_place, find_place, grow_file, grow_place, open_place, open_place_apart, shrink_place,
+    close_place, find_place, grow_file, grow_place, is_missing, open_place, open_place_apart,
+    shrink_place,
 };
 pub use system_calls::SystemCalls;
 pub use texts::{ReplaceFault, Texts};

@@ -83,30 +83,35 @@ fn open_partition<'a, I: Images>(
     ensures fresh { IfOk result (λ image. IsFresh (I.Dev.state image.device) writable) }
     ensures err { IfErr result (RefusesPartition (calls I.relations I.Dev.state images.old images.new) path.now (named_partition_record named.entry) writable) }
 {
-    let part = partition_under(alloc, images, path, named)?;
+    let part = partition_under(alloc, images, path, named, writable)?;
     open_at(images, path, part, writable)
 }
 
-/// Returns the part of the disk under a path that is the partition which an argument names.
+/// Returns the part of the disk under a path that is the partition which an argument names, if it may be opened for reading, or for
+/// writing too.
 ///
 /// # Errors
 ///
 /// - The opener's fault if the disk can't be opened for reading.
 /// - `NotFound` if the disk has no valid partition table, or the argument names none of its partitions, or more than one.
-/// - `OtherFault` if the disk failed, so that no copy of the table was found.
-/// - `NoMemory` also if an allocation was refused, so that no copy of the table was found or a label not compared.
+/// - `NotAllowed` if it is to be written, and the primary copy of the table isn't valid, a valid backup differs from it, or the master
+///   boot record isn't a protective one.
+/// - `OtherFault` if the disk failed, so that no copy of the table was found or, if the partition is to be written, one of these three
+///   wasn't read.
+/// - `NoMemory` also if an allocation was refused, so that a copy of the table wasn't read or a label not compared.
 pub fn partition_under<I: Images>(
     alloc: Global,
     images: &mut I,
     path: &str,
     named: NamedPartition<'_>,
+    writable: bool,
 ) -> Result<Part, OpenFault>
-    ensures ok { IfOk result (FindsPartition (calls I.relations I.Dev.state images.old images.new) path.now (named_partition_record named.entry)) }
-    ensures err { IfErr result (FailsToFindPartition (calls I.relations I.Dev.state images.old images.new) path.now (named_partition_record named.entry)) }
+    ensures ok { IfOk result (FindsPartition (calls I.relations I.Dev.state images.old images.new) path.now (named_partition_record named.entry) writable) }
+    ensures err { IfErr result (FailsToFindPartition (calls I.relations I.Dev.state images.old images.new) path.now (named_partition_record named.entry) writable) }
 {
     let image = images.open(path, false)?;
     let mut disk = image.device;
-    partition_part(alloc, &mut disk, named)
+    partition_part(alloc, &mut disk, named, writable)
 }
 
 // Opens a part of the file under a path.

@@ -5,7 +5,7 @@ ghost use Rattle.image_files.specs.OnePlace.{Compares, FailsToCompare};
 ghost use Rattle.image_files.specs.Opened.{Opens, Refuses, RefusesText, TellsFile};
 ghost use Rattle.image_files.specs.Opener.{IsFresh, calls};
 
-use crate::file_use::{FileUse, has_clash};
+use crate::file_use::{FileUse, has_clash, image_use};
 use crate::images::{FileText, Images, OpenImage};
 use block_device::{BlockDev, OpenFault};
 
@@ -53,9 +53,7 @@ pub fn open_apart<'a, I: Images>(
     ensures err { IfErr result (RefusesApart (calls I.relations I.Dev.state images.old images.new) files.now path.now writable) }
 {
     let image = open_image(images, path, writable)?;
-    let id = image.id;
-    let part = None;
-    if has_clash(files, FileUse { id, writable, part }) {
+    if has_clash(files, image_use(&image, writable)) {
         let fault = OpenFault::SameFile;
         return Err(UnopenedFile { fault, path });
     }

@@ -6,7 +6,7 @@ ghost use Rattle.image_files.specs.Opener.{IsFresh, calls};
 ghost use Rattle.image_files.specs.OpenParts.{OpensPart, RefusesPart};
 ghost use Rattle.image_files.specs.Places.{device_part};
 
-use crate::file_use::{FileUse, has_clash};
+use crate::file_use::{FileUse, has_clash, part_use};
 use crate::images::{Images, OpenImage};
 use crate::opening::UnopenedFile;
 use block_device::{BlockDev, OpenFault};
@@ -74,9 +74,7 @@ pub fn open_part<'a, I: Images>(
         }
         Err(PartFault::Outside) => return Err(UnopenedPart::Outside(path)),
     };
-    let id = image.id;
-    let part = Some(part);
-    if has_clash(files, FileUse { id, writable, part }) {
+    if has_clash(files, part_use(&image, writable, part)) {
         let fault = OpenFault::SameFile;
         return Err(UnopenedPart::File(UnopenedFile { fault, path }));
     }

@@ -113,8 +113,8 @@ fn find_whole<'a, I: Images>(
     Err(UnopenedFile { fault, path: text })
 }
 
-// Whether there is no such file.
-fn is_missing(fault: OpenFault) -> bool
+/// Returns whether a fault says that there is no such file.
+pub fn is_missing(fault: OpenFault) -> bool
     ensures { result ≡ is_missing fault }
 {
     matches!(fault, OpenFault::NotFound)

@@ -1,7 +1,7 @@
 //! The operating system's files.
-ghost use Rattle.std.specs.Prelude.{IfOk};
+ghost use Rattle.std.specs.Prelude.{IfErr, IfOk};
 ghost use Rattle.image_files.specs.Calls.{IsNoDraft};
-ghost use Rattle.image_files.specs.SystemFiles.{CreatesNew, IsOpenText, OpenBy, WasAsked};
+ghost use Rattle.image_files.specs.SystemFiles.{CreatesNew, IsOpenText, IsUnopenedText, OpenBy, WasAsked};
 ghost use Rattle.image_files.specs.declared.system_calls.SystemCalls.{SystemCalls as Calls};
 
 use crate::calls::{CallFault, CreateFault, FileCalls};
@@ -54,7 +54,8 @@ pub fn open_to_read<R: Files<File = File> + AllocGlobal>(
     rt: &R,
     path: &str,
 ) -> Result<File, OpenFault>
-    ensures { IfOk result (IsOpenText (Calls R) path.now) }
+    ensures ok { IfOk result (IsOpenText (Calls R) path.now) }
+    ensures err { IfErr result (IsUnopenedText (Calls R) path.now) }
 {
     match SystemCalls::new(rt).open_by(OpenOptions::new().read(true), NEW_FILE, path) {
         Ok(file) => Ok(file),

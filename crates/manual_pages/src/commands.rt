@@ -33,7 +33,7 @@ const VERIFY_USAGE: &str =
 const DUMP_USAGE: &str = "dmstack dump [--hash-offset BYTES] [--json] [--pin ROOT] HASH";
 
 const TABLE_USAGE: &str =
-    "dmstack table [--data-block N] [--hash-block N] [--blocks N] [--salt HEX] [--hash-offset BYTES] [--name NAME] [--root-hash-file FILE] [--no-superblock] [--pin FILE] HASH ROOT DATANAME HASHNAME";
+    "dmstack table [--data-block N] [--hash-block N] [--blocks N] [--salt HEX] [--hash-offset BYTES] [--name NAME] [--root-hash-file FILE] [--no-superblock] [--fec FECNAME] [--fec-roots N] [--pin FILE] HASH ROOT DATANAME HASHNAME";
 
 const REPAIR_USAGE: &str =
     "dmstack repair [--data-block N] [--hash-block N] [--blocks N] [--salt HEX] [--hash-offset BYTES] [--root-hash-file FILE] [--no-superblock] [--check] [--fec FILE] [--fec-roots N] [--pin FILE] DATA HASH ROOT [DATACOPY HASHCOPY]...";

@@ -32,10 +32,10 @@ export_info e terms = bytes16 0 ++ (bytes64 e.size ++ bytes16 (transmission_flag
 abbrev pub name_info : ExportRecord → List ℕ
 name_info e = bytes16 1 ++ e.name
 
--- what an export is, for humans, by whether its lines are `verity` lines, and whether it is writable
+-- What an export is, for humans, by whether all of its lines are `verity` lines, and whether it is writable. A device that has a
+-- `verity` line is read-only.
 abbrev pub description : Bool → Bool → List ℕ
-description true true = codes "verity, writable"
-description true false = codes "verity, read-only"
+description true writable = codes "verity, read-only"
 description false true = codes "mapped device, writable"
 description false false = codes "mapped device, read-only"
 

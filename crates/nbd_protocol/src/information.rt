@@ -70,14 +70,13 @@ fn say_wanted_name<W: Write>(
     say_name_info(writer, export)
 }
 
-// What an export is, for humans.
+// What an export is, for humans. A device that has a `verity` line is read-only.
 fn description(verity: bool, writable: bool) -> &'static str
     ensures value { result.now ≡ description verity writable }
     ensures short { length result.now ≤ 24 }
 {
     match (verity, writable) {
-        (true, true) => "verity, writable",
-        (true, false) => "verity, read-only",
+        (true, _) => "verity, read-only",
         (false, true) => "mapped device, writable",
         (false, false) => "mapped device, read-only",
     }

@@ -14,7 +14,7 @@ use Rattle.request_queue.proofs.lemmas.LedLemmas.{led-none, led-then}
 use Rattle.nbd_protocol.specs.Exports.{ExportRecord}
 use Rattle.nbd_server.specs.declared.failure.Failure.{Failure}
 use Rattle.nbd_server.specs.declared.first_faults.SectorFault.{SectorFault}
-use Rattle.nbd_server.specs.Failures.{failure_text, fault_at, reported_error}
+use Rattle.nbd_server.specs.Failures.{failure_text, fault_of, reported_error}
 use Rattle.nbd_server.specs.Replies.{RequestOutcome}
 use Rattle.nbd_server.specs.Sectors.{IsFetched, FailsToFetch, EndsIn, HasNoBuffer}
 use Rattle.nbd_server.specs.Status.{IsLineStatus, TouchZeros, touched}
@@ -24,7 +24,7 @@ use Rattle.nbd_server.specs.Premises.{AreBytesOf, IsDeliveryRest}
 use Rattle.nbd_protocol.specs.Chunks.{error_at_chunk, hole_chunk}
 use Rattle.nbd_server.specs.Content.{TellsContent}
 use Rattle.stack_rules.specs.Records.{Configuration}
-use Rattle.nbd_server.specs.Delivery.{AnswersPiece, BeginsWithZeros, Delivers, delivers_none, delivers_more, DeliversAs, DeliversPart, GoesOnReplying, IsDelivered, IsLost, AreNextBytes, IsReadPiece, IsStuck, SendsPiece, at_first, next_sector, next_size}
+use Rattle.nbd_server.specs.Delivery.{AnswersPiece, BeginsWithZeros, Delivers, delivers_none, delivers_more, DeliversAs, DeliversPart, GoesOnReplying, IsDelivered, IsLost, AreNextBytes, IsReadPiece, IsStuck, SendsPiece, at_first, next_size}
 use Rattle.nbd_server.specs.declared.delivery.Delivery.{Delivery}
 use Rattle.nbd_server.specs.declared.delivery.Progress.{Progress}
 use Rattle.nbd_server.proofs.ToldLemmas.{some-told}
@@ -250,12 +250,12 @@ module _ (e : ExportRecord) (d : Delivery) (first : World) (p : Progress) (w w' 
   lost-part : (chunk : List ℕ) → IsLost e d p w chunk w' → DeliversPart e d first (u.written ++ chunk) w'
   lost-part chunk lost = record { last = p; mid = w; written = u.written; chunk = chunk; pieces = u.pieces; lost = lost; reply_is = refl }
 
-  pub underway-lost : (error : Failure) (met : Option SectorFault) → met ≡ fault_at (next_sector d p) error → AnswersPiece e d p w w' mid new (Err error) → Grows old new (λ reply. DeliversAs e d first met reply w')
+  pub underway-lost : (error : Failure) (met : Option SectorFault) → met ≡ fault_of error → AnswersPiece e d p w w' mid new (Err error) → Grows old new (λ reply. DeliversAs e d first met reply w')
   underway-lost error met is a = record {
     text = u.written ++ a.0;
     holds = (
       inr (record { last = p; mid = w; written = u.written; chunk = a.0; pieces = u.pieces; lost = a.1; reply_is = refl }),
-      is ∙ sym (ap (λ (x : Failure). fault_at (next_sector d p) x) a.2),
+      is ∙ sym (ap fault_of a.2),
     );
     written = Appends-trans old mid new u.written a.0 u.appended a.3;
   }

@@ -1,9 +1,9 @@
 -- Sectors that are read at once.
-use Rattle.std.proofs.Common.{◌≡◌, ◌<◌, ◌≤◌, ℕ, ◌+◌, ◌-◌, ◌*◌, ◌/◌, ◌%◌, ◌^◌, List, [], length, refl, ap, subst, arith, inl, inr, Some, Result, Ok, Err}
+use Rattle.std.proofs.Common.{◌≡◌, ◌<◌, ◌≤◌, ℕ, ◌+◌, ◌-◌, ◌*◌, ◌/◌, ◌%◌, ◌^◌, List, [], length, refl, ap, sym, ◌∙◌, subst, arith, inl, inr, Option, Some, Result, Ok, Err}
 use Rattle.std.specs.Int.{div_ceil}
 use Rattle.std.specs.Str.{bytes_eq}
 use Rattle.std.proofs.lemmas.List.Quantifiers.{position-Some}
-use Rattle.std.specs.Prelude.{Bool, true, false, not, nat_le, if◌then◌else◌, nat_lt, ◌==◌}
+use Rattle.std.specs.Prelude.{◌⊎◌, Bool, true, false, not, nat_le, if◌then◌else◌, nat_lt, ◌==◌}
 use Rattle.allocation.specs.Refusal.{IsOutOfMemory}
 use Rattle.stack_rules.specs.Names.{device_named, mapped, size}
 use Rattle.stack_rules.specs.Records.{Configuration}
@@ -19,26 +19,31 @@ use Rattle.request_queue.specs.declared.fault.BytesFault.TheVariants.{Failed}
 use Rattle.request_queue.specs.declared.fault.SubmitFault.{SubmitFault}
 use Rattle.request_queue.specs.declared.fault.SubmitFault.TheVariants.{NoSuchDevice, OutOfRange, Length}
 use Rattle.request_queue.specs.declared.range.SectorRange.{SectorRange}
-use Rattle.request_queue.specs.AtOnce.{ReadsInPieces, ReadsInTurn}
+use Rattle.request_queue.specs.declared.fault.PieceFault.{PieceFault}
+use Rattle.request_queue.specs.AtOnce.{EndsRead, IsPieceOf, ReadsInPieces}
 use Rattle.request_queue.specs.Parts.{EachPart}
 use Rattle.request_queue.specs.Ranges.{bytes_range, range_at}
 use Rattle.request_queue.specs.WholeRuns.{ReadsWhole}
 use Rattle.request_queue.specs.World.{World, Step, read_bytes}
+use Rattle.request_queue.specs.Replies.{LacksMemory}
+use Rattle.request_queue.proofs.lemmas.AtOnceLemmas.{failed-inside}
 use Rattle.request_queue.proofs.lemmas.BytesLemmas.{bytes-at}
 use Rattle.request_queue.proofs.lemmas.KeptLemmas.{bytes-kept}
 use Rattle.request_queue.proofs.lemmas.LedLemmas.{led-none, led-one}
-use Rattle.nbd_server.specs.Failures.{failure_of, no_memory}
-use Rattle.nbd_protocol.specs.Exports.{ExportRecord}
-use Rattle.nbd_server.specs.Premises.{AreBytesOf, AreSectorsOf}
-use Rattle.nbd_server.specs.Sectors.{IsFetched, FailsToFetch}
+use Rattle.nbd_server.specs.declared.failure.Failure.{Failure}
+use Rattle.nbd_server.specs.declared.failure.Failure.TheVariants.{Faulty, Full, Refused, Unsynced}
+use Rattle.nbd_server.specs.Failures.{failure_by, lost, lost_block, no_memory, read_failure}
+use Rattle.nbd_protocol.specs.Exports.{ExportRecord, IsExport}
+use Rattle.nbd_server.specs.Premises.{AreBytesOf, AreSectorsOf, IsLostInside}
+use Rattle.nbd_server.specs.Sectors.{EndsIn, FailsToFetch, HasNoBuffer, IsFetched}
 use Rattle.nbd_server.specs.Status.{touched}
 use Rattle.nbd_server.specs.Transmission.{room_behind}
 
 -- ---- one read
 
--- a read that ended by that fault
-abbrev pub failed_by : IoFault → Result Unit BytesFault
-failed_by fault = Err (Failed fault)
+-- a read that ended with that piece
+abbrev pub failed_by : PieceFault → Result Unit BytesFault
+failed_by piece = Err (Failed piece)
 
 -- the device of a name is there
 pub named-below : (c : Configuration) (name : List ℕ) (d : ℕ) → device_named c name ≡ Some d → d < length c.devices
@@ -50,7 +55,7 @@ tests-pass false true e x fault one two three h = let clash : true ≡ false = t
 tests-pass false false false x fault one two three h = let clash : false ≡ true = three in cc
 tests-pass false false true x fault one two three h = let clash : Ok x ≡ Err fault = h in cc
 
-whole-ok : (w w' : World) (d first count len : ℕ) (bytes : List ℕ) → EachBytes w.stack d first count (Ok bytes) w'.stack → ReadKeeps w.stack d first count w'.stack → ReadsInTurn (range_at d first count) w.stack (Ok bytes) w'.stack
+whole-ok : (w w' : World) (d first count len : ℕ) (bytes : List ℕ) → EachBytes w.stack d first count (Ok bytes) w'.stack → ReadKeeps w.stack d first count w'.stack → EndsRead (range_at d first count) w.stack (Ok bytes) w'.stack
     → Step EachPart w (read_bytes d first len (Ok (Ok bytes))) w' → IsFetched w d first count bytes w'
 whole-ok w w' d first count len bytes p kept pieces s = record {
   chains = p.any.may.chains;
@@ -69,24 +74,38 @@ module _ (w w' : World) (d first count len : ℕ) (all : len ≡ count * 512) wh
   sectors-are : len / 512 ≡ count
   sectors-are = omega (arith, all)
 
-  pub fetched : (bytes : List ℕ) → Step EachPart w (read_bytes d first len (Ok (Ok bytes))) w' → ReadsInPieces w d first len (Ok (Ok bytes)) w' → IsFetched w d first count bytes w'
+  pub fetched : (bytes : List ℕ) → Step EachPart w (read_bytes d first len (Ok (Ok bytes))) w' → ReadsInPieces w d first len (Ok bytes) w' → IsFetched w d first count bytes w'
   fetched bytes s pieces = whole-ok w w' d first count len bytes (subst (λ (n : ℕ). EachBytes w.stack d first n (Ok bytes) w'.stack) sectors-are (bytes-at w d first len (Ok bytes) w' s))
       (subst (λ (n : ℕ). ReadKeeps w.stack d first n w'.stack) sectors-are (bytes-kept w d first len (Ok bytes) w' s))
-      (subst (λ (n : ℕ). ReadsInTurn (range_at d first n) w.stack (Ok bytes) w'.stack) sectors-are pieces) s
+      (subst (λ (n : ℕ). EndsRead (range_at d first n) w.stack (Ok bytes) w'.stack) sectors-are pieces) s
 
-  pub unfetched : (fault : IoFault) → (failed_by fault ≡ failed_by io.NoMemory → MeetVerity (said_at w.stack.config (mapped d)) first (len / 512)) → Step EachPart w (read_bytes d first len (Ok (Err fault))) w' → ReadsInPieces w d first len (Ok (Err fault)) w'
-      → FailsToFetch w d first count (failure_of fault) w'
-  unfetched fault cause s pieces = record {
-    cause = inl (record {
-      fault = fault;
-      told = refl;
-      cause = λ e. subst (λ (n : ℕ). MeetVerity (said_at w.stack.config (mapped d)) first n) sectors-are (cause (ap failed_by e));
-      read = whole-err w w' d first count fault (subst (λ (n : ℕ). EachBytes w.stack d first n (Err fault) w'.stack) sectors-are (bytes-at w d first len (Err fault) w' s))
-          (subst (λ (n : ℕ). ReadKeeps w.stack d first n w'.stack) sectors-are (bytes-kept w d first len (Err fault) w' s));
-      pieces = subst (λ (n : ℕ). ReadsInTurn (range_at d first n) w.stack (Err fault) w'.stack) sectors-are pieces;
-    });
-    led = led-one EachPart w (read_bytes d first len (Ok (Err fault))) w' s;
-  }
+  module _ (piece : PieceFault) (s : Step EachPart w (read_bytes d first len (Ok (Err piece.fault))) w') (pieces : ReadsInPieces w d first len (Err (Failed piece)) w') where
+    read-whole : ReadsWhole w.stack (range_at d first count) (Err piece.fault) w'.stack
+    read-whole = whole-err w w' d first count piece.fault (subst (λ (n : ℕ). EachBytes w.stack d first n (Err piece.fault) w'.stack) sectors-are (bytes-at w d first len (Err piece.fault) w' s))
+        (subst (λ (n : ℕ). ReadKeeps w.stack d first n w'.stack) sectors-are (bytes-kept w d first len (Err piece.fault) w' s))
+
+    read-pieces : EndsRead (range_at d first count) w.stack (Err piece) w'.stack
+    read-pieces = subst (λ (n : ℕ). EndsRead (range_at d first n) w.stack (Err piece) w'.stack) sectors-are pieces
+
+    -- the sectors of the piece that failed are sectors of the device
+    pub piece-inside : first + count ≤ size w.stack.config (mapped d) → piece.first < size w'.stack.config (mapped d)
+    piece-inside inside =
+        let of : IsPieceOf (range_at d first count) piece = failed-inside (range_at d first count) w.stack piece w'.stack read-pieces in
+        let same : size w'.stack.config (mapped d) ≡ size w.stack.config (mapped d) = ap (λ (c : Configuration). size c (mapped d)) read-whole.config in
+        omega (arith, of.some, of.inside, inside, same)
+
+    pub unfetched : (error : Failure) → error ≡ read_failure w'.stack.config d piece → ((met : PieceFault) → failed_by piece ≡ failed_by met → LacksMemory met → MeetVerity (said_at w.stack.config (mapped d)) first (len / 512))
+        → FailsToFetch w d first count error w'
+    unfetched error told cause = record {
+      cause = inl (record {
+        piece = piece;
+        told = told ∙ ap (λ (c : Configuration). read_failure c d piece) read-whole.config;
+        cause = λ e. subst (λ (n : ℕ). MeetVerity (said_at w.stack.config (mapped d)) first n) sectors-are (cause piece refl e);
+        read = read-whole;
+        pieces = read-pieces;
+      });
+      led = led-one EachPart w (read_bytes d first len (Ok (Err piece.fault))) w' s;
+    }
 
   -- sectors inside a device are read, or fail
   pub not-refused : (fault : SubmitFault) → d < length w.stack.config.devices → first + count ≤ size w.stack.config (mapped d) → bytes_range w.stack.config d first len ≡ Err fault → ⊥
@@ -100,6 +119,24 @@ module _ (w w' : World) (d first count len : ℕ) (all : len ≡ count * 512) wh
 -- an allocation of the bytes was refused
 pub no-buffer : (w : World) (d first count : ℕ) → IsOutOfMemory (512 * count) → FailsToFetch w d first count no_memory w
 no-buffer w d first count refused = record { cause = inr (refl, refl, refused); led = led-none EachPart w }
+
+-- ---- the sectors of a failure
+
+lost-by : (c : Configuration) (e : ExportRecord) (fault : IoFault) (piece : PieceFault) (block : Option ℕ) → IsExport c e → piece.first + piece.count ≤ size c (mapped e.device) → IsLostInside c e (failure_by fault (lost block piece))
+lost-by c e (io.Stack fault) piece block export inside = record { export = export; inside = inside }
+lost-by c e (io.Device leaf) piece block export inside = record { export = export; inside = inside }
+lost-by c e io.NoMemory piece block export inside = tt
+
+-- they are sectors of the export, of which so many were read
+pub lost-inside : (w : World) (e : ExportRecord) (first count : ℕ) (error : Failure) (w' : World) → IsExport w.stack.config e → first + count ≤ size w.stack.config (mapped e.device) → EndsIn w e.device first count error w' ⊎ HasNoBuffer w count error w'
+    → IsLostInside w'.stack.config e error
+lost-inside w e first count error w' export inside (inl ended) =
+    let c = w.stack.config in
+    let of : IsPieceOf (range_at e.device first count) ended.piece = failed-inside (range_at e.device first count) w.stack ended.piece w'.stack ended.pieces in
+    let within : ended.piece.first + ended.piece.count ≤ size c (mapped e.device) = omega (arith, of.inside, inside) in
+    subst (λ (x : Configuration). IsLostInside x e error) (sym ended.read.config)
+    (subst (IsLostInside c e) (sym ended.told) (lost-by c e ended.piece.fault ended.piece (lost_block c e.device ended.piece) export within))
+lost-inside w e first count error w' export inside (inr none) = subst (IsLostInside w'.stack.config e) (sym none.0) (tt {0})
 
 -- ---- the sectors that bytes of the export touch
 

@@ -13,5 +13,7 @@ pub mod ZeroLemmas
 pub mod MessageLemmas
 pub mod RunLemmas
 mod ExtentLemmas
+mod DataBlockLemmas
+pub mod LocatingLemmas
 pub mod LogLemmas
 pub mod FaultLineLemmas

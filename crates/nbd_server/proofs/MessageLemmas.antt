@@ -318,8 +318,8 @@ module _ (es : List ExportRecord) (agreed : Agreement) (e : ExportRecord) (at : 
 
     module _ (outcome : RequestOutcome) (none : delivery_of e agreed (header_of header) ≡ None) where
       pub request-served : (t : SessionLog) (n : ℕ) → n ≡ moved_bytes (command_of e agreed (header_of header)) → (payload : List ℕ) × (length payload ≡ payload_len (header_of header)) × Consumes mid input' payload × ServesRequest e agreed w (header_of header) payload outcome w'
-          → Appends output output' (agreed_reply agreed (header_of header) outcome) → EndsTurn es (Serving agreed) w w' t (logged agreed.place n (outcome_fault ((header_of header).offset / 512) outcome) t) (streams input output) (streams input' output') (Ok (Some (Serving agreed)))
-      request-served t n size_is p a = request-answered t n size_is (outcome_fault ((header_of header).offset / 512) outcome) None none p.0 (agreed_reply agreed (header_of header) outcome) p.1 p.2 ((outcome, p.3, refl), refl) a
+          → Appends output output' (agreed_reply agreed (header_of header) outcome) → EndsTurn es (Serving agreed) w w' t (logged agreed.place n (outcome_fault outcome) t) (streams input output) (streams input' output') (Ok (Some (Serving agreed)))
+      request-served t n size_is p a = request-answered t n size_is (outcome_fault outcome) None none p.0 (agreed_reply agreed (header_of header) outcome) p.1 p.2 ((outcome, p.3, refl), refl) a
 
       pub request-unanswered : (payload : List ℕ) × (length payload ≡ payload_len (header_of header)) × Consumes mid input' payload × ServesRequest e agreed w (header_of header) payload outcome w'
           → EndsMessage es (Serving agreed) w w' (streams input output) (streams input' output') (Err fault.WriteFault)

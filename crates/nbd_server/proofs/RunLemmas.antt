@@ -21,6 +21,7 @@ use Rattle.nbd_server.specs.Service.{BeginsMessage, Conversation, begins, goes_o
 use Rattle.nbd_server.specs.Delivery.{delivery_of}
 use Rattle.nbd_server.specs.declared.delivery.Delivery.{Delivery}
 use Rattle.nbd_server.proofs.DeliveryLemmas.{read-led, delivered-led, pieces-led}
+use Rattle.nbd_server.proofs.LocatingLemmas.{answers-led}
 use Rattle.nbd_server.proofs.ReadStatusLemmas.{status-led}
 
 stays-led : (w w' : World) → w' ≡ w → IsLed EachPart w w'
@@ -72,7 +73,7 @@ settle-led w true Does led (Err error) w' (inr p) = led-then EachPart w p.0 w' (
 
 command-led : (e : ExportRecord) (w : World) (command : Result Command RequestError) (payload : List ℕ) (outcome : RequestOutcome) (w' : World) → ServesCommand e w command payload outcome w' → IsLed EachPart w w'
 command-led e w (Err error) payload outcome w' p = stays-led w w' p.1
-command-led e w (Ok (Read offset length)) payload outcome w' p = read-led e w offset length outcome w' p
+command-led e w (Ok (Read offset length)) payload outcome w' p = answers-led e w offset length outcome w' p
 command-led e w (Ok (Write offset length fua)) payload outcome w' p = settle-led w fua (ReportsSpace (WritesGiven e w offset payload)) (λ o v q. given-led e w offset payload q.0 v q.1) outcome w' p
 command-led e w (Ok (Zero offset length fua)) payload outcome w' p = settle-led w fua (ReportsSpace (WritesAny e w offset (replicate length 0))) (λ o v q. write-led e w offset (replicate length 0) q.0 v q.1) outcome w' p
 command-led e w (Ok Hint) payload outcome w' p = stays-led w w' p.1

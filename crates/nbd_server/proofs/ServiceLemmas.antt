@@ -37,6 +37,7 @@ use Rattle.nbd_server.specs.Logs.{no_log}
 use Rattle.nbd_server.specs.declared.session_end.SessionEnd.TheVariants.{Ended, Gone}
 use Rattle.nbd_server.specs.declared.session_log.SessionLog.{SessionLog}
 use Rattle.nbd_server.proofs.DeliveryLemmas.{delivered-config, read-config}
+use Rattle.nbd_server.proofs.LocatingLemmas.{answers-config}
 use Rattle.nbd_server.proofs.ReadStatusLemmas.{status-config}
 use Rattle.nbd_server.proofs.RunLemmas.{begun-led, talk-led}
 use Rattle.request_queue.proofs.lemmas.LedLemmas.{led-then}
@@ -268,7 +269,7 @@ settle-config w true Does kept (Err error) w' (inr p) = flush-config p.0 (Err er
 
 command-config : (e : ExportRecord) (w : World) (command : Result Command RequestError) (payload : List ℕ) (outcome : RequestOutcome) (w' : World) → ServesCommand e w command payload outcome w' → w'.stack.config ≡ w.stack.config
 command-config e w (Err error) payload outcome w' p = same-config w w' p.1
-command-config e w (Ok (Read offset length)) payload outcome w' p = read-config e w offset length outcome w' p
+command-config e w (Ok (Read offset length)) payload outcome w' p = answers-config e w offset length outcome w' p
 command-config e w (Ok (Write offset length fua)) payload outcome w' p = settle-config w fua (ReportsSpace (WritesGiven e w offset payload)) (λ o v q. given-config e w offset payload q.0 v q.1) outcome w' p
 command-config e w (Ok (Zero offset length fua)) payload outcome w' p = settle-config w fua (ReportsSpace (WritesAny e w offset (replicate length 0))) (λ o v q. write-config e w offset (replicate length 0) q.0 v q.1) outcome w' p
 command-config e w (Ok Hint) payload outcome w' p = same-config w w' p.1

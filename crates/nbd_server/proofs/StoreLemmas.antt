@@ -1,5 +1,5 @@
 -- Sectors that are put at once, and zeros by one run after another.
-use Rattle.std.proofs.Common.{◌≡◌, ◌<◌, ◌≤◌, ℕ, ◌+◌, ◌-◌, ◌*◌, ◌/◌, ◌%◌, true, List, [], ◌++◌, length, take, refl, ap, sym, ◌∙◌, subst, append_assoc, append-nil, arith, inl, inr, Result, Ok, Err}
+use Rattle.std.proofs.Common.{◌≡◌, ◌<◌, ◌≤◌, ℕ, ◌+◌, ◌-◌, ◌*◌, ◌/◌, ◌%◌, true, List, [], ◌++◌, length, take, refl, ap, sym, ◌∙◌, subst, append_assoc, append-nil, arith, inl, inr, None, Result, Ok, Err}
 use Rattle.std.specs.Prelude.{◌⊎◌, IfErr, OnOk, nat_le}
 use Rattle.std.proofs.lemmas.List.{length-append, take-append-le}
 use Rattle.std.proofs.Math.Seq.{take-append-add}
@@ -19,28 +19,31 @@ use Rattle.stack_engine.proofs.lemmas.WritePieceLemmas.{any-then, write-none}
 use Rattle.request_queue.specs.declared.fault.BytesFault.{BytesFault}
 use Rattle.request_queue.specs.declared.fault.BytesFault.TheVariants.{Failed}
 use Rattle.request_queue.specs.declared.range.SectorRange.{SectorRange}
-use Rattle.request_queue.specs.AtOnce.{BytesWritten, WritesInSteps, write_range}
+use Rattle.request_queue.specs.declared.fault.PieceFault.{PieceFault}
+use Rattle.request_queue.specs.AtOnce.{BytesWritten, EndsSteps, write_range}
 use Rattle.request_queue.specs.Parts.{EachPart}
 use Rattle.request_queue.specs.Ranges.{bytes_range, range_at}
+use Rattle.request_queue.specs.Replies.{LacksMemory}
 use Rattle.request_queue.specs.Runs.{IsLed}
 use Rattle.request_queue.specs.WholeRuns.{WritesWhole}
 use Rattle.request_queue.specs.World.{World}
 use Rattle.request_queue.proofs.lemmas.AdmissionLemmas.{writable-ok}
-use Rattle.request_queue.proofs.lemmas.AtOnceLemmas.{steps-led}
+use Rattle.request_queue.proofs.lemmas.AtOnceLemmas.{ends-led}
 use Rattle.request_queue.proofs.lemmas.BytesLemmas.{bytes_range-ok}
 use Rattle.request_queue.proofs.lemmas.LedLemmas.{led-none, led-then}
 use Rattle.nbd_server.specs.declared.failure.Failure.{Failure}
 use Rattle.nbd_server.specs.declared.failure.Failure.TheVariants.{Faulty}
-use Rattle.nbd_server.specs.Failures.{failure_of, no_memory}
+use Rattle.nbd_server.specs.declared.lost.LostPiece.{LostPiece}
+use Rattle.nbd_server.specs.Failures.{failure_by, lost, no_memory, put_failure}
 use Rattle.nbd_server.specs.Sectors.{IsStored, IsStoredAtOnce, IsPartPut, FailsToPutAll, FailsToPutAtOnce, FailsToZero, EndsPut, StopsPut, most_run_bytes}
 use Rattle.nbd_server.specs.Zeros.{IsNextRun, WritesInRuns, no_run, a_run, last_run, lacks_run, WroteRun, most_run_sectors}
 
 abbrev pub ended : IoFault → Result Unit IoFault
 ended fault = Err fault
 
--- a write that ended by that fault
-abbrev pub stopped_by : IoFault → Result Unit BytesFault
-stopped_by fault = Err (Failed fault)
+-- a write that ended with that piece
+abbrev pub stopped_by : PieceFault → Result Unit BytesFault
+stopped_by piece = Err (Failed piece)
 
 -- ---- their pieces
 
@@ -93,14 +96,14 @@ zero-fails w d first bytes w' (Err error) p = inl p.put
 pub wrote-run : (w : World) (d first : ℕ) (bytes : List ℕ) (w' : World) (result : Result Unit Failure) → OnOk result (IsStoredAtOnce w d first bytes w') → IfErr result (λ error. FailsToPutAtOnce w d first bytes error w')
     → WroteRun w d first bytes result w'
 wrote-run w d first bytes w' (Ok done) ok err = ok.steps
-wrote-run w d first bytes w' (Err error) ok err = inl (err.fault, err.told, err.steps)
+wrote-run w d first bytes w' (Err error) ok err = inl (err.piece, err.told, err.steps)
 
 pub run-lacks : (w : World) (d first : ℕ) (bytes : List ℕ) → IsOutOfMemory most_run_bytes → WroteRun w d first bytes (Err no_memory) w
 run-lacks w d first bytes refused = inr (refl, refl, refused)
 
 -- memory runs out where some sector is encrypted
-abbrev pub EncryptsAt : World → ℕ → ℕ → List ℕ → IoFault → Type 0
-EncryptsAt w d first bytes fault = stopped_by fault ≡ stopped_by io.NoMemory → SomeEncrypt (said_at w.stack.config (mapped d)) first (length bytes / 512)
+abbrev pub EncryptsAt : World → ℕ → ℕ → List ℕ → PieceFault → Type 0
+EncryptsAt w d first bytes piece = (met : PieceFault) → stopped_by piece ≡ stopped_by met → LacksMemory met → SomeEncrypt (said_at w.stack.config (mapped d)) first (length bytes / 512)
 
 module _ (w : World) (d first : ℕ) (bytes : List ℕ) (w' : World) where
   range-is : (range : SectorRange) → write_range w.stack.config d first bytes ≡ Ok range → range_at d first (length bytes / 512) ≡ range
@@ -112,27 +115,32 @@ module _ (w : World) (d first : ℕ) (bytes : List ℕ) (w' : World) where
       → WritesInPieces w.stack range.device.0 range.first some result w'.stack → WritesInPieces w.stack d first some result w'.stack
   at-place some result range h p = subst (λ (r : SectorRange). WritesInPieces w.stack r.device.0 r.first some result w'.stack) (sym (range-is range h)) p
 
-  steps-at : (result : Result Unit IoFault) → BytesWritten w d first bytes result w' → WritesInSteps (range_at d first (length bytes / 512)) w bytes result w'
-  steps-at result s = subst (λ (r : SectorRange). WritesInSteps r w bytes result w') (sym (range-is s.range s.admits)) s.steps
+  steps-at : (result : Result Unit PieceFault) → BytesWritten w d first bytes result w' → EndsSteps (range_at d first (length bytes / 512)) w bytes result w'
+  steps-at result s = subst (λ (r : SectorRange). EndsSteps r w bytes result w') (sym (range-is s.range s.admits)) s.steps
 
   pub stored-all : BytesWritten w d first bytes (Ok tt) w' → IsStoredAtOnce w d first bytes w'
   stored-all s = record {
-    stored = record { put = at-place bytes (Ok tt) s.range s.admits s.whole; led = steps-led s.range w bytes (Ok tt) w' s.steps };
+    stored = record { put = at-place bytes (Ok tt) s.range s.admits s.whole; led = ends-led s.range w bytes (Ok tt) w' s.steps };
     steps = steps-at (Ok tt) s;
   }
 
-  put-fails : (fault : IoFault) (range : SectorRange) → EncryptsAt w d first bytes fault → write_range w.stack.config d first bytes ≡ Ok range → IsLed EachPart w w'
-      → WritesWhole w.stack range bytes (Err fault) w'.stack → EndsPut w d first bytes (failure_of fault) w' ⊎ StopsPut w d first bytes (failure_of fault) w'
-  put-fails (io.Stack fault) range some h led p = inl (io.Stack fault, refl, refl, at-place bytes (Err (io.Stack fault)) range h p)
-  put-fails (io.Device i) range some h led p = inl (io.Device i, refl, refl, at-place bytes (Err (io.Device i)) range h p)
-  put-fails io.NoMemory range some h led p =
-      let count : length bytes / 512 ≡ range.count = ap (λ (r : SectorRange). r.count) (range-is range h) in
-      inr (refl, some refl, record { count = p.0; few = omega (arith, p.1, count); put = record { put = at-place (take (512 * p.0) bytes) (Ok tt) range h p.2; led = led } }, p.3)
+  module _ (at n : ℕ) (range : SectorRange) (h : write_range w.stack.config d first bytes ≡ Ok range) (led : IsLed EachPart w w') where
+    -- a piece that ended by that fault
+    abbrev ended_piece : IoFault → PieceFault
+    ended_piece fault = record { first = at; count = n; fault = fault }
 
-  pub unstored : (fault : IoFault) → EncryptsAt w d first bytes fault → BytesWritten w d first bytes (Err fault) w' → FailsToPutAtOnce w d first bytes (failure_of fault) w'
-  unstored fault some s =
-      let led = steps-led s.range w bytes (Err fault) w' s.steps in
-      record { put = record { cause = put-fails fault s.range some s.admits led s.whole; led = led }; fault = fault; told = refl; steps = steps-at (Err fault) s }
+    put-fails : (fault : IoFault) → EncryptsAt w d first bytes (ended_piece fault) → WritesWhole w.stack range bytes (Err fault) w'.stack
+        → EndsPut w d first bytes (put_failure (ended_piece fault)) w' ⊎ StopsPut w d first bytes (put_failure (ended_piece fault)) w'
+    put-fails (io.Stack fault) some p = inl (ended_piece (io.Stack fault), refl, refl, at-place bytes (Err (io.Stack fault)) range h p)
+    put-fails (io.Device i) some p = inl (ended_piece (io.Device i), refl, refl, at-place bytes (Err (io.Device i)) range h p)
+    put-fails io.NoMemory some p =
+        let count : length bytes / 512 ≡ range.count = ap (λ (r : SectorRange). r.count) (range-is range h) in
+        inr (refl, some (ended_piece io.NoMemory) refl refl, record { count = p.0; few = omega (arith, p.1, count); put = record { put = at-place (take (512 * p.0) bytes) (Ok tt) range h p.2; led = led } }, p.3)
+
+  pub unstored : (piece : PieceFault) → EncryptsAt w d first bytes piece → BytesWritten w d first bytes (Err piece) w' → FailsToPutAtOnce w d first bytes (put_failure piece) w'
+  unstored piece some s =
+      let led = ends-led s.range w bytes (Err piece) w' s.steps in
+      record { put = record { cause = put-fails piece.first piece.count s.range s.admits led piece.fault some s.whole; led = led }; piece = piece; told = refl; steps = steps-at (Err piece) s }
 
   -- a run of zeros is one write
   pub run-stored : (result : Result Unit Failure) → OnOk result (IsStoredAtOnce w d first bytes w') → OnOk result (IsStored w d first bytes w')
@@ -145,10 +153,10 @@ module _ (w v w' : World) (d first : ℕ) (x y : List ℕ) (even : length x % 51
   pub stored-more : IsStored v d (first + length x / 512) y w' → IsStored w d first (x ++ y) w'
   stored-more q = record { put = pieces-then d first x y even p.put q.put; led = led-then EachPart w v w' p.led q.led }
 
-no-memory : (fault : IoFault) → failure_of fault ≡ Faulty fault → ended fault ≡ ended io.NoMemory → ⊥
-no-memory (io.Stack fault) e same = cc
-no-memory (io.Device i) e same = cc
-no-memory io.NoMemory e same = cc
+no-memory : (fault : IoFault) (piece : LostPiece) → failure_by fault piece ≡ Faulty piece → ended fault ≡ ended io.NoMemory → ⊥
+no-memory (io.Stack fault) piece e same = cc
+no-memory (io.Device i) piece e same = cc
+no-memory io.NoMemory piece e same = cc
 
 module _ (w v w' : World) (d first : ℕ) (x y z : List ℕ) (even : length x % 512 ≡ 0) (p : IsStored w d first x v) where
   part-more : IsPartPut v d (first + length x / 512) y w' → IsPartPut w d first (x ++ (y ++ z)) w'
@@ -172,7 +180,7 @@ module _ (w v w' : World) (d first : ℕ) (x y z : List ℕ) (even : length x % 
       (subst (λ (c : Configuration). SomeEncrypt (said_at c (mapped d)) (first + length x / 512) (length y / 512)) p.put.any.config some)
 
   cause-more : (error : Failure) → EndsPut v d (first + length x / 512) y error w' ⊎ StopsPut v d (first + length x / 512) y error w' → EndsPut w d first (x ++ (y ++ z)) error w' ⊎ StopsPut w d first (x ++ (y ++ z)) error w'
-  cause-more error (inl q) = inl (q.0, q.1, q.2, pieces-end d first x y even p.put z q.0 (no-memory q.0 q.2) q.3)
+  cause-more error (inl q) = inl (q.0, q.1, q.2, pieces-end d first x y even p.put z q.0.fault (no-memory q.0.fault (lost None q.0) q.2) q.3)
   cause-more error (inr q) = inr (q.0, encrypt-more q.1, part-more q.2, q.3)
 
   stored-fails : (error : Failure) → FailsToPutAll v d (first + length x / 512) y error w' → FailsToPutAll w d first (x ++ (y ++ z)) error w'
@@ -210,22 +218,22 @@ module _ (w v w' : World) (d first at : ℕ) (all y z : List ℕ) (p : IsPut w d
   left-is : length (y ++ z) ≡ length all - length p.front
   left-is = omega (arith, ap (λ (l : List ℕ). length l) p.all_is, length-append p.front (y ++ z))
 
-  next-run : (result : Result Unit IoFault) → IsRunOf v d at (length (y ++ z)) (length y) → WritesInSteps (range_at d at (length y / 512)) v y result w'
+  next-run : (result : Result Unit PieceFault) → IsRunOf v d at (length (y ++ z)) (length y) → EndsSteps (range_at d at (length y / 512)) v y result w'
       → IsNextRun v d (first + length p.front / 512) (length all - length p.front) y result w'
   next-run result size steps = record {
     size = subst (λ (k : ℕ). IsRunOf v d k (length all - length p.front) (length y)) p.place (subst (λ (n : ℕ). IsRunOf v d at n (length y)) left-is size);
-    steps = subst (λ (k : ℕ). WritesInSteps (range_at d k (length y / 512)) v y result w') p.place steps;
+    steps = subst (λ (k : ℕ). EndsSteps (range_at d k (length y / 512)) v y result w') p.place steps;
   }
 
-  more-turns : IsRunOf v d at (length (y ++ z)) (length y) → WritesInSteps (range_at d at (length y / 512)) v y (Ok tt) w' → WritesInRuns d first (length all) w (p.front ++ y) (Ok tt) w'
+  more-turns : IsRunOf v d at (length (y ++ z)) (length y) → EndsSteps (range_at d at (length y / 512)) v y (Ok tt) w' → WritesInRuns d first (length all) w (p.front ++ y) (Ok tt) w'
   more-turns size steps = a_run p.turns (next-run (Ok tt) size steps)
 
   -- the run failed
-  fault-turns : (error : Failure) (fault : IoFault) → error ≡ failure_of fault → IsRunOf v d at (length (y ++ z)) (length y) → WritesInSteps (range_at d at (length y / 512)) v y (Err fault) w'
+  fault-turns : (error : Failure) (piece : PieceFault) → error ≡ put_failure piece → IsRunOf v d at (length (y ++ z)) (length y) → EndsSteps (range_at d at (length y / 512)) v y (Err piece) w'
       → WritesInRuns d first (length all) w all (Err error) w'
-  fault-turns error fault told size steps =
+  fault-turns error piece told size steps =
       subst (λ (l : List ℕ). WritesInRuns d first (length all) w l (Err error) w') (sym p.all_is)
-      (subst (λ (e : Failure). WritesInRuns d first (length all) w (p.front ++ (y ++ z)) (Err e) w') (sym told) (last_run z p.turns (next-run (Err fault) size steps)))
+      (subst (λ (e : Failure). WritesInRuns d first (length all) w (p.front ++ (y ++ z)) (Err e) w') (sym told) (last_run z p.turns (next-run (Err piece) size steps)))
 
   memory-turns : (error : Failure) → error ≡ no_memory → w' ≡ v → IsOutOfMemory most_run_bytes → WritesInRuns d first (length all) w all (Err error) w'
   memory-turns error told same refused =
@@ -256,7 +264,7 @@ last-turns w v w' d first at all y result p whole few ran = by result ran
     by (Err error) q = failed-turns w v w' d first at all y [] rest error size q
 
 module _ (w v w' : World) (d first at : ℕ) (all y : List ℕ) where
-  pub put-more : (z : List ℕ) → length y % 512 ≡ 0 → IsRunOf v d at (length (y ++ z)) (length y) → (p : IsPut w d first at all (y ++ z) v) → IsStored v d at y w' → WritesInSteps (range_at d at (length y / 512)) v y (Ok tt) w'
+  pub put-more : (z : List ℕ) → length y % 512 ≡ 0 → IsRunOf v d at (length (y ++ z)) (length y) → (p : IsPut w d first at all (y ++ z) v) → IsStored v d at y w' → EndsSteps (range_at d at (length y / 512)) v y (Ok tt) w'
       → IsPut w d first (at + length y / 512) all z w'
   put-more z even size p q steps = record {
     turns = more-turns w v w' d first at all y z p size steps;

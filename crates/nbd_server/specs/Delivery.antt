@@ -19,7 +19,7 @@ use Rattle.nbd_protocol.specs.Chunks.{error_at_chunk, hole_chunk}
 use Rattle.nbd_server.specs.Content.{TellsContent}
 use Rattle.nbd_server.specs.Status.{IsLineStatus, IsOtherKind, TouchZeros, touched}
 use Rattle.nbd_server.specs.declared.extent.ExtentKind.TheVariants as known
-use Rattle.nbd_server.specs.Failures.{failure_text, fault_at, reported_error}
+use Rattle.nbd_server.specs.Failures.{failure_text, fault_of, reported_error}
 use Rattle.nbd_server.specs.declared.failure.Failure.{Failure}
 use Rattle.nbd_server.specs.declared.first_faults.SectorFault.{SectorFault}
 use Rattle.nbd_server.specs.Transmission.{ReadsExport}
@@ -171,14 +171,10 @@ pub record DeliversPart (e : ExportRecord) (d : Delivery) (w : World) (reply : L
 abbrev pub IsDelivered : ExportRecord → Delivery → World → List ℕ → World → Type 0
 IsDelivered e d w reply w' = DeliversAll e d w reply w' ⊎ DeliversPart e d w reply w'
 
--- the sector in which the next byte lies
-abbrev pub next_sector : Delivery → Progress → ℕ
-next_sector d p = (d.offset + p.done) / 512
-
 -- the fault that the reply reports as an input/output error, with the sector of the piece that can't be read
 abbrev pub delivery_fault : (e : ExportRecord) → (d : Delivery) → (w : World) → (reply : List ℕ) → (w' : World) → IsDelivered e d w reply w' → Option SectorFault
 delivery_fault e d w reply w' (inl whole) = None
-delivery_fault e d w reply w' (inr part) = fault_at (next_sector d part.last) part.lost.error
+delivery_fault e d w reply w' (inr part) = fault_of part.lost.error
 
 -- a reply that reports that fault, or none
 abbrev pub DeliversAs : ExportRecord → Delivery → World → Option SectorFault → List ℕ → World → Type 0

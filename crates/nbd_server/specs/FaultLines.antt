@@ -8,19 +8,24 @@ use Rattle.program_io.specs.Counted.{CountedRecord}
 use Rattle.stack_meaning.specs.declared.fault.IoFault.{IoFault}
 use Rattle.stack_meaning.specs.declared.fault.IoFault.TheVariants as io
 
--- the number of the backing device that failed, and the end of the line
-abbrev pub leaf_end : IoFault → List ℕ
-leaf_end (io.Device leaf) = codes " " ++ (decimal leaf ++ codes "\n")
-leaf_end fault = codes "\n"
+-- the end of the line of a fault, with the data block that fails verification if it is known
+abbrev pub block_end : Option ℕ → List ℕ
+block_end (Some block) = codes ", data block " ++ (decimal block ++ codes "\n")
+block_end None = codes "\n"
+
+-- with the number of the backing device that failed
+abbrev pub fault_end : IoFault → Option ℕ → List ℕ
+fault_end (io.Device leaf) block = codes " " ++ (decimal leaf ++ codes "\n")
+fault_end fault block = block_end block
 
 -- the sector of a request's fault, or that the fault is of a sync
 abbrev pub place_text : Option ℕ → List ℕ
 place_text (Some sector) = codes ": sector " ++ (decimal sector ++ codes ": ")
 place_text None = codes ": flush: "
 
--- the name of a fault
+-- the name of a fault, and what is known of it
 abbrev pub kind_text : FirstFault → List ℕ
-kind_text f = met_name f ++ leaf_end f.fault
+kind_text f = met_name f ++ fault_end f.fault f.block
 
 -- the place of a request's fault, and the fault's name
 unfoldable pub fault_facts : FirstFault → List ℕ

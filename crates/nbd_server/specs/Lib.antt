@@ -1,7 +1,9 @@
+pub mod DataBlocks
 pub mod Failures
 pub mod Logs
 pub mod FaultLines
 pub mod Sectors
+pub mod Locating
 pub mod Replies
 pub mod Status
 pub mod Tallies

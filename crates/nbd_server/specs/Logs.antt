@@ -5,7 +5,7 @@ use Rattle.stack_meaning.specs.IoFaults.{io_name}
 use Rattle.nbd_server.specs.declared.first_faults.FirstFault.{FirstFault}
 use Rattle.nbd_server.specs.declared.first_faults.SectorFault.{SectorFault}
 use Rattle.nbd_server.specs.declared.session_log.SessionLog.{SessionLog}
-use Rattle.nbd_server.specs.Failures.{fault_at}
+use Rattle.nbd_server.specs.Failures.{fault_of}
 use Rattle.nbd_server.specs.Replies.{RequestOutcome}
 use Rattle.nbd_server.specs.Tallies.{counted, no_requests}
 
@@ -35,14 +35,14 @@ met_name met = if met.full then codes "NoSpace" else io_name met.fault
 abbrev pub no_log : SessionLog
 no_log = record { tally = no_requests; first = [] }
 
--- the fault by which a request ended, with the request's first sector
-abbrev pub outcome_fault : ℕ → RequestOutcome → Option SectorFault
-outcome_fault sector (Ok content) = None
-outcome_fault sector (Err error) = fault_at sector error
+-- the fault by which a request ended, with the sector of that fault
+abbrev pub outcome_fault : RequestOutcome → Option SectorFault
+outcome_fault (Ok content) = None
+outcome_fault (Err error) = fault_of error
 
 -- the fault of a request of the export at an index
 abbrev pub first_fault : ℕ → SectorFault → FirstFault
-first_fault place met = record { place = place; sector = met.sector; fault = met.fault; full = met.full }
+first_fault place met = record { place = place; sector = met.sector; block = met.block; fault = met.fault; full = met.full }
 
 -- one more request was answered, of so many bytes, and with that fault or with none
 abbrev pub logged : ℕ → ℕ → Option SectorFault → SessionLog → SessionLog

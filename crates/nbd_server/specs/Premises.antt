@@ -14,6 +14,9 @@ use Rattle.nbd_server.specs.Sectors.{most_run_bytes}
 use Rattle.nbd_server.specs.Zeros.{zeros_of}
 use Rattle.nbd_server.specs.declared.delivery.Delivery.{Delivery}
 use Rattle.nbd_server.specs.declared.delivery.Progress.{Progress}
+use Rattle.nbd_server.specs.declared.failure.Failure.{Failure}
+use Rattle.nbd_server.specs.declared.failure.Failure.TheVariants.{Faulty}
+use Rattle.nbd_server.specs.declared.lost.LostPiece.{LostPiece}
 use Rattle.nbd_server.specs.declared.zeros.Zeros.{Zeros}
 use Rattle.nbd_protocol.specs.declared.phase.Phase.{Phase}
 use Rattle.nbd_protocol.specs.declared.phase.Phase.TheVariants.{Over, Serving}
@@ -49,6 +52,16 @@ pub record AreSectorsOf (c : Configuration) (e : ExportRecord) (first count : �
   pub export : IsExport c e
   pub inside : first + count ≤ size c (mapped e.device)
   pub few : count < 2 ^ 32
+
+-- the sectors of a piece of the export that couldn't be read
+pub record AreLostSectors (c : Configuration) (e : ExportRecord) (piece : LostPiece) : Type 0 where
+  pub export : IsExport c e
+  pub inside : piece.first + piece.count ≤ size c (mapped e.device)
+
+-- the sectors of a failure are sectors of the export
+abbrev pub IsLostInside : Configuration → ExportRecord → Failure → Type 0
+IsLostInside c e (Faulty piece) = AreLostSectors c e piece
+IsLostInside c e error = Unit {0}
 
 -- the sizes of what a byte range leaves of its first sector (before it) and of its last sector (after it)
 pub record HaveSizes (offset count : ℕ) (front back : List ℕ) : Type 0 where

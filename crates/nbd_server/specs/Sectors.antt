@@ -1,5 +1,5 @@
 -- Ranges of sectors of the export, read and written as a whole.
-use Rattle.std.specs.Prelude.{◌≡◌, ◌⊎◌, ◌<◌, ℕ, ◌*◌, ◌/◌, All, List, length, take, Ok, Err}
+use Rattle.std.specs.Prelude.{◌≡◌, ◌⊎◌, ◌<◌, ℕ, ◌*◌, ◌/◌, All, List, length, take, None, Ok, Err}
 use Rattle.allocation.specs.Refusal.{IsOutOfMemory}
 use Rattle.stack_rules.specs.Names.{mapped}
 use Rattle.stack_meaning.specs.declared.fault.IoFault.{IoFault}
@@ -11,13 +11,14 @@ use Rattle.stack_meaning.specs.Reading.{MeetVerity}
 use Rattle.stack_lines.specs.Writing.{SomeEncrypt}
 use Rattle.stack_engine.specs.Bytes.{IsGoodChain}
 use Rattle.stack_engine.specs.WritePieces.{WritesInPieces}
-use Rattle.request_queue.specs.AtOnce.{ReadsInTurn, WritesInSteps}
+use Rattle.request_queue.specs.declared.fault.PieceFault.{PieceFault}
+use Rattle.request_queue.specs.AtOnce.{EndsRead, EndsSteps}
 use Rattle.request_queue.specs.Parts.{EachPart}
 use Rattle.request_queue.specs.Ranges.{range_at}
 use Rattle.request_queue.specs.Runs.{IsLed}
 use Rattle.request_queue.specs.WholeRuns.{ReadsWhole}
 use Rattle.request_queue.specs.World.{World}
-use Rattle.nbd_server.specs.Failures.{failure_of, no_memory}
+use Rattle.nbd_server.specs.Failures.{lost, no_memory, put_failure, read_failure}
 use Rattle.nbd_server.specs.declared.failure.Failure.{Failure}
 use Rattle.nbd_server.specs.declared.failure.Failure.TheVariants.{Faulty}
 
@@ -27,7 +28,7 @@ use Rattle.nbd_server.specs.declared.failure.Failure.TheVariants.{Faulty}
 pub record IsFetched (w : World) (d first count : ℕ) (bytes : List ℕ) (w' : World) : Type 0 where
   pub chains : List FoundRecord
   pub read : ReadsWhole w.stack (range_at d first count) (Ok (record { bytes = bytes; chains = chains })) w'.stack
-  pub pieces : ReadsInTurn (range_at d first count) w.stack (Ok bytes) w'.stack
+  pub pieces : EndsRead (range_at d first count) w.stack (Ok bytes) w'.stack
   pub good : All (IsGoodChain w.stack.config) chains
   pub led : IsLed EachPart w w'
 
@@ -35,13 +36,13 @@ pub record IsFetched (w : World) (d first count : ℕ) (bytes : List ℕ) (w' : 
 abbrev pub HasCause : World → ℕ → ℕ → ℕ → IoFault → Type 0
 HasCause w d first count fault = fault ≡ io.NoMemory → MeetVerity (said_at w.stack.config (mapped d)) first count
 
--- the read of them all ended in that fault
+-- the read of them all ended with that piece
 pub record EndsIn (w : World) (d first count : ℕ) (error : Failure) (w' : World) : Type 0 where
-  pub fault : IoFault
-  pub told : error ≡ failure_of fault
-  pub cause : HasCause w d first count fault
-  pub read : ReadsWhole w.stack (range_at d first count) (Err fault) w'.stack
-  pub pieces : ReadsInTurn (range_at d first count) w.stack (Err fault) w'.stack
+  pub piece : PieceFault
+  pub told : error ≡ read_failure w.stack.config d piece
+  pub cause : HasCause w d first count piece.fault
+  pub read : ReadsWhole w.stack (range_at d first count) (Err piece.fault) w'.stack
+  pub pieces : EndsRead (range_at d first count) w.stack (Err piece) w'.stack
 
 -- the allocation of the buffer was refused, and nothing was read
 abbrev pub HasNoBuffer : World → ℕ → Failure → World → Type 0
@@ -57,10 +58,10 @@ pub record IsStored (w : World) (d first : ℕ) (bytes : List ℕ) (w' : World) 
   pub put : WritesInPieces w.stack d first bytes (Ok tt) w'.stack
   pub led : IsLed EachPart w w'
 
--- the write of them all ended in that fault; the pieces after the one that failed weren't written
+-- the write of them all ended with that piece; the pieces after it weren't written
 abbrev pub EndsPut : World → ℕ → ℕ → List ℕ → Failure → World → Type 0
 EndsPut w d first bytes error w' =
-    (fault : IoFault) × (error ≡ Faulty fault) × (failure_of fault ≡ Faulty fault) × WritesInPieces w.stack d first bytes (Err fault) w'.stack
+    (piece : PieceFault) × (error ≡ Faulty (lost None piece)) × (put_failure piece ≡ Faulty (lost None piece)) × WritesInPieces w.stack d first bytes (Err piece.fault) w'.stack
 
 -- the first of the sectors were written, and no others
 pub record IsPartPut (w : World) (d first : ℕ) (bytes : List ℕ) (w' : World) : Type 0 where
@@ -81,14 +82,14 @@ pub record FailsToPutAll (w : World) (d first : ℕ) (bytes : List ℕ) (error :
 -- they were written by one write of the queue, in pieces that split no unit that fits in one
 pub record IsStoredAtOnce (w : World) (d first : ℕ) (bytes : List ℕ) (w' : World) : Type 0 where
   pub stored : IsStored w d first bytes w'
-  pub steps : WritesInSteps (range_at d first (length bytes / 512)) w bytes (Ok tt) w'
+  pub steps : EndsSteps (range_at d first (length bytes / 512)) w bytes (Ok tt) w'
 
--- such a write ended in a fault
+-- such a write ended with a piece that failed
 pub record FailsToPutAtOnce (w : World) (d first : ℕ) (bytes : List ℕ) (error : Failure) (w' : World) : Type 0 where
   pub put : FailsToPutAll w d first bytes error w'
-  pub fault : IoFault
-  pub told : error ≡ failure_of fault
-  pub steps : WritesInSteps (range_at d first (length bytes / 512)) w bytes (Err fault) w'
+  pub piece : PieceFault
+  pub told : error ≡ put_failure piece
+  pub steps : EndsSteps (range_at d first (length bytes / 512)) w bytes (Err piece) w'
 
 -- the most bytes in a run of zeros: 1 MiB
 abbrev pub most_run_bytes : ℕ

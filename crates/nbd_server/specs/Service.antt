@@ -1,5 +1,5 @@
 -- The session of a client: its messages in order, and the reply to each.
-use Rattle.std.specs.Prelude.{◌≡◌, ◌≢◌, ◌⊎◌, ℕ, ◌<◌, ◌≤◌, ◌/◌, nat_le, true, false, List, [], ◌++◌, length, take, codes, Bool, Option, Some, None, Result, Ok, Err}
+use Rattle.std.specs.Prelude.{◌≡◌, ◌≢◌, ◌⊎◌, ℕ, ◌<◌, ◌≤◌, nat_le, true, false, List, [], ◌++◌, length, take, codes, Bool, Option, Some, None, Result, Ok, Err}
 use mathlib.Core.Logic.{inl, inr}
 use Rattle.std.specs.Io.KnownBytes.{Appends, Consumes, IsAtEnd, Keeps}
 use Rattle.request_queue.specs.Parts.{EachPart}
@@ -112,7 +112,7 @@ pub data Conversation (es : List ExportRecord) (first : World) : Phase → World
 -- the fault that the reply to a request reports as an input/output error
 abbrev pub request_fault : (e : ExportRecord) → (a : Agreement) → (w : World) → (h : Header) → (payload : List ℕ) → (found : Option Delivery) → (reply : List ℕ) → (w' : World) → GivesReply e a w h payload found reply w' → Option SectorFault
 request_fault e a w h payload (Some d) reply w' given = delivery_fault e d w reply w' given
-request_fault e a w h payload None reply w' given = outcome_fault (h.offset / 512) given.0
+request_fault e a w h payload None reply w' given = outcome_fault given.0
 
 -- the log after a request: DISC isn't counted
 abbrev pub request_log : (e : ExportRecord) → (agreed : Agreement) → (w : World) → (header payload reply : List ℕ) → (next : Phase) → (w' : World)

@@ -16,6 +16,7 @@ use Rattle.nbd_server.specs.Extents.{most_runs}
 use Rattle.nbd_server.specs.declared.extent.ExtentKind.TheVariants as known
 use Rattle.nbd_server.specs.declared.status.ByteExtent.{ByteExtent}
 use Rattle.nbd_server.specs.Sectors.{IsFetched, FailsToFetch, IsStoredAtOnce, FailsToPutAtOnce}
+use Rattle.nbd_server.specs.Locating.{Locates}
 use Rattle.nbd_server.specs.Zeros.{IsStoredInRuns, FailsToPutInRuns}
 use Rattle.nbd_protocol.specs.declared.header.Header.{Header}
 use Rattle.nbd_protocol.specs.declared.header.Command.{Command}
@@ -38,6 +39,11 @@ Stays w outcome w' = (outcome ≡ Ok []) × (w' ≡ w)
 abbrev pub ReadsExport : ExportRecord → World → ℕ → ℕ → RequestOutcome → World → Type 0
 ReadsExport e w offset length (Ok content) w' = (bytes : List ℕ) × IsFetched w e.device (offset / 512) (touched offset length) bytes w' × (content ≡ take length (drop (offset % 512) bytes))
 ReadsExport e w offset length (Err error) w' = FailsToFetch w e.device (offset / 512) (touched offset length) error w'
+
+-- A READ that is answered at once. If the byte range can't be read, the failure names the sector.
+abbrev pub AnswersRead : ExportRecord → World → ℕ → ℕ → RequestOutcome → World → Type 0
+AnswersRead e w offset length (Ok content) w' = ReadsExport e w offset length (Ok content) w'
+AnswersRead e w offset length (Err told) w' = (error : Failure) × (mid : World) × ReadsExport e w offset length (Err error) mid × Locates mid e.device error told w'
 
 -- the byte range couldn't be read
 abbrev pub FailsToReadBytes : ExportRecord → World → ℕ → ℕ → World → Failure → Type 0
@@ -190,7 +196,7 @@ WritesGiven e w offset bytes outcome w' = LacksSectors w offset bytes outcome w'
 -- The effect and the result of a command. A request with a fault has no effect.
 abbrev pub ServesCommand : ExportRecord → World → Result Command RequestError → List ℕ → RequestOutcome → World → Type 0
 ServesCommand e w (Err error) payload outcome w' = RefusesRequest w error outcome w'
-ServesCommand e w (Ok (Read offset length)) payload outcome w' = ReadsExport e w offset length outcome w'
+ServesCommand e w (Ok (Read offset length)) payload outcome w' = AnswersRead e w offset length outcome w'
 ServesCommand e w (Ok (Write offset length fua)) payload outcome w' = Settles fua (ReportsSpace (WritesGiven e w offset payload)) outcome w'
 ServesCommand e w (Ok (Zero offset length fua)) payload outcome w' = ServesZero e w offset length fua outcome w'
 ServesCommand e w (Ok Hint) payload outcome w' = Stays w outcome w'

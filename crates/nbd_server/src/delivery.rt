@@ -7,10 +7,11 @@ ghost use Rattle.nbd_server.specs.Content.{TellsContent};
 ghost use Rattle.nbd_server.specs.Premises.{AreBytesOf, ArePieceBytes, IsDeliveryRest, ReadsTo};
 ghost use Rattle.nbd_server.specs.Status.{touched};
 ghost use Rattle.nbd_server.specs.Transmission.{FailsToReadBytes};
-ghost use Rattle.nbd_server.specs.Delivery.{AreNextBytes, IsDeliveryPiece, IsReadPiece, IsStuck, SendsPiece, WritesDelivery, WritesPiece, delivery_of, has_df, next_sector};
+ghost use Rattle.nbd_server.specs.Delivery.{AreNextBytes, IsDeliveryPiece, IsReadPiece, IsStuck, SendsPiece, WritesDelivery, WritesPiece, delivery_of, has_df};
 
 use crate::byte_range::touched;
 use crate::content::say_content;
+use crate::error_text::ErrorText;
 use crate::failure::Failure;
 use crate::fetch::read_into;
 use crate::first_faults::SectorFault;
@@ -89,14 +90,6 @@ impl Delivery {
         ensures { result ≡ self.offset + progress.done }
     {
         self.offset + u64::from(progress.done)
-    }
-
-    // The sector in which the next byte lies.
-    fn sector(self, progress: Progress) -> u64
-        requires { IsDeliveryRest self progress }
-        ensures { result ≡ next_sector self progress }
-    {
-        self.at(progress) / SECTOR
     }
 
     // The size of the next piece.
@@ -226,8 +219,9 @@ fn deliver_piece<D: BlockDev, W: Write>(
                     slow: progress.done + size,
                 }));
             }
-            let text = error.text().as_bytes();
-            say_error_at(writer, delivery.cookie, at, error.reported(), text)?;
+            let text = ErrorText::of(error);
+            let told = text.as_bytes();
+            say_error_at(writer, delivery.cookie, at, error.reported(), told)?;
             Ok(Err(error))
         }
     }
@@ -289,7 +283,7 @@ pub(crate) fn deliver<D: BlockDev, W: Write>(
     'pieces: while progress.done < delivery.count {
         match deliver_next(room, queue, export, delivery, progress, writer)? {
             Ok(next) => progress = next,
-            Err(error) => return Ok(error.at(delivery.sector(progress))),
+            Err(error) => return Ok(error.fault()),
         }
     }
     Ok(None)

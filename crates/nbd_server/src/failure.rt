@@ -1,11 +1,15 @@
 //! Why a request isn't done.
-ghost use Rattle.std.specs.Prelude.{◌≡◌, ◌≤◌, length};
-ghost use Rattle.nbd_server.specs.Failures.{failure_of, failure_text, fault_at, fault_text, no_memory, refusal_text, reported_error, write_failure};
+ghost use Rattle.std.specs.Prelude.{◌≡◌, ◌<◌, ◌≤◌, length};
+ghost use Rattle.stack_rules.specs.Names.{mapped, size};
+ghost use Rattle.nbd_server.specs.Failures.{failure_by, fault_of, fault_text, no_memory, plain_text, put_failure, read_failure, refusal_text, reported_error, told_block, write_failure};
 
 use crate::first_faults::SectorFault;
+use crate::lost::{LostPiece, lost_block};
 use allocation::OutOfMemory;
 use block_device::BlockDev;
 use nbd_protocol::RequestError;
+use request_queue::PieceFault;
+use stack_config::{Config, DevId};
 use stack_engine::Stack;
 use stack_meaning::{Fault, IoFault};
 
@@ -14,10 +18,10 @@ use stack_meaning::{Fault, IoFault};
 pub(crate) enum Failure {
     /// The request isn't allowed, or an allocation failed.
     Refused(RequestError),
-    /// The stack refused the access, or a device failed.
-    Faulty(IoFault),
-    /// A device failed to write because it has no space left.
-    Full(IoFault),
+    /// The stack refused the access to these sectors, or a device failed.
+    Faulty(LostPiece),
+    /// A device failed to write these sectors because it has no space left.
+    Full(LostPiece),
     /// A device failed to sync what was written.
     Unsynced(IoFault),
 }
@@ -63,17 +67,54 @@ impl Failure {
         }
     }
 
-    /// Returns what the chunk of an error says to humans.
+    /// Returns what the chunk of an error says to humans, unless it names a data block.
     pub(crate) fn text(self) -> &'static str
-        ensures value { result.now ≡ failure_text self }
+        ensures value { result.now ≡ plain_text self }
         ensures short { length result.now ≤ 64 }
     {
         match self {
             Failure::Refused(error) => refusal_text(error),
-            Failure::Faulty(fault) => fault_text(fault),
+            Failure::Faulty(piece) => fault_text(piece.fault),
             Failure::Full(_) => "a backing device has no space left",
             Failure::Unsynced(fault) => fault_text(fault),
         }
+    }
+
+    /// Returns the data block that fails verification, if it is known.
+    pub(crate) fn block(self) -> Option<u64>
+        ensures { result ≡ told_block self }
+    {
+        match self {
+            Failure::Faulty(piece) => piece.block,
+            Failure::Refused(_) | Failure::Full(_) | Failure::Unsynced(_) => None,
+        }
+    }
+
+    // The failure of an access that ended with these sectors.
+    fn by(piece: LostPiece) -> Failure
+        ensures { result ≡ failure_by piece.fault piece }
+    {
+        match piece.fault {
+            IoFault::Stack(_) => Failure::Faulty(piece),
+            IoFault::Device(_) => Failure::Faulty(piece),
+            IoFault::NoMemory => Failure::Refused(RequestError::NoMemory),
+        }
+    }
+
+    /// Returns the failure of a read of a mapped device.
+    pub(crate) fn of_read(config: &Config, device: DevId, piece: PieceFault) -> Failure
+        requires { piece.first < size config.now (mapped device.0) }
+        ensures { result ≡ read_failure config.now device.0 piece }
+    {
+        let block = lost_block(config, device, piece);
+        Failure::by(LostPiece::of(piece, block))
+    }
+
+    /// Returns the failure of a write.
+    pub(crate) fn of_put(piece: PieceFault) -> Failure
+        ensures { result ≡ put_failure piece }
+    {
+        Failure::by(LostPiece::of(piece, None))
     }
 
     /// Returns the failure of a write: that no space is left if the device that failed lacked it.
@@ -82,51 +123,42 @@ impl Failure {
     {
         match self {
             Failure::Refused(error) => Failure::Refused(error),
-            Failure::Faulty(fault) => {
-                if stack.lacks_space(fault) {
-                    Failure::Full(fault)
+            Failure::Faulty(piece) => {
+                if stack.lacks_space(piece.fault) {
+                    Failure::Full(piece)
                 } else {
-                    Failure::Faulty(fault)
+                    Failure::Faulty(piece)
                 }
             }
-            Failure::Full(fault) => Failure::Full(fault),
+            Failure::Full(piece) => Failure::Full(piece),
             Failure::Unsynced(fault) => Failure::Unsynced(fault),
         }
     }
 
-    /// Returns the fault, if there is one, with a sector. The fault of a sync has no sector.
-    pub(crate) fn at(self, sector: u64) -> Option<SectorFault>
-        ensures { result ≡ fault_at sector self }
+    /// Returns the fault, if there is one, with the first sector of its piece. The fault of a sync has no sector.
+    pub(crate) fn fault(self) -> Option<SectorFault>
+        ensures { result ≡ fault_of self }
     {
         match self {
             Failure::Refused(_) => None,
-            Failure::Faulty(fault) => Some(SectorFault {
-                sector: Some(sector),
-                fault,
+            Failure::Faulty(piece) => Some(SectorFault {
+                sector: Some(piece.first),
+                block: piece.block,
+                fault: piece.fault,
                 full: false,
             }),
-            Failure::Full(fault) => Some(SectorFault {
-                sector: Some(sector),
-                fault,
+            Failure::Full(piece) => Some(SectorFault {
+                sector: Some(piece.first),
+                block: piece.block,
+                fault: piece.fault,
                 full: true,
             }),
             Failure::Unsynced(fault) => Some(SectorFault {
                 sector: None,
+                block: None,
                 fault,
                 full: false,
             }),
-        }
-    }
-}
-
-impl From<IoFault> for Failure {
-    ghost from_gives = { λ fault given. given ≡ failure_of fault };
-
-    fn from(fault: IoFault) -> Failure {
-        match fault {
-            IoFault::Stack(kind) => Failure::Faulty(IoFault::Stack(kind)),
-            IoFault::Device(leaf) => Failure::Faulty(IoFault::Device(leaf)),
-            IoFault::NoMemory => Failure::Refused(RequestError::NoMemory),
         }
     }
 }

@@ -1,7 +1,7 @@
 //! Prints a line for each fault of a request. A failure of the writer stays known and ends nothing.
-ghost use Rattle.std.specs.Prelude.{◌≤◌, drop, length};
+ghost use Rattle.std.specs.Prelude.{◌≤◌, ◌++◌, drop, length};
 ghost use Rattle.nbd_protocol.specs.Exports.{export_at, export_records};
-ghost use Rattle.nbd_server.specs.FaultLines.{IsPrinted, fault_facts, fault_line, fault_lines, kind_text, named_fault, place_text};
+ghost use Rattle.nbd_server.specs.FaultLines.{IsPrinted, block_end, fault_facts, fault_line, fault_lines, kind_text, named_fault, place_text};
 ghost use Rattle.program_io.specs.Counted.{Writes};
 
 use crate::first_faults::FirstFault;
@@ -82,14 +82,28 @@ fn say_place<W: Write>(writer: &mut Counted<W>, sector: Option<u64>) -> Result<(
     }
 }
 
-// `KIND`, with the number of the backing device that failed
+// `KIND`, with the data block that fails verification, if it is known
+fn say_kind_at<W: Write>(
+    writer: &mut Counted<W>,
+    kind: &str,
+    block: Option<u64>,
+) -> Result<(), WriteFault>
+    ensures { Writes W.contents writer.old writer.new (kind.now ++ block_end block) result }
+{
+    match block {
+        Some(block) => writer.print(format_args!("{kind}, data block {block}\n")),
+        None => writer.print(format_args!("{kind}\n")),
+    }
+}
+
+// `KIND`, with the number of the backing device that failed, or the data block that fails verification
 fn say_kind<W: Write>(writer: &mut Counted<W>, fault: &FirstFault) -> Result<(), WriteFault>
     ensures { Writes W.contents writer.old writer.new (kind_text fault.now) result }
 {
     let kind = fault.name();
     match fault.fault {
         IoFault::Device(leaf) => writer.print(format_args!("{kind} {leaf}\n")),
-        IoFault::Stack(_) | IoFault::NoMemory => writer.print(format_args!("{kind}\n")),
+        IoFault::Stack(_) | IoFault::NoMemory => say_kind_at(writer, kind, fault.block),
     }
 }
 

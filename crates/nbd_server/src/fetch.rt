@@ -26,7 +26,10 @@ pub(crate) fn read_into<D: BlockDev>(
 {
     match queue.read_bytes(export.device, first, out) {
         Ok(()) => Ok(()),
-        Err(BytesFault::Failed(fault)) => Err(Failure::from(fault)),
+        Err(BytesFault::Failed(piece)) => {
+            let config = queue.stack().config();
+            Err(Failure::of_read(config, export.device, piece))
+        }
         Err(BytesFault::Refused(_fault)) => unreachable!(),
     }
 }

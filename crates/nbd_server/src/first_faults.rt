@@ -8,10 +8,13 @@ use std::marker::Model;
 // The most faults that are kept.
 const MOST: usize = 60;
 
-/// The fault of a request, and the request's first sector, or that of the piece that can't be read. A fault of a sync has no sector.
+/// The fault of a request, and the sector that can't be read, or the first sector of the piece that failed. A fault of a sync has no
+/// sector.
 #[derive(Clone, Copy, Debug, PartialEq, Eq)]
 pub struct SectorFault {
     pub sector: Option<u64>,
+    /// The data block of the sector, if it fails verification.
+    pub block: Option<u64>,
     pub fault: IoFault,
     /// The device that failed has no space left.
     pub full: bool,
@@ -22,6 +25,8 @@ pub struct SectorFault {
 pub struct FirstFault {
     pub place: usize,
     pub sector: Option<u64>,
+    /// The data block of the sector, if it fails verification.
+    pub block: Option<u64>,
     pub fault: IoFault,
     /// The device that failed has no space left.
     pub full: bool,
@@ -86,6 +91,7 @@ impl FirstFaults {
         let unused = FirstFault {
             place: 0,
             sector: None,
+            block: None,
             fault: IoFault::Stack(Fault::ErrorTarget),
             full: false,
         };

@@ -3,13 +3,17 @@
 
 mod byte_range;
 mod content;
+mod data_block;
 mod delivery;
+mod error_text;
 mod extent;
 mod failure;
 mod fault_lines;
 mod fetch;
 mod first_faults;
 mod haggling;
+mod locating;
+mod lost;
 mod piece;
 mod read_status;
 mod reply;

@@ -5,6 +5,7 @@ ghost use Rattle.nbd_protocol.specs.Headers.{most_length};
 ghost use Rattle.nbd_server.specs.Replies.{chunked_reply, content_chunk, read_chunk, agreed_reply, simple_head, simple_reply};
 ghost use Rattle.nbd_server.specs.Transmission.{IsPart, IsSendable, reply_data, data_outcome};
 
+use crate::error_text::ErrorText;
 use crate::failure::Failure;
 use nbd_protocol::{
     Agreement, BLOCK_STATUS, Header, put32, put64, say_data, say_error, say_none, say_status,
@@ -128,8 +129,8 @@ fn say_chunks<W: Write>(
     match outcome {
         Ok(data) => say_content(writer, header, data.part()),
         Err(error) => {
-            let text = error.text().as_bytes();
-            say_error(writer, header.cookie, error.reported(), text)
+            let text = ErrorText::of(error);
+            say_error(writer, header.cookie, error.reported(), text.as_bytes())
         }
     }
 }

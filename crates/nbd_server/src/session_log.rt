@@ -34,6 +34,7 @@ impl SessionLog {
                 self.first.keep(FirstFault {
                     place,
                     sector: at.sector,
+                    block: at.block,
                     fault: at.fault,
                     full: at.full,
                 });

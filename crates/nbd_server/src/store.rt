@@ -37,7 +37,7 @@ pub(crate) fn store<D: BlockDev>(
 {
     match queue.write_bytes(export.device, first, bytes) {
         Ok(()) => Ok(()),
-        Err(BytesFault::Failed(fault)) => Err(Failure::from(fault)),
+        Err(BytesFault::Failed(piece)) => Err(Failure::of_put(piece)),
         Err(BytesFault::Refused(_fault)) => unreachable!(),
     }
 }

@@ -9,7 +9,7 @@ ghost use Rattle.nbd_server.specs.Logs.{outcome_fault};
 ghost use Rattle.nbd_server.specs.Premises.{AreBytesOf, IsBare};
 ghost use Rattle.nbd_server.specs.Service.{EndsTurn};
 ghost use Rattle.nbd_protocol.specs.Streaming.{HasRead, HasWritten, result_fault};
-ghost use Rattle.nbd_server.specs.Transmission.{AreExtentsTold, FallsShort, Flushes, Handles, IsSendable, ReadsExport, ServesCommand, ServesZero, Settles, Stays, StaysOrReads, TellsStatus, WritesGiven, data_outcome, no_bytes};
+ghost use Rattle.nbd_server.specs.Transmission.{AnswersRead, AreExtentsTold, FallsShort, Flushes, Handles, IsSendable, ServesCommand, ServesZero, Settles, Stays, StaysOrReads, TellsStatus, WritesGiven, data_outcome, no_bytes};
 ghost use Rattle.nbd_protocol.specs.declared.phase.Phase.TheVariants.{Serving};
 
 use crate::byte_range::{read_bytes, touched, write_bytes, write_zeros};
@@ -17,6 +17,7 @@ use crate::delivery::{Delivery, deliver};
 use crate::extent::{ExtentKind, is_same_kind};
 use crate::failure::Failure;
 use crate::first_faults::SectorFault;
+use crate::locating::located;
 use crate::read_status::read_status;
 use crate::reply::{Data, say_reply};
 use crate::session_state::SessionState;
@@ -35,7 +36,7 @@ use std::io::{Read, Write};
 
 const MAGIC: u32 = 0x2560_9513;
 
-// Reads at most as many bytes as one reply can hold.
+// Reads at most as many bytes as one reply can hold. If they can't be read, the failure names the sector.
 fn read<D: BlockDev>(
     alloc: Global,
     queue: &mut Queue<D>,
@@ -45,10 +46,13 @@ fn read<D: BlockDev>(
 ) -> Result<Data, Failure>
     requires bytes { AreBytesOf queue.old.stack.config (export_record export.now) offset len }
     requires few { len ≤ most_length }
-    ensures value { ReadsExport (export_record export.now) queue.old offset len (data_outcome result) queue.new }
+    ensures value { AnswersRead (export_record export.now) queue.old offset len (data_outcome result) queue.new }
     ensures inside { IsSendable result }
 {
-    read_bytes(alloc, queue, export, offset, len)
+    match read_bytes(alloc, queue, export, offset, len) {
+        Ok(data) => Ok(data),
+        Err(error) => Err(located(queue, export, error)),
+    }
 }
 
 // Receives the payload of a WRITE, and writes it.
@@ -231,13 +235,13 @@ fn serve_request<D: SyncDev, R: Read>(
     }
 }
 
-// The fault by which a request ended, with the request's first sector.
-fn outcome_fault(sector: u64, outcome: &Result<Data, Failure>) -> Option<SectorFault>
-    ensures { result ≡ outcome_fault sector (data_outcome outcome.now) }
+// The fault by which a request ended, with the sector of that fault.
+fn outcome_fault(outcome: &Result<Data, Failure>) -> Option<SectorFault>
+    ensures { result ≡ outcome_fault (data_outcome outcome.now) }
 {
     match outcome {
         Ok(_) => None,
-        Err(error) => error.at(sector),
+        Err(error) => error.fault(),
     }
 }
 
@@ -280,7 +284,7 @@ pub(crate) fn take_request<D: SyncDev, R: Read, W: Write>(
         None => {}
     }
     let outcome = serve_request(state.room.alloc, queue, export, agreed, header, reader)?;
-    let met = outcome_fault(header.offset / 512, &outcome);
+    let met = outcome_fault(&outcome);
     say_reply(writer, agreed, header, outcome)?;
     writer.flush()?;
     state.count(agreed.place, moved, met);

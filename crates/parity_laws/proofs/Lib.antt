@@ -1,1 +1,2 @@
+mod PrintedLemmas
 mod ProtectedLemmas

@@ -1,1 +1,2 @@
 pub mod ProtectedLines
+pub mod PrintedLines

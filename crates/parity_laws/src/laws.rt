@@ -1,4 +1,5 @@
 //! Laws of the definitions: each function's contract is the law, and its call gives it.
+ghost use Rattle.parity_laws.specs.PrintedLines.{PrintedParityIsLoaded};
 ghost use Rattle.parity_laws.specs.ProtectedLines.{ProtectedDataIsRead, ProtectedRoundsAreFormer};
 
 use fec_area::laws::rounds_sum_to_zeros;
@@ -21,3 +22,8 @@ pub fn protected_data_is_read()
     rounds_sum_to_zeros();
     damaged_data_is_read();
 }
+
+/// A load doesn't refuse the parity of a printed line that covers all data and hash blocks, of one size, as that of `table --fec` does.
+pub fn printed_parity_is_loaded()
+    ensures { PrintedParityIsLoaded }
+{}

@@ -5,11 +5,9 @@ ghost use Rattle.repair_commands.specs.Openings.{AreCopiesOpened, IsAllOpened, I
 ghost use Rattle.repair_commands.specs.Pairs.{pair_uses};
 
 use crate::copies::open_copies;
-use crate::pair::{
-    Pair, Parts, RepairPlaces, check_parts, narrow_both, open_files, part_use, parts_of,
-};
+use crate::pair::{Pair, Parts, RepairPlaces, check_parts, narrow_both, open_files, parts_of};
 use command_line::ImageCopy;
-use image_files::{FileUse, Images};
+use image_files::{FileUse, Images, part_use};
 use std::alloc::Global;
 use verity_commands::TreeFault;
 

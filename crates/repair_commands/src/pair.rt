@@ -2,14 +2,13 @@
 ghost use Rattle.std.specs.Prelude.{◌≡◌, false, IfErr, IfOk, OnOk};
 ghost use Rattle.device_adapters.specs.Parts.{part_before, part_behind};
 ghost use Rattle.image_commands.specs.Places.{data_end};
-ghost use Rattle.image_files.specs.FileUses.{part_use};
 ghost use Rattle.image_files.specs.Opener.{IsFresh};
 ghost use Rattle.repair_commands.specs.Pairs.{AreFilesOpened, AreNarrowed, IsFileUnopened, IsOverlapAt, do_clash, part_in};
 
 use block_device::{BlockDev, OpenFault};
 use device_adapters::Part;
 use image_commands::{TwoImages, data_end};
-use image_files::{FileUse, Images, OpenImage, PlacedImage, UnopenedFile, is_clash, open_place};
+use image_files::{Images, OpenImage, PlacedImage, UnopenedFile, is_clash, open_place, part_use};
 use std::alloc::Global;
 
 /// The arguments that name a data image and its hash image, the sector (of 512 bytes) of what the latter names at which the hash
@@ -141,15 +140,4 @@ pub(crate) fn check_parts<'a, D>(
         return Err(UnopenedFile { fault, path });
     }
     Ok(())
-}
-
-/// Returns how an open part of a file is used: for reading, or for writing too.
-pub(crate) fn part_use<D>(image: &OpenImage<D>, writable: bool, part: Part) -> FileUse
-    ensures { result ≡ part_use writable part image.now }
-{
-    FileUse {
-        id: image.id,
-        writable,
-        part: Some(part),
-    }
 }

@@ -4,11 +4,11 @@ ghost use Rattle.repair_commands.specs.Parity.{IsFecOpened, IsFecUnopened, IsUnl
 
 use crate::fault::ParityRepairFault;
 use crate::opening::Opened;
-use crate::pair::{Pair, part_use};
+use crate::pair::Pair;
 use block_device::BlockDev;
 use command_line::FecFile;
 use fec_area::Layout;
-use image_files::{Images, UnopenedFile, open_place_apart};
+use image_files::{Images, UnopenedFile, open_place_apart, part_use};
 use std::alloc::Global;
 use tree_shape::Shape;
 use tree_survey::SurveyFault;

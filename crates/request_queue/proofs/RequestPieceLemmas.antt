@@ -12,9 +12,11 @@ use Rattle.request_queue.specs.declared.reply.Progress.TheVariants.{More, Done}
 use Rattle.request_queue.specs.declared.reply.Reply.{Reply}
 use Rattle.request_queue.specs.Flights.{FlightRecord, IsSoundFlight, reply_to, has_ticket}
 use Rattle.request_queue.specs.Parts.{PartRelation, EachPart, AsksPiece, part_of_work, done_of}
+use Rattle.request_queue.specs.declared.fault.PieceFault.{PieceFault}
 use Rattle.request_queue.specs.AtOnce.{IsRangeRead}
 use Rattle.request_queue.specs.PieceCalls.{CalledPart, GivesInTurn}
 use Rattle.request_queue.specs.Ranges.{bytes_range, piece_len, range_at}
+use Rattle.request_queue.specs.Replies.{bytes_given}
 use Rattle.request_queue.specs.World.{World, world, BytesRead, Serves, Syncs, IsSoundWorld}
 use Rattle.request_queue.specs.Serving.{NextPiece, FailedPiece}
 use Rattle.request_queue.proofs.lemmas.BytesLemmas.{bytes_range-ok}
@@ -88,8 +90,8 @@ sound-done v v' given fs fs' i f f' p r s =
 
 -- ---- a read at once
 
-pub bytes-done : (v v' : StackRecord) (given : ℕ) (fs : List FlightRecord) (d first size : ℕ) (range : SectorRange) (answer : Result (List ℕ) IoFault) → Ok range ≡ bytes_range v.config d first size
-    → IsRangeRead v (range_at d first (size / 512)) answer v' → BytesRead EachPart (world v given fs) d first size answer (world v' given fs)
+pub bytes-done : (v v' : StackRecord) (given : ℕ) (fs : List FlightRecord) (d first size : ℕ) (range : SectorRange) (answer : Result (List ℕ) PieceFault) → Ok range ≡ bytes_range v.config d first size
+    → IsRangeRead v (range_at d first (size / 512)) answer v' → BytesRead EachPart (world v given fs) d first size (bytes_given answer) (world v' given fs)
 bytes-done v v' given fs d first size range (Ok bytes) found read = record {
   range = range_at d first (size / 512);
   admits = sym found ∙ ap Ok (sym (bytes_range-ok v.config d first size range (sym found)));
@@ -97,7 +99,7 @@ bytes-done v v' given fs d first size range (Ok bytes) found read = record {
   asks = record { answered = read.each; kept = read.kept };
   leaves = refl;
 }
-bytes-done v v' given fs d first size range (Err fault) found read = record {
+bytes-done v v' given fs d first size range (Err piece) found read = record {
   range = range_at d first (size / 512);
   admits = sym found ∙ ap Ok (sym (bytes_range-ok v.config d first size range (sym found)));
   stack = v';
@@ -124,11 +126,11 @@ bytes-called v v' given fs d first size range (Err fault) found gives = record {
 
 -- ---- a sync
 
-pub is-synced : (w : World) (v : StackRecord) (result : Result Unit IoFault) → OnOk result (v.leaves ≡ map synced w.stack.leaves) → v.config ≡ w.stack.config → v.capacity ≡ w.stack.capacity → v.kept ≡ w.stack.kept → IfErr result (FailsToSync w.stack.leaves v.leaves)
+pub is-synced : (w : World) (v : StackRecord) (result : Result Unit IoFault) → OnOk result (v.leaves ≡ map synced w.stack.leaves) → v.config ≡ w.stack.config → v.capacity ≡ w.stack.capacity → v.kept ≡ w.stack.kept → v.restored ≡ w.stack.restored → IfErr result (FailsToSync w.stack.leaves v.leaves)
     → Syncs w result (world v w.given w.in_flight)
-is-synced w v (Ok done) same config capacity kept fails = ap (λ (x : StackRecord). world x w.given w.in_flight) (same-stack v (record w.stack { leaves = map synced w.stack.leaves }) config same capacity kept)
-is-synced w v (Err fault) same config capacity kept fails = record {
+is-synced w v (Ok done) same config capacity kept restored fails = ap (λ (x : StackRecord). world x w.given w.in_flight) (same-stack v (record w.stack { leaves = map synced w.stack.leaves }) config same capacity kept restored)
+is-synced w v (Err fault) same config capacity kept restored fails = record {
   after = v.leaves;
   fails = fails;
-  leaves = ap (λ (x : StackRecord). world x w.given w.in_flight) (same-stack v (record w.stack { leaves = v.leaves }) config refl capacity kept);
+  leaves = ap (λ (x : StackRecord). world x w.given w.in_flight) (same-stack v (record w.stack { leaves = v.leaves }) config refl capacity kept restored);
 }

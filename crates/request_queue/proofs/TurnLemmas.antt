@@ -1,5 +1,5 @@
 -- One piece of a read at once after those before it.
-use Rattle.std.proofs.Common.{◌≡◌, ◌≤◌, ℕ, ◌+◌, ◌-◌, ◌*◌, ◌/◌, ◌%◌, List, ◌++◌, length, take, drop, ap, ◌∙◌, subst, arith, Result, Ok, Err}
+use Rattle.std.proofs.Common.{◌≡◌, ◌≤◌, ℕ, ◌+◌, ◌-◌, ◌*◌, ◌/◌, ◌%◌, List, ◌++◌, length, take, drop, refl, ap, ◌∙◌, subst, arith, Result, Ok, Err}
 use Rattle.std.proofs.lemmas.List.{length-drop, length-take-le}
 use Rattle.block_device.specs.Call.{Call}
 use Rattle.block_device.specs.Device.{Device}
@@ -8,7 +8,8 @@ use Rattle.stack_lines.specs.Budgets.{ReadsAtMost}
 use Rattle.stack_engine.specs.Bytes.{EachBytes}
 use Rattle.stack_engine.specs.Pieces.{PieceGives, piece_budget}
 use Rattle.stack_engine.specs.Stacks.{StackRecord}
-use Rattle.request_queue.specs.AtOnce.{IsNextPiece, PieceRead, ReadsInTurn, a_read, last_read}
+use Rattle.request_queue.specs.declared.fault.PieceFault.{PieceFault}
+use Rattle.request_queue.specs.AtOnce.{EndsRead, IsNextPiece, PieceFails, PieceRead, ReadsInTurn, a_read, last_read}
 use Rattle.request_queue.specs.PieceCalls.{GivesInTurn, last_given, piece_given}
 use Rattle.request_queue.specs.Ranges.{range_at}
 
@@ -44,9 +45,26 @@ module _ (base v v' : StackRecord) (d first all : ℕ) (out : List ℕ) (done n 
         → ReadsAtMost (piece_budget v d (first + done / 512) (length room_of_piece / 512)) v.leaves v'.leaves → ReadsInTurn (range_at d first (all / 512)) base (Ok bytes) v'
     turn-more part bytes is each spent = subst (λ l. ReadsInTurn (range_at d first (all / 512)) base (Ok l) v') is (a_read p (a-piece (Ok part) each spent))
 
+    -- the piece that fails
+    abbrev pub failed_piece : IoFault → PieceFault
+    failed_piece fault = record { first = first + done / 512; count = (done + n - done) / 512; fault = fault }
+
+    fails : (fault : IoFault) → EachBytes v d (first + done / 512) (length room_of_piece / 512) (Err fault) v'
+        → ReadsAtMost (piece_budget v d (first + done / 512) (length room_of_piece / 512)) v.leaves v'.leaves → PieceFails v (range_at d first (all / 512)) (take done out) (failed_piece fault) v'
+    fails fault each spent =
+        let left : length out - done ≡ 512 * (all / 512) - length (take done out) = omega (arith, front-length, fits, whole) in
+        let size : n ≡ 512 * ((done + n - done) / 512) = omega (arith, next.whole) in
+        let count : length room_of_piece / 512 ≡ (done + n - done) / 512 = omega (arith, room-length) in
+        record {
+          first = omega (arith, front-length);
+          next = subst (λ m. IsNextPiece v.config d (first + done / 512) (512 * (all / 512) - length (take done out)) m) size (subst (λ m. IsNextPiece v.config d (first + done / 512) m n) left next);
+          each = subst (λ k. EachBytes v d (first + done / 512) k (Err fault) v') count each;
+          spent = subst (λ k. ReadsAtMost (piece_budget v d (first + done / 512) k) v.leaves v'.leaves) count spent;
+        }
+
     pub turn-ends : (fault : IoFault) → EachBytes v d (first + done / 512) (length room_of_piece / 512) (Err fault) v'
-        → ReadsAtMost (piece_budget v d (first + done / 512) (length room_of_piece / 512)) v.leaves v'.leaves → ReadsInTurn (range_at d first (all / 512)) base (Err fault) v'
-    turn-ends fault each spent = last_read p (a-piece (Err fault) each spent)
+        → ReadsAtMost (piece_budget v d (first + done / 512) (length room_of_piece / 512)) v.leaves v'.leaves → EndsRead (range_at d first (all / 512)) base (Err (failed_piece fault)) v'
+    turn-ends fault each spent = (last_read (failed_piece fault) p (fails fault each spent), refl)
 
   -- the calls of the piece
   module _ {D : Type 0} {state : D → Device} {does : D → Call → D → Type 0} (next : IsNextPiece v.config d (first + done / 512) (length out - done) n) (p : GivesInTurn state does (range_at d first (all / 512)) base (Ok (take done out)) v) where

@@ -16,16 +16,18 @@ use Rattle.stack_engine.specs.Stacks.{StackRecord}
 use Rattle.stack_engine.specs.WritePieces.{EachWrite, PieceHands, PieceNeeded, PieceWrote, WritesInPieces}
 use Rattle.stack_engine.proofs.lemmas.PieceLemmas.{same-stack}
 use Rattle.stack_engine.proofs.lemmas.WritePieceLemmas.{write-then, write-ends}
-use Rattle.request_queue.specs.AtOnce.{BytesWritten, CanBeWritten, IsNextPiece, IsNextWrite, WritesBeside, write_range}
+use Rattle.request_queue.specs.declared.fault.PieceFault.{PieceFault}
+use Rattle.request_queue.specs.AtOnce.{BytesWritten, CanBeWritten, EndsWrite, IsNextPiece, IsNextWrite, WritesBeside, write_range}
 use Rattle.request_queue.specs.Flights.{FlightRecord}
 use Rattle.request_queue.specs.PieceCalls.{HandsInTurn, last_handed, piece_handed}
 use Rattle.request_queue.specs.Ranges.{bytes_range, range_at}
+use Rattle.request_queue.specs.Replies.{piece_ending}
 use Rattle.request_queue.specs.declared.range.SectorRange.{SectorRange}
 use Rattle.request_queue.specs.WholeRuns.{WritesWhole}
 use Rattle.request_queue.specs.World.{world}
 use Rattle.request_queue.proofs.lemmas.AdmissionLemmas.{writable-ok}
 use Rattle.request_queue.proofs.lemmas.BytesLemmas.{bytes_range-ok}
-use Rattle.request_queue.proofs.lemmas.AtOnceLemmas.{beside-ends, beside-more}
+use Rattle.request_queue.proofs.lemmas.AtOnceLemmas.{beside-fails, beside-more}
 
 -- the bytes of the next piece
 abbrev pub next_part : List ℕ → ℕ → ℕ → List ℕ
@@ -71,7 +73,7 @@ module _ (base v v' : StackRecord) (d first : ℕ) (bytes : List ℕ) (done end 
     -- where memory ran out nothing more was written
     put-nothing : EachWrite v d (first + done / 512) (next_part bytes done end) (Err io.NoMemory) v' → WritesInPieces base d first (take (512 * (done / 512)) bytes) (Ok tt) v'
     put-nothing q =
-        let same : v ≡ v' = same-stack v v' (sym q.any.config) (sym q.any.ends.0) (sym q.any.capacity) (sym (q.any.short refl)) in
+        let same : v ≡ v' = same-stack v v' (sym q.any.config) (sym q.any.ends.0) (sym q.any.capacity) (sym (q.any.short refl)) (sym q.any.restored) in
         let sectors : done ≡ 512 * (done / 512) = omega (arith, even) in
         subst (λ x. WritesInPieces base d first (take (512 * (done / 512)) bytes) (Ok tt) x) same (subst (λ k. WritesInPieces base d first (take k bytes) (Ok tt) v) sectors p)
 
@@ -105,10 +107,16 @@ module _ (base v v' : StackRecord) (d first : ℕ) (bytes : List ℕ) (done end 
           subst (λ l. WritesBeside (range_at d first (length bytes / 512)) base l (Ok tt) v') seam
           (beside-more (range_at d first (length bytes / 512)) base v v' (take done bytes) (next_part bytes done end) can.allowed part-inside q.checked (next-write (Ok tt) q) p (from-start (Ok tt) q.each))
 
-      pub steps-end : (fault : IoFault) → IsWritten v d (first + done / 512) (next_part bytes done end) (Err fault) v' → WritesBeside (range_at d first (length bytes / 512)) base bytes (Err fault) v'
+      pub steps-end : (fault : IoFault) → IsWritten v d (first + done / 512) (next_part bytes done end) (Err fault) v'
+          → EndsWrite (range_at d first (length bytes / 512)) base bytes (Err (record { first = first + done / 512; count = (end - done) / 512; fault = fault })) v'
       steps-end fault q =
-          subst (λ l. WritesBeside (range_at d first (length bytes / 512)) base l (Err fault) v') all-is
-          (beside-ends (range_at d first (length bytes / 512)) base v v' (take done bytes) (next_part bytes done end) can.allowed part-inside q.checked (next-write (Err fault) q) p (drop (end - done) (drop done bytes)) fault (from-start (Err fault) q.each))
+          let range = range_at d first (length bytes / 512) in
+          let at : first + length (take done bytes) / 512 ≡ first + done / 512 = sym start in
+          let count : length (next_part bytes done end) / 512 ≡ (end - done) / 512 = ap (λ (k : ℕ). k / 512) part-length in
+          subst (λ (k : ℕ). EndsWrite range base bytes (Err (record { first = first + done / 512; count = k; fault = fault })) v') count
+          (subst (λ (k : ℕ). EndsWrite range base bytes (Err (record { first = k; count = length (next_part bytes done end) / 512; fault = fault })) v') at
+          (subst (λ l. EndsWrite range base l (Err (record { first = first + length (take done bytes) / 512; count = length (next_part bytes done end) / 512; fault = fault })) v') all-is
+          (beside-fails range base v v' (take done bytes) (next_part bytes done end) can.allowed part-inside q.checked (next-write (Err fault) q) p (drop (end - done) (drop done bytes)) fault (from-start (Err fault) q.each))))
 
   -- the calls of the piece
   module _ {D : Type 0} {state : D → Device} {does : D → Call → D → Type 0} (whole : length bytes % 512 ≡ 0) (next : IsNextPiece v.config d (first + done / 512) (length bytes - done) (end - done)) (p : HandsInTurn state does (range_at d first (length bytes / 512)) base (take done bytes) (Ok tt) v) where
@@ -134,8 +142,8 @@ take-all bytes done within all = let n : done ≡ length bytes = omega (arith, w
 
 -- ---- a write at once
 
-pub written-bytes : (v v' : StackRecord) (given : ℕ) (fs : List FlightRecord) (d first : ℕ) (bytes : List ℕ) (range : SectorRange) (result : Result Unit IoFault) → Ok range ≡ write_range v.config d first bytes
-    → WritesWhole v (range_at d first (length bytes / 512)) bytes result v' → WritesBeside (range_at d first (length bytes / 512)) v bytes result v' → BytesWritten (world v given fs) d first bytes result (world v' given fs)
+pub written-bytes : (v v' : StackRecord) (given : ℕ) (fs : List FlightRecord) (d first : ℕ) (bytes : List ℕ) (range : SectorRange) (result : Result Unit PieceFault) → Ok range ≡ write_range v.config d first bytes
+    → WritesWhole v (range_at d first (length bytes / 512)) bytes (piece_ending result) v' → EndsWrite (range_at d first (length bytes / 512)) v bytes result v' → BytesWritten (world v given fs) d first bytes result (world v' given fs)
 written-bytes v v' given fs d first bytes range result found whole steps =
     let range_is = writable-ok v.config bytes (bytes_range v.config d first (length bytes)) range (sym found) in
     let same : range_at d first (length bytes / 512) ≡ range = bytes_range-ok v.config d first (length bytes) range range_is.0 in

@@ -1,12 +1,12 @@
 pub mod Ranges
 pub mod SubmitFaults
 pub mod Requests
+pub mod Replies
 pub mod Flights
 pub mod Parts
 pub mod World
 pub mod Serving
 pub mod Runs
-pub mod Replies
 pub mod Chains
 pub mod Changes
 pub mod Laws

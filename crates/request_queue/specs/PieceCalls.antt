@@ -39,7 +39,7 @@ pub data HandsInTurn {D : Type 0} (state : D → Device) (does : D → Call → 
 -- these bytes are handed over to mapped device at.0, from its sector at.1 on; a write that is refused makes no call
 abbrev pub HandsBytes : {D : Type 0} → (D → Device) → (D → Call → D → Type 0) → World → ℕ × ℕ → List ℕ → Result Unit BytesFault → World → Type 0
 HandsBytes state does w at bytes (Ok done) w' = HandsInTurn state does (range_at at.0 at.1 (length bytes / 512)) w.stack bytes (Ok tt) w'.stack
-HandsBytes state does w at bytes (Err (Failed fault)) w' = HandsInTurn state does (range_at at.0 at.1 (length bytes / 512)) w.stack bytes (Err fault) w'.stack
+HandsBytes state does w at bytes (Err (Failed piece)) w' = HandsInTurn state does (range_at at.0 at.1 (length bytes / 512)) w.stack bytes (Err piece.fault) w'.stack
 HandsBytes state does w at bytes (Err (Refused fault)) w' = w' ≡ w
 
 -- ---- of the requests in flight

@@ -1,14 +1,16 @@
 //! Sectors that are read or written at once, piece by piece.
-ghost use Rattle.std.specs.Prelude.{◌≡◌, ◌<◌, ◌/◌, Err, length};
+ghost use Rattle.std.specs.Prelude.{◌≡◌, ◌<◌, ◌/◌, IfErr, length};
 ghost use Rattle.stack_rules.specs.Names.{mapped};
 ghost use Rattle.stack_meaning.specs.Meaning.{said_at};
-ghost use Rattle.stack_meaning.specs.Reading.{MeetVerity, buffer_answer};
+ghost use Rattle.stack_meaning.specs.Reading.{MeetVerity};
 ghost use Rattle.stack_lines.specs.Writing.{SomeEncrypt};
-ghost use Rattle.request_queue.specs.AtOnce.{CanBeWritten, IsNextPiece, IsRangeRead, WritesBeside};
+ghost use Rattle.request_queue.specs.AtOnce.{CanBeWritten, EndsWrite, IsNextPiece, IsRangeRead};
 ghost use Rattle.request_queue.specs.PieceCalls.{GivesInTurn, HandsInTurn};
 ghost use Rattle.request_queue.specs.Ranges.{HaveSectors, range_at};
+ghost use Rattle.request_queue.specs.Replies.{LacksMemory, bytes_given, piece_answer, piece_ending};
 ghost use Rattle.request_queue.specs.WholeRuns.{WritesWhole};
 
+use crate::fault::PieceFault;
 use crate::range::MOST_PIECE;
 use alignment::aligned_len;
 use block_device::BlockDev;
@@ -26,17 +28,28 @@ fn piece_bytes<D: BlockDev>(stack: &Stack<D>, device: DevId, first: u64, left: u
     aligned_len(stack.config(), device, first, sectors, MOST_PIECE) as usize * 512
 }
 
+// The fault of a piece of so many bytes.
+fn piece_fault(first: u64, bytes: usize, fault: IoFault) -> PieceFault
+    ensures { result ≡ record { first = first; count = bytes / 512; fault = fault } }
+{
+    PieceFault {
+        first,
+        count: (bytes / 512) as u64,
+        fault,
+    }
+}
+
 /// Reads the sectors of a device from `first` on into the slice, up to the first piece that fails.
 pub(crate) fn read_pieces<D: BlockDev>(
     stack: &mut Stack<D>,
     device: DevId,
     first: u64,
     out: &mut [u8],
-) -> Result<(), IoFault>
+) -> Result<(), PieceFault>
     requires { HaveSectors stack.old.config device.0 first (length out.old) }
-    ensures read { IsRangeRead stack.old (range_at device.0 first (length out.old / 512)) (buffer_answer result out.new) stack.new }
-    ensures given { GivesInTurn D.state D.does (range_at device.0 first (length out.old / 512)) stack.old (buffer_answer result out.new) stack.new }
-    ensures memory { result ≡ Err IoFault.NoMemory → MeetVerity (said_at stack.old.config (mapped device.0)) first (length out.old / 512) }
+    ensures read { IsRangeRead stack.old (range_at device.0 first (length out.old / 512)) (piece_answer result out.new) stack.new }
+    ensures given { GivesInTurn D.state D.does (range_at device.0 first (length out.old / 512)) stack.old (bytes_given (piece_answer result out.new)) stack.new }
+    ensures memory { IfErr result (λ piece. LacksMemory piece → MeetVerity (said_at stack.old.config (mapped device.0)) first (length out.old / 512)) }
 {
     // That the blocks that are kept were checked is learned from a call.
     let _kept = stack.cached();
@@ -44,8 +57,10 @@ pub(crate) fn read_pieces<D: BlockDev>(
     'pieces: while done < out.len() {
         let at = first + (done / 512) as u64;
         let end = done + piece_bytes(stack, device, at, out.len() - done);
-        stack.read_bytes(device, at, &mut out[done..end])?;
-        done = end;
+        match stack.read_bytes(device, at, &mut out[done..end]) {
+            Ok(()) => done = end,
+            Err(fault) => return Err(piece_fault(at, end - done, fault)),
+        }
     }
     Ok(())
 }
@@ -56,19 +71,21 @@ pub(crate) fn write_pieces<D: BlockDev>(
     device: DevId,
     first: u64,
     bytes: &[u8],
-) -> Result<(), IoFault>
+) -> Result<(), PieceFault>
     requires { CanBeWritten stack.old.config device.0 first bytes.now }
-    ensures whole { WritesWhole stack.old (range_at device.0 first (length bytes.now / 512)) bytes.now result stack.new }
-    ensures steps { WritesBeside (range_at device.0 first (length bytes.now / 512)) stack.old bytes.now result stack.new }
-    ensures handed { HandsInTurn D.state D.does (range_at device.0 first (length bytes.now / 512)) stack.old bytes.now result stack.new }
-    ensures memory { result ≡ Err IoFault.NoMemory → SomeEncrypt (said_at stack.old.config (mapped device.0)) first (length bytes.now / 512) }
+    ensures whole { WritesWhole stack.old (range_at device.0 first (length bytes.now / 512)) bytes.now (piece_ending result) stack.new }
+    ensures steps { EndsWrite (range_at device.0 first (length bytes.now / 512)) stack.old bytes.now result stack.new }
+    ensures handed { HandsInTurn D.state D.does (range_at device.0 first (length bytes.now / 512)) stack.old bytes.now (piece_ending result) stack.new }
+    ensures memory { IfErr result (λ piece. LacksMemory piece → SomeEncrypt (said_at stack.old.config (mapped device.0)) first (length bytes.now / 512)) }
 {
     let mut done = 0;
     'pieces: while done < bytes.len() {
         let at = first + (done / 512) as u64;
         let end = done + piece_bytes(stack, device, at, bytes.len() - done);
-        stack.write_piece(device, at, &bytes[done..end])?;
-        done = end;
+        match stack.write_piece(device, at, &bytes[done..end]) {
+            Ok(()) => done = end,
+            Err(fault) => return Err(piece_fault(at, end - done, fault)),
+        }
     }
     Ok(())
 }

@@ -71,14 +71,24 @@ pub enum RunFault {
     Io(IoFault),
 }
 
+/// The piece at which a read or a write at once ended, and its fault.
+#[derive(Clone, Copy, Debug, PartialEq, Eq)]
+pub struct PieceFault {
+    /// The first sector of the piece.
+    pub first: u64,
+    /// How many sectors it has.
+    pub count: u64,
+    pub fault: IoFault,
+}
+
 /// Why sectors aren't read or written at once.
 #[derive(Clone, Copy, Debug, PartialEq, Eq)]
 pub enum BytesFault {
     /// The sectors can't be requested: `NoSuchDevice`, `OutOfRange`, `Length` if the bytes aren't whole sectors, or for a
     /// write `ReadOnly`.
     Refused(SubmitFault),
-    /// The read or write ended by a fault.
-    Failed(IoFault),
+    /// The read or write ended with a piece that failed.
+    Failed(PieceFault),
 }
 
 impl From<SubmitFault> for BytesFault {
@@ -89,10 +99,10 @@ impl From<SubmitFault> for BytesFault {
     }
 }
 
-impl From<IoFault> for BytesFault {
-    ghost from_gives = { λ fault given. given ≡ bytes_fault.Failed fault };
+impl From<PieceFault> for BytesFault {
+    ghost from_gives = { λ piece given. given ≡ bytes_fault.Failed piece };
 
-    fn from(fault: IoFault) -> Self {
-        BytesFault::Failed(fault)
+    fn from(piece: PieceFault) -> Self {
+        BytesFault::Failed(piece)
     }
 }

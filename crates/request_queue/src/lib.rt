@@ -11,7 +11,7 @@ mod reply;
 mod request;
 mod work;
 
-pub use fault::{BusyOr, BytesFault, NoSuchTicket, RunFault, SubmitFault};
+pub use fault::{BusyOr, BytesFault, NoSuchTicket, PieceFault, RunFault, SubmitFault};
 pub use queue::Queue;
 pub use range::SectorRange;
 pub use reply::{Progress, Reply, Ticket};

@@ -10,13 +10,14 @@ ghost use Rattle.request_queue.specs.Laws.{QueueLaw};
 ghost use Rattle.request_queue.specs.ListLaws.{ListsLaw};
 ghost use Rattle.request_queue.specs.Parts.{EachPart};
 ghost use Rattle.request_queue.specs.PieceCalls.{CalledPart, HandsBytes};
-ghost use Rattle.request_queue.specs.Replies.{bytes_outcome, outcome_of};
+ghost use Rattle.request_queue.specs.Replies.{LacksMemory, bytes_answer, bytes_outcome, outcome_of};
 ghost use Rattle.request_queue.specs.Requests.{request_record};
 ghost use Rattle.request_queue.specs.Runs.{flight_of};
 ghost use Rattle.request_queue.specs.WholeRuns.{RunAnswers};
 ghost use Rattle.request_queue.specs.World.{EndsRequest, IsSoundWorld, Step, admission, load, read_bytes, remove_device, run, step, submit, sync};
 ghost use Rattle.request_queue.specs.Flights.{IsAdmissible};
 ghost use Rattle.request_queue.specs.declared.fault.BytesFault.{BytesFault};
+ghost use Rattle.request_queue.specs.declared.fault.PieceFault.{PieceFault};
 ghost use Rattle.request_queue.specs.declared.fault.SubmitFault.{SubmitFault};
 ghost use Rattle.request_queue.specs.declared.request.Request.{Request};
 
@@ -231,17 +232,16 @@ impl<D: BlockDev> Queue<D> {
         }
     }
 
-    /// Reads sectors of a device, from `first` on, into the slice, at once and whatever requests are in flight. The
-    /// slice has room for any number of whole sectors inside the device. No chain is returned: `law` of `new`
-    /// states that there are chains which show the bytes. After a fault the slice's content is unspecified. It allocates
-    /// only if a `verity` line is on the way. `pieces` states where its pieces end and what each costs,
-    /// `called` which calls of the leaves' devices each makes.
+    /// Reads sectors of a device, from `first` on, into the slice, at once and whatever requests are in flight. The slice has
+    /// room for any number of whole sectors inside the device. No chain is returned; `law` of `new` states that some show the
+    /// bytes. After a fault the slice's content is unspecified. It allocates only if a `verity` line is on the way. `pieces`
+    /// states where its pieces end, what each costs and which fails, `called` which calls of the leaves' devices each makes.
     ///
     /// # Errors
     ///
     /// - `Refused(NoSuchDevice)`, `Refused(OutOfRange)` if the sectors end past the device, or `Refused(Length)` if the slice
     ///   isn't whole sectors; nothing is read.
-    /// - `Failed` with the fault of the first piece that failed; `NoMemory` only if a `verity` line is on the way.
+    /// - `Failed` with the first piece that failed and its fault; `NoMemory` only if a `verity` line is on the way.
     pub fn read_bytes(
         &mut self,
         device: DevId,
@@ -249,8 +249,8 @@ impl<D: BlockDev> Queue<D> {
         out: &mut [u8],
     ) -> Result<(), BytesFault>
         ensures step { Step EachPart self.old (read_bytes device.0 first (length out.old) (bytes_outcome result out.new)) self.new }
-        ensures memory { result ≡ Err (BytesFault.Failed IoFault.NoMemory) → MeetVerity (said_at self.old.stack.config (mapped device.0)) first (length out.old / 512) }
-        ensures pieces { ReadsInPieces self.old device.0 first (length out.old) (bytes_outcome result out.new) self.new }
+        ensures memory { (piece : PieceFault) → result ≡ Err (BytesFault.Failed piece) → LacksMemory piece → MeetVerity (said_at self.old.stack.config (mapped device.0)) first (length out.old / 512) }
+        ensures pieces { ReadsInPieces self.old device.0 first (length out.old) (bytes_answer result out.new) self.new }
         ensures called { Step (CalledPart D.state D.does) self.old (read_bytes device.0 first (length out.old) (bytes_outcome result out.new)) self.new }
     {
         bytes_range(self.stack.config(), device, first, out.len())?;
@@ -261,16 +261,16 @@ impl<D: BlockDev> Queue<D> {
     /// Writes the bytes of any number of whole sectors inside a device that may be written, from `first` on, at once and
     /// whatever requests are in flight: piece by piece, each a step, up to the first that fails. All pieces before that
     /// one are written, and nothing after it. It allocates only if a `crypt` line is on the way. `written` states where its
-    /// pieces end and what each costs, `handed` which calls of the leaves' devices each makes.
+    /// pieces end, what each costs and which fails, `handed` which calls of the leaves' devices each makes.
     ///
     /// # Errors
     ///
     /// - `Refused` with one of the faults of `read_bytes`, or with `ReadOnly`; nothing is written.
-    /// - `Failed` with the fault of the first piece that failed; `NoMemory` only if a `crypt` line is on the way.
+    /// - `Failed` with the first piece that failed and its fault; `NoMemory` only if a `crypt` line is on the way.
     pub fn write_bytes(&mut self, device: DevId, first: u64, bytes: &[u8]) -> Result<(), BytesFault>
         ensures written { WritesBytes self.old device.0 first bytes.now result self.new }
         ensures handed { HandsBytes D.state D.does self.old (device.0, first) bytes.now result self.new }
-        ensures memory { result ≡ Err (BytesFault.Failed IoFault.NoMemory) → SomeEncrypt (said_at self.old.stack.config (mapped device.0)) first (length bytes.now / 512) }
+        ensures memory { (piece : PieceFault) → result ≡ Err (BytesFault.Failed piece) → LacksMemory piece → SomeEncrypt (said_at self.old.stack.config (mapped device.0)) first (length bytes.now / 512) }
     {
         write_range(self.stack.config(), device, first, bytes)?;
         write_pieces(&mut self.stack, device, first, bytes)?;

@@ -3,5 +3,7 @@ mod JoinLemmas
 mod LineLemmas
 mod NumberLemmas
 mod PrintedLemmas
+mod PrintedLineLemmas
 mod ReadLemmas
 mod SpliceLemmas
+mod TailLemmas

@@ -1,195 +1,39 @@
 -- A map that was printed reads back.
-use Rattle.std.proofs.Common.{◌≡◌, ℕ, ◌+◌, ◌-◌, ◌*◌, ◌/◌, ◌%◌, ◌^◌, ◌<◌, ◌≤◌, Bool, true, false, not, ◌&&◌, ◌||◌, eqb, ltb, List, [], ◌∷◌, ◌++◌, length, take, filter, map, get_or, codes, decimal, All, Option, Some, None, Ok, Result, refl, ap, sym, ◌∙◌, inl, inr, append_assoc, arith}
-use Rattle.std.specs.List.{list_all, join_with_byte, slice_split, starts_with}
-use Rattle.std.specs.Cmp.Lexicographic.{pointwise}
-use Rattle.std.specs.Char.{is_ascii_digit}
+use Rattle.std.proofs.Common.{◌≡◌, ℕ, zero, suc, ◌+◌, ◌*◌, ◌/◌, ◌^◌, ◌<◌, ◌≤◌, Bool, true, false, not, ◌&&◌, eqb, List, [], ◌∷◌, ◌++◌, length, filter, map, codes, All, Option, Some, None, Ok, Result, eqb-true, refl, ap, ap₂, sym, ◌∙◌, append_assoc, arith}
+use Rattle.std.specs.Prelude.{◌==◌, if◌then◌else◌}
+use Rattle.std.specs.List.{join_with_byte, slice_split}
 use Rattle.std.specs.Str.{bytes_eq}
-use Rattle.std.specs.Str.Parse.{digits_value, AllDigits}
-use Rattle.std.proofs.lemmas.Bool.{false≢true, cases_lt, cond-true, cond-false, and_from, eq-eqb, le-leb, le-ltb, lt-ltb, ne_eqb}
-use Rattle.std.proofs.lemmas.Fmt.{decimal_by_steps, decimal_is_IsNumeral}
+use Rattle.std.proofs.lemmas.Bool.{false≢true, cond-true, cond-false, eq-eqb}
 use Rattle.std.proofs.lemmas.Slice.Eq.{bytes_eq-Decides}
-use Rattle.std.proofs.lemmas.Str.Parse.{digit_from_value}
-use Rattle.std.proofs.lemmas.List.{get_or_append_left, length-append, length-replicate}
-use Rattle.std.proofs.lemmas.List.Elements.{All-nil, All-cons, All-append, All-head, All-tail}
-use Rattle.std.proofs.lemmas.List.Splits.{slice_split_none, slice_split_at}
+use Rattle.std.proofs.lemmas.List.{length-append, length-replicate}
+use Rattle.std.proofs.lemmas.List.Elements.{All-nil, All-cons, All-head, All-tail}
+use Rattle.std.proofs.lemmas.List.Splits.{slice_split_at}
 use Rattle.dm_table.specs.Numbers.{number}
 use Rattle.dm_table.specs.Reading.{◌>>=◌}
 use Rattle.dm_table.specs.TableText.{is_skipped}
-use Rattle.dm_table.specs.Words.{Word, is_white, text_lines, words}
-use Rattle.dm_table.proofs.lemmas.ReadLineLemmas.{number-some}
+use Rattle.dm_table.specs.Words.{Word, text_lines, words}
 use Rattle.rescue_map.specs.declared.block.Block.{Block}
-use Rattle.rescue_map.specs.declared.block.Status.{Status}
+use Rattle.rescue_map.specs.declared.status.Status.{Status}
+use Rattle.rescue_map.specs.declared.tail.Tail.{Tail}
+use Rattle.rescue_map.specs.declared.text.ParsedMap.{ParsedMap}
 use Rattle.rescue_map.specs.declared.fault.MapFault.{MapFault}
 use Rattle.rescue_map.specs.declared.kind.MapKind.{MapKind}
 use Rattle.rescue_map.specs.declared.kind.MapKind.TheVariants.{Copy, Scan}
 use Rattle.rescue_map.specs.declared.map.Run.{Run}
-use Rattle.rescue_map.specs.Blocks.{block_from, map_block, is_status, is_whole_block, run_at, status_of}
+use Rattle.rescue_map.specs.Blocks.{is_status}
 use Rattle.rescue_map.specs.Kinds.{is_mark, kind_in, kind_of, mark_text, scan_mark}
 use Rattle.rescue_map.specs.Maps.{AreRuns, marks}
-use Rattle.rescue_map.specs.MapText.{blocks_text, is_told_lost, is_tried, map_of, map_text, map_run_text, run_words, runs_behind, map_runs_from, map_runs_text, said, status_text, status_word, told_run, told_runs}
-use Rattle.rescue_map.specs.Numbers.{has_base, map_number}
-
--- ---- words
-
--- a word without white space
-abbrev IsPlain : Word → Type 0
-IsPlain word = (0 < length word) × All (λ b. is_white b ≡ false) word
-
-or_last : (a b : Bool) → a || b ≡ false → b ≡ false
-or_last true b e = cc
-or_last false b e = e
-
-one_line : (word : Word) → All (λ b. is_white b ≡ false) word → All (λ b. eqb b 10 ≡ false) word
-one_line [] h = All-nil (λ b. eqb b 10 ≡ false)
-one_line (b ∷ word) h =
-    All-cons (λ b. eqb b 10 ≡ false) b word (or_last ((eqb b 32 || eqb b 9) || eqb b 13) (eqb b 10) (All-head (λ b. is_white b ≡ false) b word h)) (one_line word (All-tail (λ b. is_white b ≡ false) b word h))
-
-words-next : (word : Word) (rest : List ℕ) → IsPlain word → words (word ++ 32 ∷ rest) ≡ word ∷ words rest
-unfolding words
-words-next word rest plain =
-    ap (filter (λ w. ltb 0 (length w))) (slice_split_at is_white word 32 rest plain.1 refl)
-    ∙ cond-true (ltb 0 (length word)) _ _ (lt-ltb 0 (length word) plain.0)
-
-words-last : (word : Word) → IsPlain word → words word ≡ word ∷ []
-unfolding words
-words-last word plain =
-    ap (filter (λ w. ltb 0 (length w))) (slice_split_none is_white word plain.1)
-    ∙ cond-true (ltb 0 (length word)) _ _ (lt-ltb 0 (length word) plain.0)
-
--- ---- numbers
-
-digits-plain : (digits : List ℕ) → AllDigits 10 digits → All (λ b. is_white b ≡ false) digits
-digits-plain [] h = All-nil (λ b. is_white b ≡ false)
-digits-plain (d ∷ digits) h =
-    let range = digit_from_value d h.0 in
-    let low : 48 ≤ d = range.0 in
-    All-cons (λ b. is_white b ≡ false) d digits (rw (ne_eqb d 32 (λ h. omega arith), ne_eqb d 9 (λ h. omega arith), ne_eqb d 13 (λ h. omega arith), ne_eqb d 10 (λ h. omega arith)) refl) (digits-plain digits h.1)
-
-digits-ascii : (digits : List ℕ) → AllDigits 10 digits → list_all is_ascii_digit digits ≡ true
-digits-ascii [] h = refl
-digits-ascii (d ∷ digits) h =
-    let range = digit_from_value d h.0 in
-    and_from _ _ (and_from _ _ (le-leb 48 d range.0) (le-leb d 57 range.1)) (digits-ascii digits h.1)
-
-digits-no_comment : (digits : List ℕ) → 0 < length digits → AllDigits 10 digits → starts_with eqb digits (codes "#") ≡ false
-digits-no_comment [] some h = absurd (omega arith)
-digits-no_comment (d ∷ digits) some h =
-    let range = digit_from_value d h.0 in
-    let low : 48 ≤ d = range.0 in
-    ap (λ t. t && pointwise eqb [] (take 0 digits)) (ne_eqb 35 d (λ h. omega arith))
-
-plain-decimal : (n : ℕ) → n < 2 ^ 64 → IsPlain (decimal n)
-plain-decimal n fits = let numeral = decimal_is_IsNumeral n fits in (numeral.0.0, digits-plain (decimal n) numeral.0.1)
-
-number-decimal : (n : ℕ) → n < 2 ^ 64 → number (decimal n) ≡ Some n
-number-decimal n fits =
-    let numeral = decimal_is_IsNumeral n fits in
-    let value : digits_value 10 (decimal n) ≡ n = numeral.1 in
-    number-some (decimal n) numeral.0.0 (digits-ascii (decimal n) numeral.0.1) (rw value fits) ∙ ap Some value
-
--- a decimal number has no zero in front, unless it is one
-record IsShort (n : ℕ) (digits : List ℕ) : Type 0 where
-  some : 0 < length digits
-  one : n < 10 → length digits ≡ 1
-  first : 1 ≤ n → get_or digits 0 0 ≡ 48 → ⊥
-
-short-decimal : (n : ℕ) → n < 2 ^ 64 → IsShort n (decimal n)
-short-decimal = decimal_by_steps IsShort one more
-  where
-    one : (n : ℕ) → n < 10 → IsShort n ((48 + n) ∷ [])
-    one n low = record { some = omega arith; one = λ h. refl; first = λ h (e : 48 + n ≡ 48). omega (arith, h, e) }
-
-    more : (n : ℕ) (ds : List ℕ) → 10 ≤ n → IsShort (n / 10) ds → IsShort n (ds ++ ((48 + n % 10) ∷ []))
-    more n ds high p = record {
-      some = omega (arith, p.some, length-append ds ((48 + n % 10) ∷ []));
-      one = λ h. absurd (omega (arith, h, high));
-      first = λ h e. p.first (omega (arith, high)) (sym (get_or_append_left ds ((48 + n % 10) ∷ []) 0 0 p.some) ∙ e);
-    }
-
-and_false : (a : Bool) → a && false ≡ false
-and_false true = refl
-and_false false = refl
-
-no_base-decimal : (n : ℕ) → n < 2 ^ 64 → has_base (decimal n) ≡ false
-no_base-decimal n fits =
-    let short = short-decimal n fits in
-    elim (cases_lt n 1) [
-      | inl none ↦ ap (λ b. b && eqb (get_or (decimal n) 0 0) 48) (le-ltb 1 (length (decimal n)) (omega (arith, short.one (omega (arith, none)))))
-      | inr some ↦ ap (λ b. ltb 1 (length (decimal n)) && b) (ne_eqb (get_or (decimal n) 0 0) 48 (short.first some)) ∙ and_false (ltb 1 (length (decimal n)))
-    ]
-
-map_number-decimal : (n : ℕ) → n < 2 ^ 64 → map_number (decimal n) ≡ Some n
-map_number-decimal n fits = cond-false (has_base (decimal n)) _ _ (no_base-decimal n fits) ∙ number-decimal n fits
-
--- ---- lines
-
-plain-letter : (b : ℕ) → is_white b ≡ false → IsPlain (b ∷ [])
-plain-letter b other = (omega arith, All-cons (λ b. is_white b ≡ false) b [] other (All-nil (λ b. is_white b ≡ false)))
-
-plain-status : (no_scrape had lost tried : Bool) → IsPlain (status_word no_scrape had lost tried)
-plain-status no_scrape true lost tried = plain-letter 43 refl
-plain-status no_scrape false true tried = plain-letter 45 refl
-plain-status true false false true = plain-letter 47 refl
-plain-status false false false true = plain-letter 45 refl
-plain-status no_scrape false false false = plain-letter 63 refl
-
-status-read : (no_scrape had lost tried : Bool) → status_of (status_word no_scrape had lost tried) ≡ Some (record { had = had; lost = is_told_lost no_scrape had lost tried })
-status-read no_scrape true lost tried = refl
-status-read no_scrape false true tried = refl
-status-read true false false true = refl
-status-read false false false true = refl
-status-read no_scrape false false false = refl
-
-module _ (no_scrape : Bool) (tried : Option ℕ) (at : ℕ) (run : Run) (few : at + run.count ≤ 2 ^ 54) where
-  abbrev told_status : Status
-  told_status = record { had = run.had; lost = is_told_lost no_scrape run.had run.lost (is_tried tried (at + run.count)) }
-
-  low : at * 512 < 2 ^ 64
-  low = omega (arith, few)
-
-  high : run.count * 512 < 2 ^ 64
-  high = omega (arith, few)
-
-  line-words : words (join_with_byte 32 (run_words no_scrape tried at run)) ≡ run_words no_scrape tried at run
-  unfolding run_words
-  line-words =
-      words-next (decimal (at * 512)) (decimal (run.count * 512) ++ 32 ∷ status_word no_scrape run.had run.lost (is_tried tried (at + run.count))) (plain-decimal (at * 512) low)
-      ∙ ap (λ (ws : List Word). decimal (at * 512) ∷ ws) (words-next (decimal (run.count * 512)) (status_word no_scrape run.had run.lost (is_tried tried (at + run.count))) (plain-decimal (run.count * 512) high)
-      ∙ ap (λ (ws : List Word). decimal (run.count * 512) ∷ ws) (words-last (status_word no_scrape run.had run.lost (is_tried tried (at + run.count))) (plain-status no_scrape run.had run.lost (is_tried tried (at + run.count)))))
-
-  line-one : All (λ b. eqb b 10 ≡ false) (join_with_byte 32 (run_words no_scrape tried at run))
-  unfolding run_words
-  line-one =
-      let P = λ (b : ℕ). eqb b 10 ≡ false in
-      All-append P (decimal (at * 512)) (32 ∷ decimal (run.count * 512) ++ 32 ∷ status_word no_scrape run.had run.lost (is_tried tried (at + run.count))) (one_line _ (plain-decimal (at * 512) low).1)
-      (All-cons P 32 (decimal (run.count * 512) ++ 32 ∷ status_word no_scrape run.had run.lost (is_tried tried (at + run.count))) refl
-      (All-append P (decimal (run.count * 512)) (32 ∷ status_word no_scrape run.had run.lost (is_tried tried (at + run.count))) (one_line _ (plain-decimal (run.count * 512) high).1)
-      (All-cons P 32 (status_word no_scrape run.had run.lost (is_tried tried (at + run.count))) refl (one_line _ (plain-status no_scrape run.had run.lost (is_tried tried (at + run.count))).1))))
-
-  line-said : is_skipped (run_words no_scrape tried at run) ≡ false
-  unfolding run_words
-  line-said = let numeral = decimal_is_IsNumeral (at * 512) low in digits-no_comment (decimal (at * 512)) numeral.0.0 numeral.0.1
-
-  line-block : map_block (run_words no_scrape tried at run) ≡ Ok (record { first = at * 512; count = run.count * 512; status = told_status })
-  unfolding run_words
-  line-block =
-      ap (λ o. block_from o (map_number (decimal (run.count * 512))) (status_of (status_word no_scrape run.had run.lost (is_tried tried (at + run.count))))) (map_number-decimal (at * 512) low)
-      ∙ ap (λ o. block_from (Some (at * 512)) o (status_of (status_word no_scrape run.had run.lost (is_tried tried (at + run.count))))) (map_number-decimal (run.count * 512) high)
-      ∙ ap (block_from (Some (at * 512)) (Some (run.count * 512))) (status-read no_scrape run.had run.lost (is_tried tried (at + run.count)))
-
-  line-run : (sectors : ℕ) → 1 ≤ run.count → at + run.count ≤ sectors → run_at at sectors (record { first = at * 512; count = run.count * 512; status = told_status }) ≡ Ok (told_run no_scrape tried at run)
-  line-run sectors some inside =
-      let block : Block = record { first = at * 512; count = run.count * 512; status = told_status } in
-      let whole : is_whole_block block ≡ true = and_from _ _ (and_from _ _ (eq-eqb (at * 512 % 512) 0 (omega arith)) (eq-eqb (run.count * 512 % 512) 0 (omega arith))) (lt-ltb 0 (run.count * 512) (omega (arith, some))) in
-      let here : at * 512 / 512 ≡ at = omega arith in
-      let same : run.count * 512 / 512 ≡ run.count = omega arith in
-      cond-false (not (is_whole_block block)) _ _ (ap not whole)
-      ∙ cond-false (ltb at (at * 512 / 512)) _ _ (le-ltb at (at * 512 / 512) (omega (arith, here)))
-      ∙ cond-false (ltb (at * 512 / 512) at) _ _ (le-ltb (at * 512 / 512) at (omega (arith, here)))
-      ∙ cond-false (ltb (sectors - at) (run.count * 512 / 512)) _ _ (le-ltb (sectors - at) (run.count * 512 / 512) (omega (arith, same, inside)))
-      ∙ ap (λ (n : ℕ). Ok (record { count = n; had = run.had; lost = is_told_lost no_scrape run.had run.lost (is_tried tried (at + run.count)) })) same
+use Rattle.rescue_map.specs.MapText.{blocks_behind, blocks_from, blocks_text, is_tried, map_of, map_text, map_run_text, map_runs_text, parsed, run_words, said, status_text, tail_text, tail_words, told_map, told_run, told_runs}
+use Rattle.rescue_map.specs.Tails.{IsTail, blocks_runs, blocks_tail}
+use Rattle.rescue_map.proofs.ReadLemmas.{blocks-line}
+use Rattle.rescue_map.proofs.PrintedLineLemmas.{block-next, last-block, last-one, last-said, last-words, line-block, line-one, line-runs, line-said, line-tail, line-words, tail-line, told_block, told_status}
+use Rattle.rescue_map.proofs.TailLemmas.{runs-part, tail-part}
 
 -- ---- texts
+
+append-end : (l : List ℕ) → l ++ [] ≡ l
+append-end [] = refl
+append-end (x ∷ l) = ap (λ (m : List ℕ). x ∷ m) (append-end l)
 
 split-line : (line rest : List ℕ) → All (λ b. eqb b 10 ≡ false) line → slice_split (λ b. eqb b 10) ((line ++ 10 ∷ []) ++ rest) ≡ line ∷ slice_split (λ b. eqb b 10) rest
 split-line line rest one = ap (slice_split (λ b. eqb b 10)) (append_assoc line (10 ∷ []) rest) ∙ slice_split_at (λ b. eqb b 10) line 10 rest one refl
@@ -202,22 +46,90 @@ said-line line ws more e kept =
 length-marks : (run : Run) (more : List Run) → length (marks (run ∷ more)) ≡ run.count + length (marks more)
 length-marks run more = length-append _ (marks more) ∙ ap (λ (n : ℕ). n + length (marks more)) (length-replicate {A = Bool} run.count run.had)
 
-runs-read : (no_scrape : Bool) (tried : Option ℕ) (sectors at : ℕ) (runs : List Run) → All (λ (r : Run). 1 ≤ r.count) runs → at + length (marks runs) ≡ sectors → sectors ≤ 2 ^ 54
-    → map_runs_from sectors at (said (slice_split (λ b. eqb b 10) (map_runs_text no_scrape tried at runs))) ≡ Ok (told_runs no_scrape tried at runs)
+-- the blocks that the lines of runs and of a tail are
+abbrev told_blocks : Bool → Option ℕ → ℕ → List Run → List Block → List Block
+told_blocks no_scrape tried at [] last = last
+told_blocks no_scrape tried at (run ∷ more) last = record { first = at * 512; count = run.count * 512; status = told_status no_scrape run.had run.lost (is_tried tried (at + run.count)) } ∷ told_blocks no_scrape tried (at + run.count) more last
+
+abbrev last_blocks : ℕ → Tail → List Block
+last_blocks at tail = if tail.count == 0 then [] else record { first = at * 512; count = tail.count; status = tail.status } ∷ []
+
+-- the lines of a text of no byte say nothing
+tail-read : (sectors : ℕ) (tail : Tail) → sectors ≤ 2 ^ 54 → tail.count < 512 → blocks_from sectors (sectors * 512) (said (slice_split (λ b. eqb b 10) (tail_text sectors tail))) ≡ Ok (last_blocks sectors tail)
 unfolding words
-runs-read no_scrape tried sectors at [] each all few = cond-true (eqb at sectors) _ _ (eq-eqb at sectors (omega (arith, all)))
-runs-read no_scrape tried sectors at (run ∷ more) each all few =
+tail-read sectors tail few part = by (eqb tail.count 0) refl
+  where
+    end : (n : ℕ) → n / 512 ≡ sectors → blocks_from sectors n [] ≡ Ok []
+    end n is = cond-true (eqb (n / 512) sectors) _ _ (eq-eqb (n / 512) sectors is)
+
+    by : (none : Bool) → eqb tail.count 0 ≡ none → blocks_from sectors (sectors * 512) (said (slice_split (λ b. eqb b 10) (tail_text sectors tail))) ≡ Ok (last_blocks sectors tail)
+    by true e =
+        ap (λ (t : List ℕ). blocks_from sectors (sectors * 512) (said (slice_split (λ b. eqb b 10) t))) (cond-true (eqb tail.count 0) _ _ e)
+        ∙ end (sectors * 512) (omega arith)
+        ∙ ap Ok (sym (cond-true (eqb tail.count 0) _ _ e))
+    by false e =
+        let some : 1 ≤ tail.count = some-count tail.count e in
+        let wide : tail.count < 2 ^ 64 = omega (arith, part) in
+        let block : Block = record { first = sectors * 512; count = tail.count; status = tail.status } in
+        ap (λ (t : List ℕ). blocks_from sectors (sectors * 512) (said (slice_split (λ b. eqb b 10) t))) (tail-line sectors tail few some wide ∙ sym (append-end (join_with_byte 32 (tail_words sectors tail) ++ 10 ∷ [])))
+        ∙ ap (λ (l : List (List ℕ)). blocks_from sectors (sectors * 512) (said l)) (split-line (join_with_byte 32 (tail_words sectors tail)) [] (last-one sectors tail few some wide))
+        ∙ ap (blocks_from sectors (sectors * 512)) (said-line (join_with_byte 32 (tail_words sectors tail)) (tail_words sectors tail) (slice_split (λ b. eqb b 10) []) (last-words sectors tail few some wide) (last-said sectors tail few some wide))
+        ∙ blocks-line sectors (sectors * 512) (tail_words sectors tail) [] block block (last-block sectors tail few some wide) (block-next (sectors * 512) sectors block refl some (omega (arith, part)))
+        ∙ ap (λ (r : Result (List Block) MapFault). r >>= (λ (blocks : List Block). Ok (block ∷ blocks))) (end (sectors * 512 + tail.count) (omega (arith, part)))
+        ∙ ap Ok (sym (cond-false (eqb tail.count 0) _ _ e))
+      where
+        some-count : (n : ℕ) → eqb n 0 ≡ false → 1 ≤ n
+        some-count zero e = cc
+        some-count (suc n) e = omega arith
+
+runs-read : (no_scrape : Bool) (tried : Option ℕ) (sectors at : ℕ) (runs : List Run) (tail : Tail) → All (λ (r : Run). 1 ≤ r.count) runs → at + length (marks runs) ≡ sectors → sectors ≤ 2 ^ 54 → tail.count < 512
+    → blocks_from sectors (at * 512) (said (slice_split (λ b. eqb b 10) (map_runs_text no_scrape tried at runs ++ tail_text sectors tail))) ≡ Ok (told_blocks no_scrape tried at runs (last_blocks sectors tail))
+unfolding words
+runs-read no_scrape tried sectors at [] tail each all few part =
+    let here : at ≡ sectors = omega (arith, all) in
+    ap (λ (n : ℕ). blocks_from sectors (n * 512) (said (slice_split (λ b. eqb b 10) (tail_text sectors tail)))) here ∙ tail-read sectors tail few part
+runs-read no_scrape tried sectors at (run ∷ more) tail each all few part =
     let some : 1 ≤ run.count = All-head (λ (r : Run). 1 ≤ r.count) run more each in
     let len = length-marks run more in
     let inside : at + run.count ≤ sectors = omega (arith, all, len) in
     let room : at + run.count ≤ 2 ^ 54 = omega (arith, inside, few) in
-    let rest : List (List ℕ) = slice_split (λ b. eqb b 10) (map_runs_text no_scrape tried (at + run.count) more) in
-    let below = runs-read no_scrape tried sectors (at + run.count) more (All-tail (λ (r : Run). 1 ≤ r.count) run more each) (omega (arith, all, len)) few in
-    ap (λ (l : List (List ℕ)). map_runs_from sectors at (said l)) (split-line (join_with_byte 32 (run_words no_scrape tried at run)) (map_runs_text no_scrape tried (at + run.count) more) (line-one no_scrape tried at run room))
-    ∙ ap (map_runs_from sectors at) (said-line (join_with_byte 32 (run_words no_scrape tried at run)) (run_words no_scrape tried at run) rest (line-words no_scrape tried at run room) (line-said no_scrape tried at run room))
-    ∙ ap (λ (r : Result Block MapFault). r >>= (λ (block : Block). run_at at sectors block >>= (λ (run : Run). map_runs_from sectors (at + run.count) (said rest) >>= (λ (runs : List Run). Ok (run ∷ runs))))) (line-block no_scrape tried at run room)
-    ∙ ap (λ (r : Result Run MapFault). r >>= (λ (run : Run). map_runs_from sectors (at + run.count) (said rest) >>= (λ (runs : List Run). Ok (run ∷ runs)))) (line-run no_scrape tried at run room sectors some inside)
-    ∙ ap (λ (r : Result (List Run) MapFault). r >>= (λ (runs : List Run). Ok (told_run no_scrape tried at run ∷ runs))) below
+    let line : List ℕ = join_with_byte 32 (run_words no_scrape tried at run) in
+    let later : List ℕ = map_runs_text no_scrape tried (at + run.count) more ++ tail_text sectors tail in
+    let rest : List (List ℕ) = slice_split (λ b. eqb b 10) later in
+    let block : Block = told_block no_scrape tried at run room in
+    let next : at * 512 + run.count * 512 ≡ (at + run.count) * 512 = omega arith in
+    let below = runs-read no_scrape tried sectors (at + run.count) more tail (All-tail (λ (r : Run). 1 ≤ r.count) run more each) (omega (arith, all, len)) few part in
+    ap (λ (t : List ℕ). blocks_from sectors (at * 512) (said (slice_split (λ b. eqb b 10) t))) (append_assoc (line ++ 10 ∷ []) (map_runs_text no_scrape tried (at + run.count) more) (tail_text sectors tail))
+    ∙ ap (λ (l : List (List ℕ)). blocks_from sectors (at * 512) (said l)) (split-line line later (line-one no_scrape tried at run room))
+    ∙ ap (blocks_from sectors (at * 512)) (said-line line (run_words no_scrape tried at run) rest (line-words no_scrape tried at run room) (line-said no_scrape tried at run room))
+    ∙ blocks-line sectors (at * 512) (run_words no_scrape tried at run) (said rest) block block (line-block no_scrape tried at run room) (block-next (at * 512) sectors block refl (omega (arith, some)) (omega (arith, inside)))
+    ∙ ap (λ (n : ℕ). blocks_from sectors n (said rest) >>= (λ (blocks : List Block). Ok (block ∷ blocks))) next
+    ∙ ap (λ (r : Result (List Block) MapFault). r >>= (λ (blocks : List Block). Ok (block ∷ blocks))) below
+
+-- the sectors of these blocks
+last-parsed : (at : ℕ) (tail : Tail) → IsTail tail → parsed (last_blocks at tail) ≡ record { map = []; tail = tail }
+last-parsed at tail is = by (eqb tail.count 0) refl
+  where
+    by : (none : Bool) → eqb tail.count 0 ≡ none → parsed (last_blocks at tail) ≡ record { map = []; tail = tail }
+    by true e =
+        let none : tail.count ≡ 0 = eqb-true tail.count 0 e in
+        ap parsed (cond-true (eqb tail.count 0) _ _ e)
+        ∙ ap₂ (λ (n : ℕ) (s : Status). record { map = []; tail = record { count = n; status = s } }) (sym none) (sym (is.none none))
+    by false e =
+        ap parsed (cond-false (eqb tail.count 0) _ _ e)
+        ∙ ap₂ (λ (r : List Run) (t : Tail). record { map = r ++ []; tail = t }) (runs-part (at * 512) tail.count tail.status is.part) (tail-part (at * 512) tail.count tail.status is.part)
+
+told-parsed : (no_scrape : Bool) (tried : Option ℕ) (at : ℕ) (runs : List Run) (last : List Block) (tail : Tail) → All (λ (r : Run). 1 ≤ r.count) runs → at + length (marks runs) ≤ 2 ^ 54 → parsed last ≡ record { map = []; tail = tail }
+    → parsed (told_blocks no_scrape tried at runs last) ≡ record { map = told_runs no_scrape tried at runs; tail = tail }
+told-parsed no_scrape tried at [] last tail each few is = is
+told-parsed no_scrape tried at (run ∷ more) last tail each few is =
+    let some : 1 ≤ run.count = All-head (λ (r : Run). 1 ≤ r.count) run more each in
+    let len = length-marks run more in
+    let room : at + run.count ≤ 2 ^ 54 = omega (arith, few, len) in
+    let blocks : List Block = told_blocks no_scrape tried (at + run.count) more last in
+    let below = told-parsed no_scrape tried (at + run.count) more last tail (All-tail (λ (r : Run). 1 ≤ r.count) run more each) (omega (arith, few, len)) is in
+    ap₂ (λ (r : List Run) (t : Tail). record { map = r ++ blocks_runs t blocks; tail = blocks_tail t blocks }) (line-runs no_scrape tried at run room some) (line-tail no_scrape tried at run room some)
+    ∙ ap (λ (p : ParsedMap). record { map = told_run no_scrape tried at run ∷ p.map; tail = p.tail }) below
 
 state-word : Option ℕ → Word
 state-word None = codes "+"
@@ -241,14 +153,23 @@ head-one (Some tried) =
     let P = λ (b : ℕ). eqb b 10 ≡ false in
     All-cons P 48 (32 ∷ 63 ∷ []) refl (All-cons P 32 (63 ∷ []) refl (All-cons P 63 [] refl (All-nil P)))
 
-blocks-read : (no_scrape : Bool) (tried : Option ℕ) (runs : List Run) → AreRuns runs → runs_behind (length (marks runs)) (said (slice_split (λ b. eqb b 10) (blocks_text no_scrape tried runs))) ≡ Ok (told_runs no_scrape tried 0 runs)
-blocks-read no_scrape tried runs whole =
+blocks-read : (no_scrape : Bool) (tried : Option ℕ) (runs : List Run) (tail : Tail) → AreRuns runs → tail.count < 512
+    → blocks_behind (length (marks runs)) (said (slice_split (λ b. eqb b 10) (blocks_text no_scrape tried runs tail))) ≡ Ok (told_blocks no_scrape tried 0 runs (last_blocks (length (marks runs)) tail))
+blocks-read no_scrape tried runs tail whole part =
     let sectors : ℕ = length (marks runs) in
-    let rest : List (List ℕ) = slice_split (λ b. eqb b 10) (map_runs_text no_scrape tried 0 runs) in
-    ap (λ (l : List (List ℕ)). runs_behind sectors (said l)) (split-line (status_text tried) (map_runs_text no_scrape tried 0 runs) (head-one tried))
-    ∙ ap (runs_behind sectors) (said-line (status_text tried) (codes "0" ∷ state-word tried ∷ []) rest (head-words tried) refl)
+    let later : List ℕ = map_runs_text no_scrape tried 0 runs ++ tail_text sectors tail in
+    let rest : List (List ℕ) = slice_split (λ b. eqb b 10) later in
+    ap (λ (t : List ℕ). blocks_behind sectors (said (slice_split (λ b. eqb b 10) t))) (append_assoc (status_text tried ++ 10 ∷ []) (map_runs_text no_scrape tried 0 runs) (tail_text sectors tail))
+    ∙ ap (λ (l : List (List ℕ)). blocks_behind sectors (said l)) (split-line (status_text tried) later (head-one tried))
+    ∙ ap (blocks_behind sectors) (said-line (status_text tried) (codes "0" ∷ state-word tried ∷ []) rest (head-words tried) refl)
     ∙ cond-true (is_status (codes "0" ∷ state-word tried ∷ [])) _ _ (head-status tried)
-    ∙ runs-read no_scrape tried sectors 0 runs whole.some (omega arith) whole.few
+    ∙ runs-read no_scrape tried sectors 0 runs tail whole.some (omega arith) whole.few part
+
+map-parsed : (no_scrape : Bool) (tried : Option ℕ) (runs : List Run) (tail : Tail) → AreRuns runs → IsTail tail
+    → (blocks_behind (length (marks runs)) (said (slice_split (λ b. eqb b 10) (blocks_text no_scrape tried runs tail))) >>= (λ (blocks : List Block). Ok (parsed blocks))) ≡ Ok (told_map no_scrape tried runs tail)
+map-parsed no_scrape tried runs tail whole is =
+    ap (λ (r : Result (List Block) MapFault). r >>= (λ (blocks : List Block). Ok (parsed blocks))) (blocks-read no_scrape tried runs tail whole is.part)
+    ∙ ap Ok (told-parsed no_scrape tried 0 runs (last_blocks (length (marks runs)) tail) tail whole.some (omega (arith, whole.few)) (last-parsed (length (marks runs)) tail is))
 
 -- ---- marks
 
@@ -278,40 +199,60 @@ no_mark (a ∷ b ∷ d ∷ []) kept = ap (λ (s : Bool). s && bytes_eq b (codes 
 kind-line : (line : List ℕ) (ws : List Word) (more : List (List ℕ)) → words line ≡ ws → is_skipped ws ≡ false → kind_in (line ∷ more) ≡ kind_in more
 kind-line line ws more e kept = cond-false (is_mark (words line)) _ _ (ap is_mark e ∙ no_mark ws kept)
 
-kind-runs : (no_scrape : Bool) (tried : Option ℕ) (at : ℕ) (runs : List Run) → at + length (marks runs) ≤ 2 ^ 54 → kind_in (slice_split (λ b. eqb b 10) (map_runs_text no_scrape tried at runs)) ≡ Copy
+kind-tail : (at : ℕ) (tail : Tail) → at ≤ 2 ^ 54 → tail.count < 2 ^ 64 → kind_in (slice_split (λ b. eqb b 10) (tail_text at tail)) ≡ Copy
 unfolding words
-kind-runs no_scrape tried at [] few = refl
-kind-runs no_scrape tried at (run ∷ more) few =
+kind-tail at tail few wide = by (eqb tail.count 0) refl
+  where
+    some-count : (n : ℕ) → eqb n 0 ≡ false → 1 ≤ n
+    some-count zero e = cc
+    some-count (suc n) e = omega arith
+
+    by : (none : Bool) → eqb tail.count 0 ≡ none → kind_in (slice_split (λ b. eqb b 10) (tail_text at tail)) ≡ Copy
+    by true e = ap (λ (t : List ℕ). kind_in (slice_split (λ b. eqb b 10) t)) (cond-true (eqb tail.count 0) _ _ e)
+    by false e =
+        let some : 1 ≤ tail.count = some-count tail.count e in
+        ap (λ (t : List ℕ). kind_in (slice_split (λ b. eqb b 10) t)) (tail-line at tail few some wide ∙ sym (append-end (join_with_byte 32 (tail_words at tail) ++ 10 ∷ [])))
+        ∙ ap kind_in (split-line (join_with_byte 32 (tail_words at tail)) [] (last-one at tail few some wide))
+        ∙ kind-line (join_with_byte 32 (tail_words at tail)) (tail_words at tail) (slice_split (λ b. eqb b 10) []) (last-words at tail few some wide) (last-said at tail few some wide)
+
+kind-runs : (no_scrape : Bool) (tried : Option ℕ) (at end : ℕ) (runs : List Run) (tail : Tail) → at + length (marks runs) ≤ 2 ^ 54 → end ≤ 2 ^ 54 → tail.count < 2 ^ 64
+    → kind_in (slice_split (λ b. eqb b 10) (map_runs_text no_scrape tried at runs ++ tail_text end tail)) ≡ Copy
+unfolding words
+kind-runs no_scrape tried at end [] tail few low wide = kind-tail end tail low wide
+kind-runs no_scrape tried at end (run ∷ more) tail few low wide =
     let len = length-marks run more in
     let room : at + run.count ≤ 2 ^ 54 = omega (arith, len, few) in
-    ap kind_in (split-line (join_with_byte 32 (run_words no_scrape tried at run)) (map_runs_text no_scrape tried (at + run.count) more) (line-one no_scrape tried at run room))
-    ∙ kind-line (join_with_byte 32 (run_words no_scrape tried at run)) (run_words no_scrape tried at run) (slice_split (λ b. eqb b 10) (map_runs_text no_scrape tried (at + run.count) more)) (line-words no_scrape tried at run room) (line-said no_scrape tried at run room)
-    ∙ kind-runs no_scrape tried (at + run.count) more (omega (arith, len, few))
+    let line : List ℕ = join_with_byte 32 (run_words no_scrape tried at run) in
+    let later : List ℕ = map_runs_text no_scrape tried (at + run.count) more ++ tail_text end tail in
+    ap (λ (t : List ℕ). kind_in (slice_split (λ b. eqb b 10) t)) (append_assoc (line ++ 10 ∷ []) (map_runs_text no_scrape tried (at + run.count) more) (tail_text end tail))
+    ∙ ap kind_in (split-line line later (line-one no_scrape tried at run room))
+    ∙ kind-line line (run_words no_scrape tried at run) (slice_split (λ b. eqb b 10) later) (line-words no_scrape tried at run room) (line-said no_scrape tried at run room)
+    ∙ kind-runs no_scrape tried (at + run.count) end more tail (omega (arith, len, few)) low wide
 
-kind-blocks : (no_scrape : Bool) (tried : Option ℕ) (runs : List Run) → AreRuns runs → kind_in (slice_split (λ b. eqb b 10) (blocks_text no_scrape tried runs)) ≡ Copy
-kind-blocks no_scrape tried runs whole =
-    ap kind_in (split-line (status_text tried) (map_runs_text no_scrape tried 0 runs) (head-one tried))
-    ∙ kind-line (status_text tried) (codes "0" ∷ state-word tried ∷ []) (slice_split (λ b. eqb b 10) (map_runs_text no_scrape tried 0 runs)) (head-words tried) refl
-    ∙ kind-runs no_scrape tried 0 runs (omega (arith, whole.few))
+kind-blocks : (no_scrape : Bool) (tried : Option ℕ) (runs : List Run) (tail : Tail) → AreRuns runs → tail.count < 2 ^ 64 → kind_in (slice_split (λ b. eqb b 10) (blocks_text no_scrape tried runs tail)) ≡ Copy
+kind-blocks no_scrape tried runs tail whole wide =
+    let sectors : ℕ = length (marks runs) in
+    let later : List ℕ = map_runs_text no_scrape tried 0 runs ++ tail_text sectors tail in
+    ap (λ (t : List ℕ). kind_in (slice_split (λ b. eqb b 10) t)) (append_assoc (status_text tried ++ 10 ∷ []) (map_runs_text no_scrape tried 0 runs) (tail_text sectors tail))
+    ∙ ap kind_in (split-line (status_text tried) later (head-one tried))
+    ∙ kind-line (status_text tried) (codes "0" ∷ state-word tried ∷ []) (slice_split (λ b. eqb b 10) later) (head-words tried) refl
+    ∙ kind-runs no_scrape tried 0 sectors runs tail (omega (arith, whole.few)) whole.few wide
 
--- what was printed gives the runs back, by their letters
-pub map-read : (kind : MapKind) (no_scrape : Bool) (tried : Option ℕ) (runs : List Run) → AreRuns runs → map_of (length (marks runs)) (map_text kind no_scrape tried runs) ≡ Ok (told_runs no_scrape tried 0 runs)
+-- what was printed gives the runs back, by their letters, and the tail
+pub map-read : (kind : MapKind) (no_scrape : Bool) (tried : Option ℕ) (runs : List Run) (tail : Tail) → AreRuns runs → IsTail tail → map_of (length (marks runs)) (map_text kind no_scrape tried runs tail) ≡ Ok (told_map no_scrape tried runs tail)
 unfolding map_of map_text text_lines words
-map-read Copy no_scrape tried runs whole = blocks-read no_scrape tried runs whole
-map-read Scan no_scrape tried runs whole =
-    ap (λ (l : List (List ℕ)). runs_behind (length (marks runs)) (said l)) (split-line scan_mark (blocks_text no_scrape tried runs) mark-one) ∙ blocks-read no_scrape tried runs whole
+map-read Copy no_scrape tried runs tail whole is = map-parsed no_scrape tried runs tail whole is
+map-read Scan no_scrape tried runs tail whole is =
+    ap (λ (l : List (List ℕ)). blocks_behind (length (marks runs)) (said l) >>= (λ (blocks : List Block). Ok (parsed blocks))) (split-line scan_mark (blocks_text no_scrape tried runs tail) mark-one)
+    ∙ map-parsed no_scrape tried runs tail whole is
 
 -- and its kind
-pub map-kind : (kind : MapKind) (no_scrape : Bool) (tried : Option ℕ) (runs : List Run) → AreRuns runs → kind_of (map_text kind no_scrape tried runs) ≡ kind
+pub map-kind : (kind : MapKind) (no_scrape : Bool) (tried : Option ℕ) (runs : List Run) (tail : Tail) → AreRuns runs → tail.count < 2 ^ 64 → kind_of (map_text kind no_scrape tried runs tail) ≡ kind
 unfolding kind_of map_text text_lines
-map-kind Copy no_scrape tried runs whole = kind-blocks no_scrape tried runs whole
-map-kind Scan no_scrape tried runs whole =
-    ap kind_in (split-line scan_mark (blocks_text no_scrape tried runs) mark-one)
-    ∙ cond-true (is_mark (words scan_mark)) Scan (kind_in (slice_split (λ b. eqb b 10) (blocks_text no_scrape tried runs))) mark-is
-
-append-end : (l : List ℕ) → l ++ [] ≡ l
-append-end [] = refl
-append-end (x ∷ l) = ap (λ (m : List ℕ). x ∷ m) (append-end l)
+map-kind Copy no_scrape tried runs tail whole wide = kind-blocks no_scrape tried runs tail whole wide
+map-kind Scan no_scrape tried runs tail whole wide =
+    ap kind_in (split-line scan_mark (blocks_text no_scrape tried runs tail) mark-one)
+    ∙ cond-true (is_mark (words scan_mark)) Scan (kind_in (slice_split (λ b. eqb b 10) (blocks_text no_scrape tried runs tail))) mark-is
 
 runs_text-push : (no_scrape : Bool) (tried : Option ℕ) (at : ℕ) (runs : List Run) (run : Run) → map_runs_text no_scrape tried at (runs ++ run ∷ []) ≡ map_runs_text no_scrape tried at runs ++ map_run_text no_scrape tried (at + length (marks runs)) run
 runs_text-push no_scrape tried at [] run = let here : at ≡ at + 0 = omega arith in append-end (map_run_text no_scrape tried at run) ∙ ap (λ (n : ℕ). map_run_text no_scrape tried n run) here
@@ -320,16 +261,22 @@ runs_text-push no_scrape tried at (x ∷ more) run =
     ap (λ (l : List ℕ). map_run_text no_scrape tried at x ++ l) (runs_text-push no_scrape tried (at + x.count) more run ∙ ap (λ (n : ℕ). map_runs_text no_scrape tried (at + x.count) more ++ map_run_text no_scrape tried n run) here)
     ∙ sym (append_assoc (map_run_text no_scrape tried at x) (map_runs_text no_scrape tried (at + x.count) more) (map_run_text no_scrape tried (at + length (marks (x ∷ more))) run))
 
-blocks_text-push : (no_scrape : Bool) (tried : Option ℕ) (runs : List Run) (run : Run) → blocks_text no_scrape tried runs ++ map_run_text no_scrape tried (length (marks runs)) run ≡ blocks_text no_scrape tried (runs ++ run ∷ [])
-blocks_text-push no_scrape tried runs run =
-    append_assoc (status_text tried ++ 10 ∷ []) (map_runs_text no_scrape tried 0 runs) (map_run_text no_scrape tried (length (marks runs)) run)
-    ∙ ap (λ (l : List ℕ). (status_text tried ++ 10 ∷ []) ++ l) (ap (λ (n : ℕ). map_runs_text no_scrape tried 0 runs ++ map_run_text no_scrape tried n run) zero-more ∙ sym (runs_text-push no_scrape tried 0 runs run))
+-- the text of the lines before those of a tail
+abbrev pub front_text : MapKind → Bool → Option ℕ → List Run → List ℕ
+front_text kind no_scrape tried runs = mark_text kind ++ ((status_text tried ++ 10 ∷ []) ++ map_runs_text no_scrape tried 0 runs)
+
+-- one run more
+pub front_text-push : (kind : MapKind) (no_scrape : Bool) (tried : Option ℕ) (runs : List Run) (run : Run) → front_text kind no_scrape tried runs ++ map_run_text no_scrape tried (length (marks runs)) run ≡ front_text kind no_scrape tried (runs ++ run ∷ [])
+front_text-push kind no_scrape tried runs run =
+    let head : List ℕ = status_text tried ++ 10 ∷ [] in
+    append_assoc (mark_text kind) (head ++ map_runs_text no_scrape tried 0 runs) (map_run_text no_scrape tried (length (marks runs)) run)
+    ∙ ap (λ (l : List ℕ). mark_text kind ++ l) (append_assoc head (map_runs_text no_scrape tried 0 runs) (map_run_text no_scrape tried (length (marks runs)) run)
+    ∙ ap (λ (l : List ℕ). head ++ l) (ap (λ (n : ℕ). map_runs_text no_scrape tried 0 runs ++ map_run_text no_scrape tried n run) zero-more ∙ sym (runs_text-push no_scrape tried 0 runs run)))
   where
     zero-more : length (marks runs) ≡ 0 + length (marks runs)
     zero-more = omega arith
 
--- one run more
-pub map_text-push : (kind : MapKind) (no_scrape : Bool) (tried : Option ℕ) (runs : List Run) (run : Run) → map_text kind no_scrape tried runs ++ map_run_text no_scrape tried (length (marks runs)) run ≡ map_text kind no_scrape tried (runs ++ run ∷ [])
+-- and the tail
+pub map_text-end : (kind : MapKind) (no_scrape : Bool) (tried : Option ℕ) (runs : List Run) (tail : Tail) → front_text kind no_scrape tried runs ++ tail_text (length (marks runs)) tail ≡ map_text kind no_scrape tried runs tail
 unfolding map_text
-map_text-push kind no_scrape tried runs run =
-    append_assoc (mark_text kind) (blocks_text no_scrape tried runs) (map_run_text no_scrape tried (length (marks runs)) run) ∙ ap (λ (l : List ℕ). mark_text kind ++ l) (blocks_text-push no_scrape tried runs run)
+map_text-end kind no_scrape tried runs tail = append_assoc (mark_text kind) ((status_text tried ++ 10 ∷ []) ++ map_runs_text no_scrape tried 0 runs) (tail_text (length (marks runs)) tail)

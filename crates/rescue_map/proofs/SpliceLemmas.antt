@@ -1,6 +1,6 @@
 -- Sectors that are moved from one map to another, and totals.
 use Rattle.std.proofs.Common.{◌≡◌, ℕ, zero, suc, ◌+◌, ◌-◌, ◌≤◌, Bool, true, false, List, ◌∷◌, ◌++◌, length, take, drop, replicate, sym, ap, ◌∙◌, append_assoc, arith}
-use Rattle.std.proofs.lemmas.List.{drop-drop, length-append, length-drop, length-replicate, length-take-le, replicate-append-replicate, take_all}
+use Rattle.std.proofs.lemmas.List.{drop-drop, length-append, length-drop, length-replicate, replicate-append-replicate, take_all}
 use Rattle.rescue_map.specs.declared.map.Run.{Run}
 use Rattle.rescue_map.specs.declared.totals.Totals.{Totals}
 use Rattle.rescue_map.specs.declared.splicing.Span.{Span}
@@ -65,13 +65,3 @@ spliced-whole span sectors around within m1 m2 m3 outer1 inner1 outer2 len insid
     ∙ ap (λ (l : List Bool). l ++ rest) (e2 ∙ ap (λ (l : List Bool). m1 ++ take c l) i1)
     ∙ ap (λ (l : List Bool). (l ++ take c (drop f within)) ++ rest) e1
     ∙ append_assoc (take f around) (take c (drop f within)) rest
-
-pub spliced-length : (span : Span) (sectors : ℕ) (around within whole : List Bool) → length around ≡ sectors → span.first + span.count ≤ length within → span.first + span.count ≤ sectors
-    → whole ≡ spliced_marks span around within → length whole ≡ sectors
-spliced-length span sectors around within whole len len' inside e =
-    let f : ℕ = span.first in
-    let c : ℕ = span.count in
-    let front : length (take f around) ≡ f = length-take-le f around (omega (arith, len, inside)) in
-    let middle : length (take c (drop f within)) ≡ c = length-take-le c (drop f within) (omega (arith, len', length-drop f within)) in
-    ap length e ∙ length-append (take f around) (take c (drop f within) ++ drop (f + c) around)
-    ∙ omega (arith, front, middle, len, inside, length-append (take c (drop f within)) (drop (f + c) around), length-drop (f + c) around)

@@ -1,2 +1,4 @@
 -- What callers may cite.
+pub mod ParsedLemmas
 pub mod RunLemmas
+pub mod SpanLemmas

@@ -1,30 +1,24 @@
 -- The lines of a map file.
-use Rattle.std.specs.Prelude.{ℕ, ◌-◌, ◌/◌, ◌%◌, Bool, false, not, ◌&&◌, ◌||◌, ◌==◌, nat_lt, List, [], ◌∷◌, length, Option, Some, None, Result, Ok, Err, if◌then◌else◌}
+use Rattle.std.specs.Prelude.{ℕ, ◌+◌, ◌-◌, ◌*◌, Bool, false, ◌&&◌, ◌||◌, ◌==◌, nat_lt, List, [], ◌∷◌, length, Option, Some, None, Result, Ok, Err, if◌then◌else◌}
 use Rattle.std.specs.List.{slice_index}
 use Rattle.std.specs.Option.{is_some}
 use Rattle.dm_table.specs.Words.{Word}
 use Rattle.rescue_map.specs.declared.block.Block.{Block}
-use Rattle.rescue_map.specs.declared.block.Status.{Status}
+use Rattle.rescue_map.specs.declared.status.Status.{Status}
 use Rattle.rescue_map.specs.declared.fault.MapFault.{MapFault}
 use Rattle.rescue_map.specs.declared.fault.MapFault.TheVariants as fault
-use Rattle.rescue_map.specs.declared.map.Run.{Run}
 use Rattle.rescue_map.specs.Numbers.{map_number}
-
--- `-`, `?`, `*` or `/`: bad, not tried, not trimmed or not scraped
-abbrev pub is_unfinished : ℕ → Bool
-is_unfinished b = (b == 45) || (b == 63) || (b == 42) || (b == 47)
-
--- the status of a block: recovered (`+`), bad (`-`), or one of those that remain to be read
-abbrev pub status_named : ℕ → Option Status
-status_named b = if (b == 43) || is_unfinished b then Some (record { had = b == 43; lost = b == 45 }) else None
+use Rattle.rescue_map.specs.Statuses.{status_named}
 
 abbrev pub status_of : Word → Option Status
 status_of word = if length word == 1 then status_named (slice_index word 0) else None
 
 -- the status of the whole: a status of a block, or `F` or `G`
+abbrev pub is_whole_letter : ℕ → Bool
+is_whole_letter b = is_some (status_named b) || (b == 70) || (b == 71)
+
 abbrev pub is_whole_status : Word → Bool
-is_whole_status word =
-    (length word == 1) && ((slice_index word 0 == 43) || is_unfinished (slice_index word 0) || (slice_index word 0 == 70) || (slice_index word 0 == 71))
+is_whole_status word = (length word == 1) && is_whole_letter (slice_index word 0)
 
 -- a status line: a position, a status and, optionally, the number of a pass
 abbrev pub is_status : List Word → Bool
@@ -42,15 +36,15 @@ abbrev pub map_block : List Word → Result Block MapFault
 map_block (pos ∷ size ∷ status ∷ []) = block_from (map_number pos) (map_number size) (status_of status)
 map_block other = Err fault.Block
 
--- whole sectors, at least one
-abbrev pub is_whole_block : Block → Bool
-is_whole_block block = (block.first % 512 == 0) && (block.count % 512 == 0) && nat_lt 0 block.count
+-- how many bytes a map of a device of so many sectors may have: it may end inside the sector after the device
+abbrev pub most_bytes : ℕ → ℕ
+most_bytes sectors = sectors * 512 + 511
 
--- the sectors of a block that must begin at sector `at` of a device of `sectors` sectors
-abbrev pub run_at : ℕ → ℕ → Block → Result Run MapFault
-run_at at sectors block =
-    if not (is_whole_block block) then Err fault.PartSector
-    else if nat_lt at (block.first / 512) then Err fault.Gap
-    else if nat_lt (block.first / 512) at then Err fault.Overlap
-    else if nat_lt (sectors - at) (block.count / 512) then Err fault.Size
-    else Ok (record { count = block.count / 512; had = block.status.had; lost = block.status.lost })
+-- a block that must begin at byte `at` of a map of at most `most` bytes
+abbrev pub block_at : ℕ → ℕ → Block → Result Block MapFault
+block_at at most block =
+    if block.count == 0 then Err fault.PartSector
+    else if nat_lt at block.first then Err fault.Gap
+    else if nat_lt block.first at then Err fault.Overlap
+    else if nat_lt (most - at) block.count then Err fault.Size
+    else Ok block

@@ -5,3 +5,6 @@ pub mod Lost
 pub mod MapText
 pub mod Maps
 pub mod Numbers
+pub mod Statuses
+pub mod Tails
+pub mod Finished

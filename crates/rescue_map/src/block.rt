@@ -1,12 +1,12 @@
 //! The lines of a map file.
-ghost use Rattle.std.specs.Prelude.{◌≡◌, ◌≢◌, ◌-◌, ◌≤◌, IfErr, IfOk};
+ghost use Rattle.std.specs.Prelude.{◌≡◌, ◌≢◌, ◌+◌, ◌^◌, ◌≤◌, IfErr, IfOk};
 ghost use Rattle.rescue_map.specs.declared.fault.MapFault.TheVariants as map_fault;
 ghost use Rattle.dm_table.specs.Words.{words};
-ghost use Rattle.rescue_map.specs.Blocks.{map_block, is_whole_status, is_status, is_unfinished, is_whole_block, run_at, status_of};
+ghost use Rattle.rescue_map.specs.Blocks.{block_at, is_status, is_whole_letter, is_whole_status, map_block, most_bytes, status_of};
 
 use crate::fault::MapFault;
-use crate::map::Run;
 use crate::numbers::map_number;
+use crate::status::{Status, status_named};
 use table_text::Words;
 
 /// A block of `count` bytes from `first` on, and its status.
@@ -17,20 +17,6 @@ pub(crate) struct Block {
     pub(crate) status: Status,
 }
 
-/// Whether the sectors of a block were recovered, or a read found them bad.
-#[derive(Clone, Copy)]
-pub(crate) struct Status {
-    pub(crate) had: bool,
-    pub(crate) lost: bool,
-}
-
-// Returns whether the status is bad, not tried, not trimmed or not scraped.
-fn is_unfinished(status: u8) -> bool
-    ensures { result ≡ is_unfinished status }
-{
-    status == b'-' || status == b'?' || status == b'*' || status == b'/'
-}
-
 // Returns the status of a block, or `None` for an unknown one.
 fn status_of(word: &[u8]) -> Option<Status>
     ensures { result ≡ status_of word.now }
@@ -38,14 +24,14 @@ fn status_of(word: &[u8]) -> Option<Status>
     if word.len() != 1 {
         return None;
     }
-    let letter = word[0];
-    if letter == b'+' || is_unfinished(letter) {
-        return Some(Status {
-            had: letter == b'+',
-            lost: letter == b'-',
-        });
-    }
-    None
+    status_named(word[0])
+}
+
+// Returns whether a letter is the status of a whole map.
+fn is_whole_letter(letter: u8) -> bool
+    ensures { result ≡ is_whole_letter letter }
+{
+    status_named(letter).is_some() || letter == b'F' || letter == b'G'
 }
 
 fn is_state(word: &[u8]) -> bool
@@ -54,7 +40,7 @@ fn is_state(word: &[u8]) -> bool
     if word.len() != 1 {
         return false;
     }
-    word[0] == b'+' || is_unfinished(word[0]) || word[0] == b'F' || word[0] == b'G'
+    is_whole_letter(word[0])
 }
 
 /// Returns whether a line is a status line. The number of the pass isn't checked.
@@ -98,45 +84,40 @@ pub(crate) fn read_block(line: &[u8]) -> Result<Block, MapFault>
     })
 }
 
-// Returns whether the block consists of whole sectors, at least one.
-fn is_whole(block: Block) -> bool
-    ensures { result ≡ is_whole_block block }
+/// Returns the number of bytes that a map of a device of so many sectors may have.
+pub(crate) fn most_bytes(sectors: u64) -> u64
+    requires { sectors ≤ 2 ^ 54 }
+    ensures { result ≡ most_bytes sectors }
 {
-    block.first % 512 == 0 && block.count % 512 == 0 && block.count > 0
+    sectors * 512 + 511
 }
 
-/// Returns the sectors of a block that must begin at sector `at` of a device of `sectors` sectors.
+/// Returns a block that must begin at byte `at` of a map of at most `most` bytes.
 ///
 /// # Errors
 ///
 /// The first that applies, in this order:
 ///
-/// - `PartSector` if the block doesn't consist of whole sectors.
-/// - `Gap` or `Overlap` if it begins after or before sector `at`.
-/// - `Size` if it ends after the device.
-pub(crate) fn run_at(at: u64, sectors: u64, block: Block) -> Result<Run, MapFault>
-    requires { at ≤ sectors }
-    ensures value { result ≡ run_at at sectors block }
-    ensures room { IfOk result (λ run. (1 ≤ run.count) × (run.count ≤ sectors - at)) }
+/// - `PartSector` if the block is empty.
+/// - `Gap` or `Overlap` if it begins after or before byte `at`.
+/// - `Size` if it ends after these bytes.
+pub(crate) fn block_at(at: u64, most: u64, block: Block) -> Result<Block, MapFault>
+    requires { at ≤ most }
+    ensures value { result ≡ block_at at most block }
+    ensures room { IfOk result (λ found. (1 ≤ found.count) × (at + found.count ≤ most)) }
     ensures err { IfErr result (λ fault. fault ≢ map_fault.NoMemory) }
 {
-    if !is_whole(block) {
+    if block.count == 0 {
         return Err(MapFault::PartSector);
     }
-    let first = block.first / 512;
-    if at < first {
+    if at < block.first {
         return Err(MapFault::Gap);
     }
-    if first < at {
+    if block.first < at {
         return Err(MapFault::Overlap);
     }
-    let count = block.count / 512;
-    if sectors - at < count {
+    if most - at < block.count {
         return Err(MapFault::Size);
     }
-    Ok(Run {
-        count,
-        had: block.status.had,
-        lost: block.status.lost,
-    })
+    Ok(block)
 }

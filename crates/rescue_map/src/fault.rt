@@ -17,7 +17,7 @@ pub enum MapFault {
     /// A line after the status line isn't one of a block.
     #[error("Block")]
     Block,
-    /// A block doesn't consist of whole sectors, or is empty.
+    /// A block is empty.
     #[error("PartSector")]
     PartSector,
     /// A block begins after the end of the previous one.
@@ -26,7 +26,7 @@ pub enum MapFault {
     /// A block begins before the end of the previous one.
     #[error("Overlap")]
     Overlap,
-    /// The blocks don't end at the end of the device.
+    /// The blocks don't end at the end of the device, or in a part of a sector after it.
     #[error("Size")]
     Size,
 }

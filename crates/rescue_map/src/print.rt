@@ -4,15 +4,18 @@ ghost use Rattle.allocation.specs.Asked.{asked};
 ghost use Rattle.allocation.specs.Refusal.{IsOutOfMemory};
 ghost use Rattle.rescue_map.specs.Kinds.{kind_of, mark_text};
 ghost use Rattle.rescue_map.specs.Maps.{marks};
-ghost use Rattle.rescue_map.specs.MapText.{is_tried, map_of, map_text, map_run_text, status_text, status_word, told_runs};
+ghost use Rattle.rescue_map.specs.MapText.{is_tried, map_of, map_run_text, map_text, status_text, status_word, tail_text, told_map};
+ghost use Rattle.rescue_map.specs.Tails.{IsTail};
 
 use crate::kind::MapKind;
 use crate::map::{Map, Run};
+use crate::status::letter;
+use crate::tail::Tail;
 use allocation::{OutOfMemory, append, copied, push};
 use itoa::Buffer;
 use std::alloc::Global;
 
-/// Returns the text of a map: the mark of a scan, a status line, and a line for each run, in bytes. If `tried` is
+/// Returns the text of a map: the mark of a scan, a status line, a line for each run, in bytes, and one for the tail, if there is any. If `tried` is
 /// `None`, all sectors were tried, and the status is finished. Otherwise only the sectors before `tried` were tried,
 /// the status is copying. A run of bad sectors is `-`; one that remains to be read is `-` too, or `/` with `no_scrape`, if it
 /// ends at `tried` or before, and else `?`.
@@ -24,12 +27,13 @@ pub fn print_map(
     alloc: Global,
     kind: MapKind,
     map: &Map,
+    tail: Tail,
     tried: Option<u64>,
     no_scrape: bool,
 ) -> Result<Vec<u8>, OutOfMemory>
-    ensures text { IfOk result (λ text. text.items ≡ map_text kind no_scrape tried map.now) }
+    ensures text { IfOk result (λ text. text.items ≡ map_text kind no_scrape tried map.now tail) }
     ensures kind { IfOk result (λ text. kind_of text.items ≡ kind) }
-    ensures reads_back { IfOk result (λ text. map_of (length (marks map.now)) text.items ≡ Ok (told_runs no_scrape tried 0 map.now)) }
+    ensures reads_back { IfOk result (λ text. IsTail tail → map_of (length (marks map.now)) text.items ≡ Ok (told_map no_scrape tried map.now tail)) }
     ensures err { OnErr result (IsOutOfMemory 40) }
 {
     let mut text = copied(alloc, mark_line(kind))?;
@@ -39,6 +43,7 @@ pub fn print_map(
         print_run(&mut text, no_scrape, tried, at, *run)?;
         at += run.count;
     }
+    print_tail(&mut text, at, tail)?;
     Ok(text)
 }
 
@@ -81,6 +86,24 @@ fn print_run(
         text,
         status_word(no_scrape, run, is_tried(tried, at + run.count)),
     )?;
+    push(text, b'\n')?;
+    Ok(())
+}
+
+// Appends the line of the bytes after the last whole sector.
+fn print_tail(text: &mut Vec<u8>, at: u64, tail: Tail) -> Result<(), OutOfMemory>
+    requires { at ≤ 2 ^ 54 }
+    ensures ok { OnOk result (text.new.items ≡ text.old.items ++ tail_text at tail) }
+    ensures err { IfErr result (λ e. asked e ≤ 40) }
+{
+    if tail.count == 0 {
+        return Ok(());
+    }
+    push_number(text, at * 512)?;
+    push(text, b' ')?;
+    push_number(text, tail.count)?;
+    push(text, b' ')?;
+    append(text, letter(tail.status))?;
     push(text, b'\n')?;
     Ok(())
 }

@@ -2,7 +2,7 @@
 use Rattle.std.proofs.Common.{◌≡◌, ℕ, Bool, List, ◌++◌, Option, Some, None, sym, ap, subst, ◌∙◌}
 use Rattle.std.specs.Io.KnownBytes.{Appends}
 use Rattle.std.proofs.lemmas.List.{append_assoc}
-use Rattle.stack_recovery.specs.declared.recovery.Counts.{Counts}
+use Rattle.scan_commands.specs.declared.pass_counts.PassCounts.{PassCounts}
 use Rattle.stack_recovery.specs.Listings.{Listed}
 use Rattle.scan_commands.specs.declared.recovering_fault.RecoveringFault.{RecoveringFault}
 use Rattle.scan_commands.specs.declared.recovering_fault.RecoveringFault.TheVariants.{Lost, LostAsSaid, NoMemory, OutputTooSmall, Pass, Stack, Write}
@@ -17,10 +17,10 @@ writes-then (Some a) (Some b) None xs ys p q = absurd q
 writes-then (Some a) (Some b) (Some c) xs ys p q = q ∙ ap (λ (l : List ℕ). l ++ ys) p ∙ append_assoc a xs ys
 
 -- after the lines and the map, the counts end a report
-pub chart-end : (counts : Counts) (told middle : Listed) (old new : Option (List ℕ)) (failed : Bool) (fault : RecoveringFault) (kept : AreKept told)
-    → Appends old middle.text (charted_text kept.runs counts) → IsCountsEnd counts middle new failed fault → IsChartEnd counts told old new failed fault
+pub chart-end : (counts : PassCounts) (told middle : Listed) (old new : Option (List ℕ)) (failed : Bool) (fault : RecoveringFault) (kept : AreKept told)
+    → Appends old middle.text (charted_text kept.runs counts.sectors) → IsCountsEnd counts middle new failed fault → IsChartEnd counts told old new failed fault
 chart-end counts told middle old new failed (Lost of) kept written (are, some, is, whole) =
-    (kept, are, some, let P : Option (List ℕ) → Type 0 = λ text. Appends old text (charted_text kept.runs counts) in subst P (sym is) written)
+    (kept, are, some, let P : Option (List ℕ) → Type 0 = λ text. Appends old text (charted_text kept.runs counts.sectors) in subst P (sym is) written)
 chart-end counts told middle old new failed Write kept written is = (kept, is)
 chart-end counts told middle old new failed NoMemory kept written is = absurd is
 chart-end counts told middle old new failed (Stack fault) kept written is = absurd is

@@ -10,3 +10,8 @@ mod RetryTurnLemmas
 pub mod NameLemmas
 pub mod PlainLemmas
 mod TreeLemmas
+mod LawLemmas
+mod LostSectorLemmas
+mod LostMarkLemmas
+mod LostTurnLemmas
+mod MapUseLemmas

@@ -1,7 +1,7 @@
 -- The devices and the lost runs as JSON objects have no float.
 use Rattle.std.proofs.Common.{◌≡◌, ◌==◌, ◌++◌, ℕ, zero, suc, Bool, true, false, List, [], ◌∷◌, length, refl, codes, if◌then◌else◌}
 use Rattle.std.proofs.lemmas.Bool.{or_from, or_parts}
-use Rattle.serde_json.specs.Data.{Data, member, no_members, number, unsigned}
+use Rattle.serde_json.specs.Data.{Data, Members, member, no_members, number, unsigned}
 use Rattle.serde_json.specs.View.{items_of}
 use Rattle.serde_json.specs.Written.{has_float, items_have_float, members_have_float}
 use Rattle.stack_meaning.specs.declared.fault.IoFault.TheVariants.{Device, NoMemory, Stack}
@@ -9,7 +9,7 @@ use Rattle.stack_rules.specs.Records.{Configuration}
 use Rattle.stack_recovery.specs.declared.lost_run.Loss.{Loss}
 use Rattle.stack_recovery.specs.declared.lost_run.Loss.TheVariants.{Lost, Unscraped}
 use Rattle.stack_recovery.specs.LostRuns.{LostRun}
-use Rattle.stack_recovery.specs.declared.recovery.Counts.{Counts}
+use Rattle.scan_commands.specs.declared.pass_counts.PassCounts.{PassCounts}
 use Rattle.scan_commands.specs.LostJson.{lost_json, lost_run_json, lost_runs_json}
 use Rattle.scan_commands.specs.Devices.{device_json, devices_json, load_json}
 
@@ -42,5 +42,9 @@ plain_untried : (none : Bool) (untried : ℕ) → members_have_float (if none th
 plain_untried true untried = refl
 plain_untried false untried = refl
 
-pub plain_lost : (runs : List LostRun) (counts : Counts) → has_float (lost_json runs counts) ≡ false
-plain_lost runs counts = or_from _ _ (plain_runs runs) (plain_untried (counts.untried == 0) counts.untried)
+plain_restored : (none : Bool) (restored : ℕ) (more : Members) → members_have_float more ≡ false → members_have_float (if none then more else member (codes "restored") (number (unsigned restored)) more) ≡ false
+plain_restored true restored more plain = plain
+plain_restored false restored more plain = plain
+
+pub plain_lost : (runs : List LostRun) (counts : PassCounts) → has_float (lost_json runs counts) ≡ false
+plain_lost runs counts = plain_restored (counts.restored == 0) counts.restored _ (or_from _ _ (plain_runs runs) (plain_untried (counts.sectors.untried == 0) counts.sectors.untried))

@@ -5,14 +5,14 @@ use Rattle.allocation.specs.declared.out_of_memory.OutOfMemory.{OutOfMemory}
 use Rattle.allocation.specs.Asked.{refused_size}
 use Rattle.allocation.proofs.lemmas.AskedLemmas.{asked-refused}
 use Rattle.stack_recovery.specs.declared.listing.KeptRuns.{KeptRuns}
-use Rattle.stack_recovery.specs.declared.recovery.Counts.{Counts}
+use Rattle.scan_commands.specs.declared.pass_counts.PassCounts.{PassCounts}
 use Rattle.stack_recovery.specs.Listings.{Listed, kept_runs}
 use Rattle.stack_recovery.specs.LostRuns.{LostRun}
 use Rattle.charts.specs.declared.form.ReportForm.{ReportForm}
 use Rattle.scan_commands.specs.declared.recovering_fault.RecoveringFault.{RecoveringFault}
 use Rattle.scan_commands.specs.Reports.{AreKept, Early, IsRunRefused, IsUnreported, Reports, Whole, kept_text}
 
-pub reports-more : (P Q : Whole) (form : ReportForm) (old new : Option (List ℕ)) → ((before : Listed) (counts : Counts) (told : Listed) → P before counts told → Q before counts told)
+pub reports-more : (P Q : Whole) (form : ReportForm) (old new : Option (List ℕ)) → ((before : Listed) (counts : PassCounts) (told : Listed) → P before counts told → Q before counts told)
     → Reports P form old new → Reports Q form old new
 reports-more P Q form old new more r = record {
   counts = r.counts;
@@ -24,7 +24,7 @@ reports-more P Q form old new more r = record {
 }
 
 pub unreported-more : (S T : Early) (P Q : Whole) (form : ReportForm) (old new : Option (List ℕ)) (failed : Bool) (fault : RecoveringFault)
-    → ((before told : Listed) → S before fault told → T before fault told) → ((before : Listed) (counts : Counts) (told : Listed) → P before counts told → Q before counts told)
+    → ((before told : Listed) → S before fault told → T before fault told) → ((before : Listed) (counts : PassCounts) (told : Listed) → P before counts told → Q before counts told)
     → IsUnreported S P form old new failed fault → IsUnreported T Q form old new failed fault
 unreported-more S T P Q form old new failed fault stops more (inl s) = inl (record { before = s.before; told = s.told; begun = s.begun; stopped = stops s.before s.told s.stopped; kept = s.kept })
 unreported-more S T P Q form old new failed fault stops more (inr l) = inr (record {

@@ -5,17 +5,6 @@ use Rattle.rescue_map.specs.declared.map.Run.{Run}
 use Rattle.rescue_map.specs.declared.splicing.Span.{Span}
 use Rattle.rescue_map.specs.Maps.{is_settled, joined, kept_had, kept_lost, losts, marks, settled_marks, spliced_marks}
 
--- a span from one map, and what is around it from another
-pub spliced-length : (span : Span) (sectors : ℕ) (around within : List Bool) → length around ≡ sectors → span.first + span.count ≤ length within → span.first + span.count ≤ sectors
-    → length (spliced_marks span around within) ≡ sectors
-spliced-length span sectors around within len len' inside =
-    let f : ℕ = span.first in
-    let c : ℕ = span.count in
-    let front : length (take f around) ≡ f = length-take-le f around (omega (arith, len, inside)) in
-    let middle : length (take c (drop f within)) ≡ c = length-take-le c (drop f within) (omega (arith, len', length-drop f within)) in
-    length-append (take f around) (take c (drop f within) ++ drop (f + c) around)
-    ∙ omega (arith, front, middle, len, inside, length-append (take c (drop f within)) (drop (f + c) around), length-drop (f + c) around)
-
 -- the span of two maps that are the same from its first sector on
 pub spliced-same : (span : Span) (around within other : List Bool) → drop span.first within ≡ drop span.first other → spliced_marks span around within ≡ spliced_marks span around other
 spliced-same span around within other same = ap (λ (l : List Bool). take span.first around ++ (take span.count l ++ drop (span.first + span.count) around)) same

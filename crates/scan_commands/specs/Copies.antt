@@ -10,15 +10,16 @@ use Rattle.scan_commands.specs.declared.rescue_fault.PassFault.{PassFault}
 use Rattle.scan_commands.specs.declared.rescue_fault.PassFault.TheVariants.{Output}
 use Rattle.scan_commands.specs.declared.passing.Passing.{Passing}
 use Rattle.scan_commands.specs.MapFiles.{map_at}
-use Rattle.scan_commands.specs.MapUses.{IsMapUnusedBeside, UsesMapBeside}
-use Rattle.scan_commands.specs.Passes.{Moving, Passes, StopsPass, moving, retried_of}
+use Rattle.scan_commands.specs.MapUses.{IsMapUnusedBeside, UsesMapBeside, map_plan}
+use Rattle.scan_commands.specs.CountedPasses.{CountsPass}
+use Rattle.scan_commands.specs.Passes.{Moving, StopsPass, moving, retried_of}
 use Rattle.rescue_map.specs.declared.kind.MapKind.TheVariants as map_kind
 use Rattle.stack_rules.specs.Names.{mapped, size}
 use Rattle.stack_engine.specs.Stacks.{StackRecord}
 use Rattle.stack_files.specs.DeviceSources.{FailsToFindSourceOutput, FindsSourceOutput, SourceWords, of_disk, of_stack, source_words}
 use Rattle.stack_files.specs.NamedDevices.{DevicePlace}
 use Rattle.stack_files.specs.declared.device_source.DeviceSource.{DeviceSource}
-use Rattle.stack_recovery.specs.declared.recovery.Counts.{Counts}
+use Rattle.scan_commands.specs.declared.pass_counts.PassCounts.{PassCounts}
 use Rattle.stack_recovery.specs.Listings.{Listed}
 use Rattle.stack_recovery.specs.Recoveries.{sides}
 use Rattle.stack_recovery.specs.Retries.{Retried, retried}
@@ -51,11 +52,11 @@ IsOutputSeenAs false out seen = seen ≡ out
 IsOutputSeenAs true out seen = seen ≡ differing out seen.reads seen.writes seen.dirty
 
 -- the pass copied to OUT's device as it sees it, with a copy's map if there is one; `m` is of OUT's device itself
-pub record PassesTo {S D : Type 0} (is_differing : Bool) (w : Calls S D) (map : Option (List ℕ)) (t : Retried) (m : Moving) (counts : Counts) : Type 0 where
+pub record PassesTo {S D : Type 0} (is_differing : Bool) (w : Calls S D) (map : Option (List ℕ)) (t : Retried) (m : Moving) (counts : PassCounts) : Type 0 where
   pub seen : Device
   pub left : Device
   pub begun : IsOutputSeenAs is_differing m.old.out seen
-  pub passed : Passes w (map_at map map_kind.Copy) t (moving (record m.old { out = seen }) (record m.new { out = left })) counts
+  pub passed : CountsPass w (map_at map map_kind.Copy) t (moving (record m.old { out = seen }) (record m.new { out = left })) counts
   pub ended : IsOutputSeenAs is_differing m.new.out left
 
 -- the pass ended early
@@ -67,14 +68,14 @@ pub record StopsTo {S D : Type 0} (is_differing : Bool) (w : Calls S D) (map : O
   pub ended : IsOutputSeenAs is_differing m.new.out left
 
 -- the pass was completed, and OUT was synced
-pub record CopiesTo {S D : Type 0} (is_differing : Bool) (w : Calls S D) (map : Option (List ℕ)) (t : Retried) (m : Moving) (counts : Counts) : Type 0 where
+pub record CopiesTo {S D : Type 0} (is_differing : Bool) (w : Calls S D) (map : Option (List ℕ)) (t : Retried) (m : Moving) (counts : PassCounts) : Type 0 where
   pub unsynced : Device
   pub passed : PassesTo is_differing w map t (moving m.old (record m.new { out = unsynced })) counts
   pub durable : m.new.out ≡ synced unsynced
 
 -- the pass was completed, but OUT's sync failed, which changed no sector
 pub record FailsToSync {S D : Type 0} (is_differing : Bool) (w : Calls S D) (map : Option (List ℕ)) (t : Retried) (m : Moving) (fault : PassFault) : Type 0 where
-  pub counts : Counts
+  pub counts : PassCounts
   pub unsynced : Device
   pub passed : PassesTo is_differing w map t (moving m.old (record m.new { out = unsynced })) counts
   pub failed : IsUnsynced unsynced m.new.out
@@ -92,7 +93,7 @@ words_beside used (of_stack words) = of_stack words
 words_beside used (of_disk words) = of_disk (record words { grow = words.grow && not used.writable })
 
 -- the device was copied to OUT's image, which was then synced and closed
-pub record Copies {S D : Type 0} (w : Calls S D) (words : CopyWords) (before : Listed) (counts : Counts) (told : Listed) : Type 0 where
+pub record Copies {S D : Type 0} (w : Calls S D) (words : CopyWords) (before : Listed) (counts : PassCounts) (told : Listed) : Type 0 where
   pub at : DevicePlace
   pub image : OpenImage D
   pub image' : D
@@ -101,7 +102,7 @@ pub record Copies {S D : Type 0} (w : Calls S D) (words : CopyWords) (before : L
   pub first : S
   pub between : S
   pub behind : S
-  pub map_used : UsesMapBeside (record w { new = first }) words.map words.out used
+  pub map_used : UsesMapBeside (record w { new = first }) (map_plan words.map map_kind.Copy words.retries) words.out used
   pub found : FindsSourceOutput (record w { old = first; new = between }) used (words_beside used words.words) words.out at image
   pub copied : CopiesTo words.differing (record w { old = between; new = behind }) words.map (retried at.d words.retries words.no_scrape) (moving (sides at.stack (w.state image.device) before) (sides left (w.state image') told)) counts
   pub back : w.relations.takes behind words.out image' w.new
@@ -116,7 +117,7 @@ pub record StopsCopy {S D : Type 0} (w : Calls S D) (words : CopyWords) (before 
   pub first : S
   pub between : S
   pub behind : S
-  pub map_used : UsesMapBeside (record w { new = first }) words.map words.out used
+  pub map_used : UsesMapBeside (record w { new = first }) (map_plan words.map map_kind.Copy words.retries) words.out used
   pub found : FindsSourceOutput (record w { old = first; new = between }) used (words_beside used words.words) words.out at image
   pub stops : IsPassEnd (EndsCopying words.differing (record w { old = between; new = behind }) words.map (retried at.d words.retries words.no_scrape) (moving (sides at.stack (w.state image.device) before) (sides left (w.state image') told))) fault
   pub back : w.relations.takes behind words.out image' w.new
@@ -145,12 +146,12 @@ IsOutputUncopied w used words out fault = IsRecoveryStackless (FailsToFindSource
 pub record FailsBesideMap {S D : Type 0} (w : Calls S D) (words : CopyWords) (fault : RecoveringFault) : Type 0 where
   pub used : FileUse
   pub first : S
-  pub map_used : UsesMapBeside (record w { new = first }) words.map words.out used
+  pub map_used : UsesMapBeside (record w { new = first }) (map_plan words.map map_kind.Copy words.retries) words.out used
   pub fails : IsOutputUncopied (record w { old = first }) used (words_beside used words.words) words.out fault
 
 -- that, or the file may not be used, or is OUT
 abbrev pub IsCopyUnbegun : {S D : Type 0} → Calls S D → CopyWords → RecoveringFault → Type 0
-IsCopyUnbegun w words fault = IsMapUnusedBeside w words.map words.out fault ⊎ FailsBesideMap w words fault
+IsCopyUnbegun w words fault = IsMapUnusedBeside w (map_plan words.map map_kind.Copy words.retries) words.out fault ⊎ FailsBesideMap w words fault
 
 -- nothing is printed if the copy doesn't begin
 abbrev pub IsCopyEnd : {S D : Type 0} → Calls S D → CopyWords → Option (List ℕ) → Option (List ℕ) → Bool → RecoveringFault → Type 0
@@ -168,13 +169,13 @@ module _ {S D E O T : Type 0} (relations : Opener S D) (state : D → Device) (s
   abbrev copy_moved : Moving
   copy_moved = moving (sides old.stack (seen old.out) (listed_by contents writer)) (sides new.stack (seen new.out) (listed_by contents writer'))
 
-  abbrev pub PassesToBy : Counts → Type 0
+  abbrev pub PassesToBy : PassCounts → Type 0
   PassesToBy = PassesTo plan.differing (calls relations state images images') (option_map (λ p. p.now) plan.map) (retried_of old) copy_moved
 
   abbrev pub StopsToBy : PassFault → Type 0
   StopsToBy = StopsTo plan.differing (calls relations state images images') (option_map (λ p. p.now) plan.map) (retried_of old) copy_moved
 
-  abbrev pub CopiesBy : Counts → Type 0
+  abbrev pub CopiesBy : PassCounts → Type 0
   CopiesBy = CopiesTo plan.differing (calls relations state images images') (option_map (λ p. p.now) plan.map) (retried_of old) copy_moved
 
   abbrev pub EndsCopyingBy : PassFault → Type 0

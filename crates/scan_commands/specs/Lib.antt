@@ -3,6 +3,7 @@ pub mod Counting
 pub mod Reports
 pub mod Scans
 pub mod Passes
+pub mod CountedPasses
 pub mod PassesInTurns
 pub mod MapFiles
 pub mod MapTexts
@@ -15,3 +16,4 @@ pub mod Charts
 pub mod TreeRows
 pub mod Trees
 pub mod TreeViews
+pub mod Laws

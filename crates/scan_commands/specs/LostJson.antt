@@ -9,7 +9,7 @@ use Rattle.stack_recovery.specs.declared.lost_run.Loss.{Loss}
 use Rattle.stack_recovery.specs.declared.lost_run.Loss.TheVariants.{Lost, Unscraped}
 use Rattle.stack_recovery.specs.LostRuns.{LostRun}
 use Rattle.stack_recovery.specs.Surveys.{fault_of}
-use Rattle.stack_recovery.specs.declared.recovery.Counts.{Counts}
+use Rattle.scan_commands.specs.declared.pass_counts.PassCounts.{PassCounts}
 
 -- the index of the backing device, if it failed
 abbrev pub leaf_member : IoFault → Members → Members
@@ -37,11 +37,16 @@ lost_runs_json runs = map lost_run_json runs
 abbrev pub untried_member : ℕ → Members
 untried_member untried = if untried == 0 then no_members else member (codes "untried") (number (unsigned untried)) no_members
 
--- how many sectors are lost, how many were read, and the lost runs
-abbrev pub lost_json : List LostRun → Counts → Data
+-- how many blocks were restored, if any
+abbrev pub restored_member : ℕ → Members → Members
+restored_member restored more = if restored == 0 then more else member (codes "restored") (number (unsigned restored)) more
+
+-- how many sectors are lost, how many were read, how many blocks were restored, if any, and the lost runs
+abbrev pub lost_json : List LostRun → PassCounts → Data
 lost_json runs counts =
     object
-    (member (codes "lost") (number (unsigned counts.lost))
-    (member (codes "read") (number (unsigned counts.read))
+    (member (codes "lost") (number (unsigned counts.sectors.lost))
+    (member (codes "read") (number (unsigned counts.sectors.read))
+    (restored_member counts.restored
     (member (codes "runs") (array (items_of (lost_runs_json runs)))
-    (untried_member counts.untried))))
+    (untried_member counts.sectors.untried)))))

@@ -3,6 +3,7 @@ use Rattle.std.specs.Prelude.{◌≡◌, ◌⊎◌, ℕ, ◌<◌, ◌≤◌, IsT
 use Rattle.block_device.specs.Device.{Device}
 use Rattle.image_files.specs.Opener.{Calls, Opener, calls}
 use Rattle.rescue_map.specs.declared.map.Run.{Run}
+use Rattle.rescue_map.specs.declared.text.ParsedMap.{ParsedMap}
 use Rattle.rescue_map.specs.Maps.{marks}
 use Rattle.scan_commands.specs.declared.rescue_fault.PassFault.{PassFault}
 use Rattle.scan_commands.specs.declared.rescue_fault.PassFault.TheVariants.{NoMemory, Output}
@@ -12,7 +13,7 @@ use Rattle.scan_commands.specs.declared.passing.Passing.{Passing}
 use Rattle.scan_commands.specs.declared.retries.TriedMap.{TriedMap}
 use Rattle.scan_commands.specs.MapFiles.{IsMapRead, IsMapUnread, MapPathRecord, map_path_of}
 use Rattle.scan_commands.specs.PassesInTurns.{EndsLast, EndsRetries, IsTurnsEnd, ReportsLast, RescuesInTurns, RetriesBy, after_turns}
-use Rattle.scan_commands.specs.Turns.{Kept, Replaces, kept, progressed}
+use Rattle.scan_commands.specs.Turns.{Kept, Replaces, begun_with, kept}
 use Rattle.stack_rules.specs.Names.{mapped, size}
 use Rattle.stack_recovery.specs.declared.fault.RecoveryFault.TheVariants as recovery
 use Rattle.stack_recovery.specs.declared.recovery.Counts.{Counts}
@@ -33,19 +34,19 @@ moving old new = record { old = old; new = new }
 -- ---- with a map file
 
 -- A map file was read; or there is none, and no sector was read before. Then the other sectors were read in passes, each in turns,
--- and the map was replaced after each turn.
+-- and the map was replaced after each turn; its bytes after the device's sectors stay.
 pub record IsRescued {S D : Type 0} (w : Calls S D) (file : MapPathRecord) (t : Retried) (m : Moving) (counts : Counts) : Type 0 where
-  pub runs : List Run
+  pub found : ParsedMap
   pub between : S
-  pub read : IsMapRead (record w { new = between }) file (size m.old.stack.config (mapped t.d)) runs
-  pub rescued : RescuesInTurns (kept w.relations.replaces file (scan_of t) (size m.old.stack.config (mapped t.d))) t.retries (progressed between m.old runs 0 0) w.new m.new counts
+  pub read : IsMapRead (record w { new = between }) file (size m.old.stack.config (mapped t.d)) found
+  pub rescued : RescuesInTurns (kept w.relations.replaces (record file { tail = found.tail }) (scan_of t) (size m.old.stack.config (mapped t.d))) t.retries (begun_with between m.old found.map) w.new m.new counts
 
 -- the map was read, and a turn ended early
 pub record IsCutShort {S D : Type 0} (w : Calls S D) (file : MapPathRecord) (t : Retried) (m : Moving) (fault : PassFault) : Type 0 where
-  pub runs : List Run
+  pub found : ParsedMap
   pub between : S
-  pub read : IsMapRead (record w { new = between }) file (size m.old.stack.config (mapped t.d)) runs
-  pub ends : IsTurnsEnd (kept w.relations.replaces file (scan_of t) (size m.old.stack.config (mapped t.d))) t.retries (progressed between m.old runs 0 0) w.new m.new fault
+  pub read : IsMapRead (record w { new = between }) file (size m.old.stack.config (mapped t.d)) found
+  pub ends : IsTurnsEnd (kept w.relations.replaces (record file { tail = found.tail }) (scan_of t) (size m.old.stack.config (mapped t.d))) t.retries (begun_with between m.old found.map) w.new m.new fault
 
 -- the map wasn't read, and nothing was done; or a turn ended early
 abbrev pub IsUnrescued : {S D : Type 0} → Calls S D → MapPathRecord → Retried → Moving → PassFault → Type 0

@@ -19,7 +19,7 @@ use Rattle.scan_commands.specs.declared.rescue_fault.PassFault.{PassFault}
 use Rattle.scan_commands.specs.declared.rescue_fault.PassFault.TheVariants.{NoMemory}
 use Rattle.scan_commands.specs.declared.retries.TriedMap.{TriedMap}
 use Rattle.scan_commands.specs.declared.turns.ReadMap.{ReadMap}
-use Rattle.scan_commands.specs.Turns.{IsPassTurnsEnd, Kept, Progressed, ReadsInTurns, is_again, made_map, progressed}
+use Rattle.scan_commands.specs.Turns.{IsPassTurnsEnd, Kept, Progressed, ReadsInTurns, begun_with, is_again, made_map, map_so_far}
 
 -- what the turns of a pass leave: the opener, and the stack, the output device and the map
 pub record AfterTurns (S : Type 0) : Type 0 where
@@ -35,7 +35,7 @@ counts_of totals untried = record { read = totals.had; lost = totals.lost - untr
 
 -- the next pass begins at the first sector
 abbrev pub pass_from : {S : Type 0} → AfterTurns S → Listed → Progressed S
-pass_from a printed = progressed a.images (sides a.left.stack a.left.out printed) a.left.map 0 0
+pass_from a printed = begun_with a.images (sides a.left.stack a.left.out printed) a.left.map
 
 -- the pass after the first one and n further ones
 abbrev pub phase_after : ℕ → Phase
@@ -43,7 +43,7 @@ phase_after n = if n == 0 then Rescue else Retry
 
 -- the pass after the first one and n further ones, which reported to nobody
 abbrev pub IsSilentTurns : {S : Type 0} → Kept S → ℕ → AfterTurns S → AfterTurns S → Type 0
-IsSilentTurns k n old new = (before : Listed) × (after : Listed) × (untried : ℕ) × ReadsInTurns k (phase_after n) (pass_from old before) new.images (sides new.left.stack new.left.out after) (made_map new.left.map untried)
+IsSilentTurns k n old new = (before : Listed) × (after : Listed) × (untried : ℕ) × (skip : ℕ) × ReadsInTurns k (phase_after n) (pass_from old before) new.images (sides new.left.stack new.left.out after) (made_map new.left.map untried skip)
 
 -- so many passes after the first one, which reported to nobody; one for each retry, or fewer if no sector is left to be read
 abbrev pub RetriesInTurns : {S : Type 0} → Kept S → ℕ → AfterTurns S → ℕ → AfterTurns S → Type 0
@@ -67,7 +67,7 @@ pub record RescuesInTurns {S : Type 0} (k : Kept S) (retries : ℕ) (first : Pro
   pub between : Progressed S
   pub passes : ℕ
   pub left : AfterTurns S
-  pub skims : ReadsInTurns k Skim first between.images between.sides (made_map between.runs between.untried)
+  pub skims : ReadsInTurns k Skim first between.images between.sides (map_so_far between)
   pub again : RetriesInTurns k retries (after_turns between.images between.sides.stack between.sides.out between.runs) passes left
   pub last : ReportsLast k (phase_after passes) left between.sides.printed images new counts
 
@@ -111,7 +111,7 @@ EndsLaterTurns k retries old printed images new fault =
 -- the first pass was completed, and a later one wasn't
 pub record IsRescueTurnsEnd {S : Type 0} (k : Kept S) (retries : ℕ) (first : Progressed S) (images : S) (new : Sides) (fault : PassFault) : Type 0 where
   pub between : Progressed S
-  pub skims : ReadsInTurns k Skim first between.images between.sides (made_map between.runs between.untried)
+  pub skims : ReadsInTurns k Skim first between.images between.sides (map_so_far between)
   pub later : EndsLaterTurns k retries (after_turns between.images between.sides.stack between.sides.out between.runs) between.sides.printed images new fault
 
 abbrev pub IsTurnsEnd : {S : Type 0} → Kept S → ℕ → Progressed S → S → Sides → PassFault → Type 0

@@ -6,15 +6,16 @@ use Rattle.image_files.specs.declared.file_use.FileUse.{FileUse}
 use Rattle.image_files.specs.Opener.{Calls, Opener, calls}
 use Rattle.scan_commands.specs.declared.passing.Passing.{Passing}
 use Rattle.scan_commands.specs.MapFiles.{map_at}
-use Rattle.scan_commands.specs.MapUses.{IsMapUnused, UsesMap}
-use Rattle.scan_commands.specs.Passes.{Moving, Passes, StopsPass, moving, retried_of}
+use Rattle.scan_commands.specs.MapUses.{IsMapUnused, UsesMap, map_plan}
+use Rattle.scan_commands.specs.CountedPasses.{CountsPass}
+use Rattle.scan_commands.specs.Passes.{Moving, StopsPass, moving, retried_of}
 use Rattle.rescue_map.specs.declared.kind.MapKind.TheVariants as map_kind
 use Rattle.stack_files.specs.DeviceSources.{FailsToFindSource, FindsSource, SourceWords, source_words}
 use Rattle.stack_files.specs.NamedDevices.{DevicePlace}
 use Rattle.stack_engine.specs.Stacks.{StackRecord}
 use Rattle.stack_files.specs.declared.device_source.DeviceSource.{DeviceSource}
 use Rattle.stack_recovery.specs.declared.discard.Discard.{Discard}
-use Rattle.stack_recovery.specs.declared.recovery.Counts.{Counts}
+use Rattle.scan_commands.specs.declared.pass_counts.PassCounts.{PassCounts}
 use Rattle.stack_recovery.specs.Listings.{Listed}
 use Rattle.stack_recovery.specs.Recoveries.{sides}
 use Rattle.stack_recovery.specs.Retries.{retried}
@@ -40,7 +41,7 @@ abbrev pub words_to_scan : DeviceSource → ScanPlan → ScanWords
 words_to_scan source plan = scan_words (source_words source) (option_map (λ p. p.now) plan.map) plan.retries plan.no_scrape plan.form
 
 -- the device was scanned, with a scan's map if there is one
-pub record Scans {S D : Type 0} (w : Calls S D) (words : ScanWords) (before : Listed) (counts : Counts) (told : Listed) : Type 0 where
+pub record Scans {S D : Type 0} (w : Calls S D) (words : ScanWords) (before : Listed) (counts : PassCounts) (told : Listed) : Type 0 where
   pub at : DevicePlace
   pub out : Device
   pub out' : Device
@@ -48,9 +49,9 @@ pub record Scans {S D : Type 0} (w : Calls S D) (words : ScanWords) (before : Li
   pub used : FileUse
   pub first : S
   pub between : S
-  pub map_used : UsesMap (record w { new = first }) words.map used
+  pub map_used : UsesMap (record w { new = first }) (map_plan words.map map_kind.Scan words.retries) used
   pub found : FindsSource (record w { old = first; new = between }) used words.words at
-  pub passed : Passes (record w { old = between }) (map_at words.map map_kind.Scan) (retried at.d words.retries words.no_scrape) (moving (sides at.stack out before) (sides left out' told)) counts
+  pub passed : CountsPass (record w { old = between }) (map_at words.map map_kind.Scan) (retried at.d words.retries words.no_scrape) (moving (sides at.stack out before) (sides left out' told)) counts
 
 -- the scan began and ended early; the device that it copies to never fails
 pub record StopsScan {S D : Type 0} (w : Calls S D) (words : ScanWords) (before : Listed) (fault : RecoveringFault) (told : Listed) : Type 0 where
@@ -61,7 +62,7 @@ pub record StopsScan {S D : Type 0} (w : Calls S D) (words : ScanWords) (before 
   pub used : FileUse
   pub first : S
   pub between : S
-  pub map_used : UsesMap (record w { new = first }) words.map used
+  pub map_used : UsesMap (record w { new = first }) (map_plan words.map map_kind.Scan words.retries) used
   pub found : FindsSource (record w { old = first; new = between }) used words.words at
   pub sure : IsTrue out.never_fails
   pub stops : IsPassEnd (StopsPass (record w { old = between }) (map_at words.map map_kind.Scan) (retried at.d words.retries words.no_scrape) (moving (sides at.stack out before) (sides left out' told))) fault
@@ -74,12 +75,12 @@ PrintsScan w words old new = Reports (Scans w words) words.form old new
 pub record FailsBesideMap {S D : Type 0} (w : Calls S D) (words : ScanWords) (fault : RecoveringFault) : Type 0 where
   pub used : FileUse
   pub first : S
-  pub map_used : UsesMap (record w { new = first }) words.map used
+  pub map_used : UsesMap (record w { new = first }) (map_plan words.map map_kind.Scan words.retries) used
   pub fails : IsRecoveryStackless (FailsToFindSource (record w { old = first }) used words.words) fault
 
 -- that, or the file may not be used
 abbrev pub IsScanUnbegun : {S D : Type 0} → Calls S D → ScanWords → RecoveringFault → Type 0
-IsScanUnbegun w words fault = IsPassEnd (IsMapUnused w words.map) fault ⊎ FailsBesideMap w words fault
+IsScanUnbegun w words fault = IsPassEnd (IsMapUnused w (map_plan words.map map_kind.Scan words.retries)) fault ⊎ FailsBesideMap w words fault
 
 -- nothing is printed if the scan doesn't begin; or the scan ended early, or sectors are lost or not all is printed
 abbrev pub IsScanEnd : {S D : Type 0} → Calls S D → ScanWords → Option (List ℕ) → Option (List ℕ) → Bool → RecoveringFault → Type 0
@@ -92,8 +93,8 @@ module _ {S D E T : Type 0} (relations : Opener S D) (state : D → Device) (see
   abbrev scanned : Listed → Listed → Moving
   scanned before told = moving (sides old.stack (seen old.out) before) (sides new.stack (seen new.out) told)
 
-  abbrev scans : ScanPlan → Listed → Counts → Listed → Type 0
-  scans plan before counts told = Passes (calls relations state images images') (map_at (option_map (λ p. p.now) plan.map) map_kind.Scan) (retried_of old) (scanned before told) counts
+  abbrev scans : ScanPlan → Listed → PassCounts → Listed → Type 0
+  scans plan before counts told = CountsPass (calls relations state images images') (map_at (option_map (λ p. p.now) plan.map) map_kind.Scan) (retried_of old) (scanned before told) counts
 
   abbrev stops_scan : ScanPlan → Listed → RecoveringFault → Listed → Type 0
   stops_scan plan before fault told = IsPassEnd (StopsPass (calls relations state images images') (map_at (option_map (λ p. p.now) plan.map) map_kind.Scan) (retried_of old) (scanned before told)) fault

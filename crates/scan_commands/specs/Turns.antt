@@ -9,10 +9,12 @@ use Rattle.rescue_map.specs.Maps.{is_settled_from, joined, kept_had, kept_lost, 
 use Rattle.rescue_map.specs.MapText.{map_text}
 use Rattle.stack_recovery.specs.declared.deadline.Deadline.{Deadline}
 use Rattle.stack_recovery.specs.declared.deadline.DevicePass.{DevicePass}
+use Rattle.stack_recovery.specs.declared.deadline.FirstPass.{FirstPass}
 use Rattle.stack_recovery.specs.declared.fault.RecoveryFault.{RecoveryFault}
 use Rattle.stack_recovery.specs.declared.recovery.Counts.{Counts}
 use Rattle.stack_recovery.specs.Deadlines.{EndsAt}
-use Rattle.stack_recovery.specs.FirstPasses.{EndsSkim, FailsSkimOutput, SkimsBy, SkimsShort, SkimsTo, Transfer}
+use Rattle.stack_recovery.specs.FirstPasses.{EndsSkim, FailsSkimOutput, SkimsBy, SkimsShort, SkimsTo, Transfer, skimmed}
+use Rattle.stack_recovery.specs.Skips.{least_skip}
 use Rattle.stack_rules.specs.Names.{mapped, size}
 use Rattle.stack_meaning.specs.Memory.{largest_allocation}
 use Rattle.stack_recovery.specs.Listings.{Listed}
@@ -45,20 +47,29 @@ pub record Kept (S : Type 0) : Type 1 where
 abbrev pub kept : {S : Type 0} → Replaces S → MapPathRecord → Scanned → ℕ → Kept S
 kept replaces file scan sectors = record { replaces = replaces; file = file; scan = scan; sectors = sectors }
 
--- the opener, the stack with the output device and the reported lines, and the map; the sectors before `at` are done, and so many
--- of them are unscraped
+-- the opener, the stack with the output device and the reported lines, and the map; the sectors before `at` are done, so many of
+-- them are unscraped, and after the next failed read of the first pass so many are skipped
 pub record Progressed (S : Type 0) : Type 0 where
   pub images : S
   pub sides : Sides
   pub runs : List Run
   pub at : ℕ
   pub untried : ℕ
+  pub skip : ℕ
 
-abbrev pub progressed : {S : Type 0} → S → Sides → List Run → ℕ → ℕ → Progressed S
-progressed images sides runs at untried = record { images = images; sides = sides; runs = runs; at = at; untried = untried }
+abbrev pub progressed : {S : Type 0} → S → Sides → List Run → ℕ → ℕ → ℕ → Progressed S
+progressed images sides runs at untried skip = record { images = images; sides = sides; runs = runs; at = at; untried = untried; skip = skip }
 
-abbrev pub made_map : List Run → ℕ → ReadMap
-made_map runs untried = record { map = runs; untried = untried }
+-- a pass begins
+abbrev pub begun_with : {S : Type 0} → S → Sides → List Run → Progressed S
+begun_with images sides runs = progressed images sides runs 0 0 least_skip
+
+abbrev pub made_map : List Run → ℕ → ℕ → ReadMap
+made_map runs untried skip = record { map = runs; untried = untried; skip = skip }
+
+-- what was made so far
+abbrev pub map_so_far : {S : Type 0} → Progressed S → ReadMap
+map_so_far p = made_map p.runs p.untried p.skip
 
 -- the most sectors of a turn: 64 MiB, or of a device above 4 TiB about a 65,536th, in whole groups of eight sectors
 unfoldable pub turn_len : ℕ → ℕ
@@ -102,12 +113,13 @@ pub record IsSpan (sectors at : ℕ) (span : Span) (at' : ℕ) : Type 0 where
 
 -- sectors were read in a pass after the first one, which made a map of these sectors, of which so many are unscraped
 abbrev pub ReadsLeft : List Bool → Scanned → Sides → ReadMap → Sides → Type 0
-ReadsLeft before scan old made new = (counts : Counts) × GoesOverTo before scan (length (marks made.map)) old counts (Some made.map) new × (made.untried ≡ counts.untried)
+ReadsLeft before scan old made new = (counts : Counts) × GoesOverTo before scan (length (marks made.map)) old counts (Some made.map) new × (made.untried ≡ counts.untried) × (made.skip ≡ least_skip)
 
--- sectors were read in a pass by the marks before it, which made a map of them; the first pass reports nothing
-abbrev pub ReadsSectors : Phase → List Bool → Scanned → Sides → ReadMap → Sides → Type 0
-ReadsSectors Skim before scan old made new = SkimsTo true before scan.d (length (marks made.map)) (transfer_of old) made.map (transfer_of new) × (new.printed ≡ old.printed) × (made.untried ≡ 0)
-ReadsSectors later before scan old made new = ReadsLeft before scan old made new
+-- sectors were read in a pass by the marks before it, which made a map of them; the first pass skips `wanted` sectors after its
+-- first failed read, and reports nothing
+abbrev pub ReadsSectors : Phase → ℕ → List Bool → Scanned → Sides → ReadMap → Sides → Type 0
+ReadsSectors Skim wanted before scan old made new = SkimsTo wanted before scan.d (length (marks made.map)) (transfer_of old) (skimmed made.map made.skip) (transfer_of new) × (new.printed ≡ old.printed) × (made.untried ≡ 0)
+ReadsSectors later wanted before scan old made new = ReadsLeft before scan old made new
 
 -- the sectors from sector `first` on and before `end`
 abbrev pub span_between : ℕ → ℕ → Span
@@ -121,14 +133,16 @@ pub record IsTurn {S : Type 0} (k : Kept S) (phase : Phase) (old new : Progresse
   pub next : IsSpan k.sectors old.at span end
   pub left : Sides
   pub made : ReadMap
-  pub reads : ReadsSectors phase (asked_marks phase span k.sectors old.runs) k.scan old.sides made left
+  pub reads : ReadsSectors phase old.skip (asked_marks phase span k.sectors old.runs) k.scan old.sides made left
   pub on_medium : new.sides ≡ sides left.stack (synced left.out) left.printed
   pub some : old.at < new.at
+  pub few : length (marks made.map) ≤ k.sectors
   pub here : new.at ≡ min end (length (marks made.map))
   pub map : marks new.runs ≡ left_marks phase (span_between old.at new.at) old.runs made.map
   pub bad : losts new.runs ≡ left_losts phase (span_between old.at new.at) old.runs made.map
   pub untried : new.untried ≡ capped (old.untried + made.untried)
-  pub written : k.replaces old.images k.file.path (map_text k.file.kind k.scan.no_scrape (tried_before phase new.runs new.at) new.runs) (Ok tt) new.images
+  pub skip : new.skip ≡ made.skip
+  pub written : k.replaces old.images k.file.path (map_text k.file.kind k.scan.no_scrape (tried_before phase new.runs new.at) new.runs k.file.tail) (Ok tt) new.images
 
 -- all of the next sectors were read before or are bad and not read again, so that nothing is done
 pub record IsSkipped {S : Type 0} (k : Kept S) (phase : Phase) (old new : Progressed S) : Type 0 where
@@ -146,7 +160,7 @@ pub data Turns {S : Type 0} (k : Kept S) (phase : Phase) (first : Progressed S) 
 
 -- the turns of a whole pass, which result in this map
 abbrev pub ReadsInTurns : {S : Type 0} → Kept S → Phase → Progressed S → S → Sides → ReadMap → Type 0
-ReadsInTurns k phase first images sides made = Turns k phase first (progressed images sides made.map k.sectors made.untried)
+ReadsInTurns k phase first images sides made = Turns k phase first (progressed images sides made.map k.sectors made.untried made.skip)
 
 -- the most elements that one allocation requests when a map is printed
 abbrev pub largest_print_allocation : ℕ
@@ -166,34 +180,34 @@ IsUnfailed old new = new.out.failures ≡ old.out.failures
 pub record FailsToSyncTurn {S : Type 0} (k : Kept S) (phase : Phase) (span : Span) (now : Progressed S) (new : Sides) : Type 0 where
   pub left : Sides
   pub made : ReadMap
-  pub reads : ReadsSectors phase (asked_marks phase span k.sectors now.runs) k.scan now.sides made left
+  pub reads : ReadsSectors phase now.skip (asked_marks phase span k.sectors now.runs) k.scan now.sides made left
   pub unsynced : IsUnsynced left.out new.out
   pub stack : new.stack ≡ left.stack
   pub printed : new.printed ≡ left.printed
 
 -- a write of the pass failed; the first pass reports nothing
-abbrev pub FailsToWrite : Phase → List Bool → Scanned → Sides → Sides → Type 0
-FailsToWrite Skim before scan old new = FailsSkimOutput true before scan.d (transfer_of old) (transfer_of new) × (new.printed ≡ old.printed)
-FailsToWrite later before scan old new = FailsOutput true before scan old new
+abbrev pub FailsToWrite : Phase → ℕ → List Bool → Scanned → Sides → Sides → Type 0
+FailsToWrite Skim wanted before scan old new = FailsSkimOutput wanted before scan.d (transfer_of old) (transfer_of new) × (new.printed ≡ old.printed)
+FailsToWrite later wanted before scan old new = FailsOutput before scan old new
 
 -- The output device failed in the next turn: a write of the turn failed, or the sync after it.
 pub record FailsInTurn {S : Type 0} (k : Kept S) (phase : Phase) (now : Progressed S) (new : Sides) : Type 0 where
   pub span : Span
   pub end : ℕ
   pub next : IsSpan k.sectors now.at span end
-  pub fails : FailsToWrite phase (asked_marks phase span k.sectors now.runs) k.scan now.sides new ⊎ FailsToSyncTurn k phase span now new
+  pub fails : FailsToWrite phase now.skip (asked_marks phase span k.sectors now.runs) k.scan now.sides new ⊎ FailsToSyncTurn k phase span now new
 
 -- memory ran out for a read of the pass or for its map; the lines printed are the first of those of the pass
-abbrev pub RunsOut : Phase → List Bool → Scanned → Sides → Sides → Type 0
-RunsOut Skim before scan old new = SkimsShort true before scan.d (transfer_of old) (transfer_of new) × (new.printed ≡ old.printed)
-RunsOut later before scan old new = RunsShort true before scan old new
+abbrev pub RunsOut : Phase → ℕ → List Bool → Scanned → Sides → Sides → Type 0
+RunsOut Skim wanted before scan old new = SkimsShort wanted before scan.d (transfer_of old) (transfer_of new) × (new.printed ≡ old.printed)
+RunsOut later wanted before scan old new = RunsShort true before scan old new
 
 -- memory ran out in the next turn, for a read or its map
 pub record RunsOutInTurn {S : Type 0} (k : Kept S) (phase : Phase) (now : Progressed S) (new : Sides) : Type 0 where
   pub span : Span
   pub end : ℕ
   pub next : IsSpan k.sectors now.at span end
-  pub short : RunsOut phase (asked_marks phase span k.sectors now.runs) k.scan now.sides new
+  pub short : RunsOut phase now.skip (asked_marks phase span k.sectors now.runs) k.scan now.sides new
 
 -- The sectors of the next turn were done, and the output device was synced.
 pub record EndsUnmapped {S : Type 0} (k : Kept S) (phase : Phase) (now : Progressed S) (new : Sides) : Type 0 where
@@ -202,7 +216,7 @@ pub record EndsUnmapped {S : Type 0} (k : Kept S) (phase : Phase) (now : Progres
   pub next : IsSpan k.sectors now.at span end
   pub left : Sides
   pub made : ReadMap
-  pub reads : ReadsSectors phase (asked_marks phase span k.sectors now.runs) k.scan now.sides made left
+  pub reads : ReadsSectors phase now.skip (asked_marks phase span k.sectors now.runs) k.scan now.sides made left
   pub on_medium : new ≡ sides left.stack (synced left.out) left.printed
 
 -- the next turn wasn't begun, was ended by a read, or lacks its map alone
@@ -226,39 +240,39 @@ pub record IsPassTurnsEnd {S : Type 0} (k : Kept S) (phase : Phase) (first : Pro
 -- ---- in terms of the arguments of a call
 
 -- Sectors were read, past sector `first`.
-pub record ReadsPast (phase : Phase) (before : List Bool) (scan : Scanned) (first : ℕ) (old : Sides) (made : ReadMap) (new : Sides) : Type 0 where
-  pub reads : ReadsSectors phase before scan old made new
+pub record ReadsPast (phase : Phase) (wanted : ℕ) (before : List Bool) (scan : Scanned) (first : ℕ) (old : Sides) (made : ReadMap) (new : Sides) : Type 0 where
+  pub reads : ReadsSectors phase wanted before scan old made new
   pub some : first < length (marks made.map)
   pub few : length (marks made.map) ≤ size old.stack.config (mapped scan.d)
 
 -- the sectors of a turn were read, or the first of them; or the pass ended early
 abbrev pub ReadsTurnBy : {O L : Type 0} → (O → Device) → (L → Listed) → ℕ → NextTurn → Parties O L → Parties O L → ReadMap → Type 0
-ReadsTurnBy state told d turn old new made = ReadsPast turn.phase (marks turn.wanted.now) (scanned d turn.no_scrape) turn.span.first (seen_sides state told old) made (seen_sides state told new)
+ReadsTurnBy state told d turn old new made = ReadsPast turn.phase turn.skip (marks turn.wanted.now) (scanned d turn.no_scrape) turn.span.first (seen_sides state told old) made (seen_sides state told new)
 
-abbrev pub EndsSectors : Phase → List Bool → Scanned → Sides → Sides → RecoveryFault → Type 0
-EndsSectors Skim before scan old new fault = EndsSkim true before scan.d (transfer_of old) (transfer_of new) fault × (new.printed ≡ old.printed)
-EndsSectors later before scan old new fault = IsRescueEnd before scan old new fault
+abbrev pub EndsSectors : Phase → ℕ → List Bool → Scanned → Sides → Sides → RecoveryFault → Type 0
+EndsSectors Skim wanted before scan old new fault = EndsSkim wanted before scan.d (transfer_of old) (transfer_of new) fault × (new.printed ≡ old.printed)
+EndsSectors later wanted before scan old new fault = IsRescueEnd before scan old new fault
 
 abbrev pub EndsTurnRead : {O L : Type 0} → (O → Device) → (L → Listed) → ℕ → NextTurn → Parties O L → Parties O L → RecoveryFault → Type 0
-EndsTurnRead state told d turn old new fault = EndsSectors turn.phase (marks turn.wanted.now) (scanned d turn.no_scrape) (seen_sides state told old) (seen_sides state told new) fault
+EndsTurnRead state told d turn old new fault = EndsSectors turn.phase turn.skip (marks turn.wanted.now) (scanned d turn.no_scrape) (seen_sides state told old) (seen_sides state told new) fault
 
 -- a turn, which results in this map and ends before that sector
 abbrev pub TakesTurn : {S O L : Type 0} → Replaces S → (O → Device) → (L → Listed) → ℕ → NextTurn → S → Parties O L → S → Parties O L → TurnEnd → Type 0
 TakesTurn replaces state told d turn images old images' new ended =
-    IsTurn (kept replaces (map_path_of turn.file) (scanned d turn.no_scrape) turn.sectors) turn.phase (progressed images (seen_sides state told old) turn.map.now turn.span.first turn.untried) (progressed images' (seen_sides state told new) ended.map ended.at ended.untried)
+    IsTurn (kept replaces (map_path_of turn.file) (scanned d turn.no_scrape) turn.sectors) turn.phase (progressed images (seen_sides state told old) turn.map.now turn.span.first turn.untried turn.skip) (progressed images' (seen_sides state told new) ended.map ended.at ended.untried ended.skip)
 
 abbrev pub StopsTurn : {S O L : Type 0} → Replaces S → (O → Device) → (L → Listed) → ℕ → NextTurn → S → Parties O L → S → Parties O L → PassFault → Type 0
 StopsTurn replaces state told d turn images old images' new fault =
-    StopsIn (kept replaces (map_path_of turn.file) (scanned d turn.no_scrape) turn.sectors) turn.phase (progressed images (seen_sides state told old) turn.map.now turn.span.first turn.untried) images' (seen_sides state told new) fault
+    StopsIn (kept replaces (map_path_of turn.file) (scanned d turn.no_scrape) turn.sectors) turn.phase (progressed images (seen_sides state told old) turn.map.now turn.span.first turn.untried turn.skip) images' (seen_sides state told new) fault
 
 -- all turns of a pass over a device with the map of a file
 abbrev pub ReadsByFile : {S O L : Type 0} → Replaces S → (O → Device) → (L → Listed) → ℕ → MapFile → S → Parties O L → S → Parties O L → ReadMap → Type 0
 ReadsByFile replaces state told d kept_map images old images' new made =
-    ReadsInTurns (kept replaces (map_path_of kept_map.file) (scanned d kept_map.no_scrape) (size old.stack.config (mapped d))) kept_map.phase (progressed images (seen_sides state told old) kept_map.map 0 0) images' (seen_sides state told new) made
+    ReadsInTurns (kept replaces (map_path_of kept_map.file) (scanned d kept_map.no_scrape) (size old.stack.config (mapped d))) kept_map.phase (begun_with images (seen_sides state told old) kept_map.map) images' (seen_sides state told new) made
 
 abbrev pub StopsByFile : {S O L : Type 0} → Replaces S → (O → Device) → (L → Listed) → ℕ → MapFile → S → Parties O L → S → Parties O L → PassFault → Type 0
 StopsByFile replaces state told d kept_map images old images' new fault =
-    IsPassTurnsEnd (kept replaces (map_path_of kept_map.file) (scanned d kept_map.no_scrape) (size old.stack.config (mapped d))) kept_map.phase (progressed images (seen_sides state told old) kept_map.map 0 0) images' (seen_sides state told new) fault
+    IsPassTurnsEnd (kept replaces (map_path_of kept_map.file) (scanned d kept_map.no_scrape) (size old.stack.config (mapped d))) kept_map.phase (begun_with images (seen_sides state told old) kept_map.map) images' (seen_sides state told new) fault
 
 -- what the next pass needs: the map is of all sectors, the configuration stays, and so does the output device
 pub record GoesOn {O L : Type 0} (state : O → Device) (d : ℕ) (old new : Parties O L) (made : ReadMap) : Type 0 where
@@ -272,8 +286,8 @@ abbrev pub LeavesMap : {S : Type 0} → Replaces S → MapPath → S → List �
 LeavesMap replaces file images text images' = IsMapUnwritten replaces file.path.now images text images'
 
 -- sectors were read in the first pass, which ended after the last sector or early, and left none unscraped
-abbrev pub SkimsLeftBy : {O : Type 0} → (O → Device) → DevicePass → List Bool → Transfer O → Transfer O → ReadMap → Type 0
-SkimsLeftBy state pass before old new made = SkimsBy state pass true before old new made.map × (made.untried ≡ 0)
+abbrev pub SkimsLeftBy : {O : Type 0} → (O → Device) → FirstPass → List Bool → Transfer O → Transfer O → ReadMap → Type 0
+SkimsLeftBy state pass before old new made = SkimsBy state pass before old new (skimmed made.map made.skip) × (made.untried ≡ 0)
 
 -- sectors were read in a pass after the first one, which ended after the last sector or early
 abbrev pub ReadsLeftUntil : Option Deadline → List Bool → Scanned → Sides → ReadMap → Sides → Type 0

@@ -7,6 +7,7 @@ ghost use Rattle.stack_recovery.specs.Texts.{lost_text};
 ghost use Rattle.scan_commands.specs.Reports.{EndsChart, TellsChart};
 ghost use Rattle.scan_commands.specs.Charts.{charted_text, is_lost, touches};
 
+use crate::pass_counts::PassCounts;
 use crate::recovering_fault::RecoveringFault;
 use crate::report::tell_counts;
 use charts::{Marks, is_touched, say_chart};
@@ -57,7 +58,7 @@ fn touches(at: u64, width: u64, run: LostRun) -> bool
 /// - `Lost` with the counts if sectors are lost or unscraped.
 pub(crate) fn tell_chart<'a, W: Write>(
     kept: &KeptRuns,
-    counts: Counts,
+    counts: PassCounts,
     writer: &mut Counted<W>,
 ) -> Result<(), RecoveringFault<'a>>
     ensures ok { OnOk result (TellsChart W.contents kept.now counts writer.old writer.new) }
@@ -66,7 +67,7 @@ pub(crate) fn tell_chart<'a, W: Write>(
     if kept.refused.is_some() {
         return Err(RecoveringFault::NoMemory);
     }
-    say_charted(writer, kept.runs.as_slice(), counts)?;
+    say_charted(writer, kept.runs.as_slice(), counts.sectors)?;
     tell_counts(counts, writer)
 }
 

@@ -6,9 +6,10 @@ ghost use Rattle.scan_commands.specs.Copies.{CopiesBy, EndsCopyingBy, IsCopyEnd,
 ghost use Rattle.scan_commands.specs.Counting.{EndsPrintedBy, PrintedBy};
 
 use crate::map_file::map_at;
-use crate::map_use::use_map_beside;
+use crate::map_use::{map_plan, use_map_beside};
 use crate::output::{open_with_room, source_beside};
-use crate::passing::{Passing, run_pass};
+use crate::pass_counts::{PassCounts, count_pass};
+use crate::passing::Passing;
 use crate::recovering_fault::RecoveringFault;
 use crate::report::tell_counts;
 use crate::rescue_fault::PassFault;
@@ -18,7 +19,6 @@ use image_files::{Images, OpenImage};
 use program_io::Counted;
 use rescue_map::MapKind;
 use stack_files::DeviceSource;
-use stack_recovery::Counts;
 use std::alloc::Global;
 use std::io::Write;
 
@@ -58,7 +58,8 @@ pub fn copy_device<'a, I: Images, W: Write, P: Progress>(
     ensures ok { OnOk result (PrintedBy W.contents writer.old writer.new (PrintsCopy (calls I.relations I.Dev.state images.old images.new) (words_to_copy source.entry plan.entry))) }
     ensures err { IfErr result (EndsPrintedBy W.contents writer.old writer.new (IsCopyEnd (calls I.relations I.Dev.state images.old images.new) (words_to_copy source.entry plan.entry))) }
 {
-    let used = use_map_beside(images, plan.map, plan.out)?;
+    let map = map_plan(plan.map, MapKind::Copy, plan.retries);
+    let used = use_map_beside(images, map, plan.out)?;
     let read = source_beside(used, source);
     let (stack, device, image) = open_with_room(alloc, images, used, read, plan.out)?;
     let OpenImage { device: out, id: _ } = image;
@@ -87,7 +88,7 @@ fn copy_synced<'a, I: Images, D: BlockDev + Drop, O: SyncDev + Drop, W: Write, P
     plan: CopyPlan<'a>,
     writer: &mut Counted<W>,
     progress: &mut P,
-) -> (Passing<D, O>, Result<Counts, PassFault<'a>>)
+) -> (Passing<D, O>, Result<PassCounts, PassFault<'a>>)
     requires { CanPass O.state passing }
     ensures ok { IfOk result.1 (CopiesBy I.relations I.Dev.state O.state W.contents images.old images.new passing result.0 writer.old writer.new plan.entry) }
     ensures err { IfErr result.1 (EndsCopyingBy I.relations I.Dev.state O.state W.contents images.old images.new passing result.0 writer.old writer.new plan.entry) }
@@ -111,7 +112,7 @@ fn copy_to<'a, I: Images, D: BlockDev + Drop, O: SyncDev + Drop, W: Write, P: Pr
     plan: CopyPlan<'a>,
     writer: &mut Counted<W>,
     progress: &mut P,
-) -> (Passing<D, O>, Result<Counts, PassFault<'a>>)
+) -> (Passing<D, O>, Result<PassCounts, PassFault<'a>>)
     requires { CanPass O.state passing }
     ensures ok { IfOk result.1 (PassesToBy I.relations I.Dev.state O.state W.contents images.old images.new passing result.0 writer.old writer.new plan.entry) }
     ensures err { IfErr result.1 (StopsToBy I.relations I.Dev.state O.state W.contents images.old images.new passing result.0 writer.old writer.new plan.entry) }
@@ -133,7 +134,7 @@ fn copy_to<'a, I: Images, D: BlockDev + Drop, O: SyncDev + Drop, W: Write, P: Pr
             retries,
             no_scrape,
         };
-        let copied = run_pass(alloc, images, &mut compared, map, writer, progress);
+        let copied = count_pass(alloc, images, &mut compared, map, writer, progress);
         let Passing {
             stack,
             device,
@@ -152,6 +153,6 @@ fn copy_to<'a, I: Images, D: BlockDev + Drop, O: SyncDev + Drop, W: Write, P: Pr
         return (left, copied);
     }
     let mut plain = passing;
-    let outcome = run_pass(alloc, images, &mut plain, map, writer, progress);
+    let outcome = count_pass(alloc, images, &mut plain, map, writer, progress);
     (plain, outcome)
 }

@@ -6,20 +6,22 @@ ghost use Rattle.serde_json.specs.View.{items_of, view};
 ghost use Rattle.stack_recovery.specs.declared.lost_run.Loss.TheVariants as loss;
 ghost use Rattle.scan_commands.specs.LostJson.{lost_json, lost_run_json, lost_runs_json};
 
+use crate::pass_counts::PassCounts;
 use program_io::line_of;
 use serde_json::{Value, json};
 use stack_engine::IoFault;
 use stack_recovery::{Counts, Loss, LostRun};
 use std::alloc::{AllocError, Global};
 
-/// Returns the line of the object: `{"lost":N,"read":N,"runs":[..]}`, with `"untried":N` if sectors are unscraped, and for each run
+/// Returns the line of the object: `{"lost":N,"read":N,"runs":[..]}`, with `"restored":N` if blocks were restored and `"untried":N` if
+/// sectors are unscraped, and for each run
 /// `{"count":N,"fault":NAME,"first":N}`, with `"leaf":N` if a backing device failed, and `"unscraped":true` if its sectors are.
 ///
 /// # Errors
 ///
 /// `AllocError` if an allocation was refused.
 #[tactic(auto, using(crate::proofs::PlainLemmas::plain_lost))]
-pub fn lost_line(alloc: Global, runs: &[LostRun], counts: Counts) -> Result<String, AllocError>
+pub fn lost_line(alloc: Global, runs: &[LostRun], counts: PassCounts) -> Result<String, AllocError>
     ensures { IfOk result (λ line. string_bytes line ≡ json_line (lost_json runs.now counts)) }
 {
     let value = lost_value(alloc, runs, counts)?;
@@ -27,19 +29,26 @@ pub fn lost_line(alloc: Global, runs: &[LostRun], counts: Counts) -> Result<Stri
 }
 
 // Returns the object, its members in the order of their keys.
-fn lost_value(alloc: Global, runs: &[LostRun], counts: Counts) -> Result<Value, AllocError>
+fn lost_value(alloc: Global, runs: &[LostRun], counts: PassCounts) -> Result<Value, AllocError>
     ensures { IfOk result (λ value. view value ≡ lost_json runs.now counts) }
 {
+    let PassCounts { sectors, restored } = counts;
     let Counts {
         read,
         lost,
         untried,
-    } = counts;
+    } = sectors;
     let runs = runs_value(alloc, runs)?;
-    if untried == 0 {
-        return json!(in alloc; {"lost": lost, "read": read, "runs": runs});
+    if restored == 0 {
+        if untried == 0 {
+            return json!(in alloc; {"lost": lost, "read": read, "runs": runs});
+        }
+        return json!(in alloc; {"lost": lost, "read": read, "runs": runs, "untried": untried});
     }
-    json!(in alloc; {"lost": lost, "read": read, "runs": runs, "untried": untried})
+    if untried == 0 {
+        return json!(in alloc; {"lost": lost, "read": read, "restored": restored, "runs": runs});
+    }
+    json!(in alloc; {"lost": lost, "read": read, "restored": restored, "runs": runs, "untried": untried})
 }
 
 // Returns the array of the runs.

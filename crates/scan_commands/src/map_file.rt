@@ -3,23 +3,23 @@ ghost use Rattle.std.specs.Prelude.{◌≡◌, ◌^◌, ◌≤◌, false, length
 ghost use Rattle.allocation.specs.Refusal.{IsOutOfMemory};
 ghost use Rattle.image_files.specs.Opener.{calls};
 ghost use Rattle.rescue_map.specs.Maps.{marks};
-ghost use Rattle.scan_commands.specs.MapFiles.{IsMapOfText, IsMapUnread, IsTextUnread, IsUnread, ReadsMap, continues, is_missing, map_at, map_path_of};
+ghost use Rattle.scan_commands.specs.MapFiles.{IsMapOfText, IsMapUnread, IsTextUnread, IsUnread, ReadsMap, continues, map_at, map_path_of};
 ghost use Rattle.scan_commands.specs.declared.rescue_fault.PassFault.TheVariants as pass_fault;
 
 use crate::phase::Phase;
 use crate::rescue_fault::PassFault;
-use block_device::OpenFault;
-use image_files::{Images, UnopenedFile};
-use rescue_map::{Map, MapKind, kind_of, parse_map};
+use image_files::{Images, UnopenedFile, is_missing};
+use rescue_map::{Map, MapKind, ParsedMap, Tail, kind_of, parse_map};
 use std::alloc::Global;
 
-const MOST_TEXT: usize = 1 << 24;
+pub(crate) const MOST_TEXT: usize = 1 << 24;
 
-/// The path of a map file, and the kind of map that is kept there.
+/// The path of a map file, the kind of map that is kept there, and the bytes that the map has after the device's sectors.
 #[derive(Clone, Copy, Debug, PartialEq, Eq)]
 pub struct MapPath<'a> {
     pub path: &'a str,
     pub kind: MapKind,
+    pub tail: Tail,
 }
 
 /// Returns the map file of that kind, if a path is given.
@@ -27,7 +27,8 @@ pub fn map_at<'a>(path: Option<&'a str>, kind: MapKind) -> Option<MapPath<'a>>
     ensures { option_map map_path_of result ≡ map_at (option_map (λ p. p.now) path.entry) kind }
 {
     let path = path?;
-    Some(MapPath { path, kind })
+    let tail = Tail::none();
+    Some(MapPath { path, kind, tail })
 }
 
 /// A map of a device, the file that it is kept in, and the pass that goes by it, which may leave failed pieces unsearched.
@@ -39,8 +40,8 @@ pub struct MapFile<'a> {
     pub no_scrape: bool,
 }
 
-/// Returns the map of a device of `sectors` sectors that a file holds. The map marks no sector as read if there is no file, or
-/// the file has a scan's map and the map is to be a copy's.
+/// Returns the map of a device of `sectors` sectors that a file holds, with the bytes that it has after these. The map marks no sector
+/// as read, and has no such bytes, if there is no file, or the file has a scan's map and the map is to be a copy's.
 ///
 /// # Errors
 ///
@@ -53,10 +54,10 @@ pub fn read_map<'a, I: Images>(
     images: &mut I,
     file: MapPath<'a>,
     sectors: u64,
-) -> Result<Map, PassFault<'a>>
+) -> Result<ParsedMap, PassFault<'a>>
     requires { sectors ≤ 2 ^ 54 }
     ensures ok { IfOk result (ReadsMap I.relations I.Dev.state images.old images.new file.entry sectors) }
-    ensures sectors { IfOk result (λ map. length (marks map) ≡ sectors) }
+    ensures sectors { IfOk result (λ read. length (marks read.map) ≡ sectors) }
     ensures err { IfErr result (IsMapUnread (calls I.relations I.Dev.state images.old images.new) file.entry.path.now sectors) }
 {
     match images.read_text(file.path, MOST_TEXT + 1) {
@@ -77,25 +78,30 @@ pub fn read_map<'a, I: Images>(
 }
 
 // The map in a text; a map that marks no sector as read if a map of the kind doesn't continue the one in the text.
-fn map_in<'a>(alloc: Global, kind: MapKind, text: &[u8], sectors: u64) -> Result<Map, PassFault<'a>>
+fn map_in<'a>(
+    alloc: Global,
+    kind: MapKind,
+    text: &[u8],
+    sectors: u64,
+) -> Result<ParsedMap, PassFault<'a>>
     requires { sectors ≤ 2 ^ 54 }
     ensures ok { IfOk result (IsMapOfText kind text.now sectors) }
-    ensures sectors { IfOk result (λ map. length (marks map) ≡ sectors) }
+    ensures sectors { IfOk result (λ read. length (marks read.map) ≡ sectors) }
     ensures err { IfErr result (IsTextUnread text.now sectors) }
 {
-    let map = match parse_map(alloc, text, sectors) {
-        Ok(map) => map,
+    let read = match parse_map(alloc, text, sectors) {
+        Ok(read) => read,
         Err(fault) => return Err(PassFault::NoMap(fault)),
     };
     if continues(kind, kind_of(text)) {
-        return Ok(map);
+        return Ok(read);
     }
     new_map(alloc, sectors)
 }
 
-// Whether a map of a kind continues one that was read. A copy's map doesn't continue a scan's, because the copy doesn't have
-// the sectors that a scan marks `+`.
-fn continues(kind: MapKind, read: MapKind) -> bool
+/// Returns whether a map of a kind continues one that was read. A copy's map doesn't continue a scan's, because the copy doesn't have
+/// the sectors that a scan marks `+`.
+pub(crate) fn continues(kind: MapKind, read: MapKind) -> bool
     ensures { result ≡ continues kind read }
 {
     match (kind, read) {
@@ -104,21 +110,13 @@ fn continues(kind: MapKind, read: MapKind) -> bool
     }
 }
 
-/// Whether there is no file.
-pub(crate) fn is_missing(fault: OpenFault) -> bool
-    ensures { result ≡ is_missing fault }
-{
-    match fault {
-        OpenFault::NotFound => true,
-        _ => false,
-    }
-}
-
 // A map of so many sectors, none of which was read before or is bad.
-fn new_map<'a>(alloc: Global, sectors: u64) -> Result<Map, PassFault<'a>>
+fn new_map<'a>(alloc: Global, sectors: u64) -> Result<ParsedMap, PassFault<'a>>
     requires { sectors ≤ 2 ^ 54 }
     ensures ok { IfOk result (IsUnread sectors) }
     ensures err { IfErr result (λ fault. (fault ≡ pass_fault.NoMemory) × IsOutOfMemory 1) }
 {
-    Ok(Map::filled(alloc, sectors, false)?)
+    let map = Map::filled(alloc, sectors, false)?;
+    let tail = Tail::none();
+    Ok(ParsedMap { map, tail })
 }

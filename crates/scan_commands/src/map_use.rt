@@ -2,25 +2,18 @@
 //! argument leads to it, and nothing is read if it can't be replaced.
 ghost use Rattle.std.specs.Prelude.{◌≡◌, option_map, IfErr, IfOk, OnOk};
 ghost use Rattle.image_files.specs.Opener.{calls};
-ghost use Rattle.scan_commands.specs.MapUses.{FindsMap, IsMapUnused, IsMapUnusedBeside, IsOutputApart, IsOutputMap, RefusesMap, RefusesMapAt, RefusesMapBeside, UsesMap, UsesMapAt, UsesMapBeside, UsesMapBesideAt, is_same_file, no_use};
+ghost use Rattle.scan_commands.specs.MapUses.{FindsMap, IsComplete, IsMapUnused, IsMapUnusedBeside, IsOutputApart, IsOutputMap, LacksDraft, MayUse, RefusesMap, RefusesMapAt, RefusesMapBeside, UsesMap, UsesMapAt, UsesMapBeside, UsesMapBesideAt, is_complete, is_same_file, map_plan, plan_of};
 
-use crate::map_file::is_missing;
+use crate::map_file::{MOST_TEXT, MapPath, continues, map_at};
 use crate::recovering_fault::RecoveringFault;
 use crate::rescue_fault::PassFault;
 use block_device::OpenFault;
-use image_files::{FileUse, Images, UnopenedFile, is_block_device, is_one_place, open_apart};
+use image_files::{
+    FileUse, Images, UnopenedFile, image_use, is_block_device, is_missing, is_one_place, no_use,
+    open_apart,
+};
+use rescue_map::{MapKind, is_finished, kind_of};
 use stack_files::StackFault;
-
-// No file is in use.
-fn no_use() -> FileUse
-    ensures { result ≡ no_use }
-{
-    FileUse {
-        id: None,
-        writable: false,
-        part: None,
-    }
-}
 
 fn is_same_file(fault: OpenFault) -> bool
     ensures { result ≡ is_same_file fault }
@@ -38,16 +31,11 @@ fn find_map<'a, I: Images>(images: &mut I, path: &'a str) -> Result<FileUse, Uno
 {
     match images.open(path, false) {
         Ok(image) => {
-            let id = image.id;
-            if is_block_device(id) {
+            if is_block_device(image.id) {
                 let fault = OpenFault::OtherFault;
                 return Err(UnopenedFile { fault, path });
             }
-            Ok(FileUse {
-                id,
-                writable: true,
-                part: None,
-            })
+            Ok(image_use(&image, true))
         }
         Err(fault) => {
             if is_missing(fault) {
@@ -58,36 +46,92 @@ fn find_map<'a, I: Images>(images: &mut I, path: &'a str) -> Result<FileUse, Uno
     }
 }
 
-// How the map file under a path is used, if there is one.
-fn use_map_at<'a, I: Images>(images: &mut I, path: &'a str) -> Result<FileUse, PassFault<'a>>
-    ensures ok { IfOk result (UsesMapAt (calls I.relations I.Dev.state images.old images.new) path.now) }
-    ensures err { IfErr result (RefusesMapAt (calls I.relations I.Dev.state images.old images.new) path.now) }
+/// The map file of a pass, and whether bad sectors are read again.
+#[derive(Clone, Copy)]
+pub(crate) struct MapPlan<'a> {
+    pub(crate) file: MapPath<'a>,
+    pub(crate) again: bool,
+}
+
+/// Returns the map file of that kind, if a path is given, of a pass with so many retries.
+pub(crate) fn map_plan<'a>(
+    path: Option<&'a str>,
+    kind: MapKind,
+    retries: u64,
+) -> Option<MapPlan<'a>>
+    ensures { option_map plan_of result ≡ map_plan (option_map (λ p. p.now) path.entry) kind retries }
 {
-    let used = match find_map(images, path) {
-        Ok(used) => used,
-        Err(file) => return Err(PassFault::Unread(file)),
-    };
-    match images.try_replace(path) {
-        Ok(()) => Ok(used),
-        Err(fault) => Err(PassFault::Unwritten(fault)),
+    let file = map_at(path, kind)?;
+    let again = retries > 0;
+    Some(MapPlan { file, again })
+}
+
+// Whether nothing remains to be read by a text.
+fn is_complete(again: bool, kind: MapKind, text: &[u8]) -> bool
+    ensures { result ≡ is_complete again kind text.now }
+{
+    if text.len() > MOST_TEXT {
+        return false;
+    }
+    continues(kind, kind_of(text)) && is_finished(text, again)
+}
+
+// Whether the map is complete, so that it isn't replaced.
+fn find_complete<I: Images>(images: &mut I, plan: MapPlan<'_>) -> bool
+    ensures { IsComplete (calls I.relations I.Dev.state images.old images.new) (plan_of plan.entry) result }
+{
+    match images.read_text(plan.file.path, MOST_TEXT + 1) {
+        Ok(text) => is_complete(plan.again, plan.file.kind, text.bytes.as_slice()),
+        Err(_fault) => false,
     }
 }
 
-/// Returns how the map file is used, if a path is given: as a file that is written.
+// Checks that a file can be created beside a map, or that the map is complete.
+fn check_draft<'a, I: Images>(images: &mut I, plan: MapPlan<'a>) -> Result<(), PassFault<'a>>
+    ensures ok { OnOk result (MayUse (calls I.relations I.Dev.state images.old images.new) (plan_of plan.entry)) }
+    ensures err { IfErr result (LacksDraft (calls I.relations I.Dev.state images.old images.new) (plan_of plan.entry)) }
+{
+    match images.try_replace(plan.file.path) {
+        Ok(()) => Ok(()),
+        Err(fault) => {
+            if find_complete(images, plan) {
+                return Ok(());
+            }
+            Err(PassFault::Unwritten(fault))
+        }
+    }
+}
+
+// How the map file of a plan is used, if there is one.
+fn use_map_at<'a, I: Images>(images: &mut I, plan: MapPlan<'a>) -> Result<FileUse, PassFault<'a>>
+    ensures ok { IfOk result (UsesMapAt (calls I.relations I.Dev.state images.old images.new) (plan_of plan.entry)) }
+    ensures err { IfErr result (RefusesMapAt (calls I.relations I.Dev.state images.old images.new) (plan_of plan.entry)) }
+{
+    let used = match find_map(images, plan.file.path) {
+        Ok(used) => used,
+        Err(file) => return Err(PassFault::Unread(file)),
+    };
+    match check_draft(images, plan) {
+        Ok(()) => Ok(used),
+        Err(fault) => Err(fault),
+    }
+}
+
+/// Returns how the map file is used, if there is one: as a file that is written.
 ///
 /// # Errors
 ///
 /// - `Unread` if the file can't be opened, or isn't a regular file.
-/// - `Unwritten` if no file can be created beside it.
+/// - `Unwritten` if no file can be created beside it, and a sector remains to be read.
 pub(crate) fn use_map<'a, I: Images>(
     images: &mut I,
-    map: Option<&'a str>,
+    map: Option<MapPlan<'a>>,
 ) -> Result<FileUse, PassFault<'a>>
-    ensures ok { IfOk result (UsesMap (calls I.relations I.Dev.state images.old images.new) (option_map (λ p. p.now) map.entry)) }
-    ensures err { IfErr result (IsMapUnused (calls I.relations I.Dev.state images.old images.new) (option_map (λ p. p.now) map.entry)) }
+    ensures ok { IfOk result (UsesMap (calls I.relations I.Dev.state images.old images.new) (option_map plan_of map.entry)) }
+    ensures err { IfErr result (IsMapUnused (calls I.relations I.Dev.state images.old images.new) (option_map plan_of map.entry)) }
 {
     match map {
-        Some(path) => use_map_at(images, path),
+        Some(plan) => use_map_at(images, plan),
         None => Ok(no_use()),
     }
 }
@@ -117,26 +161,26 @@ fn check_output<'a, I: Images>(
     }
 }
 
-// How the map file under a path is used, beside an image to copy to.
+// How the map file of a plan is used, beside an image to copy to.
 fn use_map_apart<'a, I: Images>(
     images: &mut I,
-    map: &'a str,
+    plan: MapPlan<'a>,
     out: &'a str,
 ) -> Result<FileUse, RecoveringFault<'a>>
-    ensures ok { IfOk result (UsesMapBesideAt (calls I.relations I.Dev.state images.old images.new) map.now out.now) }
-    ensures err { IfErr result (RefusesMapBeside (calls I.relations I.Dev.state images.old images.new) map.now out.now) }
+    ensures ok { IfOk result (UsesMapBesideAt (calls I.relations I.Dev.state images.old images.new) (plan_of plan.entry) out.now) }
+    ensures err { IfErr result (RefusesMapBeside (calls I.relations I.Dev.state images.old images.new) (plan_of plan.entry) out.now) }
 {
-    let used = match use_map_at(images, map) {
+    let used = match use_map_at(images, plan) {
         Ok(used) => used,
         Err(fault) => return Err(RecoveringFault::Pass(fault)),
     };
-    match check_output(images, used, map, out) {
+    match check_output(images, used, plan.file.path, out) {
         Ok(()) => Ok(used),
         Err(file) => Err(RecoveringFault::Stack(StackFault::Open(file))),
     }
 }
 
-/// Returns how the map file is used, if a path is given, beside an image to copy to. The image is only compared.
+/// Returns how the map file is used, if there is one, beside an image to copy to. The image is only compared.
 ///
 /// # Errors
 ///
@@ -144,14 +188,14 @@ fn use_map_apart<'a, I: Images>(
 /// - `Stack` with `SameFile` if the image is the map, also if neither exists yet; with `NoMemory` if memory ran out.
 pub(crate) fn use_map_beside<'a, I: Images>(
     images: &mut I,
-    map: Option<&'a str>,
+    map: Option<MapPlan<'a>>,
     out: &'a str,
 ) -> Result<FileUse, RecoveringFault<'a>>
-    ensures ok { IfOk result (UsesMapBeside (calls I.relations I.Dev.state images.old images.new) (option_map (λ p. p.now) map.entry) out.now) }
-    ensures err { IfErr result (IsMapUnusedBeside (calls I.relations I.Dev.state images.old images.new) (option_map (λ p. p.now) map.entry) out.now) }
+    ensures ok { IfOk result (UsesMapBeside (calls I.relations I.Dev.state images.old images.new) (option_map plan_of map.entry) out.now) }
+    ensures err { IfErr result (IsMapUnusedBeside (calls I.relations I.Dev.state images.old images.new) (option_map plan_of map.entry) out.now) }
 {
     match map {
-        Some(map) => use_map_apart(images, map, out),
+        Some(plan) => use_map_apart(images, plan, out),
         None => Ok(no_use()),
     }
 }

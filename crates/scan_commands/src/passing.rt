@@ -13,7 +13,7 @@ use crate::turns::read_in_turns;
 use block_device::{BlockDev, SyncDev};
 use device_adapters::Progress;
 use image_files::Images;
-use rescue_map::{Totals, totals_of};
+use rescue_map::{ParsedMap, Totals, totals_of};
 use stack_config::DevId;
 use stack_engine::Stack;
 use stack_recovery::{Counts, KeptRuns, Listing, RecoveryPlan, recover_with, tell_among_bad};
@@ -92,7 +92,12 @@ fn pass_by_map<'a, I: Images, D: BlockDev, O: SyncDev, L: Listing, P: Progress>(
     let device = passing.device;
     let no_scrape = passing.no_scrape;
     let sectors = passing.stack.config().sectors(device);
-    let map = read_map(alloc, images, file, sectors)?;
+    let ParsedMap { map, tail } = read_map(alloc, images, file, sectors)?;
+    let file = MapPath {
+        path: file.path,
+        kind: file.kind,
+        tail,
+    };
     let first = MapFile {
         file,
         map,

@@ -2,10 +2,10 @@
 ghost use Rattle.std.specs.Prelude.{◌≡◌};
 ghost use Rattle.scan_commands.specs.declared.recovering_fault.RecoveringFault.TheVariants as recovering_fault;
 
+use crate::pass_counts::PassCounts;
 use crate::rescue_fault::PassFault;
 use program_io::WriteFault;
 use stack_files::StackFault;
-use stack_recovery::Counts;
 use std::alloc::AllocError;
 
 /// Why a scan or a copy of a device ended early or didn't read all sectors.
@@ -20,7 +20,7 @@ pub enum RecoveringFault<'a> {
     /// The pass over the device ended early.
     Pass(PassFault<'a>),
     /// Sectors of a device are lost or unscraped; these are the counts.
-    Lost(Counts),
+    Lost(PassCounts),
     /// Sectors of a device are lost or unscraped, as the JSON object states.
     LostAsSaid,
     /// A line can't be written; the pass over the device was completed.

@@ -5,6 +5,7 @@ ghost use Rattle.scan_commands.specs.Counting.{EndsCounts, TellsCountsBy, counts
 ghost use Rattle.scan_commands.specs.Reports.{EndsObject, TellsObject};
 
 use crate::lost_json::lost_line;
+use crate::pass_counts::PassCounts;
 use crate::recovering_fault::RecoveringFault;
 use program_io::{Counted, WriteFault};
 use stack_recovery::{Counts, KeptRuns};
@@ -18,7 +19,7 @@ use std::io::Write;
 /// - `Lost` with the counts if sectors are lost or unscraped.
 /// - `Write` if this line or an earlier one can't be written.
 pub fn tell_counts<'a, W: Write>(
-    counts: Counts,
+    counts: PassCounts,
     writer: &mut Counted<W>,
 ) -> Result<(), RecoveringFault<'a>>
     ensures ok { OnOk result (TellsCountsBy W.contents writer.old writer.new counts) }
@@ -27,7 +28,7 @@ pub fn tell_counts<'a, W: Write>(
     if writer.failed() {
         return Err(RecoveringFault::Write);
     }
-    if has_missing(counts) {
+    if has_missing(counts.sectors) {
         return Err(RecoveringFault::Lost(counts));
     }
     Ok(say_counts(writer, counts)?)
@@ -40,24 +41,30 @@ pub fn has_missing(counts: Counts) -> bool
     counts.lost > 0 || counts.untried > 0
 }
 
-/// Prints `read N lost N`, and `untried N` behind it if sectors are unscraped.
+/// Prints `read N lost N`, and behind it `untried N` if sectors are unscraped, and `restored N` if blocks were restored.
 ///
 /// # Errors
 ///
 /// `WriteFault` if the writer failed.
-pub fn say_counts<W: Write>(writer: &mut Counted<W>, counts: Counts) -> Result<(), WriteFault>
+pub fn say_counts<W: Write>(writer: &mut Counted<W>, counts: PassCounts) -> Result<(), WriteFault>
     ensures { Writes W.contents writer.old writer.new (counts_text counts) result }
 {
+    let PassCounts { sectors, restored } = counts;
     let Counts {
         read,
         lost,
         untried,
-    } = counts;
-    if untried == 0 {
-        writer.print(format_args!("read {read} lost {lost}\n"))
-    } else {
-        writer.print(format_args!("read {read} lost {lost} untried {untried}\n"))
+    } = sectors;
+    if restored == 0 {
+        if untried == 0 {
+            return writer.print(format_args!("read {read} lost {lost}\n"));
+        }
+        return writer.print(format_args!("read {read} lost {lost} untried {untried}\n"));
     }
+    if untried == 0 {
+        return writer.print(format_args!("read {read} lost {lost} restored {restored}\n"));
+    }
+    writer.print(format_args!("read {read} lost {lost} untried {untried} restored {restored}\n"))
 }
 
 /// Prints one JSON object with the counts and the lost runs.
@@ -70,7 +77,7 @@ pub fn say_counts<W: Write>(writer: &mut Counted<W>, counts: Counts) -> Result<(
 pub(crate) fn tell_object<'a, W: Write>(
     alloc: Global,
     kept: &KeptRuns,
-    counts: Counts,
+    counts: PassCounts,
     writer: &mut Counted<W>,
 ) -> Result<(), RecoveringFault<'a>>
     ensures ok { OnOk result (TellsObject W.contents kept.now counts writer.old writer.new) }
@@ -81,7 +88,7 @@ pub(crate) fn tell_object<'a, W: Write>(
     }
     let line = lost_line(alloc, kept.runs.as_slice(), counts)?;
     writer.put(line.as_bytes())?;
-    if has_missing(counts) {
+    if has_missing(counts.sectors) {
         return Err(RecoveringFault::LostAsSaid);
     }
     Ok(())

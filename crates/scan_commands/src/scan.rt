@@ -7,8 +7,9 @@ ghost use Rattle.scan_commands.specs.Scans.{EndsReporting, IsScanEnd, PrintsScan
 
 use crate::chart::tell_chart;
 use crate::map_file::map_at;
-use crate::map_use::use_map;
-use crate::passing::{Passing, run_pass};
+use crate::map_use::{map_plan, use_map};
+use crate::pass_counts::count_pass;
+use crate::passing::Passing;
 use crate::recovering_fault::RecoveringFault;
 use crate::report::{tell_counts, tell_object};
 use block_device::BlockDev;
@@ -53,7 +54,7 @@ pub fn scan_device<'a, I: Images, W: Write, P: Progress>(
     ensures ok { OnOk result (PrintedBy W.contents writer.old writer.new (PrintsScan (calls I.relations I.Dev.state images.old images.new) (words_to_scan source.entry plan.entry))) }
     ensures err { IfErr result (EndsPrintedBy W.contents writer.old writer.new (IsScanEnd (calls I.relations I.Dev.state images.old images.new) (words_to_scan source.entry plan.entry))) }
 {
-    let used = use_map(images, plan.map)?;
+    let used = use_map(images, map_plan(plan.map, MapKind::Scan, plan.retries))?;
     let (stack, device) = open_source(alloc, images, used, source)?;
     let out = Discard::new(stack.config().sectors(device));
     let retries = plan.retries;
@@ -84,17 +85,17 @@ fn report_scan<'a, I: Images, D: BlockDev, W: Write, P: Progress>(
     let map = map_at(plan.map, MapKind::Scan);
     match plan.form {
         ReportForm::Lines => {
-            let counts = run_pass(alloc, images, passing, map, writer, progress)?;
+            let counts = count_pass(alloc, images, passing, map, writer, progress)?;
             tell_counts(counts, writer)
         }
         ReportForm::Chart => {
             let mut runs = KeptRuns::new(alloc);
-            let charted = run_pass(alloc, images, passing, map, &mut runs, progress)?;
+            let charted = count_pass(alloc, images, passing, map, &mut runs, progress)?;
             tell_chart(&runs, charted, writer)
         }
         ReportForm::Object => {
             let mut kept = KeptRuns::new(alloc);
-            let found = run_pass(alloc, images, passing, map, &mut kept, progress)?;
+            let found = count_pass(alloc, images, passing, map, &mut kept, progress)?;
             tell_object(alloc, &kept, found, writer)
         }
     }

@@ -17,7 +17,9 @@ use image_files::Images;
 use rescue_map::{Map, Span, is_had, is_settled_from, print_map, sectors_of};
 use stack_config::DevId;
 use stack_engine::Stack;
-use stack_recovery::{Deadline, DevicePass, Listing, RecoveryFault, Rescued, rescue, skim};
+use stack_recovery::{
+    Deadline, DevicePass, FirstPass, LEAST_SKIP, Listing, RecoveryFault, Rescued, rescue, skim,
+};
 use std::alloc::Global;
 
 const LEAST_TURN: u64 = 131_072;
@@ -65,15 +67,15 @@ fn write_map<'a, I: Images>(
     tried: Option<u64>,
     no_scrape: bool,
 ) -> Result<(), PassFault<'a>>
-    ensures ok { OnOk result (I.relations.replaces images.old file.entry.path.now (map_text file.entry.kind no_scrape tried map.now) (Ok tt) images.new) }
-    ensures err { IfErr result (LeavesMap I.relations.replaces file.entry images.old (map_text file.entry.kind no_scrape tried map.now) images.new) }
+    ensures ok { OnOk result (I.relations.replaces images.old file.entry.path.now (map_text file.entry.kind no_scrape tried map.now file.entry.tail) (Ok tt) images.new) }
+    ensures err { IfErr result (LeavesMap I.relations.replaces file.entry images.old (map_text file.entry.kind no_scrape tried map.now file.entry.tail) images.new) }
 {
-    let text = print_map(alloc, file.kind, map, tried, no_scrape)?;
+    let text = print_map(alloc, file.kind, map, file.tail, tried, no_scrape)?;
     Ok(images.replace(file.path, text.as_slice())?)
 }
 
 /// A turn of a pass: whether failed pieces aren't searched, its sectors, the map before it, the map that it reads by, how many sectors
-/// before it are unscraped, and the time at which it ends early.
+/// before it are unscraped, how many the first pass skips after its next failed read, and the time at which the turn ends early.
 #[derive(Clone, Copy)]
 struct NextTurn<'a> {
     phase: Phase,
@@ -84,22 +86,26 @@ struct NextTurn<'a> {
     map: &'a Map,
     wanted: &'a Map,
     untried: u64,
+    skip: u64,
     seconds: u64,
 }
 
-/// The map after a turn, the sector before which the turn ended, and how many sectors before that one are unscraped.
+/// The map after a turn, the sector before which the turn ended, how many sectors before that one are unscraped, and how many the first
+/// pass skips after its next failed read.
 #[derive(Drop)]
 struct TurnEnd {
     map: Map,
     at: u64,
     untried: u64,
+    skip: u64,
 }
 
-/// The map of the sectors that were read, and how many are unscraped.
+/// The map of the sectors that were read, how many are unscraped, and how many the first pass skips after its next failed read.
 #[derive(Drop)]
 pub struct ReadMap {
     pub map: Map,
     pub untried: u64,
+    pub skip: u64,
 }
 
 // Reads the sectors of a turn until its time is up.
@@ -120,16 +126,22 @@ fn read_turn<D: BlockDev, O: SyncDev, L: Listing, P: Progress>(
     ensures ok { IfOk result (ReadsTurnBy O.state L.told d.0 turn.entry (parties stack.old out.old listing.old) (parties stack.new out.new listing.new)) }
     ensures err { IfErr result (EndsTurnRead O.state L.told d.0 turn.entry (parties stack.old out.old listing.old) (parties stack.new out.new listing.new)) }
 {
+    let deadline = Some(Deadline {
+        first: turn.span.first,
+        seconds: turn.seconds,
+    });
+    let first = FirstPass {
+        device: d,
+        skip: turn.skip,
+        deadline,
+    };
     let pass = DevicePass {
         device: d,
         no_scrape: turn.no_scrape,
-        deadline: Some(Deadline {
-            first: turn.span.first,
-            seconds: turn.seconds,
-        }),
+        deadline,
     };
     match turn.phase {
-        Phase::Skim => skim_left(alloc, stack, pass, out, turn.wanted, progress),
+        Phase::Skim => skim_left(alloc, stack, first, out, turn.wanted, progress),
         Phase::Rescue => read_left(alloc, stack, pass, out, turn.wanted, listing, progress),
         Phase::Retry => read_left(alloc, stack, pass, out, turn.wanted, listing, progress),
     }
@@ -139,7 +151,7 @@ fn read_turn<D: BlockDev, O: SyncDev, L: Listing, P: Progress>(
 fn skim_left<D: BlockDev, O: SyncDev, P: Progress>(
     alloc: Global,
     stack: &mut Stack<D>,
-    pass: DevicePass,
+    pass: FirstPass,
     out: &mut O,
     wanted: &Map,
     progress: &mut P,
@@ -149,10 +161,14 @@ fn skim_left<D: BlockDev, O: SyncDev, P: Progress>(
     requires room { size stack.old.config (mapped pass.device.0) ≤ (O.state out.old).size }
     requires allowed { IsTrue (O.state out.old).may_write }
     ensures ok { IfOk result (SkimsLeftBy O.state pass (marks wanted.now) (transfer stack.old out.old) (transfer stack.new out.new)) }
-    ensures err { IfErr result (EndsSkimBy O.state true (marks wanted.now) pass.device.0 (transfer stack.old out.old) (transfer stack.new out.new)) }
+    ensures err { IfErr result (EndsSkimBy O.state pass (marks wanted.now) (transfer stack.old out.old) (transfer stack.new out.new)) }
 {
     match skim(alloc, stack, pass, out, wanted, progress) {
-        Ok(map) => Ok(ReadMap { map, untried: 0 }),
+        Ok(skimmed) => Ok(ReadMap {
+            map: skimmed.map,
+            untried: 0,
+            skip: skimmed.skip,
+        }),
         Err(fault) => Err(fault),
     }
 }
@@ -179,6 +195,7 @@ fn read_left<D: BlockDev, O: SyncDev, L: Listing, P: Progress>(
     Ok(ReadMap {
         map,
         untried: counts.untried,
+        skip: LEAST_SKIP,
     })
 }
 
@@ -215,12 +232,17 @@ fn take_turn<'a, I: Images, D: BlockDev, O: SyncDev, L: Listing, P: Progress>(
     let untried = turn.untried.saturating_add(read.untried);
     let tried = tried_before(turn.phase, &map, at);
     write_map(alloc, images, turn.file, &map, tried, turn.no_scrape)?;
-    Ok(TurnEnd { map, at, untried })
+    Ok(TurnEnd {
+        map,
+        at,
+        untried,
+        skip: read.skip,
+    })
 }
 
 /// Reads the sectors of a mapped device that a map doesn't mark as read or, before a retry, as bad, by one pass in turns of at most 64 MiB, or about a
-/// 65,536th of a device above 4 TiB, and returns the new map and how many sectors are unscraped. A turn ends before a further piece once it has taken 30 seconds, but in
-/// the first pass not after a failed read.
+/// 65,536th of a device above 4 TiB, and returns the new map and how many sectors are unscraped. A turn ends before a further piece once it
+/// has taken 30 seconds. The next turn of the first pass skips as many sectors after its first failed read as this one would.
 ///
 /// Each turn copies the readable sectors to the same offset of another device, which has room for all, and syncs that device.
 /// Then it replaces the map file by the map of what was read and lost so far. An interruption therefore loses at most one turn.
@@ -260,6 +282,7 @@ pub fn read_in_turns<'a, I: Images, D: BlockDev, O: SyncDev, L: Listing, P: Prog
     } = kept;
     let maps = pass_maps(alloc, phase, &map, sectors)?;
     let mut untried = 0;
+    let mut skip = LEAST_SKIP;
     let mut at = 0;
     'turns: while at < sectors {
         let count = turn_len(sectors).min(sectors - at);
@@ -277,13 +300,15 @@ pub fn read_in_turns<'a, I: Images, D: BlockDev, O: SyncDev, L: Listing, P: Prog
                 map: &map,
                 wanted: &wanted,
                 untried,
+                skip,
                 seconds: progress.seconds().saturating_add(TURN_SECONDS),
             };
             let ended = take_turn(alloc, images, stack, d, out, turn, listing, progress)?;
             map = ended.map;
             at = ended.at;
             untried = ended.untried;
+            skip = ended.skip;
         }
     }
-    Ok(ReadMap { map, untried })
+    Ok(ReadMap { map, untried, skip })
 }

@@ -2,7 +2,7 @@
 use Rattle.std.specs.Io.KnownBytes.{Appends}
 use Rattle.std.specs.Prelude.{◌≡◌, ◌⊎◌, ◌≢◌, ℕ, Bool, true, false, codes, List, [], None, Ok, Option, Some, unwrap_or}
 use Rattle.command_line.specs.FormatOptions.{OptionTexts}
-use Rattle.command_line.specs.Invocations.{InvocationRecord, assemble, cat, copy, diff, dump, exports, find_in_place, format, format_fec, load, manual, nbd, partitions, read, repair, scan, session, store, table, table_tree, update, verify, verify_fec, verify_tree, version, write}
+use Rattle.command_line.specs.Invocations.{InvocationRecord, assemble, cat, copy, diff, dump, exports, find_in_place, format, format_fec, load, manual, nbd, partitions, read, repair, scan, session, store, table, table_fec, table_tree, update, verify, verify_fec, verify_tree, version, write}
 use Rattle.command_line.specs.words.Cat.{CatRecord}
 use Rattle.command_line.specs.words.Copy.{CopyRecord}
 use Rattle.command_line.specs.words.Exports.{ExportsRecord}
@@ -18,6 +18,7 @@ use Rattle.image_files.specs.Opener.{Calls}
 use Rattle.fec_commands.specs.declared.fault.FecFault.{FecFault}
 use Rattle.fec_commands.specs.Commands.{IsVerifyFecEnd, VerifiesFec}
 use Rattle.fec_commands.specs.Formatting.{FormatsFec, IsFormatFecEnd}
+use Rattle.fec_commands.specs.Tables.{IsTableFecEnd, PrintsFec}
 use Rattle.manual_pages.specs.Pages.{PageRecord, page_of}
 use Rattle.manual_pages.specs.Versions.{version_text}
 use Rattle.assemble_commands.specs.Commands.{AssemblesDisk}
@@ -201,6 +202,7 @@ Succeeds texts (verify_tree v) u = ChecksTree texts u.images v u.old.output u.ne
 Succeeds texts (table_tree t) u = PrintsTreeEntry texts u.images t u.old.output u.new.output
 Succeeds texts (format_fec f) u = FormatsFec texts u.images u.drawing f u.old.output u.new.output
 Succeeds texts (verify_fec v) u = VerifiesFec texts u.images v u.old.output u.new.output
+Succeeds texts (table_fec t) u = PrintsFec texts u.images t u.old.output u.new.output
 Succeeds texts (manual command) u = PrintsPage command u.old.output u.new.output × (u.images.new ≡ u.images.old)
 Succeeds texts version u = Appends u.old.output u.new.output version_text × (u.images.new ≡ u.images.old)
 
@@ -230,6 +232,7 @@ FailsCommand texts (verify_tree v) u failed fault = IsCheckTreeEnd texts u.image
 FailsCommand texts (table_tree t) u failed fault = IsVerityEnd (IsTableTreeEnd texts u.images t u.old.output u.new.output failed) fault
 FailsCommand texts (format_fec f) u failed fault = IsFecEnd (IsFormatFecEnd texts u.images u.drawing f u.old.output u.new.output failed) fault
 FailsCommand texts (verify_fec v) u failed fault = IsFecEnd (IsVerifyFecEnd texts u.images v u.old.output u.new.output failed) fault
+FailsCommand texts (table_fec t) u failed fault = IsFecEnd (IsTableFecEnd texts u.images t u.old.output u.new.output failed) fault
 FailsCommand texts (manual command) u failed fault = IsPageEnd command u.old.output u.new.output failed fault × (u.images.new ≡ u.images.old)
 FailsCommand texts version u failed fault = IsReplyUnwritten failed fault × (u.images.new ≡ u.images.old)
 

@@ -51,14 +51,28 @@ end_reason (Err service.TooManyOptions) = codes "the client sent too many option
 end_reason (Err service.ReadFault) = codes "the input failed"
 end_reason (Err service.WriteFault) = codes "the output failed"
 
--- how many requests were answered, of how many bytes, how many of these with an input/output error, how many because a device has
--- no space left, and why the session ended
-unfoldable pub served_line : Tally → List ℕ → List ℕ
-served_line t reason =
+-- how many requests were answered, of how many bytes, how many of these with an input/output error, and how many because a device
+-- has no space left
+unfoldable pub tally_text : Tally → List ℕ
+tally_text t =
     codes "dmstack: served "
     ++ (decimal t.requests
     ++ (codes " requests of "
-    ++ (decimal t.bytes ++ (codes " bytes, " ++ (decimal (t.faults - t.full) ++ (codes " with an input/output error, " ++ (decimal t.full ++ (codes " with NoSpace; " ++ (reason ++ codes "\n")))))))))
+    ++ (decimal t.bytes ++ (codes " bytes, " ++ (decimal (t.faults - t.full) ++ (codes " with an input/output error, " ++ (decimal t.full ++ codes " with NoSpace")))))))
+
+-- how many blocks were restored; nothing if none was
+unfoldable pub restored_text : ℕ → List ℕ
+restored_text count = if count == 0 then codes "" else codes ", restored " ++ (decimal count ++ codes " blocks")
+
+-- and why the session ended
+unfoldable pub reason_text : List ℕ → List ℕ
+reason_text reason = codes "; " ++ (reason ++ codes "\n")
+
+abbrev pub ending_text : ℕ → List ℕ → List ℕ
+ending_text restored reason = restored_text restored ++ reason_text reason
+
+abbrev pub served_line : Tally → ℕ → List ℕ → List ℕ
+served_line t restored reason = tally_text t ++ ending_text restored reason
 
 -- ---- what was printed
 
@@ -77,18 +91,19 @@ pub record Exchange : Type 0 where
 abbrev pub exchange : Streams → Streams → Bool → Notes → Exchange
 exchange old new quiet notes = record { old = old; new = new; quiet = quiet; notes = notes }
 
--- what is printed after a session: how many requests had faults that weren't printed, and its tally
-abbrev pub ended_text : SessionLog → List ℕ → List ℕ
-ended_text log reason = more_text (log.tally.faults - length log.first) ++ served_line log.tally reason
+-- what is printed after a session: how many requests had faults that weren't printed, and its tally, with the number of blocks that
+-- were restored
+abbrev pub ended_text : SessionLog → ℕ → List ℕ → List ℕ
+ended_text log restored reason = more_text (log.tally.faults - length log.first) ++ served_line log.tally restored reason
 
-abbrev pub end_text : SessionLog → Result SessionEnd ServiceFault → List ℕ
-end_text log outcome = ended_text log (end_reason outcome)
+abbrev pub end_text : SessionLog → ℕ → Result SessionEnd ServiceFault → List ℕ
+end_text log restored outcome = ended_text log restored (end_reason outcome)
 
 -- a client was served these exports; a line for each was printed before, one for each of the first faults, and those on the tally
 -- after
 pub record ServesNoted (x : Exchange) (exports : List ExportRecord) (begin last : World) (log : SessionLog) (outcome : Result SessionEnd ServiceFault) : Type 0 where
   pub service : IsService exports begin last x.old x.new log outcome
-  pub noted : IsNotedUnless x.quiet x.notes (start_text exports ++ (fault_lines exports log.first ++ end_text log outcome))
+  pub noted : IsNotedUnless x.quiet x.notes (start_text exports ++ (fault_lines exports log.first ++ end_text log (last.stack.restored - begin.stack.restored) outcome))
 
 -- nothing was read, written or printed
 abbrev pub IsUnbegun : Exchange → Type 0

@@ -25,7 +25,7 @@ use assemble_commands::invoke_assemble;
 use command_line::Invocation;
 use command_parser::CommandLine;
 use device_adapters::{Progress, Watchers};
-use fec_commands::{invoke_format_fec, invoke_verify_fec};
+use fec_commands::{invoke_format_fec, invoke_table_fec, invoke_verify_fec};
 use find_commands::invoke_find;
 use image_commands::Generators;
 use image_files::Images;
@@ -139,6 +139,9 @@ pub fn invoke<'a, I: Images, G: Generators + Progress + Watchers, S: Read, W: Wr
         Invocation::VerifyFec(words) => {
             Ok(invoke_verify_fec(alloc, images, generators, &words, &options, writer)?)
         }
+        Invocation::TableFec(words) => Ok(invoke_table_fec(
+            alloc, images, &words, &options, writer,
+        )?),
         Invocation::Manual(command) => show_page(command, writer),
         Invocation::Version => Ok(print_version(writer)?),
     }

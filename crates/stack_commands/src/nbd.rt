@@ -7,7 +7,7 @@ ghost use Rattle.stack_commands.specs.ServiceLog.{ServesNoted};
 
 use crate::client::Client;
 use crate::fault::CommandFault;
-use crate::service_log::{note_end, note_start};
+use crate::service_log::{note_end, note_start, restored_since};
 use block_device::{BlockDev, SyncDev};
 use command_line::{Binding, ExportsWords, NbdWords, ServedDevice};
 use image_files::Images;
@@ -156,7 +156,9 @@ fn serve_noted<D: SyncDev, R: Read, W: Write, E: Write>(
         return serve(alloc, queue, exports, reader, writer, log);
     }
     note_start(errors, exports);
+    let before = restored_since(queue, 0);
     let outcome = serve_logged(queue, exports, reader, writer, errors, log);
-    note_end(errors, log, &outcome);
+    let restored = restored_since(queue, before);
+    note_end(errors, log, restored, &outcome);
     outcome
 }

@@ -3,11 +3,13 @@ ghost use Rattle.std.specs.Prelude.{◌≡◌, ◌-◌, flat_map, length};
 ghost use Rattle.nbd_protocol.specs.Exports.{export_record, export_records};
 ghost use Rattle.nbd_server.specs.FaultLines.{IsPrinted};
 ghost use Rattle.program_io.specs.Counted.{Writes};
-ghost use Rattle.stack_commands.specs.ServiceLog.{end_reason, end_text, ended_text, export_facts, export_line, more_text, named_facts, rights_text, served_line, start_text};
+ghost use Rattle.stack_commands.specs.ServiceLog.{end_reason, end_text, ended_text, ending_text, export_facts, export_line, more_text, named_facts, reason_text, restored_text, rights_text, served_line, start_text, tally_text};
 
+use block_device::BlockDev;
 use nbd_protocol::Export;
 use nbd_server::{ServiceFault, SessionEnd, SessionLog, Tally};
 use program_io::{Counted, WriteFault};
+use request_queue::Queue;
 use std::io::Write;
 
 /// Prints a line for each export.
@@ -18,15 +20,24 @@ pub(crate) fn note_start<E: Write>(errors: &mut Counted<E>, exports: &[Export<'_
 }
 
 /// Prints how many requests had faults that weren't printed, how many requests were answered, of how many bytes, how many of them
-/// with an input/output error, how many because a device has no space left, and why the session ended.
+/// with an input/output error, how many because a device has no space left, how many blocks were restored, if any, and why the
+/// session ended.
 pub(crate) fn note_end<E: Write>(
     errors: &mut Counted<E>,
     log: &SessionLog,
+    restored: u64,
     outcome: &Result<SessionEnd, ServiceFault>,
 )
-    ensures { IsPrinted E.contents errors.old errors.new (end_text log.now outcome.now) }
+    ensures { IsPrinted E.contents errors.old errors.new (end_text log.now restored outcome.now) }
 {
-    let _said = say_end(errors, log, end_reason(outcome));
+    let _said = say_end(errors, log, restored, end_reason(outcome));
+}
+
+/// Returns how many blocks the stack has restored since it had restored that many.
+pub(crate) fn restored_since<D: BlockDev>(queue: &Queue<D>, before: u64) -> u64
+    ensures { result ≡ queue.now.stack.restored - before }
+{
+    queue.stack().restored().saturating_sub(before)
 }
 
 // Why a session ended.
@@ -92,14 +103,10 @@ fn rights_text(writable: bool) -> &'static str
     if writable { "rw" } else { "ro" }
 }
 
-// `dmstack: served R requests of B bytes, F with an input/output error, N with NoSpace; REASON`
-#[tactic(auto, unfolding(crate::specs::ServiceLog::served_line))]
-fn say_served<W: Write>(
-    writer: &mut Counted<W>,
-    tally: Tally,
-    reason: &str,
-) -> Result<(), WriteFault>
-    ensures { Writes W.contents writer.old writer.new (served_line tally reason.now) result }
+// `dmstack: served R requests of B bytes, F with an input/output error, N with NoSpace`
+#[tactic(auto, unfolding(crate::specs::ServiceLog::tally_text))]
+fn say_tally<W: Write>(writer: &mut Counted<W>, tally: Tally) -> Result<(), WriteFault>
+    ensures { Writes W.contents writer.old writer.new (tally_text tally) result }
 {
     let Tally {
         requests,
@@ -109,21 +116,64 @@ fn say_served<W: Write>(
     } = tally;
     let failed = faults.saturating_sub(full);
     writer.print(format_args!(
-        "dmstack: served {requests} requests of {bytes} bytes, {failed} with an input/output error, {full} with NoSpace; {reason}\n"
+        "dmstack: served {requests} requests of {bytes} bytes, {failed} with an input/output error, {full} with NoSpace"
     ))
+}
+
+// `, restored K blocks`, if some were
+#[tactic(auto, unfolding(crate::specs::ServiceLog::restored_text))]
+fn say_restored<W: Write>(writer: &mut Counted<W>, count: u64) -> Result<(), WriteFault>
+    ensures { Writes W.contents writer.old writer.new (restored_text count) result }
+{
+    if count == 0 {
+        return writer.put(b"");
+    }
+    writer.print(format_args!(", restored {count} blocks"))
+}
+
+// `; REASON`
+#[tactic(auto, unfolding(crate::specs::ServiceLog::reason_text))]
+fn say_reason<W: Write>(writer: &mut Counted<W>, reason: &str) -> Result<(), WriteFault>
+    ensures { Writes W.contents writer.old writer.new (reason_text reason.now) result }
+{
+    writer.print(format_args!("; {reason}\n"))
+}
+
+fn say_ending<W: Write>(
+    writer: &mut Counted<W>,
+    restored: u64,
+    reason: &str,
+) -> Result<(), WriteFault>
+    ensures { Writes W.contents writer.old writer.new (ending_text restored reason.now) result }
+{
+    say_restored(writer, restored)?;
+    say_reason(writer, reason)
+}
+
+fn say_served<W: Write>(
+    writer: &mut Counted<W>,
+    tally: Tally,
+    restored: u64,
+    reason: &str,
+) -> Result<(), WriteFault>
+    ensures { Writes W.contents writer.old writer.new (served_line tally restored reason.now) result }
+{
+    say_tally(writer, tally)?;
+    say_ending(writer, restored, reason)
 }
 
 // What is printed after a session.
 fn say_end<W: Write>(
     writer: &mut Counted<W>,
     log: &SessionLog,
+    restored: u64,
     reason: &str,
 ) -> Result<(), WriteFault>
-    ensures { Writes W.contents writer.old writer.new (ended_text log.now reason.now) result }
+    ensures { Writes W.contents writer.old writer.new (ended_text log.now restored reason.now) result }
 {
     let shown = log.first.as_slice().len() as u64;
     say_more(writer, log.tally.faults.saturating_sub(shown))?;
-    say_served(writer, log.tally, reason)
+    say_served(writer, log.tally, restored, reason)
 }
 
 // `dmstack: N more faulty requests`, if there are some

@@ -20,10 +20,13 @@ use Rattle.stack_lines.specs.declared.source.VerityPart.{VerityPart}
 use Rattle.stack_lines.specs.declared.tree.Extent.{Extent}
 use Rattle.verified_cache.specs.Cache.{CachedBlock}
 use Rattle.stack_engine.specs.declared.backing.Backing.{Backing}
+use Rattle.stack_engine.specs.Backings.{served}
 use Rattle.stack_engine.specs.Healing.{unhealed}
 use Rattle.stack_engine.specs.ReadSteps.{GivesAny}
+use Rattle.stack_engine.specs.Restored.{Served, after_spare}
 use Rattle.stack_engine.specs.SectorCalls.{AreReadTogether, DataPlace, DataRead, Gives, LeadsTo, ReadsBy, blocks_of, bytes_before, data_of, last_bytes, next_place, blocks_left, place_at, whole_data, blocks_read, next_ignored, next_checked, next_healed, next_differs, spare_of, together_read, together_unread, blocks_end, blocks_next, blocks_full}
-use Rattle.stack_engine.proofs.LeafCallLemmas.{makes-none, makes-as, makes-then}
+use Rattle.stack_engine.proofs.LeafCallLemmas.{makes-then}
+use Rattle.stack_engine.proofs.ReadCallLemmas.{reads-none, reads-as, reads-then}
 use Rattle.stack_engine.proofs.SectorCallLemmas.{before-none, before-before}
 
 -- the bytes of blocks j to r that were read, in a buffer
@@ -32,12 +35,12 @@ ahead size r j out = take ((r - j) * size) (drop (j * size) out)
 
 -- The first j of n sectors' blocks are in the buffer, and those up to block r were read: with the calls that read the rest, all are
 -- read. And the same after the way to block j, of which that digest is expected, where the last hash block has those bytes.
-pub record BlocksUpTo {D : Type 0} (does : D → Call → D → Type 0) (c : Configuration) (x : VerityPart) (n r j : ℕ) (out : List ℕ) (old mid : List D) : Type 0 where
-  pub later : (new : List D) (answer : Result (List ℕ) IoFault) → ReadsBy does c (blocks_of (place_at x (x.first / block_sectors x.verity.now + j)) (n / block_sectors x.verity.now - j) (ahead x.verity.now.data_block r j out)) mid new answer
+pub record BlocksUpTo {D : Type 0} (does : D → Call → D → Type 0) (c : Configuration) (x : VerityPart) (n r j : ℕ) (out : List ℕ) (old mid : Served D) : Type 0 where
+  pub later : (new : Served D) (answer : Result (List ℕ) IoFault) → ReadsBy does c (blocks_of (place_at x (x.first / block_sectors x.verity.now + j)) (n / block_sectors x.verity.now - j) (ahead x.verity.now.data_block r j out)) mid new answer
       → Gives does c (Blocks x) n old new (bytes_before (take (j * x.verity.now.data_block) out) answer)
 
-pub record WayUpTo {D : Type 0} (does : D → Call → D → Type 0) (c : Configuration) (x : VerityPart) (n r j : ℕ) (out : List ℕ) (way : List ℕ × List ℕ) (old mid : List D) : Type 0 where
-  pub later : (new : List D) (answer : Result (List ℕ) IoFault) → ReadsBy does c (data_of (place_at x (x.first / block_sectors x.verity.now + j)) 0 way.0 way.1 (blocks_left (n / block_sectors x.verity.now - j) (ahead x.verity.now.data_block r j out))) mid new answer
+pub record WayUpTo {D : Type 0} (does : D → Call → D → Type 0) (c : Configuration) (x : VerityPart) (n r j : ℕ) (out : List ℕ) (way : List ℕ × List ℕ) (old mid : Served D) : Type 0 where
+  pub later : (new : Served D) (answer : Result (List ℕ) IoFault) → ReadsBy does c (data_of (place_at x (x.first / block_sectors x.verity.now + j)) 0 way.0 way.1 (blocks_left (n / block_sectors x.verity.now - j) (ahead x.verity.now.data_block r j out))) mid new answer
       → Gives does c (Blocks x) n old new (bytes_before (take (j * x.verity.now.data_block) out) answer)
 
 ahead-none : (size r j : ℕ) (out : List ℕ) → r ≤ j → ahead size r j out ≡ []
@@ -97,15 +100,15 @@ together-at x n j many expected {p = p} {left = left} {last = last} {way = way} 
     (sym is ∙ together.0, subst (λ (q : DataPlace). AreReadTogether q way (n / block_sectors x.verity.now - j) many) same (subst (λ (k : ℕ). AreReadTogether p way (k - j) many) all (subst (λ (l : List ℕ). AreReadTogether p l (left - j) many) goes together.1)))
 
 module _ {D : Type 0} {does : D → Call → D → Type 0} {c : Configuration} (x : VerityPart) where
-  pub row-stays : (size many : ℕ) {from : Lower} {first : ℕ} {slice : List ℕ} {old new : Backing D} {answer : Result (List ℕ) IoFault} → length slice ≡ many * size → GivesAny does c (from, first) slice old new answer → many ≡ 0 → new.devices.items ≡ old.devices.items
+  pub row-stays : (size many : ℕ) {from : Lower} {first : ℕ} {slice : List ℕ} {old new : Backing D} {answer : Result (List ℕ) IoFault} → length slice ≡ many * size → GivesAny does c (from, first) slice old new answer → many ≡ 0 → served new ≡ served old
   row-stays size many {slice = slice} len gives none = let nothing : 0 * size ≡ 0 = omega arith in let empty : length slice ≡ 0 = len ∙ ap (λ (k : ℕ). k * size) none ∙ nothing in (gives.none empty).0
 
   pub gives-at : (j many : ℕ) {from : Lower} {first : ℕ} {slice : List ℕ} {old new : Backing D} {answer : Result (List ℕ) IoFault} → from ≡ x.data → first ≡ block_sectors x.verity.now * (x.first / block_sectors x.verity.now + j) → length slice / 512 ≡ many * block_sectors x.verity.now → 0 < length slice
-      → GivesAny does c (from, first) slice old new answer → Gives does c (Below x.data (block_sectors x.verity.now * (x.first / block_sectors x.verity.now + j))) (many * block_sectors x.verity.now) old.devices.items new.devices.items answer
+      → GivesAny does c (from, first) slice old new answer → Gives does c (Below x.data (block_sectors x.verity.now * (x.first / block_sectors x.verity.now + j))) (many * block_sectors x.verity.now) (served old) (served new) answer
   gives-at j many {from = from} {first = first} {slice = slice} {old = old} {new = new} {answer = answer} on at sectors some gives =
-      subst (λ (l : Lower). Gives does c (Below l (block_sectors x.verity.now * (x.first / block_sectors x.verity.now + j))) (many * block_sectors x.verity.now) old.devices.items new.devices.items answer) on
-      (subst (λ (s : ℕ). Gives does c (Below from s) (many * block_sectors x.verity.now) old.devices.items new.devices.items answer) at
-      (subst (λ (k : ℕ). Gives does c (Below from first) k old.devices.items new.devices.items answer) sectors (gives.some some)))
+      subst (λ (l : Lower). Gives does c (Below l (block_sectors x.verity.now * (x.first / block_sectors x.verity.now + j))) (many * block_sectors x.verity.now) (served old) (served new) answer) on
+      (subst (λ (s : ℕ). Gives does c (Below from s) (many * block_sectors x.verity.now) (served old) (served new) answer) at
+      (subst (λ (k : ℕ). Gives does c (Below from first) k (served old) (served new) answer) sectors (gives.some some)))
 
 -- the size of a block of a part, how many of them n sectors are, and where the j-th is
 abbrev block_size : VerityPart → ℕ
@@ -119,7 +122,7 @@ nth_place x j = place_at x (x.first / block_sectors x.verity.now + j)
 
 module _ {D : Type 0} {does : D → Call → D → Type 0} {c : Configuration} {x : VerityPart} {n : ℕ} where
   -- none of them yet
-  pub blocks-begin : (out : List ℕ) {old : List D} → BlocksUpTo does c x n 0 0 out old old
+  pub blocks-begin : (out : List ℕ) {old : Served D} → BlocksUpTo does c x n 0 0 out old old
   blocks-begin out {old = old} = record {
     later = λ new answer h.
         let at : x.first / block_sectors x.verity.now + 0 ≡ x.first / block_sectors x.verity.now = omega arith in
@@ -127,47 +130,47 @@ module _ {D : Type 0} {does : D → Call → D → Type 0} {c : Configuration} {
         let none : 0 * block_size x ≡ 0 = omega arith in
         subst (λ (k : ℕ). Gives does c (Blocks x) n old new (bytes_before (take k out) answer)) (sym none)
         (subst (λ (a : Result (List ℕ) IoFault). Gives does c (Blocks x) n old new a) (sym (before-none answer))
-        (makes-as (λ calls a. blocks_read a)
+        (reads-as (λ calls a. blocks_read a)
         (subst (λ (k : ℕ). ReadsBy does c (blocks_of (place_at x k) (blocks_in x n) []) old new answer) at
         (subst (λ (k : ℕ). ReadsBy does c (blocks_of (nth_place x 0) k []) old new answer) all
         (subst (λ (l : List ℕ). ReadsBy does c (blocks_of (nth_place x 0) (blocks_in x n - 0) l) old new answer) (ahead-none (block_size x) 0 0 out (omega arith)) h)))));
   }
 
   -- all of them
-  pub blocks-given : {r j : ℕ} {out : List ℕ} {old new : List D} → BlocksUpTo does c x n r j out old new → blocks_in x n ≤ j → length out ≤ j * block_size x → Gives does c (Blocks x) n old new (Ok out)
+  pub blocks-given : {r j : ℕ} {out : List ℕ} {old new : Served D} → BlocksUpTo does c x n r j out old new → blocks_in x n ≤ j → length out ≤ j * block_size x → Gives does c (Blocks x) n old new (Ok out)
   blocks-given {r = r} {j = j} {out = out} {old = old} {new = new} h last long =
       let none : 0 ≡ blocks_in x n - j = omega (arith, last) in
-      let one = h.later new (Ok []) (subst (λ (k : ℕ). ReadsBy does c (blocks_of (nth_place x j) k (ahead (block_size x) r j out)) new new (Ok [])) none (makes-none (blocks_end (nth_place x j) (ahead (block_size x) r j out)))) in
+      let one = h.later new (Ok []) (subst (λ (k : ℕ). ReadsBy does c (blocks_of (nth_place x j) k (ahead (block_size x) r j out)) new new (Ok [])) none (reads-none (blocks_end (nth_place x j) (ahead (block_size x) r j out)))) in
       subst (λ (l : List ℕ). Gives does c (Blocks x) n old new (Ok l)) (append-nil (take (j * block_size x) out) ∙ take_all (j * block_size x) out long) one
 
   -- memory ran out before the next one
-  pub blocks-short : {r j : ℕ} {out : List ℕ} {old new : List D} → BlocksUpTo does c x n r j out old new → Gives does c (Blocks x) n old new (Err io.NoMemory)
-  blocks-short {r = r} {j = j} {out = out} {new = new} h = h.later new (Err io.NoMemory) (makes-none (blocks_full (nth_place x j) (blocks_in x n - j) (ahead (block_size x) r j out)))
+  pub blocks-short : {r j : ℕ} {out : List ℕ} {old new : Served D} → BlocksUpTo does c x n r j out old new → Gives does c (Blocks x) n old new (Err io.NoMemory)
+  blocks-short {r = r} {j = j} {out = out} {new = new} h = h.later new (Err io.NoMemory) (reads-none (blocks_full (nth_place x j) (blocks_in x n - j) (ahead (block_size x) r j out)))
 
   -- the way to the next one was walked, or ended by a fault
-  module _ {r j : ℕ} {out : List ℕ} {old mid : List D} (h : BlocksUpTo does c x n r j out old mid) (more : j < blocks_in x n) where
+  module _ {r j : ℕ} {out : List ℕ} {old mid : Served D} (h : BlocksUpTo does c x n r j out old mid) (more : j < blocks_in x n) where
     left : blocks_in x n - j ≡ suc (blocks_in x n - (j + 1))
     left = omega (arith, more)
 
-    from-way : {new : List D} {answer : Result (List ℕ) IoFault} → ReadsBy does c (whole_data (nth_place x j) (blocks_left (blocks_in x n - j) (ahead (block_size x) r j out))) mid new answer → Gives does c (Blocks x) n old new (bytes_before (take (j * block_size x) out) answer)
+    from-way : {new : Served D} {answer : Result (List ℕ) IoFault} → ReadsBy does c (whole_data (nth_place x j) (blocks_left (blocks_in x n - j) (ahead (block_size x) r j out))) mid new answer → Gives does c (Blocks x) n old new (bytes_before (take (j * block_size x) out) answer)
     from-way {new = new} {answer = answer} a =
         h.later new answer (subst (λ (k : ℕ). ReadsBy does c (blocks_of (nth_place x j) k (ahead (block_size x) r j out)) mid new answer) (sym left)
-        (makes-as (λ calls b. blocks_next b) (subst (λ (k : ℕ). ReadsBy does c (whole_data (nth_place x j) (blocks_left k (ahead (block_size x) r j out))) mid new answer) left a)))
+        (reads-as (λ calls b. blocks_next b) (subst (λ (k : ℕ). ReadsBy does c (whole_data (nth_place x j) (blocks_left k (ahead (block_size x) r j out))) mid new answer) left a)))
 
-    pub blocks-way : {p : DataPlace} {expected last : List ℕ} {walk : List D} → p ≡ nth_place x j → ((next : DataRead) → LeadsTo does c (whole_data p next) (data_of p 0 expected last next) mid walk) → WayUpTo does c x n r j out (expected, last) old walk
+    pub blocks-way : {p : DataPlace} {expected last : List ℕ} {walk : Served D} → p ≡ nth_place x j → ((next : DataRead) → LeadsTo does c (whole_data p next) (data_of p 0 expected last next) mid walk) → WayUpTo does c x n r j out (expected, last) old walk
     blocks-way {p = p} {expected = expected} {last = last} {walk = walk} same led =
         let next : DataRead = blocks_left (blocks_in x n - j) (ahead (block_size x) r j out) in
         let here = subst (λ (q : DataPlace). LeadsTo does c (whole_data q next) (data_of q 0 expected last next) mid walk) same (led next) in
         record { later = λ new answer rest. from-way (here.later new answer rest) }
 
-    pub blocks-unled : {p : DataPlace} {fault : IoFault} {walk : List D} → p ≡ nth_place x j → ((next : DataRead) → ReadsBy does c (whole_data p next) mid walk (Err fault)) → Gives does c (Blocks x) n old walk (Err fault)
+    pub blocks-unled : {p : DataPlace} {fault : IoFault} {walk : Served D} → p ≡ nth_place x j → ((next : DataRead) → ReadsBy does c (whole_data p next) mid walk (Err fault)) → Gives does c (Blocks x) n old walk (Err fault)
     blocks-unled {p = p} {fault = fault} {walk = walk} same ended =
         let next : DataRead = blocks_left (blocks_in x n - j) (ahead (block_size x) r j out) in
         from-way (subst (λ (q : DataPlace). ReadsBy does c (whole_data q next) mid walk (Err fault)) same (ended next))
 
   -- a row of blocks was read, or none
-  module _ {r j : ℕ} {out : List ℕ} {way : List ℕ × List ℕ} {old walk : List D} (h : WayUpTo does c x n r j out way old walk) (many : ℕ) where
-    pub row-given : {row : List ℕ} {new : List D} (w : ℕ) → w ≡ many * block_size x → length row ≡ many * block_size x → j * block_size x + many * block_size x ≤ length out → (many ≡ 0) ⊎ (r ≤ j)
+  module _ {r j : ℕ} {out : List ℕ} {way : List ℕ × List ℕ} {old walk : Served D} (h : WayUpTo does c x n r j out way old walk) (many : ℕ) where
+    pub row-given : {row : List ℕ} {new : Served D} (w : ℕ) → w ≡ many * block_size x → length row ≡ many * block_size x → j * block_size x + many * block_size x ≤ length out → (many ≡ 0) ⊎ (r ≤ j)
         → (0 < many → (is_ignored x.verity.now way.0 ≡ false) × AreReadTogether (nth_place x j) way.1 (blocks_in x n - j) many)
         → (many ≡ 0 → new ≡ walk) → (0 < many → Gives does c (Below x.data (block_sectors x.verity.now * (x.first / block_sectors x.verity.now + j))) (many * block_sectors x.verity.now) walk new (Ok row))
         → WayUpTo does c x n (max r (j + many)) j (put_mid (j * block_size x) w out row) way old new
@@ -182,7 +185,7 @@ module _ {D : Type 0} {does : D → Call → D → Type 0} {c : Configuration} {
             ∙ between-put_mid (j * block_size x) w out row (j * block_size x + many * block_size x) (omega (arith, fits)) (omega (arith, wide)) in
             let front : take (j * block_size x) (put_mid (j * block_size x) w out row) ≡ take (j * block_size x) out = take-put_mid_below (j * block_size x) w out row (j * block_size x) (omega arith) (omega (arith, fits)) in
             let later = subst (λ (l : List ℕ). ReadsBy does c (data_of (nth_place x j) 0 way.0 way.1 (blocks_left (blocks_in x n - j) l)) new end answer) next rest in
-            let one : ReadsBy does c (data_of (nth_place x j) 0 way.0 way.1 (blocks_left (blocks_in x n - j) [])) walk end answer = makes-then (λ calls later a b. together_read (together some).0 (together some).1 a b) (gives some) later in
+            let one : ReadsBy does c (data_of (nth_place x j) 0 way.0 way.1 (blocks_left (blocks_in x n - j) [])) walk end answer = reads-then (λ calls later a b. together_read (together some).0 (together some).1 a b) (gives some) later in
             subst (λ (l : List ℕ). Gives does c (Blocks x) n old end (bytes_before l answer)) (sym front)
             (h.later end answer (subst (λ (l : List ℕ). ReadsBy does c (data_of (nth_place x j) 0 way.0 way.1 (blocks_left (blocks_in x n - j) l)) walk end answer) (sym (ahead-none (block_size x) r j out low)) one))
         | inr high ↦
@@ -195,7 +198,7 @@ module _ {D : Type 0} {does : D → Call → D → Type 0} {c : Configuration} {
             let later = subst (λ (k : ℕ). ReadsBy does c (data_of (nth_place x j) 0 way.0 way.1 (blocks_left (blocks_in x n - j) (take (k * block_size x) (drop (j * block_size x) out)))) new end answer) rows
             (subst (λ (l : List ℕ). ReadsBy does c (data_of (nth_place x j) 0 way.0 way.1 (blocks_left (blocks_in x n - j) (ahead (block_size x) (max r (j + many)) j l))) new end answer) stays rest) in
             subst (λ (l : List ℕ). Gives does c (Blocks x) n old end (bytes_before (take (j * block_size x) l) answer)) (sym stays)
-            (h.later end answer (subst (λ (ds : List D). ReadsBy does c (data_of (nth_place x j) 0 way.0 way.1 (blocks_left (blocks_in x n - j) (ahead (block_size x) r j out))) ds end answer) (same none) later))
+            (h.later end answer (subst (λ (ds : Served D). ReadsBy does c (data_of (nth_place x j) 0 way.0 way.1 (blocks_left (blocks_in x n - j) (ahead (block_size x) r j out))) ds end answer) (same none) later))
       ];
     }
       where
@@ -203,14 +206,14 @@ module _ {D : Type 0} {does : D → Call → D → Type 0} {c : Configuration} {
         put-none a xs [] none = take-append-drop a xs
         put-none a xs (y ∷ ys) none = absurd (omega (arith, none))
 
-    pub row-ungiven : {fault : IoFault} {new : List D} → r ≤ j → (is_ignored x.verity.now way.0 ≡ false) × AreReadTogether (nth_place x j) way.1 (blocks_in x n - j) many
+    pub row-ungiven : {fault : IoFault} {new : Served D} → r ≤ j → (is_ignored x.verity.now way.0 ≡ false) × AreReadTogether (nth_place x j) way.1 (blocks_in x n - j) many
         → Gives does c (Below x.data (block_sectors x.verity.now * (x.first / block_sectors x.verity.now + j))) (many * block_sectors x.verity.now) walk new (Err fault) → Gives does c (Blocks x) n old new (Err fault)
     row-ungiven {fault = fault} {new = new} low together gives =
-        h.later new (Err fault) (subst (λ (l : List ℕ). ReadsBy does c (data_of (nth_place x j) 0 way.0 way.1 (blocks_left (blocks_in x n - j) l)) walk new (Err fault)) (sym (ahead-none (block_size x) r j out low)) (makes-as (λ calls a. together_unread together.0 together.1 a) gives))
+        h.later new (Err fault) (subst (λ (l : List ℕ). ReadsBy does c (data_of (nth_place x j) 0 way.0 way.1 (blocks_left (blocks_in x n - j) l)) walk new (Err fault)) (sym (ahead-none (block_size x) r j out low)) (reads-as (λ calls a. together_unread together.0 together.1 a) gives))
 
   -- ---- the block itself
 
-  module _ {r j : ℕ} {out : List ℕ} {way : List ℕ × List ℕ} {old new : List D} (h : WayUpTo does c x n r j out way old new) (w : ℕ) (w_is : w ≡ block_size x) (more : j < blocks_in x n) (whole : block_size x ≡ 512 * block_sectors x.verity.now) (end : j * block_size x + block_size x ≤ length out) where
+  module _ {r j : ℕ} {out : List ℕ} {way : List ℕ × List ℕ} {old new : Served D} (h : WayUpTo does c x n r j out way old new) (w : ℕ) (w_is : w ≡ block_size x) (more : j < blocks_in x n) (whole : block_size x ≡ 512 * block_sectors x.verity.now) (end : j * block_size x + block_size x ≤ length out) where
     abbrev stood : List ℕ
     stood = take w (drop (j * block_size x) out)
 
@@ -227,13 +230,13 @@ module _ {D : Type 0} {does : D → Call → D → Type 0} {c : Configuration} {
     stood-first low = ap (λ (l : List ℕ). l ++ drop (block_size x) (ahead (block_size x) r j out)) (sym stood-is) ∙ ahead-first (block_size x) r j out low
 
     -- it has another digest, and its spare can't be read
-    pub block-unhealed : is_ignored x.verity.now way.0 ≡ false → j < r → (digest x.verity.now.salt stood ≡ way.0 → ⊥) → {to : List D} (vain : IoFault) → ReadsBy does c (spare_of (nth_place x j) way.0) new to (Err vain) → Gives does c (Blocks x) n old to (Err (unhealed why.Mismatch vain))
+    pub block-unhealed : is_ignored x.verity.now way.0 ≡ false → j < r → (digest x.verity.now.salt stood ≡ way.0 → ⊥) → {to : Served D} (vain : IoFault) → ReadsBy does c (spare_of (nth_place x j) way.0) new to (Err vain) → Gives does c (Blocks x) n old to (Err (unhealed why.Mismatch vain))
     block-unhealed used low other {to = to} vain got =
         h.later to (Err (unhealed why.Mismatch vain)) (subst (λ (l : List ℕ). ReadsBy does c (data_of (nth_place x j) 0 way.0 way.1 (blocks_left (blocks_in x n - j) l)) new to (Err (unhealed why.Mismatch vain))) (stood-first low)
-        (makes-as (λ calls a. next_differs (blocks_in x n - j) stood (drop (block_size x) (ahead (block_size x) r j out)) way.1 used (stood-wide ∙ whole) other a) got))
+        (reads-as (λ calls a. next_differs (blocks_in x n - j) stood (drop (block_size x) (ahead (block_size x) r j out)) way.1 used (stood-wide ∙ whole) other a) got))
 
-    block-on : {to : List D} (block : List ℕ) → length block ≡ block_size x
-        → ((end : List D) (answer : Result (List ℕ) IoFault) → ReadsBy does c (blocks_of (next_place (nth_place x j)) (blocks_in x n - (j + 1)) (drop (block_size x) (ahead (block_size x) r j out))) to end answer → ReadsBy does c (data_of (nth_place x j) 0 way.0 way.1 (blocks_left (suc (blocks_in x n - (j + 1))) (ahead (block_size x) r j out))) new end (bytes_before block answer))
+    block-on : {to : Served D} (block : List ℕ) → length block ≡ block_size x
+        → ((end : Served D) (answer : Result (List ℕ) IoFault) → ReadsBy does c (blocks_of (next_place (nth_place x j)) (blocks_in x n - (j + 1)) (drop (block_size x) (ahead (block_size x) r j out))) to end answer → ReadsBy does c (data_of (nth_place x j) 0 way.0 way.1 (blocks_left (suc (blocks_in x n - (j + 1))) (ahead (block_size x) r j out))) new end (bytes_before block answer))
         → BlocksUpTo does c x n r (j + 1) (put_mid (j * block_size x) w out block) old to
     block-on {to = to} block wide step = record {
       later = λ end answer rest.
@@ -250,17 +253,17 @@ module _ {D : Type 0} {does : D → Call → D → Type 0} {c : Configuration} {
         → BlocksUpTo does c x n r (j + 1) (put_mid (j * block_size x) w out block) old new
     block-settled true block is low zeros good =
         subst (λ (b : List ℕ). BlocksUpTo does c x n r (j + 1) (put_mid (j * block_size x) w out b) old new) (sym (zeros refl ∙ ap (λ (k : ℕ). replicate k 0) stood-wide))
-        (block-on (zero_block x.verity.now) (length-replicate (block_size x) 0) (λ end answer rest. makes-as (λ calls a. next_ignored way.1 (sym is) a) rest))
+        (block-on (zero_block x.verity.now) (length-replicate (block_size x) 0) (λ end answer rest. reads-as (λ calls a. next_ignored way.1 (sym is) a) rest))
     block-settled false block is low zeros good =
         subst (λ (b : List ℕ). BlocksUpTo does c x n r (j + 1) (put_mid (j * block_size x) w out b) old new) (sym (good refl).1)
         (block-on stood stood-wide (λ end answer rest.
         subst (λ (l : List ℕ). ReadsBy does c (data_of (nth_place x j) 0 way.0 way.1 (blocks_left (suc (blocks_in x n - (j + 1))) l)) new end (bytes_before stood answer)) (stood-first (low refl))
-        (makes-as (λ calls a. next_checked stood way.1 (sym is) (stood-wide ∙ whole, (good refl).0) a) rest)))
+        (reads-as (λ calls a. next_checked stood way.1 (sym is) (stood-wide ∙ whole, (good refl).0) a) rest)))
 
     -- or its spare is in its place
-    pub block-mended : is_ignored x.verity.now way.0 ≡ false → j < r → (digest x.verity.now.salt stood ≡ way.0 → ⊥) → {to : List D} (spare : List ℕ) → length spare ≡ block_size x → ReadsBy does c (spare_of (nth_place x j) way.0) new to (Ok spare)
-        → BlocksUpTo does c x n r (j + 1) (put_mid (j * block_size x) w out spare) old to
+    pub block-mended : is_ignored x.verity.now way.0 ≡ false → j < r → (digest x.verity.now.salt stood ≡ way.0 → ⊥) → {to : Served D} (spare : List ℕ) → length spare ≡ block_size x → ReadsBy does c (spare_of (nth_place x j) way.0) new to (Ok spare)
+        → BlocksUpTo does c x n r (j + 1) (put_mid (j * block_size x) w out spare) old (after_spare {A = List ℕ} (Ok spare) to)
     block-mended used low other {to = to} spare wide got =
         block-on spare wide (λ end answer rest.
         subst (λ (l : List ℕ). ReadsBy does c (data_of (nth_place x j) 0 way.0 way.1 (blocks_left (suc (blocks_in x n - (j + 1))) l)) new end (bytes_before spare answer)) (stood-first low)
-        (makes-then (λ calls later a b. next_healed stood way.1 used (stood-wide ∙ whole) other a b) got rest))
+        (record { made = makes-then (λ calls later a b. next_healed stood way.1 used (stood-wide ∙ whole) other a b) got.made rest.made }))

@@ -41,8 +41,8 @@ may-bytes c lower first n (Err io.NoMemory) p = p.got.may
 
 pub each-bytes : (c : Configuration) (d first n : ℕ) {old new : List Device} (answer : Result (List ℕ) IoFault) {found out : List FoundRecord} → found ≡ []
     → ReadsAs Dropped c (mapped d) first n (record { old = old; new = new; before = found; after = out }) answer → AsksOnly (leaves_of c (mapped d)) old new answer
-    → {before after : CacheRecord} → after.capacity ≡ before.capacity → EachBytes (stack_with c old before) d first n answer (stack_with c new after)
-each-bytes c d first n {old = old} {new = new} answer {out = out} none p asks {before = before} {after = after} capacity =
+    → {before after : CacheRecord} {was is : ℕ} → after.capacity ≡ before.capacity → EachBytes (stack_with c old before was) d first n answer (stack_with c new after is)
+each-bytes c d first n {old = old} {new = new} answer {out = out} none p asks {before = before} {after = after} {was = was} {is = is} capacity =
     let q = subst (λ (u : List FoundRecord). ReadsAs Dropped c (mapped d) first n (record { old = old; new = new; before = u; after = out }) answer) none p in
-    let any : AnyBytes (stack_with c _ before) d first n answer (stack_with c _ after) = record { config = refl; capacity = capacity; moved = q.reads.got.moved; may = may-bytes c (mapped d) first n answer q.reads; touches = asks-touched asks; fails = asks.ends } in
+    let any : AnyBytes (stack_with c _ before was) d first n answer (stack_with c _ after is) = record { config = refl; capacity = capacity; moved = q.reads.got.moved; may = may-bytes c (mapped d) first n answer q.reads; touches = asks-touched asks; fails = asks.ends } in
     record { any = any; steady = λ steady. record { any = any; exact = q.reads.got.exact steady } }

@@ -188,7 +188,7 @@ module _ (c : Configuration) where
   }
 
   -- as callers see it
-  pub cached-checked : {leaves : List Device} {cache : StackCache} → IsCacheOf c leaves cache → AreChecked (stack_with c leaves cache.blocks)
+  pub cached-checked : {leaves : List Device} {cache : StackCache} {restored : ℕ} → IsCacheOf c leaves cache → AreChecked (stack_with c leaves cache.blocks restored)
   cached-checked all = record { few = all.valid.within; distinct = all.valid.distinct; each = all.kept }
 
   -- what a find leaves: it changes the order alone

@@ -39,7 +39,7 @@ transfer-reads [] h = tt
 transfer-reads (x ∷ calls) h = (read-transfers x.call h.0, transfer-reads calls h.1)
 
 -- a read makes only reads, and a write only reads and writes
-pub reads-only : {c : Configuration} {what : ReadOf} {calls : List LeafCall} {answer : Result (List ℕ) IoFault} → ReadCalls c what calls answer → AllAre is_read calls
+pub reads-only : {c : Configuration} {what : ReadOf} {calls : List LeafCall} {from to : ℕ} {answer : Result (List ℕ) IoFault} → ReadCalls c what calls from to answer → AllAre is_read calls
 reads-only (leaf_read i s bytes) = (refl, tt)
 reads-only (leaf_unread i s bytes) = (refl, tt)
 reads-only (none_read d s) = tt
@@ -145,7 +145,7 @@ module _ {D : Type 0} (state : D → Device) (does : D → Call → D → Type 0
   pub dirty-read : (w w' : StackRecord) (at : ℕ × ℕ) (n : ℕ) (answer : Result (List ℕ) IoFault) → PieceGives state does w at n answer w' → dirty_of w'.leaves ≡ dirty_of w.leaves
   dirty-read w w' at n answer h =
       let only : AllAre is_read h.made.calls = elim h.made.are [
-        | inl none ↦ subst (AllAre is_read) (sym none.1) tt
+        | inl none ↦ subst (AllAre is_read) (sym none.2) tt
         | inr a ↦ reads-only a
       ] in
       ap dirty_of (sym h.is) ∙ dirty-reads h.before h.after h.made.calls only h.made.made ∙ ap dirty_of h.was

@@ -20,12 +20,13 @@ use Rattle.stack_lines.specs.Touches.{AsksOnly}
 use Rattle.stack_lines.specs.Walks.{DataBlock, block_in, spare_expected}
 use Rattle.stack_engine.specs.declared.backing.Backing.{Backing}
 use Rattle.stack_engine.specs.declared.spare.LostBlock.{LostBlock}
-use Rattle.stack_engine.specs.Backings.{leaves_in}
+use Rattle.stack_engine.specs.Backings.{leaves_in, served}
 use Rattle.stack_engine.specs.Healing.{healed_result, unhealed}
 use Rattle.stack_engine.specs.ReadSteps.{ReadsOn}
-use Rattle.stack_engine.specs.SectorCalls.{DataPlace, spare_full, spare_of}
+use Rattle.stack_engine.specs.Restored.{Served, after_spare}
+use Rattle.stack_engine.specs.SectorCalls.{DataPlace, ReadsBy, spare_full, spare_of}
 use Rattle.stack_engine.specs.Spares.{HealsBy}
-use Rattle.stack_engine.proofs.LeafCallLemmas.{makes-none}
+use Rattle.stack_engine.proofs.ReadCallLemmas.{reads-none}
 
 pub checked-other : (salt expected block : List ℕ) → (digest salt block ≡ expected → ⊥) → checked salt expected block ≡ Err mismatch
 checked-other salt expected block other = go (bytes_eq (digest salt block) expected) refl
@@ -58,18 +59,20 @@ module _ (b : DataBlock) (expected : List ℕ) {old new : List Device} where
   spare-failed io.NoMemory p = record { moved = p.moved; may = p.may; exact = p.exact }
 
 module _ {D : Type 0} (state : D → Device) {does : D → Call → D → Type 0} (c : Configuration) (p : DataPlace) (lost : LostBlock) (fault : Fault) {old new : Backing D} where
-  pub heals-had : (block : Vec ℕ Global) {out : List ℕ} → block.items ≡ out → Gets (spare_expected (λ (x : List ℕ). x) (block_in c p.verity lost.index) lost.digest) (leaves_in state old) (leaves_in state new) (Ok out) → ReadsOn does c (spare_of p lost.digest) old new (Ok out)
+  pub heals-had : (block : Vec ℕ Global) {out : List ℕ} → block.items ≡ out → Gets (spare_expected (λ (x : List ℕ). x) (block_in c p.verity lost.index) lost.digest) (leaves_in state old) (leaves_in state new) (Ok out) → {read : Served D} → served new ≡ after_spare {A = List ℕ} (Ok out) read → ReadsBy does c (spare_of p lost.digest) (served old) read (Ok out)
       → HealsBy state does c p lost fault old new (Ok block)
-  heals-had block is got given = record {
+  heals-had block is got {read = read} counted given = record {
     spare = Ok block;
     is = refl;
     got = spare-had (block_in c p.verity lost.index) lost.digest block is got;
-    given = subst (λ (x : List ℕ). ReadsOn does c (spare_of p lost.digest) old new (Ok x)) (sym is) given;
+    read = read;
+    counted = counted;
+    given = subst (λ (x : List ℕ). ReadsBy does c (spare_of p lost.digest) (served old) read (Ok x)) (sym is) given;
   }
 
   pub heals-failed : (why : IoFault) → Gets (spare_expected (λ (x : List ℕ). x) (block_in c p.verity lost.index) lost.digest) (leaves_in state old) (leaves_in state new) (Err why) → ReadsOn does c (spare_of p lost.digest) old new (Err why)
       → HealsBy state does c p lost fault old new (healed_result fault (Err why))
-  heals-failed why got given = record { spare = Err why; is = refl; got = spare-failed (block_in c p.verity lost.index) lost.digest why got; given = given }
+  heals-failed why got given = record { spare = Err why; is = refl; got = spare-failed (block_in c p.verity lost.index) lost.digest why got; read = served new; counted = refl; given = given }
 
   -- no memory for it
   pub heals-short : new ≡ old → IsOutOfMemory largest_allocation → HealsBy state does c p lost fault old new (Err io.NoMemory)
@@ -77,5 +80,7 @@ module _ {D : Type 0} (state : D → Device) {does : D → Call → D → Type 0
     spare = Err io.NoMemory;
     is = refl;
     got = record { moved = AreRead-none _ (leaves_in state old); may = refused; exact = λ steady. tt };
-    given = makes-none (spare_full p lost.digest);
+    read = served old;
+    counted = refl;
+    given = reads-none (spare_full p lost.digest);
   })

@@ -17,6 +17,7 @@ pub mod KeepingLemmas
 pub mod BytesLemmas
 pub mod StackLemmas
 pub mod LeafCallLemmas
+pub mod ReadCallLemmas
 pub mod SectorCallLemmas
 pub mod WayCallLemmas
 pub mod BlockCallLemmas
@@ -30,6 +31,7 @@ pub mod RunBytesLemmas
 pub mod RefusedLemmas
 pub mod SyncCallLemmas
 pub mod DirtyLemmas
+pub mod PlainReadLemmas
 pub mod KernelWordLemmas
 pub mod HealLemmas
 pub mod SumLemmas

@@ -11,33 +11,34 @@ use Rattle.stack_meaning.specs.declared.fault.IoFault.TheVariants as io
 use Rattle.stack_meaning.specs.Spares.{added_block, with_parity}
 use Rattle.stack_lines.specs.declared.source.Source.TheVariants.{Below}
 use Rattle.stack_lines.specs.declared.tree.Extent.{Extent}
+use Rattle.stack_engine.specs.Restored.{Served}
 use Rattle.stack_engine.specs.SectorCalls.{DataPlace, Gives, LeadsTo, ReadOf, ReadsBy, other_at, parity_first, spare_of, sums_of, sums_past, sums_added, sums_unread, parity_added, parity_unread, spare_none, spare_checked, spare_differs, spare_unread}
 use Rattle.stack_engine.specs.Spares.{IsStoredAt}
 use Rattle.stack_engine.specs.declared.spare.Stored.{Stored}
-use Rattle.stack_engine.proofs.LeafCallLemmas.{makes-none, makes-as, makes-then}
+use Rattle.stack_engine.proofs.ReadCallLemmas.{reads-none, reads-as, reads-then}
 
 module _ {D : Type 0} {does : D → Call → D → Type 0} {c : Configuration} where
-  pub leads-then : {what then rest : ReadOf} {old mid new : List D} → LeadsTo does c what then old mid → LeadsTo does c then rest mid new → LeadsTo does c what rest old new
+  pub leads-then : {what then rest : ReadOf} {old mid new : Served D} → LeadsTo does c what then old mid → LeadsTo does c then rest mid new → LeadsTo does c what rest old new
   leads-then h k = record { later = λ end answer rest. h.later end answer (k.later end answer rest) }
 
   -- ---- positions of the round
 
-  pub other-past : {p : DataPlace} {q : Parity} {i : ℕ} {sums : List ℕ} {old : List D} → i < 255 - q.roots → other_at p q i ≡ None → LeadsTo does c (sums_of p q i sums) (sums_of p q (suc i) sums) old old
-  other-past inside none = record { later = λ end answer rest. makes-as (λ calls a. sums_past inside none a) rest }
+  pub other-past : {p : DataPlace} {q : Parity} {i : ℕ} {sums : List ℕ} {old : Served D} → i < 255 - q.roots → other_at p q i ≡ None → LeadsTo does c (sums_of p q i sums) (sums_of p q (suc i) sums) old old
+  other-past inside none = record { later = λ end answer rest. reads-as (λ calls a. sums_past inside none a) rest }
 
-  pub other-added : {p : DataPlace} {q : Parity} {i n : ℕ} {sums block : List ℕ} {old mid : List D} (e : Extent) → i < 255 - q.roots → other_at p q i ≡ Some e → n ≡ e.sectors → Gives does c (Below e.lower e.first) n old mid (Ok block)
+  pub other-added : {p : DataPlace} {q : Parity} {i n : ℕ} {sums block : List ℕ} {old mid : Served D} (e : Extent) → i < 255 - q.roots → other_at p q i ≡ Some e → n ≡ e.sectors → Gives does c (Below e.lower e.first) n old mid (Ok block)
       → LeadsTo does c (sums_of p q i sums) (sums_of p q (suc i) (added_block sums block)) old mid
   other-added {block = block} {old = old} {mid = mid} e inside at count got = record {
-    later = λ end answer rest. makes-then (λ calls later a b. sums_added inside at a b) (subst (λ (k : ℕ). Gives does c (Below e.lower e.first) k old mid (Ok block)) count got) rest;
+    later = λ end answer rest. reads-then (λ calls later a b. sums_added inside at a b) (subst (λ (k : ℕ). Gives does c (Below e.lower e.first) k old mid (Ok block)) count got) rest;
   }
 
-  pub other-lost : {p : DataPlace} {q : Parity} {i n : ℕ} (sums : List ℕ) {fault : IoFault} {old new : List D} (e : Extent) → i < 255 - q.roots → other_at p q i ≡ Some e → n ≡ e.sectors → Gives does c (Below e.lower e.first) n old new (Err fault)
+  pub other-lost : {p : DataPlace} {q : Parity} {i n : ℕ} (sums : List ℕ) {fault : IoFault} {old new : Served D} (e : Extent) → i < 255 - q.roots → other_at p q i ≡ Some e → n ≡ e.sectors → Gives does c (Below e.lower e.first) n old new (Err fault)
       → ReadsBy does c (sums_of p q i sums) old new (Err fault)
-  other-lost sums {fault = fault} {old = old} {new = new} e inside at count got = makes-as (λ calls a. sums_unread sums inside at a) (subst (λ (k : ℕ). Gives does c (Below e.lower e.first) k old new (Err fault)) count got)
+  other-lost sums {fault = fault} {old = old} {new = new} e inside at count got = reads-as (λ calls a. sums_unread sums inside at a) (subst (λ (k : ℕ). Gives does c (Below e.lower e.first) k old new (Err fault)) count got)
 
   -- ---- the parity
 
-  parity-at : {p : DataPlace} {q : Parity} {n : ℕ} {old new : List D} {answer : Result (List ℕ) IoFault} (at : Stored) → IsStoredAt c p q at → n ≡ at.sectors → Gives does c (Below at.lower at.first) n old new answer
+  parity-at : {p : DataPlace} {q : Parity} {n : ℕ} {old new : Served D} {answer : Result (List ℕ) IoFault} (at : Stored) → IsStoredAt c p q at → n ≡ at.sectors → Gives does c (Below at.lower at.first) n old new answer
       → Gives does c (Below at.lower (parity_first p q)) (block_sectors p.verity * q.roots) old new answer
   parity-at {p = p} {q = q} {n = n} {old = old} {new = new} {answer = answer} at stored count got =
       subst (λ (k : ℕ). Gives does c (Below at.lower k) (block_sectors p.verity * q.roots) old new answer) stored.first
@@ -46,25 +47,25 @@ module _ {D : Type 0} {does : D → Call → D → Type 0} {c : Configuration} w
       sectors-are : {a b d : ℕ} → a ≡ b → b ≡ d → a ≡ d
       sectors-are x y = cc (x, y)
 
-  pub stored-given : {p : DataPlace} {q : Parity} {n : ℕ} (sums : List ℕ) {parity : List ℕ} {old new : List D} (at : Stored) → IsStoredAt c p q at → n ≡ at.sectors → Gives does c (Below at.lower at.first) n old new (Ok parity)
+  pub stored-given : {p : DataPlace} {q : Parity} {n : ℕ} (sums : List ℕ) {parity : List ℕ} {old new : Served D} (at : Stored) → IsStoredAt c p q at → n ≡ at.sectors → Gives does c (Below at.lower at.first) n old new (Ok parity)
       → ReadsBy does c (sums_of p q (255 - q.roots) sums) old new (Ok (with_parity q.roots sums parity))
-  stored-given sums at stored count got = makes-as (λ calls a. parity_added sums stored.on a) (parity-at at stored count got)
+  stored-given sums at stored count got = reads-as (λ calls a. parity_added sums stored.on a) (parity-at at stored count got)
 
-  pub stored-lost : {p : DataPlace} {q : Parity} {n : ℕ} (sums : List ℕ) {fault : IoFault} {old new : List D} (at : Stored) → IsStoredAt c p q at → n ≡ at.sectors → Gives does c (Below at.lower at.first) n old new (Err fault)
+  pub stored-lost : {p : DataPlace} {q : Parity} {n : ℕ} (sums : List ℕ) {fault : IoFault} {old new : Served D} (at : Stored) → IsStoredAt c p q at → n ≡ at.sectors → Gives does c (Below at.lower at.first) n old new (Err fault)
       → ReadsBy does c (sums_of p q (255 - q.roots) sums) old new (Err fault)
-  stored-lost sums at stored count got = makes-as (λ calls a. parity_unread sums stored.on a) (parity-at at stored count got)
+  stored-lost sums at stored count got = reads-as (λ calls a. parity_unread sums stored.on a) (parity-at at stored count got)
 
   -- ---- the spare
 
-  pub spare-past : (p : DataPlace) (expected : List ℕ) {old : List D} → p.verity.parity ≡ None → ReadsBy does c (spare_of p expected) old old (Err (io.Stack why.Mismatch))
-  spare-past p expected none = makes-none (spare_none p expected none)
+  pub spare-past : (p : DataPlace) (expected : List ℕ) {old : Served D} → p.verity.parity ≡ None → ReadsBy does c (spare_of p expected) old old (Err (io.Stack why.Mismatch))
+  spare-past p expected none = reads-none (spare_none p expected none)
 
-  module _ {p : DataPlace} {q : Parity} {expected : List ℕ} (has : p.verity.parity ≡ Some q) {old mid new : List D} {m : ℕ} {sums : List ℕ} (led : LeadsTo does c (sums_of p q 0 (zero_block p.verity)) (sums_of p q m sums) old mid) where
+  module _ {p : DataPlace} {q : Parity} {expected : List ℕ} (has : p.verity.parity ≡ Some q) {old mid new : Served D} {m : ℕ} {sums : List ℕ} (led : LeadsTo does c (sums_of p q 0 (zero_block p.verity)) (sums_of p q m sums) old mid) where
     pub spare-lost : {fault : IoFault} → ReadsBy does c (sums_of p q m sums) mid new (Err fault) → ReadsBy does c (spare_of p expected) old new (Err fault)
-    spare-lost {fault = fault} got = makes-as (λ calls a. spare_unread has a) (led.later new (Err fault) got)
+    spare-lost {fault = fault} got = reads-as (λ calls a. spare_unread has a) (led.later new (Err fault) got)
 
     pub spare-given : {bytes : List ℕ} → digest p.verity.salt bytes ≡ expected → ReadsBy does c (sums_of p q m sums) mid new (Ok bytes) → ReadsBy does c (spare_of p expected) old new (Ok bytes)
-    spare-given {bytes = bytes} good got = makes-as (λ calls a. spare_checked has a good) (led.later new (Ok bytes) got)
+    spare-given {bytes = bytes} good got = reads-as (λ calls a. spare_checked has a good) (led.later new (Ok bytes) got)
 
     pub spare-other : {bytes : List ℕ} → (digest p.verity.salt bytes ≡ expected → ⊥) → ReadsBy does c (sums_of p q m sums) mid new (Ok bytes) → ReadsBy does c (spare_of p expected) old new (Err (io.Stack why.Mismatch))
-    spare-other {bytes = bytes} other got = makes-as (λ calls a. spare_differs has a other) (led.later new (Ok bytes) got)
+    spare-other {bytes = bytes} other got = reads-as (λ calls a. spare_differs has a other) (led.later new (Ok bytes) got)

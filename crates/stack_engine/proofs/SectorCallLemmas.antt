@@ -20,8 +20,10 @@ use Rattle.stack_lines.specs.Sources.{IsWholeOf, from_unit}
 use Rattle.stack_lines.specs.Writing.{SomeEncrypt}
 use Rattle.stack_meaning.specs.Meaning.{said_at}
 use Rattle.stack_engine.specs.LeafCalls.{IsLeafCall}
+use Rattle.stack_engine.specs.Restored.{Served, serving}
 use Rattle.stack_engine.specs.SectorCalls.{Gives, Hands, Writes, WriteTo, WriteCalls, at_once, in_steps, bytes_before, part_encrypted, part_decrypted, unit_sectors, unit_with, leaf_read, leaf_unread, none_read, line_read, line_unread, units_read, units_unread, part_read, part_unread, leaf_written, leaf_unwritten, none_written, line_written, line_unwritten, units_written, each_written, part_written, part_lost, none_stepped, step_written, step_unwritten}
 use Rattle.stack_engine.proofs.LeafCallLemmas.{makes-none, makes-one, makes-as, makes-then}
+use Rattle.stack_engine.proofs.ReadCallLemmas.{reads-none, reads-one, reads-as, reads-then}
 
 -- ---- what is before the others
 
@@ -40,8 +42,8 @@ abbrev pub StepsUpTo : {D : Type 0} → (D → Call → D → Type 0) → Config
 StepsUpTo does c k x first at bytes old mid = WritesUpTo does c (in_steps k x) first at bytes old mid
 
 -- the first `at` of n sectors of a device, which gave these bytes: with the calls that read the others, all are read
-abbrev pub GivesUpTo : {D : Type 0} → (D → Call → D → Type 0) → Configuration → ℕ → ℕ → ℕ → ℕ → List ℕ → List D → List D → Type 0
-GivesUpTo {D = D} does c d first n at xs old mid = (new : List D) (answer : Result (List ℕ) IoFault) → Gives does c (Below (mapped d) (first + at)) (n - at) mid new answer → Gives does c (Below (mapped d) first) n old new (bytes_before xs answer)
+abbrev pub GivesUpTo : {D : Type 0} → (D → Call → D → Type 0) → Configuration → ℕ → ℕ → ℕ → ℕ → List ℕ → Served D → Served D → Type 0
+GivesUpTo {D = D} does c d first n at xs old mid = (new : Served D) (answer : Result (List ℕ) IoFault) → Gives does c (Below (mapped d) (first + at)) (n - at) mid new answer → Gives does c (Below (mapped d) first) n old new (bytes_before xs answer)
 
 pub before-none : (answer : Result (List ℕ) IoFault) → bytes_before [] answer ≡ answer
 before-none (Ok ys) = refl
@@ -164,30 +166,30 @@ module _ {D : Type 0} {does : D → Call → D → Type 0} {c : Configuration} w
       makes-as (λ calls a. units_written a) (subst (λ (k : ℕ). Hands does c (Below u.lower k) (part_encrypted u bytes) old new result) at (subst (λ (b : List ℕ). Hands does c (Below u.lower first) b old new result) same h))
 
   -- the unit of a part, as it is read
-  pub unit-given : {old mid : List D} → (u : CryptPart) (whole : WholeUnit) (m : ℕ) {answer : Result (List ℕ) IoFault} → IsWholeOf u whole → m ≡ whole.sectors → Gives does c (Units whole.from) m old mid answer → Gives does c (Units (from_unit u)) (per_unit u.units) old mid answer
+  pub unit-given : {old mid : Served D} → (u : CryptPart) (whole : WholeUnit) (m : ℕ) {answer : Result (List ℕ) IoFault} → IsWholeOf u whole → m ≡ whole.sectors → Gives does c (Units whole.from) m old mid answer → Gives does c (Units (from_unit u)) (per_unit u.units) old mid answer
   unit-given {old = old} {mid = mid} u whole m {answer = answer} of count h =
       subst (λ (from : CryptPart). Gives does c (Units from) (per_unit u.units) old mid answer) of.from (subst (λ (k : ℕ). Gives does c (Units whole.from) k old mid answer) (count ∙ of.sectors) h)
 
-  pub part-handed : {old mid new : List D} → (u : CryptPart) (whole : WholeUnit) (m : ℕ) (bytes unit changed : List ℕ) {result : Result Unit IoFault} → IsWholeOf u whole → m ≡ whole.sectors → changed ≡ take (512 * whole.within) unit ++ bytes ++ drop (512 * whole.within + length bytes) unit
-      → Gives does c (Units whole.from) m old mid (Ok unit) → Hands does c (Units whole.from) changed mid new result → Hands does c (UnitPart u) bytes old new result
+  pub part-handed : {old mid : Served D} {new : List D} → (u : CryptPart) (whole : WholeUnit) (m : ℕ) (bytes unit changed : List ℕ) {result : Result Unit IoFault} → IsWholeOf u whole → m ≡ whole.sectors → changed ≡ take (512 * whole.within) unit ++ bytes ++ drop (512 * whole.within + length bytes) unit
+      → Gives does c (Units whole.from) m old mid (Ok unit) → Hands does c (Units whole.from) changed mid.devices new result → Hands does c (UnitPart u) bytes old.devices new result
   part-handed {old = old} {mid = mid} {new = new} u whole m bytes unit changed {result = result} of count same h k =
       let is : changed ≡ unit_with u bytes unit = same ∙ ap (λ (w : ℕ). take (512 * w) unit ++ bytes ++ drop (512 * w + length bytes) unit) of.within in
-      let wrote = subst (λ (from : CryptPart). Hands does c (Units from) (unit_with u bytes unit) mid new result) of.from (subst (λ (b : List ℕ). Hands does c (Units whole.from) b mid new result) is k) in
-      makes-then (λ calls later a b. part_written a b) (unit-given u whole m of count h) wrote
+      let wrote = subst (λ (from : CryptPart). Hands does c (Units from) (unit_with u bytes unit) mid.devices new result) of.from (subst (λ (b : List ℕ). Hands does c (Units whole.from) b mid.devices new result) is k) in
+      makes-then (λ calls later a b. part_written a b) (unit-given u whole m of count h).made wrote
 
-  pub part-lost : {old mid : List D} → (u : CryptPart) (whole : WholeUnit) (m : ℕ) (bytes : List ℕ) (fault : IoFault) → IsWholeOf u whole → m ≡ whole.sectors → Gives does c (Units whole.from) m old mid (Err fault) → Hands does c (UnitPart u) bytes old mid (Err fault)
-  part-lost {old = old} {mid = mid} u whole m bytes fault of count h = makes-as (λ calls a. part_lost bytes a) (unit-given u whole m of count h)
+  pub part-lost : {old mid : Served D} → (u : CryptPart) (whole : WholeUnit) (m : ℕ) (bytes : List ℕ) (fault : IoFault) → IsWholeOf u whole → m ≡ whole.sectors → Gives does c (Units whole.from) m old mid (Err fault) → Hands does c (UnitPart u) bytes old.devices mid.devices (Err fault)
+  part-lost {old = old} {mid = mid} u whole m bytes fault of count h = makes-as (λ calls a. part_lost bytes a) (unit-given u whole m of count h).made
 
   -- ---- reads
 
-  pub leaf-given : {old new : List D} → (i s n : ℕ) (bytes : List ℕ) (result : Result Unit IoFault) → length bytes / 512 ≡ n → IfErr result (λ fault. fault ≡ io.Device (i + 1)) → IsLeafCall does i old (Read s bytes (is_ok result)) new → Gives does c (Below (Leaf i) s) n old new (buffer_answer result bytes)
-  leaf-given {old = old} {new = new} i s n bytes (Ok x) count named made = subst (λ (k : ℕ). Gives does c (Below (Leaf i) s) k old new (Ok bytes)) count (makes-one i (Read s bytes true) (leaf_read i s bytes) made)
-  leaf-given {old = old} {new = new} i s n bytes (Err fault) count named made =
-      subst (λ (k : ℕ). Gives does c (Below (Leaf i) s) k old new (Err fault)) count
-      (subst (λ (f : IoFault). Gives does c (Below (Leaf i) s) (length bytes / 512) old new (Err f)) (sym named) (makes-one i (Read s bytes false) (leaf_unread i s bytes) made))
+  pub leaf-given : {restored : ℕ} {old new : List D} → (i s n : ℕ) (bytes : List ℕ) (result : Result Unit IoFault) → length bytes / 512 ≡ n → IfErr result (λ fault. fault ≡ io.Device (i + 1)) → IsLeafCall does i old (Read s bytes (is_ok result)) new → Gives does c (Below (Leaf i) s) n (serving old restored) (serving new restored) (buffer_answer result bytes)
+  leaf-given {restored = restored} {old = old} {new = new} i s n bytes (Ok x) count named made = subst (λ (k : ℕ). Gives does c (Below (Leaf i) s) k (serving old restored) (serving new restored) (Ok bytes)) count (reads-one i (Read s bytes true) (leaf_read i s bytes) made)
+  leaf-given {restored = restored} {old = old} {new = new} i s n bytes (Err fault) count named made =
+      subst (λ (k : ℕ). Gives does c (Below (Leaf i) s) k (serving old restored) (serving new restored) (Err fault)) count
+      (subst (λ (f : IoFault). Gives does c (Below (Leaf i) s) (length bytes / 512) (serving old restored) (serving new restored) (Err f)) (sym named) (reads-one i (Read s bytes false) (leaf_unread i s bytes) made))
 
   -- no sectors yet
-  pub gives-begin : (d first n : ℕ) {old : List D} → GivesUpTo does c d first n 0 [] old old
+  pub gives-begin : (d first n : ℕ) {old : Served D} → GivesUpTo does c d first n 0 [] old old
   gives-begin d first n {old = old} new answer h =
       let place : first + 0 ≡ first = omega arith in
       let all : n - 0 ≡ n = omega arith in
@@ -195,7 +197,7 @@ module _ {D : Type 0} {does : D → Call → D → Type 0} {c : Configuration} w
       (subst (λ (s : ℕ). Gives does c (Below (mapped d) s) n old new answer) place (subst (λ (k : ℕ). Gives does c (Below (mapped d) (first + 0)) k old new answer) all h))
 
   -- a run of a device
-  pub run-given : {old mid next : List D} (d first n at limit end : ℕ) (run : Run) (xs ys all : List ℕ) → at + limit ≡ n → at + run.count ≡ end → end ≤ n → IsRunAt c d (first + at) limit run → xs ++ ys ≡ all
+  pub run-given : {old mid next : Served D} (d first n at limit end : ℕ) (run : Run) (xs ys all : List ℕ) → at + limit ≡ n → at + run.count ≡ end → end ≤ n → IsRunAt c d (first + at) limit run → xs ++ ys ≡ all
       → GivesUpTo does c d first n at xs old mid → Gives does c run.source run.count mid next (Ok ys) → GivesUpTo does c d first n end all old next
   run-given {old = old} {mid = mid} {next = next} d first n at limit end run xs ys all left behind fits is whole h k new answer rest =
       let place : first + end ≡ first + at + run.count = omega (arith, behind) in
@@ -203,34 +205,34 @@ module _ {D : Type 0} {does : D → Call → D → Type 0} {c : Configuration} w
       let limit_is : limit ≡ run.count + (n - end) = omega (arith, count, left) in
       let later = subst (λ (s : ℕ). Gives does c (Below (mapped d) s) (n - end) next new answer) place rest in
       let here = subst (λ (m : ℕ). IsRunAt c d (first + at) m run) limit_is is in
-      let one : Gives does c (Below (mapped d) (first + at)) (run.count + (n - end)) mid new (bytes_before ys answer) = makes-then (λ calls later a b. line_read here a b) k later in
+      let one : Gives does c (Below (mapped d) (first + at)) (run.count + (n - end)) mid new (bytes_before ys answer) = reads-then (λ calls later a b. line_read here a b) k later in
       let same : bytes_before xs (bytes_before ys answer) ≡ bytes_before all answer = before-before xs ys answer ∙ ap (λ (b : List ℕ). bytes_before b answer) whole in
       subst (λ (a : Result (List ℕ) IoFault). Gives does c (Below (mapped d) first) n old new a) same
       (h new (bytes_before ys answer) (subst (λ (m : ℕ). Gives does c (Below (mapped d) (first + at)) m mid new (bytes_before ys answer)) count one))
 
-  pub run-ungiven : {old mid new : List D} (d first n at limit : ℕ) (run : Run) (xs : List ℕ) (fault : IoFault) → at + limit ≡ n → IsRunAt c d (first + at) limit run → GivesUpTo does c d first n at xs old mid → Gives does c run.source run.count mid new (Err fault)
+  pub run-ungiven : {old mid new : Served D} (d first n at limit : ℕ) (run : Run) (xs : List ℕ) (fault : IoFault) → at + limit ≡ n → IsRunAt c d (first + at) limit run → GivesUpTo does c d first n at xs old mid → Gives does c run.source run.count mid new (Err fault)
       → Gives does c (Below (mapped d) first) n old new (Err fault)
   run-ungiven {mid = mid} {new = new} d first n at limit run xs fault left is h k =
       let limit_is : limit ≡ n - at = omega (arith, left) in
       let here = subst (λ (m : ℕ). IsRunAt c d (first + at) m run) limit_is is in
-      h new (Err fault) (makes-as (λ calls a. line_unread here a) k)
+      h new (Err fault) (reads-as (λ calls a. line_unread here a) k)
 
-  pub all-given : {old mid : List D} (d first n at : ℕ) (xs : List ℕ) → at ≡ n → GivesUpTo does c d first n at xs old mid → Gives does c (Below (mapped d) first) n old mid (Ok xs)
+  pub all-given : {old mid : Served D} (d first n at : ℕ) (xs : List ℕ) → at ≡ n → GivesUpTo does c d first n at xs old mid → Gives does c (Below (mapped d) first) n old mid (Ok xs)
   all-given {old = old} {mid = mid} d first n at xs all h =
       let none : 0 ≡ n - at = omega (arith, all) in
       subst (λ (b : List ℕ). Gives does c (Below (mapped d) first) n old mid (Ok b)) (append-nil xs)
-      (h mid (Ok []) (subst (λ (k : ℕ). Gives does c (Below (mapped d) (first + at)) k mid mid (Ok [])) none (makes-none (none_read d (first + at)))))
+      (h mid (Ok []) (subst (λ (k : ℕ). Gives does c (Below (mapped d) (first + at)) k mid mid (Ok [])) none (reads-none (none_read d (first + at)))))
 
-  pub units-given : {old new : List D} → (u : CryptPart) (first n : ℕ) (bytes decrypted : List ℕ) → first ≡ unit_first u.units u.first → decrypted ≡ part_decrypted u bytes → Gives does c (Below u.lower first) n old new (Ok bytes) → Gives does c (Units u) n old new (Ok decrypted)
+  pub units-given : {old new : Served D} → (u : CryptPart) (first n : ℕ) (bytes decrypted : List ℕ) → first ≡ unit_first u.units u.first → decrypted ≡ part_decrypted u bytes → Gives does c (Below u.lower first) n old new (Ok bytes) → Gives does c (Units u) n old new (Ok decrypted)
   units-given {old = old} {new = new} u first n bytes decrypted at same h =
       subst (λ (b : List ℕ). Gives does c (Units u) n old new (Ok b)) (sym same)
-      (makes-as (λ calls a. units_read a) (subst (λ (k : ℕ). Gives does c (Below u.lower k) n old new (Ok bytes)) at h))
+      (reads-as (λ calls a. units_read a) (subst (λ (k : ℕ). Gives does c (Below u.lower k) n old new (Ok bytes)) at h))
 
-  pub units-ungiven : {old new : List D} → (u : CryptPart) (first n : ℕ) (fault : IoFault) → first ≡ unit_first u.units u.first → Gives does c (Below u.lower first) n old new (Err fault) → Gives does c (Units u) n old new (Err fault)
-  units-ungiven {old = old} {new = new} u first n fault at h = makes-as (λ calls a. units_unread a) (subst (λ (k : ℕ). Gives does c (Below u.lower k) n old new (Err fault)) at h)
+  pub units-ungiven : {old new : Served D} → (u : CryptPart) (first n : ℕ) (fault : IoFault) → first ≡ unit_first u.units u.first → Gives does c (Below u.lower first) n old new (Err fault) → Gives does c (Units u) n old new (Err fault)
+  units-ungiven {old = old} {new = new} u first n fault at h = reads-as (λ calls a. units_unread a) (subst (λ (k : ℕ). Gives does c (Below u.lower k) n old new (Err fault)) at h)
 
-  pub part-given : {old mid : List D} → (u : CryptPart) (whole : WholeUnit) (m n : ℕ) (unit bytes : List ℕ) → IsWholeOf u whole → m ≡ whole.sectors → bytes ≡ unit_sectors u n unit → Gives does c (Units whole.from) m old mid (Ok unit) → Gives does c (UnitPart u) n old mid (Ok bytes)
-  part-given {old = old} {mid = mid} u whole m n unit bytes of count same h = subst (λ (b : List ℕ). Gives does c (UnitPart u) n old mid (Ok b)) (sym same) (makes-as (λ calls a. part_read n a) (unit-given u whole m of count h))
+  pub part-given : {old mid : Served D} → (u : CryptPart) (whole : WholeUnit) (m n : ℕ) (unit bytes : List ℕ) → IsWholeOf u whole → m ≡ whole.sectors → bytes ≡ unit_sectors u n unit → Gives does c (Units whole.from) m old mid (Ok unit) → Gives does c (UnitPart u) n old mid (Ok bytes)
+  part-given {old = old} {mid = mid} u whole m n unit bytes of count same h = subst (λ (b : List ℕ). Gives does c (UnitPart u) n old mid (Ok b)) (sym same) (reads-as (λ calls a. part_read n a) (unit-given u whole m of count h))
 
-  pub part-ungiven : {old mid : List D} → (u : CryptPart) (whole : WholeUnit) (m n : ℕ) (fault : IoFault) → IsWholeOf u whole → m ≡ whole.sectors → Gives does c (Units whole.from) m old mid (Err fault) → Gives does c (UnitPart u) n old mid (Err fault)
-  part-ungiven {old = old} {mid = mid} u whole m n fault of count h = makes-as (λ calls a. part_unread n a) (unit-given u whole m of count h)
+  pub part-ungiven : {old mid : Served D} → (u : CryptPart) (whole : WholeUnit) (m n : ℕ) (fault : IoFault) → IsWholeOf u whole → m ≡ whole.sectors → Gives does c (Units whole.from) m old mid (Err fault) → Gives does c (UnitPart u) n old mid (Err fault)
+  part-ungiven {old = old} {mid = mid} u whole m n fault of count h = reads-as (λ calls a. part_unread n a) (unit-given u whole m of count h)

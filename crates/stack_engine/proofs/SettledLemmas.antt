@@ -23,8 +23,9 @@ use Rattle.stack_lines.specs.Sources.{ReadsSource}
 use Rattle.stack_lines.specs.Walks.{block_in, spare_cost, GetsChain}
 use Rattle.stack_engine.specs.declared.backing.Backing.{Backing}
 use Rattle.stack_engine.specs.declared.rows.JudgedBlock.{JudgedBlock}
-use Rattle.stack_engine.specs.Backings.{leaves_in}
+use Rattle.stack_engine.specs.Backings.{leaves_in, served}
 use Rattle.stack_engine.specs.Healing.{healed_result, unhealed}
+use Rattle.stack_engine.specs.Restored.{Served, after_spare}
 use Rattle.stack_engine.specs.SectorCalls.{DataPlace, Gives, ReadsBy, place_at, place_in, spare_of}
 use Rattle.stack_engine.specs.Spares.{IsAnswered, SettlesBy, spare_wanted}
 use Rattle.stack_engine.proofs.BlockCallLemmas.{BlocksUpTo, WayUpTo, block-mended, block-settled, block-unhealed}
@@ -149,29 +150,34 @@ module _ {c : Configuration} {p : VerityPart} {n : ℕ} {found : List FoundRecor
 
 -- ---- its calls
 
-module _ {D : Type 0} {state : D → Device} {does : D → Call → D → Type 0} {c : Configuration} {x : VerityPart} {n r j : ℕ} {out expected last : List ℕ} {old : List D} {at to : Backing D} (h : WayUpTo does c x n r j out (expected, last) old at.devices.items) (w : ℕ) (w_is : w ≡ x.verity.now.data_block)
+module _ {D : Type 0} {state : D → Device} {does : D → Call → D → Type 0} {c : Configuration} {x : VerityPart} {n r j : ℕ} {out expected last : List ℕ} {old : Served D} {at to : Backing D} (h : WayUpTo does c x n r j out (expected, last) old (served at)) (w : ℕ) (w_is : w ≡ x.verity.now.data_block)
     (more : j < n / block_sectors x.verity.now) (whole : x.verity.now.data_block ≡ 512 * block_sectors x.verity.now) (end : j * x.verity.now.data_block + x.verity.now.data_block ≤ length out)
     {ignored : Bool} (made : List ℕ) (same : ignored ≡ is_ignored x.verity.now expected) (within : ignored ≡ false → j < r) (of : ignored ≡ false → made ≡ digest x.verity.now.salt (take w (drop (j * x.verity.now.data_block) out))) where
   pub settled-given : (block : List ℕ) → length block ≡ x.verity.now.data_block
       → SettlesBy state does c (place_at x (x.first / block_sectors x.verity.now + j)) (judged_block (x.first / block_sectors x.verity.now + j) expected ignored made) (take w (drop (j * x.verity.now.data_block) out)) at to (Ok block)
-      → BlocksUpTo does c x n r (j + 1) (put_mid (j * x.verity.now.data_block) w out block) old to.devices.items
+      → BlocksUpTo does c x n r (j + 1) (put_mid (j * x.verity.now.data_block) w out block) old (served to)
   settled-given block wide settled = elim settled [
     | inl kept ↦
-        subst (λ (y : Backing D). BlocksUpTo does c x n r (j + 1) (put_mid (j * x.verity.now.data_block) w out block) old y.devices.items) (sym kept.0)
+        subst (λ (y : Backing D). BlocksUpTo does c x n r (j + 1) (put_mid (j * x.verity.now.data_block) w out block) old (served y)) (sym kept.0)
         (block-settled h w w_is more whole end ignored block same within (λ is. ok-same refl (kept.1.zeros is)) (λ is. (sym (of is) ∙ (kept.1.same is).0, ok-same refl (kept.1.same is).1)))
     | inr heals ↦
-        block-mended h w w_is more whole end (sym same ∙ heals.used) (within heals.used) (λ good. heals.differs (of heals.used ∙ good)) block wide
-        (subst (λ (a : Result (List ℕ) IoFault). ReadsBy does c (spare_of (place_at x (x.first / block_sectors x.verity.now + j)) expected) at.devices.items to.devices.items a) (healed-ok heals.spare block heals.is) heals.given)
+        let spare = healed-ok heals.spare block heals.is in
+        let counted = heals.counted ∙ ap (λ (a : Result (List ℕ) IoFault). after_spare a heals.read) spare in
+        subst (λ (s : Served D). BlocksUpTo does c x n r (j + 1) (put_mid (j * x.verity.now.data_block) w out block) old s) (sym counted)
+        (block-mended h w w_is more whole end (sym same ∙ heals.used) (within heals.used) (λ good. heals.differs (of heals.used ∙ good)) block wide
+        (subst (λ (a : Result (List ℕ) IoFault). ReadsBy does c (spare_of (place_at x (x.first / block_sectors x.verity.now + j)) expected) (served at) heals.read a) spare heals.given))
   ]
 
   pub unsettled-given : (fault : IoFault)
       → SettlesBy state does c (place_at x (x.first / block_sectors x.verity.now + j)) (judged_block (x.first / block_sectors x.verity.now + j) expected ignored made) (take w (drop (j * x.verity.now.data_block) out)) at to (Err fault)
-      → Gives does c (Blocks x) n old to.devices.items (Err fault)
+      → Gives does c (Blocks x) n old (served to) (Err fault)
   unsettled-given fault settled = elim settled [
     | inl kept ↦ absurd (answered-err (judged_block (x.first / block_sectors x.verity.now + j) expected ignored made) (take w (drop (j * x.verity.now.data_block) out)) fault ignored refl kept.1)
     | inr heals ↦
         let failed = healed-err heals.spare fault heals.is in
-        subst (λ (y : IoFault). Gives does c (Blocks x) n old to.devices.items (Err y)) (sym failed.is)
+        let counted = heals.counted ∙ ap (λ (a : Result (List ℕ) IoFault). after_spare a heals.read) failed.unread in
+        subst (λ (y : IoFault). Gives does c (Blocks x) n old (served to) (Err y)) (sym failed.is)
+        (subst (λ (s : Served D). Gives does c (Blocks x) n old s (Err (unhealed mismatch failed.vain))) (sym counted)
         (block-unhealed h w w_is more whole end (sym same ∙ heals.used) (within heals.used) (λ good. heals.differs (of heals.used ∙ good)) failed.vain
-        (subst (λ (a : Result (List ℕ) IoFault). ReadsBy does c (spare_of (place_at x (x.first / block_sectors x.verity.now + j)) expected) at.devices.items to.devices.items a) failed.unread heals.given))
+        (subst (λ (a : Result (List ℕ) IoFault). ReadsBy does c (spare_of (place_at x (x.first / block_sectors x.verity.now + j)) expected) (served at) heals.read a) failed.unread heals.given)))
   ]

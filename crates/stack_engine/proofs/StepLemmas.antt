@@ -42,12 +42,12 @@ met some = record { memory = λ is. some; leaf = λ none. absurd (none some); st
 -- so is its step
 pub step-met : {c : Configuration} {run : SectorRun} {old new : BackingRecord} {result : Result Unit IoFault} → MeetVerity run.said run.first run.count → KeepsCache c new.leaves old.cache new.cache
     → AsksOnly run.leaves old.leaves new.leaves result → ReadsAtMost run.most old.leaves new.leaves → IsReadStep c run old new result
-step-met some cached touches spent = record { cached = cached; plain = met some; same = λ none. absurd (none some); touches = touches; spent = spent }
+step-met some cached touches spent = record { cached = cached; plain = met some; same = λ none. absurd (none some); uncounted = λ none. absurd (none some); touches = touches; spent = spent }
 
 -- nothing was read
 pub step-none : {c : Configuration} {run : SectorRun} {at : BackingRecord} {result : Result Unit IoFault} → IsCacheOf c at.leaves at.cache → IsPlain run.said run.first run.count at.leaves at.leaves result
     → AsksOnly run.leaves at.leaves at.leaves result → IsReadStep c run at at result
-step-none sound plain touches = record { cached = record { capacity = refl; sound = sound }; plain = plain; same = λ none. refl; touches = touches; spent = omega arith }
+step-none sound plain touches = record { cached = record { capacity = refl; sound = sound }; plain = plain; same = λ none. refl; uncounted = λ none. refl; touches = touches; spent = omega arith }
 
 -- ---- from the lines down
 
@@ -63,6 +63,7 @@ step-up {run = run} {up = up} plain within spent p = record {
   cached = p.cached;
   plain = plain _ _ _ p.plain;
   same = λ none. p.same (λ some. none (up-meets plain some));
+  uncounted = λ none. p.uncounted (λ some. none (up-meets plain some));
   touches = asks-up within p.touches;
   spent = spent;
 }
@@ -92,7 +93,7 @@ module _ {c : Configuration} {at : BackingRecord} (n : ℕ) (sound : IsCacheOf c
   fails-step some = step-none {run = run_of c Fails n} sound (fails_plain c n at.leaves some) (asks-none (source_leaves c Fails) at.leaves (Err (io.Stack why.ErrorTarget)) tt refl)
 
 pub leaf-step : {c : Configuration} {leaf first n : ℕ} {old new : List Device} {result : Result Unit IoFault} {bytes : List ℕ} (at : BackingRecord) → ReadsLeaf c leaf first n old new result bytes → old ≡ at.leaves → IsCacheOf c at.leaves at.cache
-    → IsReadStep c (run_beneath c (Leaf leaf) first n) at (record { leaves = new; cache = at.cache }) result
+    → IsReadStep c (run_beneath c (Leaf leaf) first n) at (record { leaves = new; cache = at.cache; restored = at.restored }) result
 leaf-step {c = c} {leaf = leaf} {first = first} {n = n} {new = new} {result = result} {bytes = bytes} at read is sound =
     let here = subst (λ (l : List Device). ReadsLeaf c leaf first n l new result bytes) is read in
     let moved = (here.got []).moved in
@@ -100,6 +101,7 @@ leaf-step {c = c} {leaf = leaf} {first = first} {n = n} {new = new} {result = re
       cached = record { capacity = refl; sound = cached-read c at.cache moved sound };
       plain = here.plain;
       same = λ none. refl;
+      uncounted = λ none. refl;
       touches = here.touches;
       spent = leaf-spent c leaf first n moved;
     }
@@ -123,6 +125,7 @@ module _ {c : Configuration} {d first at all count : ℕ} {source : Source} {byt
         cached = record { capacity = r.cached.capacity ∙ p.cached.capacity; sound = r.cached.sound };
         plain = device_plain c d first (at / 512) count end source loaded fits run.served p.plain r.plain;
         same = λ apart. r.same (λ some. apart (run-meets end fits some)) ∙ p.same (λ some. apart (some.0, omega (arith, some.1, fits), some.2));
+        uncounted = λ apart. r.uncounted (λ some. apart (run-meets end fits some)) ∙ p.uncounted (λ some. apart (some.0, omega (arith, some.1, fits), some.2));
         touches = device-asked c d (first + at / 512) count source loaded run.some run.served p.touches r.touches;
         spent = spent-all c d first (at / 512 + count) end loaded behind old.leaves new.leaves spent fits;
       }

@@ -19,9 +19,12 @@ use Rattle.stack_lines.specs.declared.source.VerityPart.{VerityPart}
 use Rattle.stack_lines.specs.declared.tree.Extent.{Extent}
 use Rattle.stack_lines.specs.declared.tree.Tree.{Tree}
 use Rattle.verified_cache.specs.Cache.{CachedBlock}
-use Rattle.stack_engine.specs.SectorCalls.{AreReadTogether, DataPlace, digest_after, DataRead, ExpectedBlock, Gives, LeadsTo, ReadOf, ReadsBy, block_of, block_part, data_of, expected_data, expected_hash, hash_of, last_bytes, one_block, place_at, place_in, spare_of, whole_data, chain_found, data_read, data_unread, data_full, block_checked, block_differs, block_unread, hash_lost, hash_read, way_down, way_stops, way_full, one_read, one_healed}
+use Rattle.stack_engine.specs.LeafCalls.{LeafCall}
+use Rattle.stack_engine.specs.Restored.{Served, after_spare, restored_after}
+use Rattle.stack_engine.specs.SectorCalls.{AreReadTogether, DataPlace, digest_after, DataRead, ExpectedBlock, Gives, LeadsTo, ReadCalls, ReadOf, ReadsBy, block_of, block_part, data_of, expected_data, expected_hash, hash_of, last_bytes, one_block, place_at, place_in, spare_of, whole_data, chain_found, data_read, data_unread, data_full, block_checked, block_differs, block_unread, hash_lost, hash_read, way_down, way_stops, way_full, one_read, one_healed}
 use Rattle.stack_engine.specs.Healing.{IsSettled, healed_result}
-use Rattle.stack_engine.proofs.LeafCallLemmas.{makes-none, makes-as, makes-then}
+use Rattle.stack_engine.proofs.LeafCallLemmas.{makes-then}
+use Rattle.stack_engine.proofs.ReadCallLemmas.{reads-none, reads-as, reads-then}
 
 -- the last block of a path
 pub last-push : (path : List CachedBlock) (x : CachedBlock) → last_bytes (path ++ (x ∷ [])) ≡ x.bytes
@@ -68,77 +71,82 @@ module _ {D : Type 0} {does : D → Call → D → Type 0} {c : Configuration} w
   -- ---- an expected block
 
   -- of a place
-  pub reads-expected : {x y : ExpectedBlock} {old new : List D} {answer : Result (List ℕ) IoFault} (of : ExpectedBlock → ReadOf) → x ≡ y → ReadsBy does c (of x) old new answer → ReadsBy does c (of y) old new answer
+  pub reads-expected : {x y : ExpectedBlock} {old new : Served D} {answer : Result (List ℕ) IoFault} (of : ExpectedBlock → ReadOf) → x ≡ y → ReadsBy does c (of x) old new answer → ReadsBy does c (of y) old new answer
   reads-expected {old = old} {new = new} {answer = answer} of same h = subst (λ (x : ExpectedBlock). ReadsBy does c (of x) old new answer) same h
 
-  pub checked-given : {e : Extent} {n : ℕ} {salt expected bytes : List ℕ} {old new : List D} → n ≡ e.sectors → digest salt bytes ≡ expected → Gives does c (Below e.lower e.first) n old new (Ok bytes)
+  pub checked-given : {e : Extent} {n : ℕ} {salt expected bytes : List ℕ} {old new : Served D} → n ≡ e.sectors → digest salt bytes ≡ expected → Gives does c (Below e.lower e.first) n old new (Ok bytes)
       → ReadsBy does c (block_of (record { extent = e; salt = salt; digest = expected })) old new (Ok bytes)
-  checked-given {e = e} {bytes = bytes} {old = old} {new = new} count good h = makes-as (λ calls a. block_checked a good) (subst (λ (k : ℕ). Gives does c (Below e.lower e.first) k old new (Ok bytes)) count h)
+  checked-given {e = e} {bytes = bytes} {old = old} {new = new} count good h = reads-as (λ calls a. block_checked a good) (subst (λ (k : ℕ). Gives does c (Below e.lower e.first) k old new (Ok bytes)) count h)
 
-  pub differs-given : {e : Extent} {n : ℕ} {salt expected bytes : List ℕ} {old new : List D} → n ≡ e.sectors → (digest salt bytes ≡ expected → ⊥) → Gives does c (Below e.lower e.first) n old new (Ok bytes)
+  pub differs-given : {e : Extent} {n : ℕ} {salt expected bytes : List ℕ} {old new : Served D} → n ≡ e.sectors → (digest salt bytes ≡ expected → ⊥) → Gives does c (Below e.lower e.first) n old new (Ok bytes)
       → ReadsBy does c (block_of (record { extent = e; salt = salt; digest = expected })) old new (Err (io.Stack why.Mismatch))
-  differs-given {e = e} {bytes = bytes} {old = old} {new = new} count other h = makes-as (λ calls a. block_differs a other) (subst (λ (k : ℕ). Gives does c (Below e.lower e.first) k old new (Ok bytes)) count h)
+  differs-given {e = e} {bytes = bytes} {old = old} {new = new} count other h = reads-as (λ calls a. block_differs a other) (subst (λ (k : ℕ). Gives does c (Below e.lower e.first) k old new (Ok bytes)) count h)
 
-  pub block-ungiven : {e : Extent} {n : ℕ} {salt expected : List ℕ} {fault : IoFault} {old new : List D} → n ≡ e.sectors → Gives does c (Below e.lower e.first) n old new (Err fault)
+  pub block-ungiven : {e : Extent} {n : ℕ} {salt expected : List ℕ} {fault : IoFault} {old new : Served D} → n ≡ e.sectors → Gives does c (Below e.lower e.first) n old new (Err fault)
       → ReadsBy does c (block_of (record { extent = e; salt = salt; digest = expected })) old new (Err fault)
-  block-ungiven {e = e} {fault = fault} {old = old} {new = new} count h = makes-as (λ calls a. block_unread a) (subst (λ (k : ℕ). Gives does c (Below e.lower e.first) k old new (Err fault)) count h)
+  block-ungiven {e = e} {fault = fault} {old = old} {new = new} count h = reads-as (λ calls a. block_unread a) (subst (λ (k : ℕ). Gives does c (Below e.lower e.first) k old new (Err fault)) count h)
 
-  pub hash-ungiven : {x : ExpectedBlock} {bytes : List ℕ} {old new : List D} → ReadsBy does c (hash_of x) old new (Ok bytes) → ReadsBy does c (hash_of x) old new (Err io.NoMemory)
-  hash-ungiven h = makes-as (λ calls a. hash_lost a) h
+  pub hash-ungiven : {x : ExpectedBlock} {bytes : List ℕ} {old new : Served D} → ReadsBy does c (hash_of x) old new (Ok bytes) → ReadsBy does c (hash_of x) old new (Err io.NoMemory)
+  hash-ungiven h = reads-as (λ calls a. hash_lost a) h
 
-  pub hash-given : {x : ExpectedBlock} {old new : List D} {answer : Result (List ℕ) IoFault} → ReadsBy does c (block_of x) old new answer → ReadsBy does c (hash_of x) old new answer
-  hash-given h = makes-as (λ calls a. hash_read a) h
+  pub hash-given : {x : ExpectedBlock} {old new : Served D} {answer : Result (List ℕ) IoFault} → ReadsBy does c (block_of x) old new answer → ReadsBy does c (hash_of x) old new answer
+  hash-given h = reads-as (λ calls a. hash_read a) h
 
   -- ---- the way
 
-  pub leads-begin : (what : ReadOf) {old : List D} → LeadsTo does c what what old old
+  pub leads-begin : (what : ReadOf) {old : Served D} → LeadsTo does c what what old old
   leads-begin what = record { later = λ new answer h. h }
 
-  pub way-led : (n l : ℕ) (block : List ℕ) {what : ReadOf} {p : DataPlace} {expected last : List ℕ} {next : DataRead} {old mid new : List D} → n ≡ suc l → LeadsTo does c what (data_of p n expected last next) old mid → ReadsBy does c (hash_of (expected_hash p l expected)) mid new (Ok block)
+  pub way-led : (n l : ℕ) (block : List ℕ) {what : ReadOf} {p : DataPlace} {expected last : List ℕ} {next : DataRead} {old mid new : Served D} → n ≡ suc l → LeadsTo does c what (data_of p n expected last next) old mid → ReadsBy does c (hash_of (expected_hash p l expected)) mid new (Ok block)
       → LeadsTo does c what (data_of p l (next_digest p.verity l p.index block) block next) old new
   way-led n l block {p = p} {expected = expected} {last = last} {next = next} {mid = mid} above led got = record {
-    later = λ end answer rest. led.later end answer (subst (λ (k : ℕ). ReadsBy does c (data_of p k expected last next) mid end answer) (sym above) (makes-then (λ calls later a b. way_down a b) got rest));
+    later = λ end answer rest. led.later end answer (subst (λ (k : ℕ). ReadsBy does c (data_of p k expected last next) mid end answer) (sym above) (reads-then (λ calls later a b. way_down a b) got rest));
   }
 
-  pub way-unled : (n l : ℕ) {what : ReadOf} {p : DataPlace} {expected last : List ℕ} {next : DataRead} {old mid new : List D} {fault : IoFault} → n ≡ suc l → LeadsTo does c what (data_of p n expected last next) old mid → ReadsBy does c (hash_of (expected_hash p l expected)) mid new (Err fault)
+  pub way-unled : (n l : ℕ) {what : ReadOf} {p : DataPlace} {expected last : List ℕ} {next : DataRead} {old mid new : Served D} {fault : IoFault} → n ≡ suc l → LeadsTo does c what (data_of p n expected last next) old mid → ReadsBy does c (hash_of (expected_hash p l expected)) mid new (Err fault)
       → ReadsBy does c what old new (Err fault)
   way-unled n l {p = p} {expected = expected} {last = last} {next = next} {mid = mid} {new = new} {fault = fault} above led got =
-      led.later new (Err fault) (subst (λ (k : ℕ). ReadsBy does c (data_of p k expected last next) mid new (Err fault)) (sym above) (makes-as (λ calls a. way_stops last next a) got))
+      led.later new (Err fault) (subst (λ (k : ℕ). ReadsBy does c (data_of p k expected last next) mid new (Err fault)) (sym above) (reads-as (λ calls a. way_stops last next a) got))
 
-  pub way-short : {what : ReadOf} {p : DataPlace} {l : ℕ} {expected last : List ℕ} {next : DataRead} {old mid : List D} → LeadsTo does c what (data_of p l expected last next) old mid → ReadsBy does c what old mid (Err io.NoMemory)
-  way-short {p = p} {l = l} {expected = expected} {last = last} {next = next} {mid = mid} led = led.later mid (Err io.NoMemory) (makes-none (way_full p l expected last next))
+  pub way-short : {what : ReadOf} {p : DataPlace} {l : ℕ} {expected last : List ℕ} {next : DataRead} {old mid : Served D} → LeadsTo does c what (data_of p l expected last next) old mid → ReadsBy does c what old mid (Err io.NoMemory)
+  way-short {p = p} {l = l} {expected = expected} {last = last} {next = next} {mid = mid} led = led.later mid (Err io.NoMemory) (reads-none (way_full p l expected last next))
 
   -- the data at its end
-  pub way-ended : (n : ℕ) {what : ReadOf} {p : DataPlace} {expected last : List ℕ} {next : DataRead} {old mid new : List D} {answer : Result (List ℕ) IoFault} → n ≡ 0 → LeadsTo does c what (data_of p n expected last next) old mid → ReadsBy does c (data_of p 0 expected last next) mid new answer
+  pub way-ended : (n : ℕ) {what : ReadOf} {p : DataPlace} {expected last : List ℕ} {next : DataRead} {old mid new : Served D} {answer : Result (List ℕ) IoFault} → n ≡ 0 → LeadsTo does c what (data_of p n expected last next) old mid → ReadsBy does c (data_of p 0 expected last next) mid new answer
       → ReadsBy does c what old new answer
   way-ended n {p = p} {expected = expected} {last = last} {next = next} {mid = mid} {new = new} {answer = answer} none led got = led.later new answer (subst (λ (k : ℕ). ReadsBy does c (data_of p k expected last next) mid new answer) (sym none) got)
 
   -- ---- one data block
 
-  pub one-given : {p : DataPlace} {e : Extent} {expected : List ℕ} {old new : List D} {answer : Result (List ℕ) IoFault} (last : List ℕ) → is_ignored p.verity expected ≡ false → e ≡ (expected_data p expected).extent → IfErr answer IsSettled
+  pub one-given : {p : DataPlace} {e : Extent} {expected : List ℕ} {old new : Served D} {answer : Result (List ℕ) IoFault} (last : List ℕ) → is_ignored p.verity expected ≡ false → e ≡ (expected_data p expected).extent → IfErr answer IsSettled
       → ReadsBy does c (block_of (record { extent = e; salt = p.verity.salt; digest = expected })) old new answer → ReadsBy does c (data_of p 0 expected last one_block) old new answer
   one-given {p = p} {expected = expected} {old = old} {new = new} {answer = answer} last used at settled h =
-      makes-as (λ calls a. one_read last used settled a) (subst (λ (x : Extent). ReadsBy does c (block_of (record { extent = x; salt = p.verity.salt; digest = expected })) old new answer) at h)
+      reads-as (λ calls a. one_read last used settled a) (subst (λ (x : Extent). ReadsBy does c (block_of (record { extent = x; salt = p.verity.salt; digest = expected })) old new answer) at h)
+
+  -- calls after which the spare that they read is counted
+  counted : {what rest both : ReadOf} {old mid new : Served D} {answer spare end : Result (List ℕ) IoFault} → ((calls more : List LeafCall) → ReadCalls c what calls old.restored mid.restored answer → ReadCalls c rest more mid.restored new.restored spare → ReadCalls c both (calls ++ more) old.restored (restored_after spare new.restored) end)
+      → ReadsBy does c what old mid answer → ReadsBy does c rest mid new spare → ReadsBy does c both old (after_spare spare new) end
+  counted both h k = record { made = makes-then both h.made k.made }
 
   -- by its spare
-  pub one-healed : {p : DataPlace} {e : Extent} {expected : List ℕ} {fault : Fault} {old mid new : List D} {spare : Result (List ℕ) IoFault} (last : List ℕ) → is_ignored p.verity expected ≡ false → e ≡ (expected_data p expected).extent
-      → ReadsBy does c (block_of (record { extent = e; salt = p.verity.salt; digest = expected })) old mid (Err (io.Stack fault)) → ReadsBy does c (spare_of p expected) mid new spare → ReadsBy does c (data_of p 0 expected last one_block) old new (healed_result fault spare)
+  pub one-healed : {p : DataPlace} {e : Extent} {expected : List ℕ} {fault : Fault} {old mid new : Served D} {spare : Result (List ℕ) IoFault} (last : List ℕ) → is_ignored p.verity expected ≡ false → e ≡ (expected_data p expected).extent
+      → ReadsBy does c (block_of (record { extent = e; salt = p.verity.salt; digest = expected })) old mid (Err (io.Stack fault)) → ReadsBy does c (spare_of p expected) mid new spare → ReadsBy does c (data_of p 0 expected last one_block) old (after_spare spare new) (healed_result fault spare)
   one-healed {p = p} {expected = expected} {fault = fault} {old = old} {mid = mid} last used at h got =
-      makes-then (λ calls later a b. one_healed last used a b) (subst (λ (x : Extent). ReadsBy does c (block_of (record { extent = x; salt = p.verity.salt; digest = expected })) old mid (Err (io.Stack fault))) at h) got
+      counted (λ calls later a b. one_healed last used a b) (subst (λ (x : Extent). ReadsBy does c (block_of (record { extent = x; salt = p.verity.salt; digest = expected })) old mid (Err (io.Stack fault))) at h) got
 
   -- of a part
   module _ (x : VerityPart) (n : ℕ) {p : DataPlace} {s : ℕ} (sectors : s ≡ block_sectors x.verity.now) (same : p ≡ place_at x (x.first / s)) where
-    here : {old new : List D} {answer : Result (List ℕ) IoFault} → ReadsBy does c (whole_data p one_block) old new answer → ReadsBy does c (whole_data (place_at x (x.first / block_sectors x.verity.now)) one_block) old new answer
+    here : {old new : Served D} {answer : Result (List ℕ) IoFault} → ReadsBy does c (whole_data p one_block) old new answer → ReadsBy does c (whole_data (place_at x (x.first / block_sectors x.verity.now)) one_block) old new answer
     here {old = old} {new = new} {answer = answer} h = subst (λ (q : DataPlace). ReadsBy does c (whole_data q one_block) old new answer) (same ∙ ap (λ (k : ℕ). place_at x (x.first / k)) sectors) h
 
-    pub data-given : {content bytes : List ℕ} {old new : List D} → bytes ≡ block_part x n content → ReadsBy does c (whole_data p one_block) old new (Ok content) → Gives does c (Block x) n old new (Ok bytes)
-    data-given {old = old} {new = new} is h = subst (λ (b : List ℕ). Gives does c (Block x) n old new (Ok b)) (sym is) (makes-as (λ calls a. data_read n a) (here h))
+    pub data-given : {content bytes : List ℕ} {old new : Served D} → bytes ≡ block_part x n content → ReadsBy does c (whole_data p one_block) old new (Ok content) → Gives does c (Block x) n old new (Ok bytes)
+    data-given {old = old} {new = new} is h = subst (λ (b : List ℕ). Gives does c (Block x) n old new (Ok b)) (sym is) (reads-as (λ calls a. data_read n a) (here h))
 
-    pub data-ungiven : {fault : IoFault} {old new : List D} → ReadsBy does c (whole_data p one_block) old new (Err fault) → Gives does c (Block x) n old new (Err fault)
-    data-ungiven h = makes-as (λ calls a. data_unread n a) (here h)
+    pub data-ungiven : {fault : IoFault} {old new : Served D} → ReadsBy does c (whole_data p one_block) old new (Err fault) → Gives does c (Block x) n old new (Err fault)
+    data-ungiven h = reads-as (λ calls a. data_unread n a) (here h)
 
-    pub data-short : {content : List ℕ} {old new : List D} → ReadsBy does c (whole_data p one_block) old new (Ok content) → Gives does c (Block x) n old new (Err io.NoMemory)
-    data-short h = makes-as (λ calls a. data_full n a) (here h)
+    pub data-short : {content : List ℕ} {old new : Served D} → ReadsBy does c (whole_data p one_block) old new (Ok content) → Gives does c (Block x) n old new (Err io.NoMemory)
+    data-short h = reads-as (λ calls a. data_full n a) (here h)
 
-  pub chain-given : (x : VerityPart) (n : ℕ) {bytes : List ℕ} {old : List D} (chain : ChainRecord) → bytes ≡ block_part x n chain.content → chain.index ≡ x.first / block_sectors x.verity.now → IsGood (tree_of x.verity.now) x.verity.now.salt x.verity.now.root chain → Gives does c (Block x) n old old (Ok bytes)
-  chain-given x n {old = old} chain is number good = subst (λ (b : List ℕ). Gives does c (Block x) n old old (Ok b)) (sym is) (makes-none (chain_found n chain number good))
+  pub chain-given : (x : VerityPart) (n : ℕ) {bytes : List ℕ} {old : Served D} (chain : ChainRecord) → bytes ≡ block_part x n chain.content → chain.index ≡ x.first / block_sectors x.verity.now → IsGood (tree_of x.verity.now) x.verity.now.salt x.verity.now.root chain → Gives does c (Block x) n old old (Ok bytes)
+  chain-given x n {old = old} chain is number good = subst (λ (b : List ℕ). Gives does c (Block x) n old old (Ok b)) (sym is) (reads-none (chain_found n chain number good))

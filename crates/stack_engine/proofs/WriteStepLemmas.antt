@@ -7,6 +7,7 @@ use Rattle.stack_meaning.specs.declared.fault.IoFault.{IoFault}
 use Rattle.stack_meaning.specs.Changes.{NoneRead}
 use Rattle.stack_meaning.specs.Leaves.{AreRead}
 use Rattle.stack_meaning.specs.Meaning.{said_at}
+use Rattle.stack_meaning.specs.Reading.{MeetVerity}
 use Rattle.stack_meaning.specs.Units.{per_unit, unit_first}
 use Rattle.stack_meaning.proofs.lemmas.LeafListLemmas.{AreRead-none}
 use Rattle.stack_lines.specs.declared.source.CryptPart.{CryptPart}
@@ -15,7 +16,7 @@ use Rattle.stack_lines.specs.declared.source.Source.TheVariants.{Units, UnitPart
 use Rattle.stack_lines.specs.declared.units.WholeUnit.{WholeUnit}
 use Rattle.stack_lines.specs.Caches.{StackCache, IsCacheOf, KeepsCache}
 use Rattle.stack_lines.specs.Forgetting.{Forgets}
-use Rattle.stack_lines.specs.Sources.{AreUnits, IsWholeOf}
+use Rattle.stack_lines.specs.Sources.{AreUnits, IsWholeOf, source_said}
 use Rattle.stack_lines.specs.Touches.{leaves_of}
 use Rattle.stack_lines.specs.WriteBudgets.{Counter, CountsAtMost, write_budget, crypt_write_budget}
 use Rattle.stack_lines.specs.Writing.{SomeEncrypt, sectors_in}
@@ -40,6 +41,7 @@ write-step-none {at = at} sound = record {
   uncut = λ cuts. refl;
   paid = λ k. omega arith;
   cached = record { capacity = refl; sound = sound };
+  uncounted = refl;
   forgets = forgets-none at.cache.blocks.blocks (AreRead-none 0 at.leaves);
 }
 
@@ -58,6 +60,7 @@ module _ {c : Configuration} {d first at all count n : ℕ} {source : Source} {b
     uncut = λ cuts. unread-then old.leaves mid.leaves new.leaves (before.uncut cuts) (own.uncut (device-uncut c d first (at / 512) count ((length bytes - at) / 512) all source loaded run.some run.inside run.left cut run.longest run.served cuts));
     paid = λ k. subst (λ (j : ℕ). CountsAtMost k (write_budget c k (mapped d) first j) old.leaves new.leaves) run.next (paid-run c k d first (at / 512) all loaded cut old.leaves mid.leaves (before.paid k) count source new.leaves run.some run.inside run.served (own.paid k));
     cached = record { capacity = own.cached.capacity ∙ before.cached.capacity; sound = own.cached.sound };
+    uncounted = own.uncounted ∙ before.uncounted;
     forgets = forgets-then before.forgets (forgets-up (served-within c d (first + at / 512) count source loaded run.some run.served) own.forgets);
   }
 
@@ -67,6 +70,7 @@ module _ {c : Configuration} {d first at all count n : ℕ} {source : Source} {b
     uncut = device-write-step.uncut;
     paid = λ k. paid-all c k d first (at / 512 + count) all loaded run.behind old.leaves new.leaves (paid-run c k d first (at / 512) all loaded cut old.leaves mid.leaves (before.paid k) count source new.leaves run.some run.inside run.served (own.paid k)) run.inside;
     cached = device-write-step.cached;
+    uncounted = device-write-step.uncounted;
     forgets = device-write-step.forgets;
   }
 
@@ -93,6 +97,7 @@ module _ {c : Configuration} {x : CryptPart} {n at size end : ℕ} (step : IsSte
     uncut = one-uncut (end / 512) (omega (arith, step-behind step));
     paid = λ k. subst (λ (j : ℕ). CountsAtMost k (crypt_write_budget c k x j) old.leaves new.leaves) (step-behind step) (one-paid k);
     cached = one-cached;
+    uncounted = here.uncounted ∙ before.uncounted;
     forgets = forgets-then before.forgets here.forgets;
   }
 
@@ -102,6 +107,7 @@ module _ {c : Configuration} {x : CryptPart} {n at size end : ℕ} (step : IsSte
     uncut = one-uncut n (step-within step);
     paid = λ k. units-paid c k x n loaded units (at / 512 + per_unit x.units) old.leaves new.leaves (step-sectors-behind step) (step-within step) (one-paid k);
     cached = one-cached;
+    uncounted = here.uncounted ∙ before.uncounted;
     forgets = forgets-then before.forgets here.forgets;
   }
 
@@ -118,9 +124,12 @@ module _ (c : Configuration) (x : CryptPart) (whole : WholeUnit) (bytes : List �
   unit-read : IsReadStep c (run_of c (Units whole.from) whole.sectors) old mid result
   unit-read = subst (λ (j : ℕ). IsReadStep c (run_of c (Units whole.from) j) old mid result) count read
 
+  unmet : MeetVerity (source_said c (Units whole.from)) 0 whole.sectors → ⊥
+  unmet = none-meets c x whole bytes n loaded of fits.holds some (omega (arith, fits.sectors.whole)) allowed
+
   read-forgets : Forgets c (leaves_of c x.lower) old.leaves mid.leaves old.cache.blocks.blocks mid.cache.blocks.blocks
   read-forgets =
-      let same : mid.cache ≡ old.cache = unit-read.same (none-meets c x whole bytes n loaded of fits.holds some (omega (arith, fits.sectors.whole)) allowed) in
+      let same : mid.cache ≡ old.cache = unit-read.same unmet in
       subst (λ (l : StackCache). Forgets c (leaves_of c x.lower) old.leaves mid.leaves old.cache.blocks.blocks l.blocks.blocks) (sym same) (forgets-none old.cache.blocks.blocks moved)
 
   -- the whole one was read, and not written
@@ -129,6 +138,7 @@ module _ (c : Configuration) (x : CryptPart) (whole : WholeUnit) (bytes : List �
     uncut = λ cuts. absurd cuts;
     paid = λ j. part-unpaid c x whole n of fits.holds some j old.leaves mid.leaves moved unit-read.spent;
     cached = unit-read.cached;
+    uncounted = unit-read.uncounted unmet;
     forgets = read-forgets;
   }
 
@@ -140,5 +150,6 @@ module _ (c : Configuration) (x : CryptPart) (whole : WholeUnit) (bytes : List �
         uncut = λ cuts. absurd cuts;
         paid = λ j. part-paid c x whole n of fits.holds some j old.leaves mid.leaves new.leaves moved unit-read.spent (unit.paid j);
         cached = record { capacity = unit.cached.capacity ∙ unit-read.cached.capacity; sound = unit.cached.sound };
+        uncounted = unit.uncounted ∙ unit-read.uncounted unmet;
         forgets = forgets-then read-forgets (subst (λ (y : CryptPart). Forgets c (leaves_of c y.lower) mid.leaves new.leaves mid.cache.blocks.blocks new.cache.blocks.blocks) of.from unit.forgets);
       }

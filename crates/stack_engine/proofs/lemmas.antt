@@ -6,6 +6,7 @@ pub mod DamagedLemmas
 pub mod FormattedLemmas
 pub mod MendLemmas
 pub mod PieceLemmas
+pub mod RestoredLemmas
 pub mod RoundLemmas
 pub mod SyncLemmas
 pub mod WalkLemmas

@@ -7,6 +7,7 @@ use Rattle.stack_meaning.specs.Found.{FoundRecord}
 use Rattle.stack_meaning.specs.Places.{LeafRead}
 use Rattle.stack_lines.specs.Caches.{StackCache, KeepsCache}
 use Rattle.stack_lines.specs.Touches.{AsksOnly}
+use Rattle.stack_engine.specs.Restored.{Served, serving}
 use Rattle.stack_engine.specs.Stacks.{IsStack}
 use Rattle.stack_engine.specs.declared.backing.Backing.{Backing}
 
@@ -14,13 +15,18 @@ use Rattle.stack_engine.specs.declared.backing.Backing.{Backing}
 abbrev pub leaves_in : {D : Type 0} → (D → Device) → Backing D → List Device
 leaves_in state backing = map state backing.devices.items
 
--- the leaves, and what is kept of hash blocks
+-- the leaves, what is kept of hash blocks, and how many blocks were restored
 pub record BackingRecord : Type 0 where
   pub leaves : List Device
   pub cache : StackCache
+  pub restored : ℕ
 
 abbrev pub backing_of : {D : Type 0} → (D → Device) → Backing D → BackingRecord
-backing_of state backing = record { leaves = leaves_in state backing; cache = backing.cache }
+backing_of state backing = record { leaves = leaves_in state backing; cache = backing.cache; restored = backing.restored }
+
+-- the devices, and how many blocks were restored
+abbrev pub served : {D : Type 0} → Backing D → Served D
+served backing = serving backing.devices.items backing.restored
 
 -- it serves the configuration, and what is kept of hash blocks is sound
 abbrev pub IsBacking : {D : Type 0} → (D → Device) → Configuration → Backing D → Type 0

@@ -4,6 +4,7 @@ pub mod KeptBlocks
 pub mod Premises
 pub mod Backings
 pub mod LeafCalls
+pub mod Restored
 pub mod Healing
 pub mod SectorCalls
 pub mod Keeping
@@ -12,6 +13,7 @@ pub mod Pieces
 pub mod Bytes
 pub mod WritePieces
 pub mod Dirty
+pub mod Unrestored
 pub mod ReadSteps
 pub mod Spares
 pub mod WriteSteps

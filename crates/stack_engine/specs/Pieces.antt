@@ -1,5 +1,5 @@
 -- Pieces of a read: at most 128 sectors, which one call answers.
-use Rattle.std.specs.Prelude.{◌≡◌, ◌⊎◌, ℕ, ◌*◌, List, [], Result, Ok, Err}
+use Rattle.std.specs.Prelude.{◌≡◌, ◌⊎◌, ◌≤◌, ℕ, ◌*◌, List, [], Result, Ok, Err}
 use Rattle.block_device.specs.Call.{Call, DeviceDoes}
 use Rattle.block_device.specs.Device.{Device}
 use Rattle.stack_rules.specs.Records.{Configuration}
@@ -21,13 +21,13 @@ use Rattle.stack_engine.specs.SectorCalls.{AreReadCalls}
 use Rattle.stack_engine.specs.Stacks.{StackRecord, AnswerRecord}
 use Rattle.verified_cache.specs.Cache.{CacheRecord}
 
--- a configuration over its leaves' devices, with the hash blocks of a cache
-abbrev pub stack_with : Configuration → List Device → CacheRecord → StackRecord
-stack_with config leaves cache = record { config = config; leaves = leaves; capacity = cache.capacity; kept = cache.blocks }
+-- a configuration over its leaves' devices, with the hash blocks of a cache, after so many blocks were restored
+abbrev pub stack_with : Configuration → List Device → CacheRecord → ℕ → StackRecord
+stack_with config leaves cache restored = record { config = config; leaves = leaves; capacity = cache.capacity; kept = cache.blocks; restored = restored }
 
--- with room for so many, of which none is kept
+-- with room for so many, of which none is kept; nothing was restored
 abbrev pub stack_over : Configuration → List Device → ℕ → StackRecord
-stack_over config leaves capacity = stack_with config leaves (record { capacity = capacity; blocks = [] })
+stack_over config leaves capacity = stack_with config leaves (record { capacity = capacity; blocks = [] }) 0
 
 -- the leaves beneath a mapped device are steady
 abbrev pub AreSteadyBeneath : StackRecord → ℕ → Type 0
@@ -50,14 +50,20 @@ abbrev pub answer_bytes : Result AnswerRecord IoFault → Result (List ℕ) IoFa
 answer_bytes (Ok got) = Ok got.bytes
 answer_bytes (Err fault) = Err fault
 
--- The calls of a read: none where memory ran out before it, and else those that give the bytes.
-abbrev pub ReadPieceCalls : Configuration → ℕ → ℕ → ℕ → Result (List ℕ) IoFault → List LeafCall → Type 0
-ReadPieceCalls c d first n answer calls = ((answer ≡ Err io.NoMemory) × (calls ≡ [])) ⊎ AreReadCalls c (Below (mapped d) first) n calls answer
+-- The calls of a read, between two counts of restored blocks: none where memory ran out before it, and else those that give the bytes.
+abbrev pub ReadPieceCalls : Configuration → ℕ → ℕ → ℕ → Result (List ℕ) IoFault → ℕ → ℕ → List LeafCall → Type 0
+ReadPieceCalls c d first n answer from to calls = ((answer ≡ Err io.NoMemory) × (to ≡ from) × (calls ≡ [])) ⊎ AreReadCalls c (Below (mapped d) first) n calls from to answer
 
 -- Whatever the leaves answer, of n sectors of mapped device at.0, from sector at.1 on: these calls of their devices were made, and no
--- others.
+-- others. As many blocks are counted as the calls restored.
 abbrev pub PieceGives : {D : Type 0} → (D → Device) → (D → Call → D → Type 0) → StackRecord → ℕ × ℕ → ℕ → Result (List ℕ) IoFault → StackRecord → Type 0
-PieceGives state does w at n answer w' = ServesCalls state (DeviceDoes state does) (ReadPieceCalls w.config at.0 at.1 n answer) w.leaves w'.leaves
+PieceGives state does w at n answer w' = ServesCalls state (DeviceDoes state does) (ReadPieceCalls w.config at.0 at.1 n answer w.restored w'.restored) w.leaves w'.leaves
+
+-- The count of restored blocks after a read of n sectors of mapped device d, from the first on: no less than before, and the same
+-- if no `verity` line is on their way.
+pub record ReadRestores (w : StackRecord) (d first n : ℕ) (w' : StackRecord) : Type 0 where
+  pub grows : w.restored ≤ w'.restored
+  pub same : (MeetsVerity w d first n → ⊥) → w'.restored ≡ w.restored
 
 -- How a piece is answered, n sectors of mapped device d from the first on, with the stack that the answer leaves:
 -- whatever the leaves answer

@@ -30,7 +30,7 @@ use Rattle.hash_tree.specs.Chain.{ChainRecord}
 use Rattle.verified_cache.specs.Cache.{CachedBlock}
 use Rattle.stack_engine.specs.declared.backing.Backing.{Backing}
 use Rattle.stack_engine.specs.declared.path.WantedBlock.{WantedBlock}
-use Rattle.stack_engine.specs.Backings.{BackingRecord, backing_of, leaves_in}
+use Rattle.stack_engine.specs.Backings.{BackingRecord, backing_of, leaves_in, served}
 use Rattle.stack_engine.specs.Bytes.{GetsBytes}
 use Rattle.stack_engine.specs.Premises.{CanRead}
 use Rattle.stack_engine.specs.SectorCalls.{DataPlace, DataRead, ExpectedBlock, LeadsTo, ReadOf, ReadsBy, data_of, expected_hash, hash_of, last_bytes, one_block, sectors_of, whole_data}
@@ -58,11 +58,12 @@ abbrev pub run_beneath : Configuration → Lower → ℕ → ℕ → SectorRun
 run_beneath c lower first n = record { said = said_at c lower; first = first; count = n; leaves = leaves_of c lower; most = budget c lower first n }
 
 -- What a read of a run leaves, whatever it answers. It ends at the first device call that fails, and keeps hash blocks only
--- that are sound. Without a `verity` line on the way it is plain, and the kept hash blocks stay.
+-- that are sound. Without a `verity` line on the way it is plain, the kept hash blocks stay, and nothing is restored.
 pub record IsReadStep (c : Configuration) (run : SectorRun) (old new : BackingRecord) (result : Result Unit IoFault) : Type 0 where
   pub cached : KeepsCache c new.leaves old.cache new.cache
   pub plain : IsPlain run.said run.first run.count old.leaves new.leaves result
   pub same : (MeetVerity run.said run.first run.count → ⊥) → new.cache ≡ old.cache
+  pub uncounted : (MeetVerity run.said run.first run.count → ⊥) → new.restored ≡ old.restored
   pub touches : AsksOnly run.leaves old.leaves new.leaves result
   pub spent : ReadsAtMost run.most old.leaves new.leaves
 
@@ -74,9 +75,9 @@ StepAt state c lower first out old new result = IsReadStep c (run_beneath c lowe
 
 -- ---- whatever the devices answer
 
--- the calls on the devices that read it
+-- the calls on the devices that read it, and the blocks that they restored
 abbrev pub ReadsOn : {D : Type 0} → (D → Call → D → Type 0) → Configuration → ReadOf → Backing D → Backing D → Result (List ℕ) IoFault → Type 0
-ReadsOn does c what old new answer = ReadsBy does c what old.devices.items new.devices.items answer
+ReadsOn does c what old new answer = ReadsBy does c what (served old) (served new) answer
 
 -- n sectors of a source
 abbrev pub GivesFrom : {D : Type 0} → (D → Call → D → Type 0) → Configuration → Source → ℕ → Backing D → Backing D → Result (List ℕ) IoFault → Type 0
@@ -88,7 +89,7 @@ GivesAt does c lower first n = GivesFrom does c (Below lower first) n
 
 -- as many as fill a buffer, which may be none: then no call is made
 pub record GivesAny {D : Type 0} (does : D → Call → D → Type 0) (c : Configuration) (from : Lower × ℕ) (out : List ℕ) (old new : Backing D) (answer : Result (List ℕ) IoFault) : Type 0 where
-  pub none : length out ≡ 0 → (new.devices.items ≡ old.devices.items) × IsTrue (is_ok answer)
+  pub none : length out ≡ 0 → (served new ≡ served old) × IsTrue (is_ok answer)
   pub some : 0 < length out → GivesAt does c from.0 from.1 (length out / 512) old new answer
 
 -- the bytes of a block, or of a chain's data block; or the fault
@@ -114,7 +115,7 @@ GivesOnWay does c p wanted path old new result = (x : CachedBlock) → ReadsOn d
 
 -- The way to a place was walked: with the calls that read what is beneath it, whatever that is, all is read; or it ended by a fault.
 abbrev pub WalksTo : {D : Type 0} → (D → Call → D → Type 0) → Configuration → DataPlace → List CachedBlock → Backing D → Backing D → Result (List ℕ) IoFault → Type 0
-WalksTo does c p path old new (Ok expected) = (next : DataRead) → LeadsTo does c (whole_data p next) (data_of p 0 expected (last_bytes (take (levels (tree_of p.verity)) path)) next) old.devices.items new.devices.items
+WalksTo does c p path old new (Ok expected) = (next : DataRead) → LeadsTo does c (whole_data p next) (data_of p 0 expected (last_bytes (take (levels (tree_of p.verity)) path)) next) (served old) (served new)
 WalksTo does c p path old new (Err fault) = (next : DataRead) → ReadsOn does c (whole_data p next) old new (Err fault)
 
 -- ---- of a leaf or a device

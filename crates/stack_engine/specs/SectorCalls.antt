@@ -34,6 +34,7 @@ use Rattle.stack_lines.specs.Walks.{IsBlockOfDigest}
 use Rattle.stack_lines.specs.Writing.{SomeEncrypt}
 use Rattle.stack_engine.specs.Healing.{IsSettled, healed_result, unhealed}
 use Rattle.stack_engine.specs.LeafCalls.{LeafCall, MakesCalls}
+use Rattle.stack_engine.specs.Restored.{Served, one_more, restored_after}
 use Rattle.verified_cache.specs.Cache.{CachedBlock}
 
 -- the units of a part, encrypted and decrypted
@@ -162,95 +163,96 @@ whole_data p next = data_of p (levels (tree_of p.verity)) p.verity.root [] next
 
 -- It is read by these calls, and this is answered: the bytes that the calls gave, or decrypted ones. A block of a `verity` line is
 -- answered only if each block on the way to it has the digest that the block before it, as it was read or kept, has for it; nothing
--- is read after a block that differs, nor after memory ran out.
-pub data ReadCalls (c : Configuration) : ReadOf → List LeafCall → Result (List ℕ) IoFault → Type 0 where
+-- is read after a block that differs, nor after memory ran out. The two numbers are how many blocks were restored before it and
+-- after it: each spare that is answered counts one, and a block that has its digest none.
+pub data ReadCalls (c : Configuration) : ReadOf → List LeafCall → ℕ → ℕ → Result (List ℕ) IoFault → Type 0 where
   -- of a leaf, by one call
-  leaf_read : (i s : ℕ) (bytes : List ℕ) → ReadCalls c (sectors_of (Below (Leaf i) s) (length bytes / 512)) (record { leaf = i; call = Read s bytes true } ∷ []) (Ok bytes)
-  leaf_unread : (i s : ℕ) (bytes : List ℕ) → ReadCalls c (sectors_of (Below (Leaf i) s) (length bytes / 512)) (record { leaf = i; call = Read s bytes false } ∷ []) (Err (io.Device (i + 1)))
+  leaf_read : {from : ℕ} (i s : ℕ) (bytes : List ℕ) → ReadCalls c (sectors_of (Below (Leaf i) s) (length bytes / 512)) (record { leaf = i; call = Read s bytes true } ∷ []) from from (Ok bytes)
+  leaf_unread : {from : ℕ} (i s : ℕ) (bytes : List ℕ) → ReadCalls c (sectors_of (Below (Leaf i) s) (length bytes / 512)) (record { leaf = i; call = Read s bytes false } ∷ []) from from (Err (io.Device (i + 1)))
   -- of a device: none; the longest run, and then the sectors after it; or that run alone, if it meets a fault
-  none_read : (d s : ℕ) → ReadCalls c (sectors_of (Below (mapped d) s) 0) [] (Ok [])
-  line_read : {d s n : ℕ} {run : Run} {calls later : List LeafCall} {xs : List ℕ} {answer : Result (List ℕ) IoFault} → IsRunAt c d s (run.count + n) run → ReadCalls c (sectors_of run.source run.count) calls (Ok xs) → ReadCalls c (sectors_of (Below (mapped d) (s + run.count)) n) later answer
-      → ReadCalls c (sectors_of (Below (mapped d) s) (run.count + n)) (calls ++ later) (bytes_before xs answer)
-  line_unread : {d s n : ℕ} {run : Run} {calls : List LeafCall} {fault : IoFault} → IsRunAt c d s n run → ReadCalls c (sectors_of run.source run.count) calls (Err fault) → ReadCalls c (sectors_of (Below (mapped d) s) n) calls (Err fault)
+  none_read : {from : ℕ} (d s : ℕ) → ReadCalls c (sectors_of (Below (mapped d) s) 0) [] from from (Ok [])
+  line_read : {from mid to : ℕ} {d s n : ℕ} {run : Run} {calls later : List LeafCall} {xs : List ℕ} {answer : Result (List ℕ) IoFault} → IsRunAt c d s (run.count + n) run → ReadCalls c (sectors_of run.source run.count) calls from mid (Ok xs) → ReadCalls c (sectors_of (Below (mapped d) (s + run.count)) n) later mid to answer
+      → ReadCalls c (sectors_of (Below (mapped d) s) (run.count + n)) (calls ++ later) from to (bytes_before xs answer)
+  line_unread : {from to : ℕ} {d s n : ℕ} {run : Run} {calls : List LeafCall} {fault : IoFault} → IsRunAt c d s n run → ReadCalls c (sectors_of run.source run.count) calls from to (Err fault) → ReadCalls c (sectors_of (Below (mapped d) s) n) calls from to (Err fault)
   -- of a `crypt` line: whole units, and sectors of one unit
-  units_read : {u : CryptPart} {n : ℕ} {calls : List LeafCall} {bytes : List ℕ} → ReadCalls c (sectors_of (Below u.lower (unit_first u.units u.first)) n) calls (Ok bytes) → ReadCalls c (sectors_of (Units u) n) calls (Ok (part_decrypted u bytes))
-  units_unread : {u : CryptPart} {n : ℕ} {calls : List LeafCall} {fault : IoFault} → ReadCalls c (sectors_of (Below u.lower (unit_first u.units u.first)) n) calls (Err fault) → ReadCalls c (sectors_of (Units u) n) calls (Err fault)
-  part_read : {u : CryptPart} {calls : List LeafCall} {unit : List ℕ} (n : ℕ) → ReadCalls c (sectors_of (Units (from_unit u)) (per_unit u.units)) calls (Ok unit) → ReadCalls c (sectors_of (UnitPart u) n) calls (Ok (unit_sectors u n unit))
-  part_unread : {u : CryptPart} {calls : List LeafCall} {fault : IoFault} (n : ℕ) → ReadCalls c (sectors_of (Units (from_unit u)) (per_unit u.units)) calls (Err fault) → ReadCalls c (sectors_of (UnitPart u) n) calls (Err fault)
+  units_read : {from to : ℕ} {u : CryptPart} {n : ℕ} {calls : List LeafCall} {bytes : List ℕ} → ReadCalls c (sectors_of (Below u.lower (unit_first u.units u.first)) n) calls from to (Ok bytes) → ReadCalls c (sectors_of (Units u) n) calls from to (Ok (part_decrypted u bytes))
+  units_unread : {from to : ℕ} {u : CryptPart} {n : ℕ} {calls : List LeafCall} {fault : IoFault} → ReadCalls c (sectors_of (Below u.lower (unit_first u.units u.first)) n) calls from to (Err fault) → ReadCalls c (sectors_of (Units u) n) calls from to (Err fault)
+  part_read : {from to : ℕ} {u : CryptPart} {calls : List LeafCall} {unit : List ℕ} (n : ℕ) → ReadCalls c (sectors_of (Units (from_unit u)) (per_unit u.units)) calls from to (Ok unit) → ReadCalls c (sectors_of (UnitPart u) n) calls from to (Ok (unit_sectors u n unit))
+  part_unread : {from to : ℕ} {u : CryptPart} {calls : List LeafCall} {fault : IoFault} (n : ℕ) → ReadCalls c (sectors_of (Units (from_unit u)) (per_unit u.units)) calls from to (Err fault) → ReadCalls c (sectors_of (UnitPart u) n) calls from to (Err fault)
   -- of a `zero` line and of an `error` line
-  zeros_read : (n : ℕ) → ReadCalls c (sectors_of Zeros n) [] (Ok (replicate (512 * n) 0))
-  fails_read : (n : ℕ) → ReadCalls c (sectors_of Fails n) [] (Err (io.Stack why.ErrorTarget))
+  zeros_read : {from : ℕ} (n : ℕ) → ReadCalls c (sectors_of Zeros n) [] from from (Ok (replicate (512 * n) 0))
+  fails_read : {from : ℕ} (n : ℕ) → ReadCalls c (sectors_of Fails n) [] from from (Err (io.Stack why.ErrorTarget))
   -- of a data block of a `verity` line: from its chain, which was found before; from the block, which is read; or none, if the read
   -- ends by a fault, or memory runs out for what it gave
-  chain_found : {x : VerityPart} (n : ℕ) (chain : ChainRecord) → chain.index ≡ x.first / block_sectors x.verity.now → IsGood (tree_of x.verity.now) x.verity.now.salt x.verity.now.root chain → ReadCalls c (sectors_of (Block x) n) [] (Ok (block_part x n chain.content))
-  data_read : {x : VerityPart} {calls : List LeafCall} {content : List ℕ} (n : ℕ) → ReadCalls c (whole_data (place_at x (x.first / block_sectors x.verity.now)) one_block) calls (Ok content) → ReadCalls c (sectors_of (Block x) n) calls (Ok (block_part x n content))
-  data_unread : {x : VerityPart} {calls : List LeafCall} {fault : IoFault} (n : ℕ) → ReadCalls c (whole_data (place_at x (x.first / block_sectors x.verity.now)) one_block) calls (Err fault) → ReadCalls c (sectors_of (Block x) n) calls (Err fault)
-  data_full : {x : VerityPart} {calls : List LeafCall} {content : List ℕ} (n : ℕ) → ReadCalls c (whole_data (place_at x (x.first / block_sectors x.verity.now)) one_block) calls (Ok content) → ReadCalls c (sectors_of (Block x) n) calls (Err io.NoMemory)
+  chain_found : {from : ℕ} {x : VerityPart} (n : ℕ) (chain : ChainRecord) → chain.index ≡ x.first / block_sectors x.verity.now → IsGood (tree_of x.verity.now) x.verity.now.salt x.verity.now.root chain → ReadCalls c (sectors_of (Block x) n) [] from from (Ok (block_part x n chain.content))
+  data_read : {from to : ℕ} {x : VerityPart} {calls : List LeafCall} {content : List ℕ} (n : ℕ) → ReadCalls c (whole_data (place_at x (x.first / block_sectors x.verity.now)) one_block) calls from to (Ok content) → ReadCalls c (sectors_of (Block x) n) calls from to (Ok (block_part x n content))
+  data_unread : {from to : ℕ} {x : VerityPart} {calls : List LeafCall} {fault : IoFault} (n : ℕ) → ReadCalls c (whole_data (place_at x (x.first / block_sectors x.verity.now)) one_block) calls from to (Err fault) → ReadCalls c (sectors_of (Block x) n) calls from to (Err fault)
+  data_full : {from to : ℕ} {x : VerityPart} {calls : List LeafCall} {content : List ℕ} (n : ℕ) → ReadCalls c (whole_data (place_at x (x.first / block_sectors x.verity.now)) one_block) calls from to (Ok content) → ReadCalls c (sectors_of (Block x) n) calls from to (Err io.NoMemory)
   -- of whole data blocks
-  blocks_read : {x : VerityPart} {n : ℕ} {calls : List LeafCall} {answer : Result (List ℕ) IoFault} → ReadCalls c (blocks_of (place_at x (x.first / block_sectors x.verity.now)) (n / block_sectors x.verity.now) []) calls answer → ReadCalls c (sectors_of (Blocks x) n) calls answer
+  blocks_read : {from to : ℕ} {x : VerityPart} {n : ℕ} {calls : List LeafCall} {answer : Result (List ℕ) IoFault} → ReadCalls c (blocks_of (place_at x (x.first / block_sectors x.verity.now)) (n / block_sectors x.verity.now) []) calls from to answer → ReadCalls c (sectors_of (Blocks x) n) calls from to answer
   -- an expected block: its sectors, which have the digest; or they have another one, or can't be read; or memory runs out before it
-  block_checked : {x : ExpectedBlock} {calls : List LeafCall} {bytes : List ℕ} → ReadCalls c (sectors_of (Below x.extent.lower x.extent.first) x.extent.sectors) calls (Ok bytes) → digest x.salt bytes ≡ x.digest → ReadCalls c (block_of x) calls (Ok bytes)
-  block_differs : {x : ExpectedBlock} {calls : List LeafCall} {bytes : List ℕ} → ReadCalls c (sectors_of (Below x.extent.lower x.extent.first) x.extent.sectors) calls (Ok bytes) → (digest x.salt bytes ≡ x.digest → ⊥) → ReadCalls c (block_of x) calls (Err (io.Stack why.Mismatch))
-  block_unread : {x : ExpectedBlock} {calls : List LeafCall} {fault : IoFault} → ReadCalls c (sectors_of (Below x.extent.lower x.extent.first) x.extent.sectors) calls (Err fault) → ReadCalls c (block_of x) calls (Err fault)
-  block_full : (x : ExpectedBlock) → ReadCalls c (block_of x) [] (Err io.NoMemory)
+  block_checked : {from to : ℕ} {x : ExpectedBlock} {calls : List LeafCall} {bytes : List ℕ} → ReadCalls c (sectors_of (Below x.extent.lower x.extent.first) x.extent.sectors) calls from to (Ok bytes) → digest x.salt bytes ≡ x.digest → ReadCalls c (block_of x) calls from to (Ok bytes)
+  block_differs : {from to : ℕ} {x : ExpectedBlock} {calls : List LeafCall} {bytes : List ℕ} → ReadCalls c (sectors_of (Below x.extent.lower x.extent.first) x.extent.sectors) calls from to (Ok bytes) → (digest x.salt bytes ≡ x.digest → ⊥) → ReadCalls c (block_of x) calls from to (Err (io.Stack why.Mismatch))
+  block_unread : {from to : ℕ} {x : ExpectedBlock} {calls : List LeafCall} {fault : IoFault} → ReadCalls c (sectors_of (Below x.extent.lower x.extent.first) x.extent.sectors) calls from to (Err fault) → ReadCalls c (block_of x) calls from to (Err fault)
+  block_full : {from : ℕ} (x : ExpectedBlock) → ReadCalls c (block_of x) [] from from (Err io.NoMemory)
   -- a hash block: a kept one, which has the digest, or it is read; or memory runs out before it or after it
-  hash_kept : (x : ExpectedBlock) (bytes : List ℕ) → IsBlockOfDigest x.extent.sectors x.salt x.digest bytes → ReadCalls c (hash_of x) [] (Ok bytes)
-  hash_full : (x : ExpectedBlock) → ReadCalls c (hash_of x) [] (Err io.NoMemory)
-  hash_lost : {x : ExpectedBlock} {calls : List LeafCall} {bytes : List ℕ} → ReadCalls c (hash_of x) calls (Ok bytes) → ReadCalls c (hash_of x) calls (Err io.NoMemory)
-  hash_read : {x : ExpectedBlock} {calls : List LeafCall} {answer : Result (List ℕ) IoFault} → ReadCalls c (block_of x) calls answer → ReadCalls c (hash_of x) calls answer
+  hash_kept : {from : ℕ} (x : ExpectedBlock) (bytes : List ℕ) → IsBlockOfDigest x.extent.sectors x.salt x.digest bytes → ReadCalls c (hash_of x) [] from from (Ok bytes)
+  hash_full : {from : ℕ} (x : ExpectedBlock) → ReadCalls c (hash_of x) [] from from (Err io.NoMemory)
+  hash_lost : {from to : ℕ} {x : ExpectedBlock} {calls : List LeafCall} {bytes : List ℕ} → ReadCalls c (hash_of x) calls from to (Ok bytes) → ReadCalls c (hash_of x) calls from to (Err io.NoMemory)
+  hash_read : {from to : ℕ} {x : ExpectedBlock} {calls : List LeafCall} {answer : Result (List ℕ) IoFault} → ReadCalls c (block_of x) calls from to answer → ReadCalls c (hash_of x) calls from to answer
   -- the way to data: the next hash block, and then what is beneath it, by the digest in it
-  way_down : {p : DataPlace} {l : ℕ} {expected last block : List ℕ} {next : DataRead} {calls later : List LeafCall} {answer : Result (List ℕ) IoFault} → ReadCalls c (hash_of (expected_hash p l expected)) calls (Ok block) → ReadCalls c (data_of p l (next_digest p.verity l p.index block) block next) later answer
-      → ReadCalls c (data_of p (suc l) expected last next) (calls ++ later) answer
-  way_stops : {p : DataPlace} {l : ℕ} {expected : List ℕ} (last : List ℕ) (next : DataRead) {calls : List LeafCall} {fault : IoFault} → ReadCalls c (hash_of (expected_hash p l expected)) calls (Err fault) → ReadCalls c (data_of p (suc l) expected last next) calls (Err fault)
-  way_full : (p : DataPlace) (l : ℕ) (expected last : List ℕ) (next : DataRead) → ReadCalls c (data_of p l expected last next) [] (Err io.NoMemory)
+  way_down : {from mid to : ℕ} {p : DataPlace} {l : ℕ} {expected last block : List ℕ} {next : DataRead} {calls later : List LeafCall} {answer : Result (List ℕ) IoFault} → ReadCalls c (hash_of (expected_hash p l expected)) calls from mid (Ok block) → ReadCalls c (data_of p l (next_digest p.verity l p.index block) block next) later mid to answer
+      → ReadCalls c (data_of p (suc l) expected last next) (calls ++ later) from to answer
+  way_stops : {from to : ℕ} {p : DataPlace} {l : ℕ} {expected : List ℕ} (last : List ℕ) (next : DataRead) {calls : List LeafCall} {fault : IoFault} → ReadCalls c (hash_of (expected_hash p l expected)) calls from to (Err fault) → ReadCalls c (data_of p (suc l) expected last next) calls from to (Err fault)
+  way_full : {from : ℕ} (p : DataPlace) (l : ℕ) (expected last : List ℕ) (next : DataRead) → ReadCalls c (data_of p l expected last next) [] from from (Err io.NoMemory)
   -- the one data block: zeros, if the line ignores it, or it is read; and if that ends in a fault of the lines, its spare is
-  one_ignored : (p : DataPlace) (expected last : List ℕ) → is_ignored p.verity expected ≡ true → ReadCalls c (data_of p zero expected last one_block) [] (Ok (zero_block p.verity))
-  one_read : {p : DataPlace} {expected : List ℕ} (last : List ℕ) {calls : List LeafCall} {answer : Result (List ℕ) IoFault} → is_ignored p.verity expected ≡ false → IfErr answer IsSettled → ReadCalls c (block_of (expected_data p expected)) calls answer → ReadCalls c (data_of p zero expected last one_block) calls answer
-  one_healed : {p : DataPlace} {expected : List ℕ} (last : List ℕ) {calls later : List LeafCall} {fault : Fault} {spare : Result (List ℕ) IoFault} → is_ignored p.verity expected ≡ false → ReadCalls c (block_of (expected_data p expected)) calls (Err (io.Stack fault)) → ReadCalls c (spare_of p expected) later spare
-      → ReadCalls c (data_of p zero expected last one_block) (calls ++ later) (healed_result fault spare)
+  one_ignored : {from : ℕ} (p : DataPlace) (expected last : List ℕ) → is_ignored p.verity expected ≡ true → ReadCalls c (data_of p zero expected last one_block) [] from from (Ok (zero_block p.verity))
+  one_read : {from to : ℕ} {p : DataPlace} {expected : List ℕ} (last : List ℕ) {calls : List LeafCall} {answer : Result (List ℕ) IoFault} → is_ignored p.verity expected ≡ false → IfErr answer IsSettled → ReadCalls c (block_of (expected_data p expected)) calls from to answer → ReadCalls c (data_of p zero expected last one_block) calls from to answer
+  one_healed : {from mid to : ℕ} {p : DataPlace} {expected : List ℕ} (last : List ℕ) {calls later : List LeafCall} {fault : Fault} {spare : Result (List ℕ) IoFault} → is_ignored p.verity expected ≡ false → ReadCalls c (block_of (expected_data p expected)) calls from mid (Err (io.Stack fault)) → ReadCalls c (spare_of p expected) later mid to spare
+      → ReadCalls c (data_of p zero expected last one_block) (calls ++ later) from (restored_after spare to) (healed_result fault spare)
   -- whole data blocks, the next of which was read before: it is ignored, or has the digest, or differs and its spare is read, and
   -- those after it are read; or it differs, and its spare can't be read
-  next_ignored : {p : DataPlace} {left : ℕ} {expected ahead : List ℕ} (last : List ℕ) {calls : List LeafCall} {answer : Result (List ℕ) IoFault} → is_ignored p.verity expected ≡ true → ReadCalls c (blocks_of (next_place p) left (drop p.verity.data_block ahead)) calls answer
-      → ReadCalls c (data_of p zero expected last (blocks_left (suc left) ahead)) calls (bytes_before (zero_block p.verity) answer)
-  next_checked : {p : DataPlace} {left : ℕ} {expected ahead : List ℕ} (block last : List ℕ) {calls : List LeafCall} {answer : Result (List ℕ) IoFault} → is_ignored p.verity expected ≡ false → IsBlockOfDigest (block_sectors p.verity) p.verity.salt expected block → ReadCalls c (blocks_of (next_place p) left ahead) calls answer
-      → ReadCalls c (data_of p zero expected last (blocks_left (suc left) (block ++ ahead))) calls (bytes_before block answer)
-  next_healed : {p : DataPlace} {left : ℕ} {expected ahead spare : List ℕ} (block last : List ℕ) {calls later : List LeafCall} {answer : Result (List ℕ) IoFault} → is_ignored p.verity expected ≡ false → length block ≡ 512 * block_sectors p.verity → (digest p.verity.salt block ≡ expected → ⊥) → ReadCalls c (spare_of p expected) calls (Ok spare) → ReadCalls c (blocks_of (next_place p) left ahead) later answer → ReadCalls c (data_of p zero expected last (blocks_left (suc left) (block ++ ahead))) (calls ++ later) (bytes_before spare answer)
-  next_differs : {p : DataPlace} {expected : List ℕ} (left : ℕ) (block ahead last : List ℕ) {calls : List LeafCall} {vain : IoFault} → is_ignored p.verity expected ≡ false → length block ≡ 512 * block_sectors p.verity → (digest p.verity.salt block ≡ expected → ⊥) → ReadCalls c (spare_of p expected) calls (Err vain) → ReadCalls c (data_of p zero expected last (blocks_left left (block ++ ahead))) calls (Err (unhealed why.Mismatch vain))
+  next_ignored : {from to : ℕ} {p : DataPlace} {left : ℕ} {expected ahead : List ℕ} (last : List ℕ) {calls : List LeafCall} {answer : Result (List ℕ) IoFault} → is_ignored p.verity expected ≡ true → ReadCalls c (blocks_of (next_place p) left (drop p.verity.data_block ahead)) calls from to answer
+      → ReadCalls c (data_of p zero expected last (blocks_left (suc left) ahead)) calls from to (bytes_before (zero_block p.verity) answer)
+  next_checked : {from to : ℕ} {p : DataPlace} {left : ℕ} {expected ahead : List ℕ} (block last : List ℕ) {calls : List LeafCall} {answer : Result (List ℕ) IoFault} → is_ignored p.verity expected ≡ false → IsBlockOfDigest (block_sectors p.verity) p.verity.salt expected block → ReadCalls c (blocks_of (next_place p) left ahead) calls from to answer
+      → ReadCalls c (data_of p zero expected last (blocks_left (suc left) (block ++ ahead))) calls from to (bytes_before block answer)
+  next_healed : {from mid to : ℕ} {p : DataPlace} {left : ℕ} {expected ahead spare : List ℕ} (block last : List ℕ) {calls later : List LeafCall} {answer : Result (List ℕ) IoFault} → is_ignored p.verity expected ≡ false → length block ≡ 512 * block_sectors p.verity → (digest p.verity.salt block ≡ expected → ⊥) → ReadCalls c (spare_of p expected) calls from mid (Ok spare) → ReadCalls c (blocks_of (next_place p) left ahead) later (one_more mid) to answer → ReadCalls c (data_of p zero expected last (blocks_left (suc left) (block ++ ahead))) (calls ++ later) from to (bytes_before spare answer)
+  next_differs : {from to : ℕ} {p : DataPlace} {expected : List ℕ} (left : ℕ) (block ahead last : List ℕ) {calls : List LeafCall} {vain : IoFault} → is_ignored p.verity expected ≡ false → length block ≡ 512 * block_sectors p.verity → (digest p.verity.salt block ≡ expected → ⊥) → ReadCalls c (spare_of p expected) calls from to (Err vain) → ReadCalls c (data_of p zero expected last (blocks_left left (block ++ ahead))) calls from to (Err (unhealed why.Mismatch vain))
   -- it wasn't read before: it is read together with later ones
-  together_read : {p : DataPlace} {left many : ℕ} {expected last bytes : List ℕ} {calls later : List LeafCall} {answer : Result (List ℕ) IoFault} → is_ignored p.verity expected ≡ false → AreReadTogether p last left many → ReadCalls c (sectors_of (Below p.on_data (block_sectors p.verity * p.index)) (many * block_sectors p.verity)) calls (Ok bytes)
-      → ReadCalls c (data_of p zero expected last (blocks_left left bytes)) later answer → ReadCalls c (data_of p zero expected last (blocks_left left [])) (calls ++ later) answer
-  together_unread : {p : DataPlace} {left many : ℕ} {expected last : List ℕ} {calls : List LeafCall} {fault : IoFault} → is_ignored p.verity expected ≡ false → AreReadTogether p last left many → ReadCalls c (sectors_of (Below p.on_data (block_sectors p.verity * p.index)) (many * block_sectors p.verity)) calls (Err fault)
-      → ReadCalls c (data_of p zero expected last (blocks_left left [])) calls (Err fault)
+  together_read : {from mid to : ℕ} {p : DataPlace} {left many : ℕ} {expected last bytes : List ℕ} {calls later : List LeafCall} {answer : Result (List ℕ) IoFault} → is_ignored p.verity expected ≡ false → AreReadTogether p last left many → ReadCalls c (sectors_of (Below p.on_data (block_sectors p.verity * p.index)) (many * block_sectors p.verity)) calls from mid (Ok bytes)
+      → ReadCalls c (data_of p zero expected last (blocks_left left bytes)) later mid to answer → ReadCalls c (data_of p zero expected last (blocks_left left [])) (calls ++ later) from to answer
+  together_unread : {from to : ℕ} {p : DataPlace} {left many : ℕ} {expected last : List ℕ} {calls : List LeafCall} {fault : IoFault} → is_ignored p.verity expected ≡ false → AreReadTogether p last left many → ReadCalls c (sectors_of (Below p.on_data (block_sectors p.verity * p.index)) (many * block_sectors p.verity)) calls from to (Err fault)
+      → ReadCalls c (data_of p zero expected last (blocks_left left [])) calls from to (Err fault)
   -- no data blocks; or the way to the next one
-  blocks_end : (p : DataPlace) (ahead : List ℕ) → ReadCalls c (blocks_of p zero ahead) [] (Ok [])
-  blocks_next : {p : DataPlace} {left : ℕ} {ahead : List ℕ} {calls : List LeafCall} {answer : Result (List ℕ) IoFault} → ReadCalls c (whole_data p (blocks_left (suc left) ahead)) calls answer → ReadCalls c (blocks_of p (suc left) ahead) calls answer
-  blocks_full : (p : DataPlace) (left : ℕ) (ahead : List ℕ) → ReadCalls c (blocks_of p left ahead) [] (Err io.NoMemory)
+  blocks_end : {from : ℕ} (p : DataPlace) (ahead : List ℕ) → ReadCalls c (blocks_of p zero ahead) [] from from (Ok [])
+  blocks_next : {from to : ℕ} {p : DataPlace} {left : ℕ} {ahead : List ℕ} {calls : List LeafCall} {answer : Result (List ℕ) IoFault} → ReadCalls c (whole_data p (blocks_left (suc left) ahead)) calls from to answer → ReadCalls c (blocks_of p (suc left) ahead) calls from to answer
+  blocks_full : {from : ℕ} (p : DataPlace) (left : ℕ) (ahead : List ℕ) → ReadCalls c (blocks_of p left ahead) [] from from (Err io.NoMemory)
   -- the spare of a data block: none without parity, or if memory runs out before it; or the sum of the other blocks of its round and of their parity, if it is read and has the digest
-  spare_none : (p : DataPlace) (expected : List ℕ) → p.verity.parity ≡ None → ReadCalls c (spare_of p expected) [] (Err (io.Stack why.Mismatch))
-  spare_full : (p : DataPlace) (expected : List ℕ) → ReadCalls c (spare_of p expected) [] (Err io.NoMemory)
-  spare_checked : {p : DataPlace} {q : Parity} {expected bytes : List ℕ} {calls : List LeafCall} → p.verity.parity ≡ Some q → ReadCalls c (sums_of p q 0 (zero_block p.verity)) calls (Ok bytes) → digest p.verity.salt bytes ≡ expected → ReadCalls c (spare_of p expected) calls (Ok bytes)
-  spare_differs : {p : DataPlace} {q : Parity} {expected bytes : List ℕ} {calls : List LeafCall} → p.verity.parity ≡ Some q → ReadCalls c (sums_of p q 0 (zero_block p.verity)) calls (Ok bytes) → (digest p.verity.salt bytes ≡ expected → ⊥) → ReadCalls c (spare_of p expected) calls (Err (io.Stack why.Mismatch))
-  spare_unread : {p : DataPlace} {q : Parity} {expected : List ℕ} {calls : List LeafCall} {fault : IoFault} → p.verity.parity ≡ Some q → ReadCalls c (sums_of p q 0 (zero_block p.verity)) calls (Err fault) → ReadCalls c (spare_of p expected) calls (Err fault)
+  spare_none : {from : ℕ} (p : DataPlace) (expected : List ℕ) → p.verity.parity ≡ None → ReadCalls c (spare_of p expected) [] from from (Err (io.Stack why.Mismatch))
+  spare_full : {from : ℕ} (p : DataPlace) (expected : List ℕ) → ReadCalls c (spare_of p expected) [] from from (Err io.NoMemory)
+  spare_checked : {from to : ℕ} {p : DataPlace} {q : Parity} {expected bytes : List ℕ} {calls : List LeafCall} → p.verity.parity ≡ Some q → ReadCalls c (sums_of p q 0 (zero_block p.verity)) calls from to (Ok bytes) → digest p.verity.salt bytes ≡ expected → ReadCalls c (spare_of p expected) calls from to (Ok bytes)
+  spare_differs : {from to : ℕ} {p : DataPlace} {q : Parity} {expected bytes : List ℕ} {calls : List LeafCall} → p.verity.parity ≡ Some q → ReadCalls c (sums_of p q 0 (zero_block p.verity)) calls from to (Ok bytes) → (digest p.verity.salt bytes ≡ expected → ⊥) → ReadCalls c (spare_of p expected) calls from to (Err (io.Stack why.Mismatch))
+  spare_unread : {from to : ℕ} {p : DataPlace} {q : Parity} {expected : List ℕ} {calls : List LeafCall} {fault : IoFault} → p.verity.parity ≡ Some q → ReadCalls c (sums_of p q 0 (zero_block p.verity)) calls from to (Err fault) → ReadCalls c (spare_of p expected) calls from to (Err fault)
   -- the blocks at the positions of the round, in order: none, or one that is added; and then the parity
-  sums_past : {p : DataPlace} {q : Parity} {i : ℕ} {sums : List ℕ} {calls : List LeafCall} {answer : Result (List ℕ) IoFault} → i < 255 - q.roots → other_at p q i ≡ None → ReadCalls c (sums_of p q (suc i) sums) calls answer → ReadCalls c (sums_of p q i sums) calls answer
-  sums_added : {p : DataPlace} {q : Parity} {i : ℕ} {e : Extent} {sums block : List ℕ} {calls later : List LeafCall} {answer : Result (List ℕ) IoFault} → i < 255 - q.roots → other_at p q i ≡ Some e → ReadCalls c (sectors_of (Below e.lower e.first) e.sectors) calls (Ok block)
-      → ReadCalls c (sums_of p q (suc i) (added_block sums block)) later answer → ReadCalls c (sums_of p q i sums) (calls ++ later) answer
-  sums_unread : {p : DataPlace} {q : Parity} {i : ℕ} {e : Extent} (sums : List ℕ) {calls : List LeafCall} {fault : IoFault} → i < 255 - q.roots → other_at p q i ≡ Some e → ReadCalls c (sectors_of (Below e.lower e.first) e.sectors) calls (Err fault) → ReadCalls c (sums_of p q i sums) calls (Err fault)
-  parity_added : {p : DataPlace} {q : Parity} {x : Lower} {parity : List ℕ} (sums : List ℕ) {calls : List LeafCall} → p.on_parity ≡ Some x → ReadCalls c (sectors_of (Below x (parity_first p q)) (block_sectors p.verity * q.roots)) calls (Ok parity)
-      → ReadCalls c (sums_of p q (255 - q.roots) sums) calls (Ok (with_parity q.roots sums parity))
-  parity_unread : {p : DataPlace} {q : Parity} {x : Lower} (sums : List ℕ) {calls : List LeafCall} {fault : IoFault} → p.on_parity ≡ Some x → ReadCalls c (sectors_of (Below x (parity_first p q)) (block_sectors p.verity * q.roots)) calls (Err fault)
-      → ReadCalls c (sums_of p q (255 - q.roots) sums) calls (Err fault)
+  sums_past : {from to : ℕ} {p : DataPlace} {q : Parity} {i : ℕ} {sums : List ℕ} {calls : List LeafCall} {answer : Result (List ℕ) IoFault} → i < 255 - q.roots → other_at p q i ≡ None → ReadCalls c (sums_of p q (suc i) sums) calls from to answer → ReadCalls c (sums_of p q i sums) calls from to answer
+  sums_added : {from mid to : ℕ} {p : DataPlace} {q : Parity} {i : ℕ} {e : Extent} {sums block : List ℕ} {calls later : List LeafCall} {answer : Result (List ℕ) IoFault} → i < 255 - q.roots → other_at p q i ≡ Some e → ReadCalls c (sectors_of (Below e.lower e.first) e.sectors) calls from mid (Ok block)
+      → ReadCalls c (sums_of p q (suc i) (added_block sums block)) later mid to answer → ReadCalls c (sums_of p q i sums) (calls ++ later) from to answer
+  sums_unread : {from to : ℕ} {p : DataPlace} {q : Parity} {i : ℕ} {e : Extent} (sums : List ℕ) {calls : List LeafCall} {fault : IoFault} → i < 255 - q.roots → other_at p q i ≡ Some e → ReadCalls c (sectors_of (Below e.lower e.first) e.sectors) calls from to (Err fault) → ReadCalls c (sums_of p q i sums) calls from to (Err fault)
+  parity_added : {from to : ℕ} {p : DataPlace} {q : Parity} {x : Lower} {parity : List ℕ} (sums : List ℕ) {calls : List LeafCall} → p.on_parity ≡ Some x → ReadCalls c (sectors_of (Below x (parity_first p q)) (block_sectors p.verity * q.roots)) calls from to (Ok parity)
+      → ReadCalls c (sums_of p q (255 - q.roots) sums) calls from to (Ok (with_parity q.roots sums parity))
+  parity_unread : {from to : ℕ} {p : DataPlace} {q : Parity} {x : Lower} (sums : List ℕ) {calls : List LeafCall} {fault : IoFault} → p.on_parity ≡ Some x → ReadCalls c (sectors_of (Below x (parity_first p q)) (block_sectors p.verity * q.roots)) calls from to (Err fault)
+      → ReadCalls c (sums_of p q (255 - q.roots) sums) calls from to (Err fault)
 
-abbrev pub AreReadCalls : Configuration → Source → ℕ → List LeafCall → Result (List ℕ) IoFault → Type 0
+abbrev pub AreReadCalls : Configuration → Source → ℕ → List LeafCall → ℕ → ℕ → Result (List ℕ) IoFault → Type 0
 AreReadCalls c source n = ReadCalls c (sectors_of source n)
 
--- the calls that read it lead from some devices to others
-abbrev pub ReadsBy : {D : Type 0} → (D → Call → D → Type 0) → Configuration → ReadOf → List D → List D → Result (List ℕ) IoFault → Type 0
-ReadsBy does c what old new answer = MakesCalls does (λ calls. ReadCalls c what calls answer) old new
+-- the calls that read it lead from some devices to others, and from one count of restored blocks to another
+pub record ReadsBy {D : Type 0} (does : D → Call → D → Type 0) (c : Configuration) (what : ReadOf) (old new : Served D) (answer : Result (List ℕ) IoFault) : Type 0 where
+  pub made : MakesCalls does (λ calls. ReadCalls c what calls old.restored new.restored answer) old.devices new.devices
 
 -- with the calls that read the rest, however they end, it is read
-pub record LeadsTo {D : Type 0} (does : D → Call → D → Type 0) (c : Configuration) (what rest : ReadOf) (old mid : List D) : Type 0 where
-  pub later : (new : List D) (answer : Result (List ℕ) IoFault) → ReadsBy does c rest mid new answer → ReadsBy does c what old new answer
+pub record LeadsTo {D : Type 0} (does : D → Call → D → Type 0) (c : Configuration) (what rest : ReadOf) (old mid : Served D) : Type 0 where
+  pub later : (new : Served D) (answer : Result (List ℕ) IoFault) → ReadsBy does c rest mid new answer → ReadsBy does c what old new answer
 
 -- ---- writes
 
@@ -276,9 +278,9 @@ pub data WriteCalls (c : Configuration) : WriteTo → List ℕ → List LeafCall
   units_written : {u : CryptPart} {bytes : List ℕ} {calls : List LeafCall} {result : Result Unit IoFault} → WriteCalls c (at_once (Below u.lower (unit_first u.units u.first))) (part_encrypted u bytes) calls result → WriteCalls c (at_once (Units u)) bytes calls result
   each_written : {u : CryptPart} {bytes : List ℕ} {calls : List LeafCall} {result : Result Unit IoFault} → SomeEncrypt (said_at c u.lower) (unit_first u.units u.first) (length bytes / 512) → WriteCalls c (in_steps (per_unit u.units) u.lower (unit_first u.units u.first)) (part_encrypted u bytes) calls result
       → WriteCalls c (at_once (Units u)) bytes calls result
-  part_written : {u : CryptPart} {bytes unit : List ℕ} {calls later : List LeafCall} {result : Result Unit IoFault} → AreReadCalls c (Units (from_unit u)) (per_unit u.units) calls (Ok unit) → WriteCalls c (at_once (Units (from_unit u))) (unit_with u bytes unit) later result
+  part_written : {from to : ℕ} {u : CryptPart} {bytes unit : List ℕ} {calls later : List LeafCall} {result : Result Unit IoFault} → AreReadCalls c (Units (from_unit u)) (per_unit u.units) calls from to (Ok unit) → WriteCalls c (at_once (Units (from_unit u))) (unit_with u bytes unit) later result
       → WriteCalls c (at_once (UnitPart u)) bytes (calls ++ later) result
-  part_lost : {u : CryptPart} {calls : List LeafCall} {fault : IoFault} (bytes : List ℕ) → AreReadCalls c (Units (from_unit u)) (per_unit u.units) calls (Err fault) → WriteCalls c (at_once (UnitPart u)) bytes calls (Err fault)
+  part_lost : {from to : ℕ} {u : CryptPart} {calls : List LeafCall} {fault : IoFault} (bytes : List ℕ) → AreReadCalls c (Units (from_unit u)) (per_unit u.units) calls from to (Err fault) → WriteCalls c (at_once (UnitPart u)) bytes calls (Err fault)
   -- k sectors, and then those after them; or these alone, if they end by a fault
   none_stepped : (k : ℕ) (x : Lower) (s : ℕ) → WriteCalls c (in_steps k x s) [] [] (Ok tt)
   step_written : {k s : ℕ} {x : Lower} {bytes more : List ℕ} {calls later : List LeafCall} {result : Result Unit IoFault} → length bytes ≡ k * 512 → WriteCalls c (at_once (Below x s)) bytes calls (Ok tt) → WriteCalls c (in_steps k x (s + k)) more later result
@@ -292,7 +294,7 @@ abbrev pub AreWriteCalls : Configuration → Source → List ℕ → List LeafCa
 AreWriteCalls c source = WriteCalls c (at_once source)
 
 -- the calls that read n sectors of a source, and those that write these bytes there, lead from some devices to others
-abbrev pub Gives : {D : Type 0} → (D → Call → D → Type 0) → Configuration → Source → ℕ → List D → List D → Result (List ℕ) IoFault → Type 0
+abbrev pub Gives : {D : Type 0} → (D → Call → D → Type 0) → Configuration → Source → ℕ → Served D → Served D → Result (List ℕ) IoFault → Type 0
 Gives does c source n = ReadsBy does c (sectors_of source n)
 
 abbrev pub Writes : {D : Type 0} → (D → Call → D → Type 0) → Configuration → WriteTo → List ℕ → List D → List D → Result Unit IoFault → Type 0

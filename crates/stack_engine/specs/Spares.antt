@@ -20,8 +20,10 @@ use Rattle.stack_engine.specs.declared.rows.JudgedBlock.{JudgedBlock}
 use Rattle.stack_engine.specs.declared.spare.LostBlock.{LostBlock}
 use Rattle.stack_engine.specs.declared.spare.Stored.{Stored}
 use Rattle.stack_engine.specs.Healing.{healed_result}
+use Rattle.stack_engine.specs.Backings.{served}
 use Rattle.stack_engine.specs.ReadSteps.{GetsBy, ReadsOn, block_answer}
-use Rattle.stack_engine.specs.SectorCalls.{DataPlace, LeadsTo, parity_first, spare_of, sums_of}
+use Rattle.stack_engine.specs.Restored.{Served, after_spare}
+use Rattle.stack_engine.specs.SectorCalls.{DataPlace, LeadsTo, ReadsBy, parity_first, spare_of, sums_of}
 
 -- the parity of the round of a data block is stored there, inside its device
 pub record IsStoredAt (c : Configuration) (p : DataPlace) (q : Parity) (at : Stored) : Type 0 where
@@ -62,15 +64,17 @@ spare_wanted c v lost = spare_expected (λ bytes. bytes) (block_in c v lost.inde
 
 -- the block at position i was added to sums, or can't be read: the calls
 abbrev pub AddsTo : {D : Type 0} → (D → Call → D → Type 0) → Configuration → DataPlace → Parity → ℕ → List ℕ → Backing D → Backing D → Result (List ℕ) IoFault → Type 0
-AddsTo does c p q i sums old new (Ok added) = LeadsTo does c (sums_of p q i sums) (sums_of p q (suc i) added) old.devices.items new.devices.items
+AddsTo does c p q i sums old new (Ok added) = LeadsTo does c (sums_of p q i sums) (sums_of p q (suc i) added) (served old) (served new)
 AddsTo does c p q i sums old new (Err fault) = ReadsOn does c (sums_of p q i sums) old new (Err fault)
 
--- A data block whose own read ended in that fault is healed: its spare, and the calls that read it; or the fault.
+-- A data block whose own read ended in that fault is healed: its spare, which is counted, and the calls that read it; or the fault.
 pub record HealsBy {D : Type 0} (state : D → Device) (does : D → Call → D → Type 0) (c : Configuration) (p : DataPlace) (lost : LostBlock) (fault : Fault) (old new : Backing D) (result : Result (Vec ℕ Global) IoFault) : Type 0 where
   pub spare : Result (Vec ℕ Global) IoFault
   pub is : result ≡ healed_result fault spare
   pub got : GetsBy state (spare_expected (λ block. block.items) (block_in c p.verity lost.index) lost.digest) old new spare
-  pub given : ReadsOn does c (spare_of p lost.digest) old new (block_answer spare)
+  pub read : Served D
+  pub counted : served new ≡ after_spare (block_answer spare) read
+  pub given : ReadsBy does c (spare_of p lost.digest) (served old) read (block_answer spare)
 
 -- ---- a data block that was read together with others
 
@@ -79,14 +83,16 @@ pub record IsAnswered (judged : JudgedBlock) (block : List ℕ) (answer : Result
   pub zeros : judged.ignored ≡ true → answer ≡ Ok (replicate (length block) 0)
   pub same : judged.ignored ≡ false → (judged.made ≡ judged.lost.digest) × (answer ≡ Ok block)
 
--- it has another one: its spare, and the calls that read it; or the fault
+-- it has another one: its spare, which is counted, and the calls that read it; or the fault
 pub record HealsRead {D : Type 0} (state : D → Device) (does : D → Call → D → Type 0) (c : Configuration) (p : DataPlace) (judged : JudgedBlock) (old new : Backing D) (answer : Result (List ℕ) IoFault) : Type 0 where
   pub used : judged.ignored ≡ false
   pub differs : judged.made ≡ judged.lost.digest → ⊥
   pub spare : Result (List ℕ) IoFault
   pub is : answer ≡ healed_result mismatch spare
   pub got : GetsBy state (spare_wanted c p.verity judged.lost) old new spare
-  pub given : ReadsOn does c (spare_of p judged.lost.digest) old new spare
+  pub read : Served D
+  pub counted : served new ≡ after_spare spare read
+  pub given : ReadsBy does c (spare_of p judged.lost.digest) (served old) read spare
 
 abbrev pub SettlesBy : {D : Type 0} → (D → Device) → (D → Call → D → Type 0) → Configuration → DataPlace → JudgedBlock → List ℕ → Backing D → Backing D → Result (List ℕ) IoFault → Type 0
 SettlesBy state does c p judged block old new answer = ((new ≡ old) × IsAnswered judged block answer) ⊎ HealsRead state does c p judged old new answer

@@ -8,13 +8,14 @@ use Rattle.stack_meaning.specs.Leaves.{ServeLeaves}
 use Rattle.stack_lines.specs.Caches.{StackCache, IsCacheOf}
 use Rattle.verified_cache.specs.Cache.{CachedBlock}
 
--- a configuration, the devices of its leaves in order, how many hash blocks may be kept, and those that are, the most
--- recently used first
+-- a configuration, the devices of its leaves in order, how many hash blocks may be kept, those that are, the most
+-- recently used first, and how many data blocks reads restored
 pub record StackRecord : Type 0 where
   pub config : Configuration
   pub leaves : List Device
   pub capacity : ℕ
   pub kept : List CachedBlock
+  pub restored : ℕ
 
 -- what holds of every stack, whatever its devices answer
 pub record IsSound (c : Configuration) (leaves : List Device) : Type 0 where

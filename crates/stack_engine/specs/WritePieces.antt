@@ -55,6 +55,7 @@ PieceNeeded = PaysPiece of_reads
 pub record AnyWrite (w : StackRecord) (d first : ℕ) (bytes : List ℕ) (result : Result Unit IoFault) (w' : StackRecord) : Type 0 where
   pub config : w'.config ≡ w.config
   pub capacity : w'.capacity ≡ w.capacity
+  pub restored : w'.restored ≡ w.restored
   pub whole : AllWhole w.leaves → AllWhole w'.leaves
   pub moved : AreWritten (piece_reached w.config d first (length bytes / 512)) w.leaves (length bytes / 512 * write_cost w.config (mapped d)) w'.leaves
   pub ends : MayEnd (MayFault w.config (mapped d) first (length bytes / 512)) w.leaves w'.leaves result

@@ -1,6 +1,6 @@
 -- What the steps of a write say of the bytes that they put: to a source, from its first sector on; to a leaf or a device, from
 -- sector `first` on.
-use Rattle.std.specs.Prelude.{ℕ, ◌/◌, Bool, List, Result, length}
+use Rattle.std.specs.Prelude.{◌≡◌, ℕ, ◌/◌, Bool, List, Result, length}
 use Rattle.block_device.specs.Call.{Call}
 use Rattle.block_device.specs.Device.{Device}
 use Rattle.stack_rules.specs.declared.lower.Lower.{Lower}
@@ -39,12 +39,14 @@ write_to c source n = record { cuts_none = SourceCutsNone c source n; most = λ 
 abbrev pub write_beneath : Configuration → Lower → ℕ → ℕ → WriteRun
 write_beneath c lower first n = record { cuts_none = CutsNone c lower first n; most = λ k. write_budget c k lower first n; leaves = leaves_of c lower }
 
--- What a write leaves, whatever it answers. No more is read or written than what it costs, and nothing is read if no unit is cut.
+-- What a write leaves, whatever it answers. No more is read or written than what it costs, nothing is read if no unit is cut, and
+-- nothing is restored.
 -- Kept hash blocks stay sound, and are forgotten only of lines whose hash device is one of these leaves or is stacked on one.
 pub record IsWriteStep (c : Configuration) (run : WriteRun) (old new : BackingRecord) : Type 0 where
   pub uncut : run.cuts_none → NoneRead old.leaves new.leaves
   pub paid : (k : Counter) → CountsAtMost k (run.most k) old.leaves new.leaves
   pub cached : KeepsCache c new.leaves old.cache new.cache
+  pub uncounted : new.restored ≡ old.restored
   pub forgets : Forgets c run.leaves old.leaves new.leaves old.cache.blocks.blocks new.cache.blocks.blocks
 
 -- ---- to a source

@@ -1,6 +1,7 @@
 //! Laws of the definitions: each function's contract is the law, and its call gives it.
 ghost use Rattle.stack_engine.specs.DamagedData.{DamagedDataIsRead};
 ghost use Rattle.stack_engine.specs.Dirty.{ReadsKeepDirty, WritesMakeDirty};
+ghost use Rattle.stack_engine.specs.Unrestored.{NoneRestoredWithoutParity};
 ghost use Rattle.stack_engine.specs.Laws.{FormattedDataIsRead, IgnoredBlocksCollide, KernelWordsChangeNoLine, KernelWordsChangeNoSector, SpansStandOnLeaves, AnsweredChainsAreGood, ForgedAnswersCollide, ForgedBytesCollide, ForgedSectorsCollide, OtherLeavesChangeNoAnswer, WrittenLeavesAreForgotten};
 
 use block_device::BlockDev;
@@ -87,6 +88,11 @@ pub fn forged_sectors_collide()
 /// device is, or is stacked on, a leaf that was written.
 pub fn written_leaves_are_forgotten()
     ensures { WrittenLeavesAreForgotten }
+{}
+
+/// If no `verity` line of a stack has parity, a piece of a read restores no block, whatever the devices answer.
+pub fn none_restored_without_parity<D: BlockDev>()
+    ensures { NoneRestoredWithoutParity D.state D.does }
 {}
 
 /// A piece of a read leaves exactly those leaves dirty that were dirty before, whatever their devices answer.

@@ -25,7 +25,9 @@ use crate::backing::Backing;
 use crate::buffer::{fill_zeros, zero_block, zero_sectors};
 use crate::path::{Chains, PathBlock, WantedBlock, put, stands};
 use crate::rows::{JudgedBlock, NextBlock, judge, read_as_far, row_len, settle};
-use crate::spare::{LostBlock, add_block, add_stored, other_extent, stored_extent, unhealed};
+use crate::spare::{
+    LostBlock, add_block, add_stored, one_more, other_extent, stored_extent, unhealed,
+};
 use allocation::push;
 use block_device::BlockDev;
 use dm_table::Verity;
@@ -408,7 +410,7 @@ fn read_data<D: BlockDev>(
     }
 }
 
-/// The spare of a data block whose own read ended in that fault; or the fault, if the attempt is in vain.
+/// The spare of a data block whose own read ended in that fault, which is counted; or the fault, if the attempt is in vain.
 #[cycle(read)]
 fn heal<D: BlockDev>(
     config: &Config,
@@ -424,18 +426,21 @@ fn heal<D: BlockDev>(
     ensures cached { StaysSound D.state config.now backing.old backing.new }
     ensures touches { Asks D.state (leaves_of config.now (mapped tree.now.device.0)) backing.old backing.new result }
 {
-    let mut block = match zero_block(backing.alloc, verity.data_block) {
+    let mut healed = match zero_block(backing.alloc, verity.data_block) {
         Ok(block) => block,
         Err(_) => return Err(IoFault::NoMemory),
     };
-    match mend(config, backing, verity, tree, lost, block.as_mut_slice()) {
-        Ok(()) => Ok(block),
+    match mend(config, backing, verity, tree, lost, healed.as_mut_slice()) {
+        Ok(()) => {
+            backing.restored = one_more(backing.restored);
+            Ok(healed)
+        }
         Err(vain) => Err(unhealed(fault, vain)),
     }
 }
 
 /// Settles a data block that was read together with others: one that is ignored is replaced by zeros, one of another digest by its
-/// spare.
+/// spare, which is counted.
 #[cycle(read)]
 fn settle_block<D: BlockDev>(
     config: &Config,
@@ -457,7 +462,10 @@ fn settle_block<D: BlockDev>(
         return Ok(());
     }
     match mend(config, backing, verity, tree, lost, block) {
-        Ok(()) => Ok(()),
+        Ok(()) => {
+            backing.restored = one_more(backing.restored);
+            Ok(())
+        }
         Err(vain) => Err(unhealed(Fault::Mismatch, vain)),
     }
 }

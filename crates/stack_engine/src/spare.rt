@@ -8,6 +8,7 @@ ghost use Rattle.stack_lines.specs.Extents.{LiesInsideLower};
 ghost use Rattle.stack_lines.specs.Walks.{HasDataBlock};
 ghost use Rattle.stack_engine.specs.SectorCalls.{other_by, other_number, place_in};
 ghost use Rattle.stack_engine.specs.Healing.{unhealed};
+ghost use Rattle.stack_engine.specs.Restored.{one_more};
 ghost use Rattle.stack_engine.specs.Spares.{IsStoredAt};
 
 use dm_table::{Parity, Verity};
@@ -43,6 +44,13 @@ pub(crate) fn unhealed(own: Fault, vain: IoFault) -> IoFault
         IoFault::Device(failed) => IoFault::Device(failed),
         IoFault::NoMemory => IoFault::NoMemory,
     }
+}
+
+/// The count of restored blocks after one more.
+pub(crate) fn one_more(count: u64) -> u64
+    ensures { result ≡ one_more count }
+{
+    if count < u64::MAX { count + 1 } else { count }
 }
 
 /// Adds the bytes of a block to the sums. To a sum, a byte is the same as the parity of a codeword that has one byte of it.

@@ -15,7 +15,7 @@ ghost use Rattle.stack_engine.specs.Stacks.{StackRecord, IsSound};
 ghost use Rattle.stack_meaning.specs.Reading.{buffer_answer};
 ghost use Rattle.stack_engine.specs.Syncs.{FailsToSync, MakesSyncs, NeverFail};
 ghost use Rattle.stack_lines.specs.Budgets.{ReadsAtMost};
-ghost use Rattle.stack_engine.specs.Pieces.{AnyPiece, SteadyPiece, stack_over, AreSteadyBeneath, MeetsVerity, piece_budget, PieceGives, PieceStops, answer_bytes};
+ghost use Rattle.stack_engine.specs.Pieces.{AnyPiece, SteadyPiece, stack_over, AreSteadyBeneath, MeetsVerity, piece_budget, PieceGives, PieceStops, ReadRestores, answer_bytes};
 ghost use Rattle.stack_engine.specs.WritePieces.{ArePiece, AnyWrite, SteadyWrite, MeetsCrypt, UncutPiece, PieceWrote, PieceNeeded, PieceHands};
 
 use crate::answer::Answer;
@@ -49,7 +49,7 @@ impl<D: BlockDev> Model for Stack<D> {
 
     ghost Value = { StackRecord };
 
-    ghost view = { λ s. record { config = s.config; leaves = map D.state s.backing.devices.items; capacity = s.backing.cache.blocks.capacity; kept = s.backing.cache.blocks.blocks } };
+    ghost view = { λ s. record { config = s.config; leaves = map D.state s.backing.devices.items; capacity = s.backing.cache.blocks.capacity; kept = s.backing.cache.blocks.blocks; restored = s.backing.restored } };
 
     ghost invariant = { λ s. IsStack s.config (map D.state s.backing.devices.items) s.backing.cache };
 }
@@ -68,6 +68,7 @@ impl<D: BlockDev> Stack<D> {
             alloc,
             devices,
             cache,
+            restored: 0,
         };
         Stack { config, backing }
     }
@@ -82,6 +83,7 @@ impl<D: BlockDev> Stack<D> {
             alloc: _,
             devices,
             cache: _,
+            restored: _,
         } = backing;
         (config, devices)
     }
@@ -91,7 +93,7 @@ impl<D: BlockDev> Stack<D> {
     /// holds whatever the leaves answer. The bytes are those that its calls of the leaves' devices gave, decrypted by the
     /// `crypt` lines and verified by the `verity` lines on the way (`given`). If no `verity` line is on the way, a leaf that
     /// only sectors after a fault reach isn't accessed (`stops`). It reads at most what reading each unit and data block that
-    /// it touches once takes (`spent`).
+    /// it touches once takes (`spent`). It counts each data block that parity restored, and no other one (`given`, `restored`).
     ///
     /// # Errors
     ///
@@ -109,6 +111,7 @@ impl<D: BlockDev> Stack<D> {
         ensures spent { ReadsAtMost (piece_budget self.old d.0 first n) self.old.leaves self.new.leaves }
         ensures given { PieceGives D.state D.does self.old (d.0, first) n (answer_bytes result) self.new }
         ensures kept { ReadKeeps self.old d.0 first n self.new }
+        ensures restored { ReadRestores self.old d.0 first n self.new }
     {
         let mut bytes = match zero_sectors(self.backing.alloc, n) {
             Ok(bytes) => bytes,
@@ -145,6 +148,7 @@ impl<D: BlockDev> Stack<D> {
         ensures spent { ReadsAtMost (piece_budget self.old d.0 first (length out.old / 512)) self.old.leaves self.new.leaves }
         ensures given { PieceGives D.state D.does self.old (d.0, first) (length out.old / 512) (buffer_answer result out.new) self.new }
         ensures kept { ReadKeeps self.old d.0 first (length out.old / 512) self.new }
+        ensures restored { ReadRestores self.old d.0 first (length out.old / 512) self.new }
     {
         let mut dropped = Vec::new(self.backing.alloc);
         read_device(
@@ -250,6 +254,14 @@ impl<D: BlockDev> Stack<D> {
         self.backing.cache.count()
     }
 
+    /// Returns how many data blocks reads have restored by parity, at most the greatest `u64`. A read that restores nothing leaves
+    /// the count (`given` of `read_piece`), and so do writes, loads and removals.
+    pub fn restored(&self) -> u64
+        ensures { result ≡ self.now.restored }
+    {
+        self.backing.restored
+    }
+
     /// Returns how many sectors the leaves have read and written, each sum at most the greatest `u64`.
     pub fn moved(&self) -> (u64, u64)
         ensures { result ≡ (capped (reads_of self.now.leaves), capped (writes_of self.now.leaves)) }
@@ -283,6 +295,7 @@ impl<D: SyncDev> Stack<D> {
         ensures config { self.new.config ≡ self.old.config }
         ensures capacity { self.new.capacity ≡ self.old.capacity }
         ensures kept { self.new.kept ≡ self.old.kept }
+        ensures restored { self.new.restored ≡ self.old.restored }
         ensures err { IfErr result (FailsToSync self.old.leaves self.new.leaves) }
         ensures sure { NeverFail self.old.leaves → IsOk result }
         ensures called { MakesSyncs D.state D.does self.old.leaves result self.new.leaves }

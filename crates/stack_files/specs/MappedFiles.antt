@@ -1,5 +1,5 @@
 -- Files that are bound with a map: the sectors that the map doesn't have can't be read.
-use Rattle.std.specs.Prelude.{◌≡◌, ◌⊎◌, ◌+◌, ◌^◌, ℕ, nat_lt, false, true, List, length, Option, None, Ok, Err}
+use Rattle.std.specs.Prelude.{◌≡◌, ◌⊎◌, ◌+◌, ◌^◌, ◌≤◌, ℕ, nat_lt, false, true, List, length, Option, None, Ok, Err}
 use Rattle.allocation.specs.Refusal.{IsOutOfMemory}
 use Rattle.block_device.specs.declared.open_fault.OpenFault.{OpenFault}
 use Rattle.block_device.specs.declared.open_fault.OpenFault.TheVariants.{NoMemory, OtherFault, SameFile}
@@ -15,7 +15,7 @@ use Rattle.image_files.specs.Opened.{RefusesText, TellsFile}
 use Rattle.image_files.specs.Opener.{Calls, IsLacking}
 use Rattle.rescue_map.specs.declared.fault.MapFault.{MapFault}
 use Rattle.rescue_map.specs.declared.fault.MapFault.TheVariants as map_fault
-use Rattle.rescue_map.specs.declared.map.Run.{Run}
+use Rattle.rescue_map.specs.declared.text.ParsedMap.{ParsedMap}
 use Rattle.rescue_map.specs.Lost.{lost_from}
 use Rattle.rescue_map.specs.MapText.{map_of}
 use Rattle.stack_files.specs.declared.mapped_file.MappedImage.{MappedImage}
@@ -27,11 +27,12 @@ use Rattle.stack_files.specs.WholeFiles.{NarrowsTo, OpensWholeFile, RefusesWhole
 abbrev pub most_map : ℕ
 most_map = 2 ^ 24
 
--- the text is the map of a device of so many sectors, and these are the parts that it doesn't have
+-- the text isn't too long, and is the map of a device of so many sectors; these are the parts that it doesn't have
 pub record IsLostBy (text : List ℕ) (sectors : ℕ) (lost : List Part) : Type 0 where
-  pub runs : List Run
-  pub map_is : map_of sectors text ≡ Ok runs
-  pub lost_are : lost ≡ lost_from 0 runs
+  pub short : length text ≤ most_map
+  pub read : ParsedMap
+  pub map_is : map_of sectors text ≡ Ok read
+  pub lost_are : lost ≡ lost_from 0 read.map
 
 -- the text is too long, or not the map of a device of so many sectors
 abbrev pub IsUnmapped : List ℕ → ℕ → Type 0

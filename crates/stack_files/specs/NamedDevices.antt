@@ -3,6 +3,7 @@ use Rattle.std.specs.Prelude.{◌≡◌, ◌⊎◌, ℕ, List, Some, None, Ok}
 use Rattle.block_device.specs.Device.{Device}
 use Rattle.image_files.specs.declared.file_use.FileUse.{FileUse}
 use Rattle.image_files.specs.declared.images.OpenImage.{OpenImage}
+use Rattle.image_files.specs.FileUses.{no_use}
 use Rattle.image_files.specs.Opener.{Calls, Opener, calls}
 use Rattle.stack_rules.specs.Names.{device_named}
 use Rattle.stack_rules.specs.Records.{Configuration}
@@ -16,7 +17,7 @@ use Rattle.stack_files.specs.declared.stack_fault.StackFault.{StackFault}
 use Rattle.stack_files.specs.declared.stack_fault.StackFault.TheVariants.{NoSuchDevice}
 use Rattle.stack_files.specs.Configuration.{configuration_of}
 use Rattle.stack_files.specs.Endings.{IsOpeningEnd}
-use Rattle.stack_files.specs.StacksOfTexts.{FailsBehind, FailsToLoad, IsStackOf, Loads}
+use Rattle.stack_files.specs.StacksOfTexts.{FailsToLoad, IsStackOf}
 use Rattle.stack_rules.specs.declared.lower.DevId.{DevId}
 
 -- a mapped device of a stack
@@ -58,14 +59,6 @@ device_words words name cache = record { words = words; name = name; cache = cac
 abbrev pub words_for : StackFile → NamedDevice → DeviceWords
 words_for file device = device_words (stack_words file) device.name.now device.cache
 
--- the device with that name, of the stack that STACK's text makes of the bindings' backing devices
-pub record FindsDevice {S D : Type 0} (w : Calls S D) (words : DeviceWords) (at : DevicePlace) : Type 0 where
-  pub loaded : Loads w words.words words.cache at.stack
-  pub named : device_named at.stack.config words.name ≡ Some at.d
-
-abbrev pub FailsToFindDevice : {S D : Type 0} → Calls S D → DeviceWords → StackFault → Type 0
-FailsToFindDevice w words fault = FailsBehind w words.words (FailsToFind words.name) fault
-
 -- ---- beside a file in use
 
 -- all files were opened next to it, and there is such a device
@@ -82,6 +75,13 @@ pub record FindsNoneApart {S D : Type 0} (w : Calls S D) (used : FileUse) (words
 
 abbrev pub FailsToFindApart : {S D : Type 0} → Calls S D → FileUse → DeviceWords → StackFault → Type 0
 FailsToFindApart w used words fault = IsOpeningEnd (FailsToOpenApart w used words.words) fault ⊎ FindsNoneApart w used words fault
+
+-- beside no file
+abbrev pub FindsDevice : {S D : Type 0} → Calls S D → DeviceWords → DevicePlace → Type 0
+FindsDevice w words at = FindsApart w no_use words at
+
+abbrev pub FailsToFindDevice : {S D : Type 0} → Calls S D → DeviceWords → StackFault → Type 0
+FailsToFindDevice w words fault = FailsToFindApart w no_use words fault
 
 -- all files and the image to copy to were opened, and there is such a device
 pub record FindsOutput {S D : Type 0} (w : Calls S D) (used : FileUse) (words : DeviceWords) (out : List ℕ) (at : DevicePlace) (image : OpenImage D) : Type 0 where
@@ -104,14 +104,6 @@ FailsToFindOutput w used words out fault = IsOpeningEnd (FailsToOpenOutput w use
 -- a device by its name, in the stack of a text over open backing devices
 abbrev pub HasNamed : {D : Type 0} → (D → Device) → OpenStack D → NamedDevice → StackRecord × DevId → Type 0
 HasNamed state over device = λ found. HasDevice state device.name.now over device.cache (device_place found.0 found.1.0)
-
--- a device by its name, in the stack of a stack file
-abbrev pub FindsBy : {S D : Type 0} → Opener S D → (D → Device) → S → S → StackFile → NamedDevice → StackRecord × DevId → Type 0
-FindsBy relations state old new file device = λ found. FindsDevice (calls relations state old new) (words_for file device) (device_place found.0 found.1.0)
-
--- there is no such device
-abbrev pub FailsToFindBy : {S D : Type 0} → Opener S D → (D → Device) → S → S → StackFile → NamedDevice → StackFault → Type 0
-FailsToFindBy relations state old new file device = FailsToFindDevice (calls relations state old new) (words_for file device)
 
 -- a device, beside a file in use
 abbrev pub FindsApartBy : {S D : Type 0} → Opener S D → (D → Device) → S → S → FileUse → StackFile → NamedDevice → StackRecord × DevId → Type 0

@@ -22,23 +22,6 @@ pub record StackWords : Type 0 where
 abbrev pub stack_words : StackFile → StackWords
 stack_words file = record { stack = file.path.now; bindings = map binding_record file.bindings.now }
 
--- STACK's text was read, and then the images of the bindings were opened next to it
-pub record OpensStack {S D : Type 0} (w : Calls S D) (words : StackWords) (over : OpenStack D) : Type 0 where
-  pub between : S
-  pub told : TellsStack (record w { new = between }) words.stack over.text
-  pub bound : AreBound (record w { old = between }) (text_use over.text ∷ []) words.bindings over.leaves.items over.devices.items
-
--- the text was read, and then the bindings weren't all opened
-pub record FailsToBind {S D : Type 0} (w : Calls S D) (words : StackWords) (fault : OpeningFault) : Type 0 where
-  pub text : FileText
-  pub between : S
-  pub told : TellsStack (record w { new = between }) words.stack text
-  pub fails : IsBindingEnd (record w { old = between }) (text_use text ∷ []) words.bindings fault
-
--- the first of the files that the opener refuses
-abbrev pub FailsToOpen : {S D : Type 0} → Calls S D → StackWords → OpeningFault → Type 0
-FailsToOpen w words fault = IsTextEnd w words.stack fault ⊎ FailsToBind w words fault
-
 -- STACK's text and then SOURCE's were read
 pub record TellsBoth {S D : Type 0} (w : Calls S D) (stack source : List ℕ) (text source_text : FileText) : Type 0 where
   pub between : S
@@ -102,14 +85,6 @@ FailsToOpenInput w words source fault =
     IsTextEnd w words.stack fault ⊎ (FailsAtInput w words.stack source fault ⊎ FailsBehindInput w words source fault)
 
 -- ---- in terms of the opener, before and after its calls, and the program's arguments
-
--- STACK and the bindings are opened
-abbrev pub OpensByFile : {S D : Type 0} → Opener S D → (D → Device) → S → S → StackFile → OpenStack D → Type 0
-OpensByFile relations state old new file = OpensStack (calls relations state old new) (stack_words file)
-
--- STACK or a binding can't be opened
-abbrev pub FailsByFile : {S D : Type 0} → Opener S D → (D → Device) → S → S → StackFile → OpeningFault → Type 0
-FailsByFile relations state old new file = FailsToOpen (calls relations state old new) (stack_words file)
 
 -- STACK, SOURCE's text and the bindings are opened
 abbrev pub OpensWithSource : {S D : Type 0} → Opener S D → (D → Device) → S → S → StackFile → List ℕ → OpenStack D × FileText → Type 0

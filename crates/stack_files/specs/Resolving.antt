@@ -21,10 +21,10 @@ use Rattle.stack_files.specs.Endings.{IsOpeningEnd}
 abbrev pub file_part : Part → PartRecord
 file_part at = record { first = at.first; count = at.count }
 
--- the disk under a path was opened for reading, and the partition of that name is the part of it that is bound then
+-- the disk under a path was opened for reading, and the partition of that name, which may be bound so, is the part of it that is bound then
 pub record FindsPart {S D : Type 0} (w : Calls S D) (path : List ℕ) (writable : Bool) (named : NamedPartitionRecord) (resolved : BackingRecord) : Type 0 where
   pub at : Part
-  pub found : FindsPartition w path named at
+  pub found : FindsPartition w path named writable at
   pub is : resolved ≡ part path writable (file_part at)
 
 -- a partition becomes a part; all else stays
@@ -44,13 +44,13 @@ ResolvesEach w (binding ∷ bindings) [] = ⊥
 ResolvesEach {S} w (binding ∷ bindings) (found ∷ resolved) =
     (between : S) × ResolvesBinding (record w { new = between }) binding found × ResolvesEach (record w { old = between }) bindings resolved
 
--- the disk under a path can't be opened, or has no such partition
-pub record FailsToFindPart {S D : Type 0} (w : Calls S D) (path : List ℕ) (named : NamedPartitionRecord) (unopened : UnopenedFile) : Type 0 where
+-- the disk under a path can't be opened, or has no such partition that may be bound so
+pub record FailsToFindPart {S D : Type 0} (w : Calls S D) (path : List ℕ) (writable : Bool) (named : NamedPartitionRecord) (unopened : UnopenedFile) : Type 0 where
   pub path_is : unopened.path.now ≡ path
-  pub cause : FailsToFindPartition w path named unopened.fault
+  pub cause : FailsToFindPartition w path named writable unopened.fault
 
 abbrev pub IsBackingUnresolved : {S D : Type 0} → Calls S D → BackingRecord → UnopenedFile → Type 0
-IsBackingUnresolved w (partition path writable named) unopened = FailsToFindPart w path named unopened
+IsBackingUnresolved w (partition path writable named) unopened = FailsToFindPart w path writable named unopened
 IsBackingUnresolved w backing unopened = ⊥
 
 -- the first of the bindings were resolved, and the next one couldn't be

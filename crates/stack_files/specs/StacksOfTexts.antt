@@ -1,16 +1,18 @@
 -- The stack that a text makes of open backing devices, and that a stack file makes of its bindings.
 use Rattle.std.specs.Prelude.{◌≡◌, ◌⊎◌, ℕ, map, Ok, Err}
 use Rattle.block_device.specs.Device.{Device}
+use Rattle.image_files.specs.FileUses.{no_use}
 use Rattle.image_files.specs.Opener.{Calls, Opener, calls}
 use Rattle.stack_rules.specs.Records.{Configuration}
 use Rattle.stack_engine.specs.Pieces.{stack_over}
 use Rattle.stack_engine.specs.Stacks.{StackRecord}
 use Rattle.stack_files.specs.declared.stack_file.OpenStack.{OpenStack}
-use Rattle.stack_files.specs.OpenStacks.{FailsToOpen, OpensStack, StackWords, stack_words}
+use Rattle.stack_files.specs.OpenStacks.{StackWords, stack_words}
 use Rattle.stack_files.specs.declared.stack_file.StackFile.{StackFile}
 use Rattle.stack_files.specs.declared.stack_fault.StackFault.{StackFault}
 use Rattle.stack_files.specs.Configuration.{IsRefusal, configuration_of}
 use Rattle.stack_files.specs.Endings.{IsOpeningEnd}
+use Rattle.stack_files.specs.StacksApart.{FailsToOpenApart, OpensStackApart}
 
 -- the stack of the configuration that the text makes of the open backing devices, with an empty cache for so many hash blocks
 pub record IsStackOf {D : Type 0} (state : D → Device) (over : OpenStack D) (cache : ℕ) (stack : StackRecord) : Type 0 where
@@ -27,19 +29,19 @@ FailsToLoad over fault = (configuration_of over.leaves.items over.text.bytes.ite
 -- the configuration that STACK's text makes of the bindings' backing devices
 pub record Configures {S D : Type 0} (w : Calls S D) (words : StackWords) (config : Configuration) : Type 0 where
   pub over : OpenStack D
-  pub opened : OpensStack w words over
+  pub opened : OpensStackApart w no_use words over
   pub makes : configuration_of over.leaves.items over.text.bytes.items ≡ Ok config
 
 -- the stack that STACK's text makes of the bindings' backing devices
 pub record Loads {S D : Type 0} (w : Calls S D) (words : StackWords) (cache : ℕ) (stack : StackRecord) : Type 0 where
   pub over : OpenStack D
-  pub opened : OpensStack w words over
+  pub opened : OpensStackApart w no_use words over
   pub made : IsStackOf w.state over cache stack
 
 -- a file can't be opened, or `Fails` holds of the open files
 abbrev pub FailsBehind : {S D : Type 0} → Calls S D → StackWords → (OpenStack D → StackFault → Type 0) → StackFault → Type 0
 FailsBehind {S} {D} w words Fails fault =
-    IsOpeningEnd (FailsToOpen w words) fault ⊎ ((over : OpenStack D) × OpensStack w words over × Fails over fault)
+    IsOpeningEnd (FailsToOpenApart w no_use words) fault ⊎ ((over : OpenStack D) × OpensStackApart w no_use words over × Fails over fault)
 
 abbrev pub FailsToLoadFile : {S D : Type 0} → Calls S D → StackWords → StackFault → Type 0
 FailsToLoadFile w words fault = FailsBehind w words FailsToLoad fault

@@ -3,9 +3,10 @@ ghost use Rattle.std.specs.Prelude.{◌≡◌, ◌≤◌, ◌^◌, length, Ok, I
 ghost use Rattle.stack_files.specs.Configuration.{FailsToConfigure, configuration_of};
 ghost use Rattle.stack_files.specs.StacksOfTexts.{ConfiguresBy, FailsLoading};
 
+use crate::stack_apart::open_stack_apart;
 use crate::stack_fault::StackFault;
-use crate::stack_file::{OpenStack, StackFile, open_stack};
-use image_files::Images;
+use crate::stack_file::{OpenStack, StackFile};
+use image_files::{Images, no_use};
 use stack_config::{Config, Leaf};
 use stack_loader::{config_over, load};
 use std::alloc::Global;
@@ -32,7 +33,7 @@ pub fn open_configuration<'a, I: Images>(
         text,
         leaves,
         devices: _devices,
-    } = open_stack(alloc, images, file)?;
+    } = open_stack_apart(alloc, images, no_use(), file)?;
     configuration_of(alloc, leaves, text.bytes.as_slice())
 }
 

@@ -1,12 +1,12 @@
 //! A mapped device of a stack, by its name.
 ghost use Rattle.std.specs.Prelude.{◌≡◌, ◌≤◌, ◌<◌, ◌^◌, length, map, true, IfOk, IfErr};
 ghost use Rattle.stack_meaning.specs.Leaves.{ServeLeaves};
-ghost use Rattle.stack_files.specs.NamedDevices.{FailsToFind, FailsToFindApartBy, FailsToFindBy, FindsApartBy, FindsBy, FindsTo, HasNamed, LacksTo};
+ghost use Rattle.stack_files.specs.NamedDevices.{FailsToFind, FailsToFindApartBy, FindsApartBy, FindsTo, HasNamed, LacksTo};
 
 use crate::configuration::configuration_of;
 use crate::stack_apart::{open_stack_apart, open_with_output};
 use crate::stack_fault::StackFault;
-use crate::stack_file::{OpenStack, StackFile, open_stack};
+use crate::stack_file::{OpenStack, StackFile};
 use block_device::BlockDev;
 use image_files::{FileUse, Images, OpenImage};
 use stack_config::DevId;
@@ -20,31 +20,13 @@ pub struct NamedDevice<'a> {
     pub cache: u32,
 }
 
-/// Opens the stack of a stack file over its bindings, and finds the device with that name.
-///
-/// # Errors
-///
-/// The faults of `open_loaded`, and `NoSuchDevice` if the stack has no device with that name.
-pub fn open_device<'a, I: Images>(
-    alloc: Global,
-    images: &mut I,
-    file: StackFile<'a, '_>,
-    device: NamedDevice<'_>,
-) -> Result<(Stack<I::Dev>, DevId), StackFault<'a>>
-    ensures ok { IfOk result (FindsBy I.relations I.Dev.state images.old images.new file.entry device.entry) }
-    ensures there { IfOk result (λ found. found.1.0 < length found.0.config.devices) }
-    ensures err { IfErr result (FailsToFindBy I.relations I.Dev.state images.old images.new file.entry device.entry) }
-{
-    let over = open_stack(alloc, images, file)?;
-    find_device(alloc, over, device)
-}
-
 /// Opens the stack of a stack file over its bindings, beside a file in use, and finds the device with that name.
 ///
 /// # Errors
 ///
-/// The faults of `open_device`; `Open` also if a file conflicts with the file in use.
-pub(crate) fn open_device_apart<'a, I: Images>(
+/// The faults of `open_loaded`, and `NoSuchDevice` if the stack has no device with that name; `Open` also if a file conflicts with the
+/// file in use.
+pub fn open_device_apart<'a, I: Images>(
     alloc: Global,
     images: &mut I,
     used: FileUse,

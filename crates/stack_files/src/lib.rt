@@ -22,7 +22,7 @@ mod whole_file;
 
 pub use closing::{close_stack, sync_and_close};
 pub use configuration::{configuration_of, open_configuration};
-pub use device::{NamedDevice, find_device, open_device};
+pub use device::{NamedDevice, find_device, open_device_apart};
 pub use device_source::{DeviceSource, open_source, open_source_and_output};
 pub use disk::DiskPlace;
 pub use disk_entries::push_linear_entry;

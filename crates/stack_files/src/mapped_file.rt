@@ -104,7 +104,7 @@ fn lost_by(alloc: Global, text: &[u8], sectors: u64) -> Result<Vec<Part>, OpenFa
         return Err(OpenFault::OtherFault);
     }
     match parse_map(alloc, text, sectors) {
-        Ok(map) => lost_of(alloc, &map),
+        Ok(read) => lost_of(alloc, &read.map),
         Err(fault) => Err(map_ending(fault)),
     }
 }

@@ -20,9 +20,9 @@ fn resolve_partition<'a, I: Images>(
     named: NamedPartition<'a>,
 ) -> Result<Backing<'a>, UnopenedFile<'a>>
     ensures ok { IfOk result (ResolvesTo I.relations I.Dev.state images.old images.new path.now writable (named_partition_record named.entry)) }
-    ensures err { IfErr result (FailsToFindPart (calls I.relations I.Dev.state images.old images.new) path.now (named_partition_record named.entry)) }
+    ensures err { IfErr result (FailsToFindPart (calls I.relations I.Dev.state images.old images.new) path.now writable (named_partition_record named.entry)) }
 {
-    match partition_under(alloc, images, path, named) {
+    match partition_under(alloc, images, path, named, writable) {
         Ok(part) => Ok(Backing::Part {
             path,
             writable,
@@ -83,7 +83,8 @@ fn resolve_each<'a, I: Images>(
 ///
 /// - `NoMemory` if an allocation for the bindings was refused.
 /// - `Open` with the path of a disk and why its partition isn't found: the opener's fault; `NotFound` if there is no valid partition
-///   table, or not exactly one partition of that name; `OtherFault` if the disk failed; `NoMemory` if an allocation was refused.
+///   table, or not exactly one partition of that name; `NotAllowed` if it is bound for writing and the table isn't sound (`partition_under`);
+///   `OtherFault` if the disk failed; `NoMemory` if an allocation was refused.
 pub fn resolve_bindings<'a, I: Images>(
     alloc: Global,
     images: &mut I,

@@ -6,11 +6,12 @@ ghost use Rattle.stack_files.specs.StacksOfTexts.{FailsLoading, FailsToLoad, IsS
 
 use crate::configuration::configuration_of;
 use crate::leaves::{OpenLeaves, open_all};
+use crate::stack_apart::open_stack_apart;
 use crate::stack_fault::StackFault;
-use crate::stack_file::{OpenStack, StackFile, open_stack};
+use crate::stack_file::{OpenStack, StackFile};
 use block_device::BlockDev;
 use command_line::Binding;
-use image_files::Images;
+use image_files::{Images, no_use};
 use stack_engine::Stack;
 use stack_loader::config_over;
 use std::alloc::Global;
@@ -29,7 +30,7 @@ pub fn open_loaded<'a, I: Images>(
     ensures ok { IfOk result (LoadsBy I.relations I.Dev.state images.old images.new file.entry cache) }
     ensures err { IfErr result (FailsLoading I.relations I.Dev.state images.old images.new file.entry) }
 {
-    let over = open_stack(alloc, images, file)?;
+    let over = open_stack_apart(alloc, images, no_use(), file)?;
     load_stack(alloc, over, cache)
 }
 

@@ -9,7 +9,9 @@ use crate::opening_fault::OpeningFault;
 use crate::source::read_stack;
 use crate::stack_file::{OpenStack, StackFile, text_use};
 use block_device::{BlockDev, OpenFault};
-use image_files::{FileText, FileUse, Images, OpenImage, UnopenedFile, has_clash, open_apart};
+use image_files::{
+    FileText, FileUse, Images, OpenImage, UnopenedFile, has_clash, image_use, open_apart,
+};
 use std::alloc::Global;
 
 // Reads the text of a stack file, which mustn't be the file in use.
@@ -33,7 +35,10 @@ fn read_apart<'a, I: Images>(
 ///
 /// # Errors
 ///
-/// The faults of `open_stack`; `Open` also if the stack file conflicts with the file in use.
+/// - `NoMemory` if an allocation was refused.
+/// - `TooLong` if the stack file has more than 1 MiB.
+/// - `Open` if a file can't be opened or read, or conflicts with an open one or the file in use.
+/// - `Outside` if a binding's part isn't within its file.
 pub fn open_stack_apart<'a, I: Images>(
     alloc: Global,
     images: &mut I,
@@ -71,12 +76,7 @@ pub fn open_with_output<'a, I: Images>(
 {
     let text = read_apart(images, used, file.path)?;
     let image = open_apart(images, &[text_use(&text), used], out, true)?;
-    let output = FileUse {
-        id: image.id,
-        writable: true,
-        part: None,
-    };
-    let files = [text_use(&text), used, output];
+    let files = [text_use(&text), used, image_use(&image, true)];
     let OpenLeaves { leaves, devices } = open_all(alloc, images, &files, file.bindings)?;
     let over = OpenStack {
         text,

@@ -1,7 +1,7 @@
 //! The files of a command on a stack file, opened in this order: the stack text, a file that is only read, and the bindings.
 ghost use Rattle.std.specs.Prelude.{◌≡◌, IfOk, IfErr};
 ghost use Rattle.image_files.specs.FileUses.{text_use};
-ghost use Rattle.stack_files.specs.OpenStacks.{FailsByFile, FailsWithInput, FailsWithSource, OpensByFile, OpensWithInput, OpensWithSource};
+ghost use Rattle.stack_files.specs.OpenStacks.{FailsWithInput, FailsWithSource, OpensWithInput, OpensWithSource};
 
 use crate::leaves::{OpenLeaves, open_all};
 use crate::opening_fault::OpeningFault;
@@ -38,41 +38,11 @@ pub(crate) fn text_use(text: &FileText) -> FileUse
     }
 }
 
-/// Reads a stack file, and then opens the bindings' backing devices.
-///
-/// # Errors
-///
-/// - `NoMemory` if an allocation was refused.
-/// - `TooLong` if the stack file has more than 1 MiB.
-/// - `Open` if a file can't be opened or read, or conflicts with an open one.
-/// - `Outside` if a binding's part isn't within its file.
-pub fn open_stack<'a, I: Images>(
-    alloc: Global,
-    images: &mut I,
-    file: StackFile<'a, '_>,
-) -> Result<OpenStack<I::Dev>, OpeningFault<'a>>
-    ensures ok { IfOk result (OpensByFile I.relations I.Dev.state images.old images.new file.entry) }
-    ensures err { IfErr result (FailsByFile I.relations I.Dev.state images.old images.new file.entry) }
-{
-    let text = read_stack(images, file.path)?;
-    let OpenLeaves { leaves, devices } = open_all(
-        alloc,
-        images,
-        &[text_use(&text)],
-        file.bindings,
-    )?;
-    Ok(OpenStack {
-        text,
-        leaves,
-        devices,
-    })
-}
-
 /// Reads a stack file, then a file that is to be written to a device, and then opens the bindings.
 ///
 /// # Errors
 ///
-/// The faults of `open_stack`; `Open` also if the file to be written can't be opened or read.
+/// The faults of `open_stack_apart`; `Open` also if the file to be written can't be opened or read.
 pub fn open_with_source<'a, I: Images>(
     alloc: Global,
     images: &mut I,
@@ -98,7 +68,7 @@ pub fn open_with_source<'a, I: Images>(
 ///
 /// # Errors
 ///
-/// The faults of `open_stack`; `Open` also if the image can't be opened.
+/// The faults of `open_stack_apart`; `Open` also if the image can't be opened.
 pub fn open_with_input<'a, I: Images>(
     alloc: Global,
     images: &mut I,

@@ -1,11 +1,13 @@
 -- The sectors ahead of which some were had before, and the map that is made.
-use Rattle.std.proofs.Common.{◌≡◌, ℕ, zero, suc, ◌+◌, ◌<◌, ◌≤◌, Bool, false, List, [], ◌∷◌, ◌++◌, length, drop, get_or, map, replicate, Option, Some, None, is_some, refl, sym, ap, ◌∙◌, arith}
+use Rattle.std.proofs.Common.{◌≡◌, ◌⊎◌, inl, inr, ℕ, zero, suc, ◌+◌, ◌<◌, ◌≤◌, Bool, true, false, List, [], ◌∷◌, ◌++◌, length, drop, get_or, map, replicate, Option, Some, None, is_some, refl, sym, ap, ◌∙◌, arith}
+use Rattle.std.specs.List.{slice_index_or}
 use Rattle.std.proofs.lemmas.List.{drop-drop, get_or-drop, get_or-replicate, get_or_append_left, length-append, length-drop, length-replicate}
 use Rattle.rescue_map.specs.Aheads.{marks_ahead}
 use Rattle.rescue_map.specs.declared.ahead.Ahead.{Ahead}
 use Rattle.rescue_map.specs.declared.map.Run.{Run}
 use Rattle.rescue_map.specs.Maps.{marks}
 use Rattle.stack_recovery.specs.Recoveries.{AreMarksNoted, NotesMore, is_had}
+use Rattle.stack_recovery.specs.Stretches.{BeginsOtherwise}
 use Rattle.stack_recovery.specs.Surveys.{AreMarked, SectorState}
 
 -- some of the next sectors, which are alike
@@ -34,6 +36,22 @@ ahead-inside before at sectors count had rest now all e f low =
 -- the run of the next sectors
 pub first-run : (old new : Ahead) (run : Run) → marks_ahead new ≡ marks_ahead old → run ≡ new.first → marks_ahead old ≡ replicate run.count run.had ++ marks new.rest.now
 first-run old new run same first = sym same ∙ ap (λ (r : Run). replicate r.count r.had ++ marks new.rest.now) (sym first)
+
+-- the longest run ends at the last sector, or before one that has another mark
+after-run : (count : ℕ) (had mark : Bool) (more : List Bool) → get_or (replicate count had ++ mark ∷ more) count false ≡ mark
+after-run zero had mark more = refl
+after-run (suc count) had mark more = after-run count had mark more
+
+pub run-stops : (before : List Bool) (at count sectors : ℕ) (rest : List Bool) → drop at before ≡ replicate count false ++ rest → length before ≡ sectors → at ≤ sectors → BeginsOtherwise false rest
+    → (at + count ≡ sectors) ⊎ (slice_index_or before (at + count) false ≡ true)
+run-stops before at count sectors [] e all within last =
+    inl (omega (arith, all, within, length-drop at before, ap length e, length-append {A = Bool} (replicate count false) [], length-replicate {A = Bool} count false))
+run-stops before at count sectors (mark ∷ more) e all within last =
+    inr (sym (get_or-drop at before count false) ∙ ap (λ (l : List Bool). get_or l count false) e ∙ after-run count false mark more ∙ last)
+
+-- how many are ahead at most
+pub ahead-few : (before : List Bool) (at sectors most : ℕ) (now : List Bool) → length before ≡ sectors → drop at before ≡ now → sectors ≤ most → length now ≤ most
+ahead-few before at sectors most now all e few = omega (arith, all, few, length-drop at before, ap length e)
 
 -- ---- the map that is made
 

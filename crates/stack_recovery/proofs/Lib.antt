@@ -4,6 +4,7 @@ mod AlikeLemmas
 mod CopyLemmas
 mod LongestLemmas
 mod LostRunLemmas
+mod FailureLemmas
 mod GrowthLemmas
 mod HandingLemmas
 mod LeafReadLemmas
@@ -13,6 +14,7 @@ mod RetryLemmas
 mod SkimEndLemmas
 mod SkimLemmas
 mod SkimPieceLemmas
+mod StretchLemmas
 mod SurveyLemmas
 mod UnderwayLemmas
 mod VerityLossLemmas

@@ -275,10 +275,10 @@ states-meant t old counts new r scrapes sure =
     let d : ℕ = t.d in
     let n : ℕ = length (all_states r.rescues.reads) in
     let p = skims-known (unread_marks old.stack.config d) d 0 old.stack r.skims.skims r.between.stack (unmarked (size old.stack.config (mapped d))) r.skims.survey sure in
-    let known : MarksAreMeant (marks r.map) d r.between.stack =
+    let known : MarksAreMeant (marks r.made.map) d r.between.stack =
     λ k is. let here : k ≡ 0 + k = omega arith in
     left-state d old.stack r.between.stack k p.0 ∙ ap (λ (t : ℕ). meant_state (sector old.stack.config (steady_images old.stack.leaves) (mapped d) t)) here
     ∙ p.1 k (sym (ap (λ (l : List Bool). get_or l k false) r.skims.noted) ∙ is) in
-    let q = steps-known (scan_of t) (after_pass r.between.stack r.between.out r.map) scrapes known p.0.sure r.retries.steps in
+    let q = steps-known (scan_of t) (after_pass r.between.stack r.between.out r.made.map) scrapes known p.0.sure r.retries.steps in
     surveys-meant (marks r.left.map) d 0 r.left.stack r.rescues.reads new.stack r.rescues.survey (pass-scraped t.no_scrape _ r.rescues.reads scrapes r.rescues.pieces) q.1 q.0.sure
     ∙ left-states d old.stack r.left.stack 0 n (then-left d old.stack r.between.stack r.left.stack p.0 q.0)

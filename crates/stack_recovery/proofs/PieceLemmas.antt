@@ -1,7 +1,8 @@
 -- The pieces of a pass, their limits and their writes.
-use Rattle.std.proofs.Common.{◌≡◌, ◌≢◌, ℕ, min, ◌+◌, ◌-◌, ◌≤◌, Bool, true, false, IsTrue, List, [], ◌∷◌, ◌++◌, length, drop, replicate, refl, sym, ap, ◌∙◌, subst, arith, append_assoc}
+use Rattle.std.proofs.Common.{◌≡◌, ◌≢◌, ◌⊎◌, ℕ, min, ◌+◌, ◌-◌, ◌≤◌, Bool, true, false, IsTrue, List, [], ◌∷◌, ◌++◌, length, drop, replicate, refl, sym, ap, ◌∙◌, subst, arith, append_assoc}
 use Rattle.std.proofs.lemmas.Bool.{false≢true}
-use Rattle.std.proofs.lemmas.List.{append-nil, length-append, length-drop, length-replicate}
+use Rattle.std.specs.List.{slice_index_or}
+use Rattle.std.proofs.lemmas.List.{append-nil, length-append}
 use Rattle.block_device.specs.Call.{Call}
 use Rattle.stack_rules.specs.Names.{mapped, size}
 use Rattle.stack_rules.specs.Records.{Configuration}
@@ -19,7 +20,8 @@ use Rattle.stack_recovery.specs.PieceLimits.{is_given_up, limit_of_run}
 use Rattle.stack_recovery.specs.Pieces.{EndsAligned}
 use Rattle.stack_recovery.specs.Skims.{IsSkimFound}
 use Rattle.stack_recovery.specs.Surveys.{Finding, MayLose, PieceRead, SectorState, again, all_states, fault_of, had, kept, lost, states_of}
-use Rattle.stack_recovery.proofs.AheadLemmas.{marked-next}
+use Rattle.stack_recovery.specs.Stretches.{BeginsOtherwise}
+use Rattle.stack_recovery.proofs.AheadLemmas.{marked-next, run-stops}
 
 states-after : (first : ℕ) (x : PieceRead) (more : List PieceRead) → first + length (all_states (x ∷ more)) ≡ first + length (states_of x) + length (all_states more)
 states-after first x more = omega (arith, length-append {A = SectorState} (states_of x) (all_states more))
@@ -54,29 +56,26 @@ calls-push first (x ∷ more) r =
     ∙ ap (λ (k : ℕ). copy_calls (first + length (states_of x)) more ++ calls_found k r.found) (sym (states-after first x more)))
     ∙ sym (append_assoc (calls_found first x.found) (copy_calls (first + length (states_of x)) more) (calls_found (first + length (all_states (x ∷ more))) r.found))
 
--- the next piece, in a run of sectors that weren't read before
-pub next-piece : (config : Configuration) (d : ℕ) (before : List Bool) (makes_map : Bool) (at count sectors most n : ℕ) (rest : List Bool) → drop at before ≡ replicate count false ++ rest
-    → length before ≡ sectors → at ≤ sectors → at + count ≤ sectors → sectors ≡ size config (mapped d) → (makes_map ≡ false → rest ≡ [])
-    → EndsAligned config d at (at + count) most n → IsNextPiece (pass_over config d before makes_map) at most n
-next-piece config d before makes_map at count sectors most n rest e all within inside is last ends = record {
+-- the next piece, in the longest run of sectors that weren't read before
+pub next-piece : (config : Configuration) (d : ℕ) (before : List Bool) (at count sectors most n : ℕ) (rest : List Bool) → drop at before ≡ replicate count false ++ rest
+    → length before ≡ sectors → at ≤ sectors → at + count ≤ sectors → sectors ≡ size config (mapped d) → BeginsOtherwise false rest
+    → EndsAligned config d at (at + count) most n → IsNextPiece (pass_over config d before) at most n
+next-piece config d before at count sectors most n rest e all within inside is last ends = record {
   end = at + count;
   unread = marked-next before at (at + count - at) count false rest (omega arith) e;
   inside = subst (λ (m : ℕ). at + count ≤ m) is inside;
-  whole = λ none. whole (last none) ∙ is;
+  stops = subst (λ (m : ℕ). (at + count ≡ m) ⊎ (slice_index_or before (at + count) false ≡ true)) is (run-stops before at count sectors rest e all within last);
   ends = ends;
 }
-  where
-    whole : rest ≡ [] → at + count ≡ sectors
-    whole none = omega (arith, all, within, inside, length-drop at before, ap length e, length-append (replicate count false) rest, length-replicate {A = Bool} count false, ap length none)
 
 -- a piece whose read failed, in a run of sectors that weren't read before, and the sectors that are skipped after it
-pub skipped-piece : (config : Configuration) (d : ℕ) (before : List Bool) (by_map : Bool) (at count sectors n wanted skip : ℕ) (fault : IoFault) (rest : List Bool) → fault ≢ NoMemory → drop at before ≡ replicate count false ++ rest
-    → length before ≡ sectors → at ≤ sectors → at + count ≤ sectors → sectors ≡ size config (mapped d) → (by_map ≡ false → rest ≡ [])
-    → EndsAligned config d at (at + count) 128 n → skip ≡ min wanted (count - n) → IsSkimFound (pass_over config d before by_map) at wanted n (again fault) skip
+pub skipped-piece : (config : Configuration) (d : ℕ) (before : List Bool) (at count sectors n wanted skip : ℕ) (fault : IoFault) (rest : List Bool) → fault ≢ NoMemory → drop at before ≡ replicate count false ++ rest
+    → length before ≡ sectors → at ≤ sectors → at + count ≤ sectors → sectors ≡ size config (mapped d) → BeginsOtherwise false rest
+    → EndsAligned config d at (at + count) 128 n → skip ≡ min wanted (count - n) → IsSkimFound (pass_over config d before) at wanted n (again fault) skip
 unfolding next-piece
-skipped-piece config d before by_map at count sectors n wanted skip fault rest kind e all within inside is last ends skipped =
+skipped-piece config d before at count sectors n wanted skip fault rest kind e all within inside is last ends skipped =
     let room : count - n ≡ at + count - (at + n) = omega arith in
-    (kind, next-piece config d before by_map at count sectors 128 n rest e all within inside is last ends, skipped ∙ ap (λ (m : ℕ). min wanted m) room)
+    (kind, next-piece config d before at count sectors 128 n rest e all within inside is last ends, skipped ∙ ap (λ (m : ℕ). min wanted m) room)
 
 -- ---- a piece whose read failed
 

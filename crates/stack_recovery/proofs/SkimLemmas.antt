@@ -14,7 +14,7 @@ use Rattle.rescue_map.specs.Maps.{marks}
 use Rattle.stack_recovery.specs.declared.deadline.Deadline.{Deadline}
 use Rattle.stack_recovery.specs.declared.fault.RecoveryFault.TheVariants as recovery
 use Rattle.stack_recovery.specs.Deadlines.{EndsAt}
-use Rattle.stack_recovery.specs.FirstPasses.{FailsSkimOutput, HandsSkimsPart, HandsSkimsUntil, IsSkimBegun, IsSkimCopied, SkimsShort, SkimsUntil, Transfer, seen_transfer, transfer}
+use Rattle.stack_recovery.specs.FirstPasses.{FailsSkimOutput, HandsSkimsPart, HandsSkimsUntil, IsSkimBegun, IsSkimCopied, SkimsShort, SkimsUntil, Transfer, seen_transfer, skimmed, transfer}
 use Rattle.stack_recovery.specs.Handing.{calls_found}
 use Rattle.stack_recovery.specs.PassPieces.{IsNextPiece, pass_over}
 use Rattle.stack_recovery.specs.Recoveries.{FindsNoMemory}
@@ -25,18 +25,18 @@ use Rattle.stack_recovery.proofs.SkimPieceLemmas.{marks-push, skim-calls-push, s
 
 -- The sectors before `at` were read or left, and the map marks those that were read. After the next failed read `wanted` sectors
 -- are skipped.
-pub record IsSkimming {O : Type 0} (state : O → Device) (Did : O → Call → O → Type 0) (by_map : Bool) (before : List Bool) (d : ℕ) (old new : Transfer O) (at : ℕ) (made : List Run) (wanted : ℕ) : Type 0 where
+pub record IsSkimming {O : Type 0} (state : O → Device) (Did : O → Call → O → Type 0) (start : ℕ) (before : List Bool) (d : ℕ) (old new : Transfer O) (at : ℕ) (made : List Run) (wanted : ℕ) : Type 0 where
   pub skims : List Skim
   pub survey : IsSkimOver before d 0 old.stack skims new.stack
   pub here : at ≡ length (skim_marks skims)
   pub copied : IsSkimCopied skims (state old.out) (state new.out)
   pub noted : marks made ≡ skim_marks skims
-  pub pieces : AreSkims (pass_over old.stack.config d before by_map) 0 least_skip skims
-  pub skipping : wanted ≡ skip_from (most_skip (size old.stack.config (mapped d))) least_skip skims
+  pub pieces : AreSkims (pass_over old.stack.config d before) 0 start skims
+  pub skipping : wanted ≡ skip_from (most_skip (size old.stack.config (mapped d))) start skims
   pub did : Calls Did old.out (skim_calls 0 skims) new.out
 
-pub skimming-none : {O : Type 0} (state : O → Device) (Did : O → Call → O → Type 0) (by_map : Bool) (before : List Bool) (d : ℕ) (old : Transfer O) → IsSkimming state Did by_map before d old old 0 [] least_skip
-skimming-none state Did by_map before d old = record {
+pub skimming-none : {O : Type 0} (state : O → Device) (Did : O → Call → O → Type 0) (start : ℕ) (before : List Bool) (d : ℕ) (old : Transfer O) → IsSkimming state Did start before d old old 0 [] start
+skimming-none state Did start before d old = record {
   skims = [];
   survey = refl;
   here = refl;
@@ -47,23 +47,23 @@ skimming-none state Did by_map before d old = record {
   did = refl;
 }
 
-module _ {O : Type 0} (state : O → Device) (Did : O → Call → O → Type 0) (by_map : Bool) (before : List Bool) (d : ℕ) (old now : Transfer O) (at : ℕ) (made : List Run) (wanted : ℕ) (u : IsSkimming state Did by_map before d old now at made wanted) where
+module _ {O : Type 0} (state : O → Device) (Did : O → Call → O → Type 0) (start : ℕ) (before : List Bool) (d : ℕ) (old now : Transfer O) (at : ℕ) (made : List Run) (wanted : ℕ) (u : IsSkimming state Did start before d old now at made wanted) where
   next-survey : (s : Skim) → IsPieceSurveyed before d at now.stack s.piece → IsSkimOver before d 0 old.stack (u.skims ++ s ∷ []) s.piece.after
   next-survey s p =
       let here : at ≡ 0 + length (skim_marks u.skims) = omega (arith, u.here) in
       skim-push before d 0 old.stack u.skims now.stack s u.survey (subst (λ (k : ℕ). IsPieceSurveyed before d k now.stack s.piece) here p)
 
-  next-skims : (s : Skim) → IsSkimFound (pass_over old.stack.config d before by_map) at wanted s.piece.count s.piece.found s.skip → AreSkims (pass_over old.stack.config d before by_map) 0 least_skip (u.skims ++ s ∷ [])
+  next-skims : (s : Skim) → IsSkimFound (pass_over old.stack.config d before) at wanted s.piece.count s.piece.found s.skip → AreSkims (pass_over old.stack.config d before) 0 start (u.skims ++ s ∷ [])
   next-skims s h =
       let here : at ≡ 0 + length (skim_marks u.skims) = omega (arith, u.here) in
-      skims-push (pass_over old.stack.config d before by_map) 0 least_skip u.skims s u.pieces
-      (subst (λ (w : ℕ). IsSkimFound (pass_over old.stack.config d before by_map) (0 + length (skim_marks u.skims)) w s.piece.count s.piece.found s.skip) u.skipping
-      (subst (λ (k : ℕ). IsSkimFound (pass_over old.stack.config d before by_map) k wanted s.piece.count s.piece.found s.skip) here h))
+      skims-push (pass_over old.stack.config d before) 0 start u.skims s u.pieces
+      (subst (λ (w : ℕ). IsSkimFound (pass_over old.stack.config d before) (0 + length (skim_marks u.skims)) w s.piece.count s.piece.found s.skip) u.skipping
+      (subst (λ (k : ℕ). IsSkimFound (pass_over old.stack.config d before) k wanted s.piece.count s.piece.found s.skip) here h))
 
-  next-skip : (s : Skim) → skip_after (most_skip (size old.stack.config (mapped d))) wanted s.piece.found ≡ skip_from (most_skip (size old.stack.config (mapped d))) least_skip (u.skims ++ s ∷ [])
+  next-skip : (s : Skim) → skip_after (most_skip (size old.stack.config (mapped d))) wanted s.piece.found ≡ skip_from (most_skip (size old.stack.config (mapped d))) start (u.skims ++ s ∷ [])
   next-skip s =
       let most : ℕ = most_skip (size old.stack.config (mapped d)) in
-      ap (λ (w : ℕ). skip_after most w s.piece.found) u.skipping ∙ sym (skip-push most least_skip u.skims s)
+      ap (λ (w : ℕ). skip_after most w s.piece.found) u.skipping ∙ sym (skip-push most start u.skims s)
 
   next-calls : (s : Skim) → skim_calls 0 u.skims ++ calls_found at s.piece.found ≡ skim_calls 0 (u.skims ++ s ∷ [])
   next-calls s =
@@ -77,10 +77,10 @@ module _ {O : Type 0} (state : O → Device) (Did : O → Call → O → Type 0)
   next-noted s more l noting is = noting ∙ ap (λ (m : List Bool). m ++ l) u.noted ∙ ap (λ (m : List Bool). skim_marks u.skims ++ m) is ∙ sym (marks-push u.skims s)
 
   -- a piece that was read, and written
-  pub skimming-had : (n : ℕ) (bytes : List ℕ) (stack : StackRecord) (k : ℕ) (ok : Bool) (out : O) (more : List Run) → IsNextPiece (pass_over old.stack.config d before by_map) at 128 n
+  pub skimming-had : (n : ℕ) (bytes : List ℕ) (stack : StackRecord) (k : ℕ) (ok : Bool) (out : O) (more : List Run) → IsNextPiece (pass_over old.stack.config d before) at 128 n
       → EachBytes now.stack d at n (Ok bytes) stack → AreMarked before at n false → marks more ≡ marks made ++ replicate n true → k ≡ n
       → IsWritten (state now.out) at k ok (state out) → (IsTrue (state now.out).steady → (state out).image ≡ spliced (state now.out).image at (sectors_of k bytes)) → Did now.out (Write at bytes true) out
-      → IsSkimming state Did by_map before d old (transfer stack out) (at + n) more least_skip
+      → IsSkimming state Did start before d old (transfer stack out) (at + n) more least_skip
   skimming-had n bytes stack k ok out more piece p marked noting count w image call =
       let s : Skim = record { piece = record { count = n; found = had bytes; after = stack }; skip = 0 } in
       let none : replicate n true ≡ marks_of s = sym (append-nil (replicate n true)) in
@@ -97,7 +97,7 @@ module _ {O : Type 0} (state : O → Device) (Did : O → Call → O → Type 0)
       }
 
   -- sectors that were read before
-  pub skimming-kept : (n : ℕ) (more : List Run) → 1 ≤ n → AreMarked before at n true → marks more ≡ marks made ++ replicate n true → IsSkimming state Did by_map before d old now (at + n) more wanted
+  pub skimming-kept : (n : ℕ) (more : List Run) → 1 ≤ n → AreMarked before at n true → marks more ≡ marks made ++ replicate n true → IsSkimming state Did start before d old now (at + n) more wanted
   skimming-kept n more some marked noting =
       let s : Skim = record { piece = record { count = n; found = kept; after = now.stack }; skip = 0 } in
       let none : replicate n true ≡ marks_of s = sym (append-nil (replicate n true)) in
@@ -114,9 +114,9 @@ module _ {O : Type 0} (state : O → Device) (Did : O → Call → O → Type 0)
       }
 
   -- a piece whose read failed, and the sectors that are skipped after it
-  pub skimming-skipped : (n skip : ℕ) (fault : IoFault) (stack : StackRecord) (more : List Run) → IsSkimFound (pass_over old.stack.config d before by_map) at wanted n (again fault) skip
+  pub skimming-skipped : (n skip : ℕ) (fault : IoFault) (stack : StackRecord) (more : List Run) → IsSkimFound (pass_over old.stack.config d before) at wanted n (again fault) skip
       → EachBytes now.stack d at n (Err fault) stack → AreMarked before at n false → marks more ≡ marks made ++ replicate (n + skip) false
-      → IsSkimming state Did by_map before d old (transfer stack now.out) (at + (n + skip)) more (longer_skip (most_skip (size old.stack.config (mapped d))) wanted)
+      → IsSkimming state Did start before d old (transfer stack now.out) (at + (n + skip)) more (longer_skip (most_skip (size old.stack.config (mapped d))) wanted)
   skimming-skipped n skip fault stack more piece p marked noting =
       let s : Skim = record { piece = record { count = n; found = again fault; after = stack }; skip = skip } in
       let both : replicate (n + skip) false ≡ marks_of s = sym (replicate-append-replicate n skip false) in
@@ -137,12 +137,12 @@ module _ {O : Type 0} (state : O → Device) (Did : O → Call → O → Type 0)
 
   -- ---- its end
 
-  begun : IsSkimBegun by_map before d old.stack
+  begun : IsSkimBegun start before d old.stack
   begun = record { skims = u.skims; left = now.stack; survey = u.survey; pieces = u.pieces }
 
   -- memory ran out
   pub skims-short : (stack : StackRecord) → (state now.out).failures ≡ (state old.out).failures → FindsNoMemory d at now.stack stack ⊎ IsOutOfMemory 1
-      → SkimsShort by_map before d (seen_transfer state old) (transfer stack (state now.out))
+      → SkimsShort start before d (seen_transfer state old) (transfer stack (state now.out))
   unfolding begun
   skims-short stack unfailed refused = record {
     begun = begun;
@@ -153,7 +153,7 @@ module _ {O : Type 0} (state : O → Device) (Did : O → Call → O → Type 0)
 
   -- a write of the output device failed
   pub fails-skim : (n : ℕ) (bytes : List ℕ) (stack : StackRecord) (out : Device) → EachBytes now.stack d at n (Ok bytes) stack → IsWritten (state now.out) at n false out → HasFailed (state old.out) out
-      → (IsTrue (state old.out).never_fails → ⊥) → FailsSkimOutput by_map before d (seen_transfer state old) (transfer stack out)
+      → (IsTrue (state old.out).never_fails → ⊥) → FailsSkimOutput start before d (seen_transfer state old) (transfer stack out)
   unfolding begun
   fails-skim n bytes stack out read writing failed sure = record {
     begun = begun;
@@ -169,7 +169,7 @@ module _ {O : Type 0} (state : O → Device) (Did : O → Call → O → Type 0)
 
   -- the pass ended here
   pub skims-until : (deadline : Option Deadline) (sectors : ℕ) → EndsAt deadline at sectors → sectors ≡ size old.stack.config (mapped d) → (state now.out).failures ≡ (state old.out).failures
-      → SkimsUntil deadline by_map before d (seen_transfer state old) made (seen_transfer state now)
+      → SkimsUntil deadline start before d (seen_transfer state old) (skimmed made wanted) (seen_transfer state now)
   skims-until deadline sectors ends all unfailed =
       let here : at ≡ length (marks made) = u.here ∙ sym (ap length u.noted) in
       record {
@@ -178,6 +178,7 @@ module _ {O : Type 0} (state : O → Device) (Did : O → Call → O → Type 0)
           survey = u.survey;
           whole = sym (ap length u.noted);
           pieces = u.pieces;
+          skipping = u.skipping;
           copied = u.copied;
           unfailed = unfailed;
           noted = u.noted;
@@ -185,7 +186,7 @@ module _ {O : Type 0} (state : O → Device) (Did : O → Call → O → Type 0)
         ends = subst (λ (n : ℕ). EndsAt deadline n (size old.stack.config (mapped d))) here (subst (λ (n : ℕ). EndsAt deadline at n) all ends);
       }
 
-  pub hands-skims : HandsSkimsUntil Did before d old now made
+  pub hands-skims : HandsSkimsUntil Did before d old now (skimmed made wanted)
   hands-skims = record {
     skims = u.skims;
     survey = u.survey;

@@ -1,21 +1,18 @@
 -- The pieces of the first pass, one after another.
-use Rattle.std.proofs.Common.{◌≡◌, ℕ, ◌+◌, Bool, true, false, IsTrue, List, [], ◌∷◌, ◌++◌, length, refl, sym, ap, ◌∙◌, subst, arith, append_assoc}
-use Rattle.std.proofs.lemmas.Bool.{false≢true}
+use Rattle.std.proofs.Common.{◌≡◌, ℕ, ◌+◌, Bool, IsTrue, List, [], ◌∷◌, ◌++◌, length, refl, sym, ap, ◌∙◌, subst, arith, append_assoc}
 use Rattle.std.proofs.lemmas.List.{append-nil, length-append}
 use Rattle.std.proofs.lemmas.List.Concat.{flat_map-append}
 use Rattle.block_device.specs.Call.{Call}
 use Rattle.block_device.specs.Device.{Device, IsWritten, sectors_of, spliced}
 use Rattle.stack_rules.specs.Names.{mapped, size}
-use Rattle.stack_rules.specs.Records.{Configuration}
 use Rattle.stack_engine.specs.Stacks.{StackRecord}
-use Rattle.rescue_map.specs.declared.map.Run.{Run}
 use Rattle.stack_recovery.specs.Copies.{image_after}
-use Rattle.stack_recovery.specs.FirstPasses.{IsSkimCopied, has_more}
+use Rattle.stack_recovery.specs.FirstPasses.{IsSkimCopied}
 use Rattle.stack_recovery.specs.Handing.{calls_found}
-use Rattle.stack_recovery.specs.PassPieces.{IsNextPiece, Pass, pass_over}
+use Rattle.stack_recovery.specs.PassPieces.{Pass}
 use Rattle.stack_recovery.specs.Skims.{AreSkims, IsSkimFound, IsSkimOver, Skim, marks_of, skim_calls, skim_image, skim_marks, skip_from}
 use Rattle.stack_recovery.specs.Skips.{most_skip, skip_after}
-use Rattle.stack_recovery.specs.Surveys.{Finding, IsPieceSurveyed, again, had, kept, lost}
+use Rattle.stack_recovery.specs.Surveys.{IsPieceSurveyed, had}
 use Rattle.stack_recovery.proofs.CopyLemmas.{same-device}
 
 marks-after : (first : ℕ) (x : Skim) (more : List Skim) → first + length (skim_marks (x ∷ more)) ≡ first + length (marks_of x) + length (skim_marks more)
@@ -95,35 +92,3 @@ skim-copied-had skims n at k bytes after ok old mid new here count p w image =
           ∙ ap (λ (f : ℕ). spliced (skim_image 0 skims old.image) f (sectors_of n bytes)) from
           ∙ sym (skim_image-push 0 skims s old.image);
     }
-
--- no run is after the first one
-pub no-more : (runs : List Run) → has_more runs ≡ false → runs ≡ []
-no-more [] e = refl
-no-more (run ∷ runs) e = absurd (false≢true (sym e))
-
--- ---- by any map
-
-next-by-map : (config : Configuration) (d : ℕ) (before : List Bool) (by_map : Bool) (first n : ℕ) → IsNextPiece (pass_over config d before by_map) first 128 n → IsNextPiece (pass_over config d before true) first 128 n
-next-by-map config d before by_map first n h = record {
-  end = h.end;
-  unread = h.unread;
-  inside = h.inside;
-  whole = λ none. absurd (false≢true (sym none));
-  ends = h.ends;
-}
-
-found-by-map : (config : Configuration) (d : ℕ) (before : List Bool) (by_map : Bool) (first wanted n : ℕ) (found : Finding) (skip : ℕ)
-    → IsSkimFound (pass_over config d before by_map) first wanted n found skip → IsSkimFound (pass_over config d before true) first wanted n found skip
-unfolding next-by-map
-found-by-map config d before by_map first wanted n (had bytes) skip h = (next-by-map config d before by_map first n h.0, h.1)
-found-by-map config d before by_map first wanted n (lost fault) skip h = h
-found-by-map config d before by_map first wanted n (again fault) skip h = (h.0, next-by-map config d before by_map first n h.1, h.2)
-found-by-map config d before by_map first wanted n kept skip h = h
-
-pub skims-by-map : (config : Configuration) (d : ℕ) (before : List Bool) (by_map : Bool) (first wanted : ℕ) (skims : List Skim)
-    → AreSkims (pass_over config d before by_map) first wanted skims → AreSkims (pass_over config d before true) first wanted skims
-skims-by-map config d before by_map first wanted [] h = tt
-skims-by-map config d before by_map first wanted (s ∷ more) h = (
-  found-by-map config d before by_map first wanted s.piece.count s.piece.found s.skip h.0,
-  skims-by-map config d before by_map (first + length (marks_of s)) (skip_after (most_skip (size config (mapped d))) wanted s.piece.found) more h.1,
-)

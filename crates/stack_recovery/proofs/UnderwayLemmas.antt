@@ -50,7 +50,7 @@ pub record IsUnderway (makes_map : Bool) (before : List Bool) (scan : Scanned) (
   pub copied : IsCopied reads old.out new.out
   pub printed : Tells old.printed new.printed closed
   pub noted : AreMarksNoted made (all_states reads)
-  pub pieces : ArePassPieces scan.no_scrape (pass_over old.stack.config scan.d before makes_map) reads
+  pub pieces : ArePassPieces scan.no_scrape (pass_over old.stack.config scan.d before) reads
   pub limited : limit ≡ limit_from scan.no_scrape (limit_of_run 0) 0 reads
   pub written : calls ≡ copy_calls 0 reads
 
@@ -84,7 +84,7 @@ underway-none makes_map before scan old noted limit p first = record {
 
 module _ (makes_map : Bool) (before : List Bool) (scan : Scanned) (old now : Sides) (at : ℕ) (tally : Tally) (noted : Option (List Run)) (limit : PieceLimit) (calls : List Call) (u : IsUnderway makes_map before scan old now at tally noted limit calls) where
   -- its runs are the first of those of the sectors so far
-  pub begun : (stack : StackRecord) (out : Device) → IsBegunOver makes_map before scan old (sides stack out now.printed)
+  pub begun : (stack : StackRecord) (out : Device) → IsBegunOver before scan old (sides stack out now.printed)
   begun stack out = record {
     reads = u.reads;
     left = now.stack;
@@ -109,7 +109,7 @@ module _ (makes_map : Bool) (before : List Bool) (scan : Scanned) (old now : Sid
 
   -- a write of the output device failed
   pub fails-output : (n : ℕ) (bytes : List ℕ) (stack : StackRecord) (out : Device) → EachBytes now.stack scan.d at n (Ok bytes) stack → IsWritten now.out at n false out → HasFailed old.out out → (IsTrue old.out.never_fails → ⊥)
-      → FailsOutput makes_map before scan old (sides stack out now.printed)
+      → FailsOutput before scan old (sides stack out now.printed)
   unfolding begun
   fails-output n bytes stack out read writing failed sure = record {
     begun = begun stack out;
@@ -148,12 +148,12 @@ module _ (makes_map : Bool) (before : List Bool) (scan : Scanned) (old now : Sid
       let here : at ≡ 0 + length (all_states u.reads) = omega (arith, u.here) in
       survey-push before scan.d 0 old.stack u.reads now.stack r u.survey (subst (λ (k : ℕ). IsPieceSurveyed before scan.d k now.stack r) here p)
 
-  next-pieces : (r : PieceRead) → IsPieceFound scan.no_scrape (pass_over old.stack.config scan.d before makes_map) at limit r.count r.found → ArePassPieces scan.no_scrape (pass_over old.stack.config scan.d before makes_map) (u.reads ++ r ∷ [])
+  next-pieces : (r : PieceRead) → IsPieceFound scan.no_scrape (pass_over old.stack.config scan.d before) at limit r.count r.found → ArePassPieces scan.no_scrape (pass_over old.stack.config scan.d before) (u.reads ++ r ∷ [])
   next-pieces r h =
       let here : at ≡ 0 + length (all_states u.reads) = omega (arith, u.here) in
-      pieces-push scan.no_scrape (pass_over old.stack.config scan.d before makes_map) 0 (limit_of_run 0) u.reads r u.pieces
-      (subst (λ (l : PieceLimit). IsPieceFound scan.no_scrape (pass_over old.stack.config scan.d before makes_map) (0 + length (all_states u.reads)) l r.count r.found) u.limited
-      (subst (λ (k : ℕ). IsPieceFound scan.no_scrape (pass_over old.stack.config scan.d before makes_map) k limit r.count r.found) here h))
+      pieces-push scan.no_scrape (pass_over old.stack.config scan.d before) 0 (limit_of_run 0) u.reads r u.pieces
+      (subst (λ (l : PieceLimit). IsPieceFound scan.no_scrape (pass_over old.stack.config scan.d before) (0 + length (all_states u.reads)) l r.count r.found) u.limited
+      (subst (λ (k : ℕ). IsPieceFound scan.no_scrape (pass_over old.stack.config scan.d before) k limit r.count r.found) here h))
 
   next-limit : (r : PieceRead) → limit_after scan.no_scrape limit at r ≡ limit_from scan.no_scrape (limit_of_run 0) 0 (u.reads ++ r ∷ [])
   next-limit r =
@@ -170,7 +170,7 @@ module _ (makes_map : Bool) (before : List Bool) (scan : Scanned) (old now : Sid
       ∙ sym (calls-push 0 u.reads r)
 
   -- a piece that was had, written, and told
-  pub underway-had : (n : ℕ) (bytes : List ℕ) (stack : StackRecord) (k : ℕ) (ok : Bool) (out : Device) (printed : Listed) (next : Tally) (more : Option (List Run)) (after : PieceLimit) → IsNextPiece (pass_over old.stack.config scan.d before makes_map) at limit.most n → after ≡ limit_after_bytes limit n (at + n)
+  pub underway-had : (n : ℕ) (bytes : List ℕ) (stack : StackRecord) (k : ℕ) (ok : Bool) (out : Device) (printed : Listed) (next : Tally) (more : Option (List Run)) (after : PieceLimit) → IsNextPiece (pass_over old.stack.config scan.d before) at limit.most n → after ≡ limit_after_bytes limit n (at + n)
       → 1 ≤ n → EachBytes now.stack scan.d at n (Ok bytes) stack → AreMarked before at n false → NotesMore noted more (replicate n true) → k ≡ n
       → IsWritten now.out at k ok out → (IsTrue now.out.steady → out.image ≡ spliced now.out.image at (sectors_of k bytes))
       → Tells now.printed printed (listed tally.last) → next ≡ record { last = None; lost = tally.lost; untried = tally.untried } → IsUnderway makes_map before scan old (sides stack out printed) (at + n) next more after (calls ++ Write at bytes true ∷ [])
@@ -216,7 +216,7 @@ module _ (makes_map : Bool) (before : List Bool) (scan : Scanned) (old now : Sid
       })
 
   -- a piece that is lost, and told
-  pub underway-lost : (n : ℕ) (loss : Loss) (stack : StackRecord) (printed : Listed) (next : Tally) (more : Option (List Run)) (after : PieceLimit) → IsNextPiece (pass_over old.stack.config scan.d before makes_map) at limit.most n → IsLossFound scan.no_scrape limit at n loss → after ≡ limit_after_loss scan.no_scrape limit (at + n)
+  pub underway-lost : (n : ℕ) (loss : Loss) (stack : StackRecord) (printed : Listed) (next : Tally) (more : Option (List Run)) (after : PieceLimit) → IsNextPiece (pass_over old.stack.config scan.d before) at limit.most n → IsLossFound scan.no_scrape limit at n loss → after ≡ limit_after_loss scan.no_scrape limit (at + n)
       → 1 ≤ n → EachBytes now.stack scan.d at n (Err (fault_of loss)) stack → AreMarked before at n false → NotesMore noted more (replicate n false) → MayLose now.stack.config scan.d at n loss
       → Tells now.printed printed (closed_by is_same_loss tally.last (run at n loss)) → next ≡ record { last = Some (opened_by is_same_loss tally.last (run at n loss)); lost = tally.lost + lost_count loss n; untried = tally.untried + untried_count loss n }
       → IsUnderway makes_map before scan old (sides stack now.out printed) (at + n) next more after calls
@@ -240,7 +240,7 @@ module _ (makes_map : Bool) (before : List Bool) (scan : Scanned) (old now : Sid
       })
 
   -- a piece that is read again
-  pub underway-again : (n : ℕ) (fault : IoFault) (stack : StackRecord) (after : PieceLimit) → IsNextPiece (pass_over old.stack.config scan.d before makes_map) at limit.most n → IsReadAgain scan.no_scrape limit at n → after ≡ limit_up_to (at + n)
+  pub underway-again : (n : ℕ) (fault : IoFault) (stack : StackRecord) (after : PieceLimit) → IsNextPiece (pass_over old.stack.config scan.d before) at limit.most n → IsReadAgain scan.no_scrape limit at n → after ≡ limit_up_to (at + n)
       → EachBytes now.stack scan.d at n (Err fault) stack → AreMarked before at n false → IsUnderway makes_map before scan old (sides stack now.out now.printed) at tally noted after calls
   underway-again n fault stack after piece small grown p marked =
       let r : PieceRead = record { count = n; found = again fault; after = stack } in
@@ -273,7 +273,7 @@ module _ (makes_map : Bool) (before : List Bool) (scan : Scanned) (old now : Sid
       reads = u.reads;
       survey = u.survey;
       whole = sym u.here ∙ counted-all counts is;
-      pieces = subst (λ (m : Bool). ArePassPieces scan.no_scrape (pass_over old.stack.config scan.d before m) u.reads) (sym same) u.pieces;
+      pieces = u.pieces;
       copied = u.copied;
       unfailed = unfailed;
       printed = rw (tallied-all is_same_loss is_same-equality (all_states u.reads) u.closed tally.last u.tallied) (runs-then old.printed now.printed printed u.closed (listed tally.last) u.printed told);

@@ -1,5 +1,5 @@
 -- The effects of the first pass over a mapped device.
-use Rattle.std.specs.Prelude.{◌≡◌, ◌⊎◌, ℕ, Bool, true, false, IsTrue, List, [], ◌∷◌, ◌++◌, length, replicate, Option, Ok}
+use Rattle.std.specs.Prelude.{◌≡◌, ◌⊎◌, ℕ, Bool, false, IsTrue, List, ◌++◌, length, replicate, Option, Ok}
 use Rattle.allocation.specs.Refusal.{IsOutOfMemory}
 use Rattle.block_device.specs.Call.{Call, Calls}
 use Rattle.block_device.specs.Device.{Device, HasFailed, IsSameDevice, IsWritten}
@@ -10,15 +10,16 @@ use Rattle.stack_engine.specs.Stacks.{StackRecord}
 use Rattle.rescue_map.specs.declared.map.Run.{Run}
 use Rattle.rescue_map.specs.Maps.{marks}
 use Rattle.stack_recovery.specs.declared.deadline.Deadline.{Deadline}
-use Rattle.stack_recovery.specs.declared.deadline.DevicePass.{DevicePass}
+use Rattle.stack_recovery.specs.declared.deadline.FirstPass.{FirstPass}
 use Rattle.stack_recovery.specs.declared.fault.RecoveryFault.{RecoveryFault}
 use Rattle.stack_recovery.specs.declared.fault.RecoveryFault.TheVariants.{NoMemory, Output}
+use Rattle.stack_recovery.specs.declared.skimming.Skimmed.{Skimmed}
 use Rattle.stack_recovery.specs.Deadlines.{EndsAt}
 use Rattle.stack_recovery.specs.Handing.{IsLastCall}
 use Rattle.stack_recovery.specs.PassPieces.{pass_over}
 use Rattle.stack_recovery.specs.Recoveries.{FindsNoMemory}
-use Rattle.stack_recovery.specs.Skims.{AreSkims, IsSkimOver, Skim, skim_calls, skim_image, skim_marks}
-use Rattle.stack_recovery.specs.Skips.{least_skip}
+use Rattle.stack_recovery.specs.Skims.{AreSkims, IsSkimOver, Skim, skim_calls, skim_image, skim_marks, skip_from}
+use Rattle.stack_recovery.specs.Skips.{most_skip}
 
 -- a stack, and the output device that its sectors are copied to
 pub record Transfer (O : Type 0) : Type 0 where
@@ -36,54 +37,54 @@ seen_transfer state t = transfer t.stack (state t.out)
 abbrev pub unread_marks : Configuration → ℕ → List Bool
 unread_marks c d = replicate (size c (mapped d)) false
 
--- whether runs follow the first one
-abbrev pub has_more : List Run → Bool
-has_more [] = false
-has_more (run ∷ more) = true
+abbrev pub skimmed : List Run → ℕ → Skimmed
+skimmed map skip = record { map = map; skip = skip }
 
 -- a device that the pieces were copied to; if it is steady, its image is known
 pub record IsSkimCopied (skims : List Skim) (old new : Device) : Type 0 where
   pub same : IsSameDevice old new
   pub image : IsTrue old.steady → new.image ≡ skim_image 0 skims old.image
 
--- The first pass over the sectors of device d before `end`, in whose map `made` the sectors are marked that were read, now or
--- before. The sectors that were read now were copied. If the marks aren't of several runs, pieces end only at the device's end.
-pub record SkimsTo (by_map : Bool) (before : List Bool) (d end : ℕ) (old : Transfer Device) (made : List Run) (new : Transfer Device) : Type 0 where
+-- The first pass over the sectors of device d before `end`, in whose map the sectors are marked that were read, now or before. The
+-- sectors that were read now were copied. After the first failed read `wanted` sectors are skipped, and after the next failed one
+-- those of the result.
+pub record SkimsTo (wanted : ℕ) (before : List Bool) (d end : ℕ) (old : Transfer Device) (made : Skimmed) (new : Transfer Device) : Type 0 where
   pub skims : List Skim
   pub survey : IsSkimOver before d 0 old.stack skims new.stack
   pub whole : length (skim_marks skims) ≡ end
-  pub pieces : AreSkims (pass_over old.stack.config d before by_map) 0 least_skip skims
+  pub pieces : AreSkims (pass_over old.stack.config d before) 0 wanted skims
+  pub skipping : made.skip ≡ skip_from (most_skip (size old.stack.config (mapped d))) wanted skims
   pub copied : IsSkimCopied skims old.out new.out
   pub unfailed : new.out.failures ≡ old.out.failures
-  pub noted : marks made ≡ skim_marks skims
+  pub noted : marks made.map ≡ skim_marks skims
 
 -- the first pass over all sectors
-abbrev pub Skims : Bool → List Bool → ℕ → Transfer Device → List Run → Transfer Device → Type 0
-Skims by_map before d old made new = SkimsTo by_map before d (size old.stack.config (mapped d)) old made new
+abbrev pub Skims : ℕ → List Bool → ℕ → Transfer Device → Skimmed → Transfer Device → Type 0
+Skims wanted before d old made new = SkimsTo wanted before d (size old.stack.config (mapped d)) old made new
 
 -- the first pass over the sectors of its map, which ended there
-pub record SkimsUntil (deadline : Option Deadline) (by_map : Bool) (before : List Bool) (d : ℕ) (old : Transfer Device) (made : List Run) (new : Transfer Device) : Type 0 where
-  pub reads : SkimsTo by_map before d (length (marks made)) old made new
-  pub ends : EndsAt deadline (length (marks made)) (size old.stack.config (mapped d))
+pub record SkimsUntil (deadline : Option Deadline) (wanted : ℕ) (before : List Bool) (d : ℕ) (old : Transfer Device) (made : Skimmed) (new : Transfer Device) : Type 0 where
+  pub reads : SkimsTo wanted before d (length (marks made.map)) old made new
+  pub ends : EndsAt deadline (length (marks made.map)) (size old.stack.config (mapped d))
 
 -- the first pieces of the pass were read
-pub record IsSkimBegun (by_map : Bool) (before : List Bool) (d : ℕ) (old : StackRecord) : Type 0 where
+pub record IsSkimBegun (wanted : ℕ) (before : List Bool) (d : ℕ) (old : StackRecord) : Type 0 where
   pub skims : List Skim
   pub left : StackRecord
   pub survey : IsSkimOver before d 0 old skims left
-  pub pieces : AreSkims (pass_over old.config d before by_map) 0 least_skip skims
+  pub pieces : AreSkims (pass_over old.config d before) 0 wanted skims
 
 -- Memory ran out for a read or for the map. The sectors read so far are copied, and the output device didn't fail.
-pub record SkimsShort (by_map : Bool) (before : List Bool) (d : ℕ) (old new : Transfer Device) : Type 0 where
-  pub begun : IsSkimBegun by_map before d old.stack
+pub record SkimsShort (wanted : ℕ) (before : List Bool) (d : ℕ) (old new : Transfer Device) : Type 0 where
+  pub begun : IsSkimBegun wanted before d old.stack
   pub copied : IsSkimCopied begun.skims old.out new.out
   pub unfailed : new.out.failures ≡ old.out.failures
   pub refused : FindsNoMemory d (length (skim_marks begun.skims)) begun.left new.stack ⊎ IsOutOfMemory 1
 
 -- A write of the output device failed. The sectors read before are copied. Of a steady device no sector differs from that but
 -- those of the piece that was being written.
-pub record FailsSkimOutput (by_map : Bool) (before : List Bool) (d : ℕ) (old new : Transfer Device) : Type 0 where
-  pub begun : IsSkimBegun by_map before d old.stack
+pub record FailsSkimOutput (wanted : ℕ) (before : List Bool) (d : ℕ) (old new : Transfer Device) : Type 0 where
+  pub begun : IsSkimBegun wanted before d old.stack
   pub out : Device
   pub n : ℕ
   pub bytes : List ℕ
@@ -94,9 +95,9 @@ pub record FailsSkimOutput (by_map : Bool) (before : List Bool) (d : ℕ) (old n
   pub sure : IsTrue old.out.never_fails → ⊥
 
 -- why the pass ended early
-abbrev pub EndsSkim : Bool → List Bool → ℕ → Transfer Device → Transfer Device → RecoveryFault → Type 0
-EndsSkim by_map before d old new NoMemory = SkimsShort by_map before d old new
-EndsSkim by_map before d old new Output = FailsSkimOutput by_map before d old new
+abbrev pub EndsSkim : ℕ → List Bool → ℕ → Transfer Device → Transfer Device → RecoveryFault → Type 0
+EndsSkim wanted before d old new NoMemory = SkimsShort wanted before d old new
+EndsSkim wanted before d old new Output = FailsSkimOutput wanted before d old new
 
 -- ---- the calls on the output device
 
@@ -112,8 +113,8 @@ pub record HandsSkimsTo {O : Type 0} (Did : O → Call → O → Type 0) (before
 abbrev pub HandsSkims : {O : Type 0} → (O → Call → O → Type 0) → List Bool → ℕ → Transfer O → List Bool → Transfer O → Type 0
 HandsSkims Did before d old after new = HandsSkimsTo Did before d (size old.stack.config (mapped d)) old after new
 
-abbrev pub HandsSkimsUntil : {O : Type 0} → (O → Call → O → Type 0) → List Bool → ℕ → Transfer O → Transfer O → List Run → Type 0
-HandsSkimsUntil Did before d old new made = HandsSkimsTo Did before d (length (marks made)) old (marks made) new
+abbrev pub HandsSkimsUntil : {O : Type 0} → (O → Call → O → Type 0) → List Bool → ℕ → Transfer O → Transfer O → Skimmed → Type 0
+HandsSkimsUntil Did before d old new made = HandsSkimsTo Did before d (length (marks made.map)) old (marks made.map) new
 
 -- the pass ended early; a write that failed is the last call
 pub record HandsSkimsPart {O : Type 0} (Did : O → Call → O → Type 0) (before : List Bool) (d : ℕ) (old new : Transfer O) (fault : RecoveryFault) : Type 0 where
@@ -126,8 +127,8 @@ pub record HandsSkimsPart {O : Type 0} (Did : O → Call → O → Type 0) (befo
 
 -- ---- in terms of the arguments of a call
 
-abbrev pub SkimsBy : {O : Type 0} → (O → Device) → DevicePass → Bool → List Bool → Transfer O → Transfer O → List Run → Type 0
-SkimsBy state pass by_map before old new made = SkimsUntil pass.deadline by_map before pass.device.0 (seen_transfer state old) made (seen_transfer state new)
+abbrev pub SkimsBy : {O : Type 0} → (O → Device) → FirstPass → List Bool → Transfer O → Transfer O → Skimmed → Type 0
+SkimsBy state pass before old new made = SkimsUntil pass.deadline pass.skip before pass.device.0 (seen_transfer state old) made (seen_transfer state new)
 
-abbrev pub EndsSkimBy : {O : Type 0} → (O → Device) → Bool → List Bool → ℕ → Transfer O → Transfer O → RecoveryFault → Type 0
-EndsSkimBy state by_map before d old new fault = EndsSkim by_map before d (seen_transfer state old) (seen_transfer state new) fault
+abbrev pub EndsSkimBy : {O : Type 0} → (O → Device) → FirstPass → List Bool → Transfer O → Transfer O → RecoveryFault → Type 0
+EndsSkimBy state pass before old new fault = EndsSkim pass.skip before pass.device.0 (seen_transfer state old) (seen_transfer state new) fault

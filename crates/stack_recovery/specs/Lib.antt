@@ -16,6 +16,7 @@ pub mod Recoveries
 pub mod Retries
 pub mod Skims
 pub mod Skips
+pub mod Stretches
 pub mod Surveys
 pub mod Texts
 pub mod TwoPasses

@@ -1,11 +1,13 @@
 -- Laws of the pieces of a pass.
-use Rattle.std.specs.Prelude.{◌≡◌, ℕ, ◌+◌, ◌≤◌, ◌<◌, Bool, false, List, [], ◌∷◌, length}
+use Rattle.std.specs.Prelude.{◌≡◌, ℕ, ◌+◌, ◌≤◌, ◌<◌, Bool, false, List, [], ◌∷◌, length, sum}
+use Rattle.stack_lines.specs.Touches.{failures_of}
+use Rattle.stack_engine.specs.Stacks.{StackRecord}
 use Rattle.stack_recovery.specs.declared.lost_run.Loss.{Loss}
 use Rattle.stack_recovery.specs.declared.lost_run.Loss.TheVariants.{Lost, Unscraped}
 use Rattle.stack_recovery.specs.declared.piece_limit.PieceLimit.{PieceLimit}
 use Rattle.stack_recovery.specs.PassPieces.{ArePassPieces, IsNextPiece, Pass, limit_from}
 use Rattle.stack_recovery.specs.PieceLimits.{limit_of_run}
-use Rattle.stack_recovery.specs.Skims.{AreSkims, Skim, marks_of}
+use Rattle.stack_recovery.specs.Skims.{AreSkims, IsSkimOver, Skim, marks_of}
 use Rattle.stack_recovery.specs.Surveys.{Finding, PieceRead, again, had, kept, lost}
 
 -- a piece that is read is the one of at most 128 sectors; sectors that were read before are in none
@@ -31,13 +33,9 @@ abbrev pub AreHad : List PieceRead → Type 0
 AreHad [] = Unit {0}
 AreHad (r ∷ more) = IsHad r.found × AreHad more
 
--- how many pieces that are read bring any limit back to 128 sectors
-abbrev pub pieces_to_grow : ℕ
-pieces_to_grow = 7
-
--- After so many pieces after the end of the last failed one, and as long as reads don't fail, the limit is 128 sectors.
+-- After a piece that is read after the end of the last failed one, and as long as reads don't fail, the limit is 128 sectors.
 abbrev pub LimitsGrowBack : Type 0
-LimitsGrowBack = (no_scrape : Bool) (limit : PieceLimit) (first : ℕ) (reads : List PieceRead) → 1 ≤ limit.most → limit.doubt ≤ first → AreHad reads → pieces_to_grow ≤ length reads
+LimitsGrowBack = (no_scrape : Bool) (limit : PieceLimit) (first : ℕ) (reads : List PieceRead) → limit.doubt ≤ first → AreHad reads → 1 ≤ length reads
     → (limit_from no_scrape limit first reads).most ≡ 128
 
 -- the piece is one sector, and was read
@@ -72,3 +70,22 @@ AreScraped (r ∷ more) = IsScraped r.found × AreScraped more
 -- A pass that scrapes leaves no sector unscraped.
 abbrev pub PassesScrape : Type 0
 PassesScrape = (p : Pass) (reads : List PieceRead) → ArePassPieces false p reads → AreScraped reads
+
+-- ---- failing reads
+
+-- how many reads of a piece failed
+abbrev pub failed_reads : Finding → ℕ
+failed_reads (had bytes) = 0
+failed_reads (lost loss) = 1
+failed_reads (again fault) = 1
+failed_reads kept = 0
+
+-- how many pieces of the first pass failed
+abbrev pub failed_pieces : List Skim → ℕ
+failed_pieces [] = 0
+failed_pieces (s ∷ more) = failed_reads s.piece.found + failed_pieces more
+
+-- Until the first pass has reached its end, the leaves fail at most once for each of its pieces that failed.
+abbrev pub FailuresAreFew : Type 0
+FailuresAreFew = (marks : List Bool) (d first : ℕ) (w : StackRecord) (skims : List Skim) (w' : StackRecord) → IsSkimOver marks d first w skims w'
+    → sum (failures_of w'.leaves) ≤ sum (failures_of w.leaves) + failed_pieces skims

@@ -1,5 +1,6 @@
 -- Which pieces a pass over a mapped device reads.
-use Rattle.std.specs.Prelude.{◌≡◌, ℕ, ◌+◌, ◌-◌, ◌≤◌, Bool, true, false, List, [], ◌∷◌, length}
+use Rattle.std.specs.Prelude.{◌≡◌, ◌⊎◌, ℕ, ◌+◌, ◌-◌, ◌≤◌, Bool, true, false, List, [], ◌∷◌, length}
+use Rattle.std.specs.List.{slice_index_or}
 use Rattle.stack_rules.specs.Names.{mapped, size}
 use Rattle.stack_rules.specs.Records.{Configuration}
 use Rattle.stack_recovery.specs.declared.lost_run.Loss.{Loss}
@@ -17,23 +18,22 @@ pub record Scanned : Type 0 where
 abbrev pub scanned : ℕ → Bool → Scanned
 scanned d no_scrape = record { d = d; no_scrape = no_scrape }
 
--- a pass over device d, the marks of the sectors that were read before, and whether a map is made
+-- a pass over device d, and the marks of the sectors that were read before
 pub record Pass : Type 0 where
   pub config : Configuration
   pub d : ℕ
   pub marks : List Bool
-  pub makes_map : Bool
 
-abbrev pub pass_over : Configuration → ℕ → List Bool → Bool → Pass
-pass_over config d marks makes_map = record { config = config; d = d; marks = marks; makes_map = makes_map }
+abbrev pub pass_over : Configuration → ℕ → List Bool → Pass
+pass_over config d marks = record { config = config; d = d; marks = marks }
 
--- The next piece from sector `first` on: as `piece_at` returns it, before an end up to which no sector was read before. If no
--- map is made, that is the end of the device.
+-- The next piece from sector `first` on: as `piece_at` returns it, before an end up to which no sector was read before. That is the
+-- end of the device, or a sector that was read before.
 pub record IsNextPiece (p : Pass) (first most n : ℕ) : Type 0 where
   pub end : ℕ
   pub unread : AreMarked p.marks first (end - first) false
   pub inside : end ≤ size p.config (mapped p.d)
-  pub whole : p.makes_map ≡ false → end ≡ size p.config (mapped p.d)
+  pub stops : (end ≡ size p.config (mapped p.d)) ⊎ (slice_index_or p.marks end false ≡ true)
   pub ends : EndsAligned p.config p.d first end most n
 
 -- the limit after a piece from sector `first` on, by its result; after sectors that were read before, a run begins

@@ -1,5 +1,5 @@
 -- The limit on the pieces of a transfer.
-use Rattle.std.specs.Prelude.{ℕ, ◌+◌, ◌-◌, ◌*◌, ◌/◌, min, max, Bool, true, false, nat_le, nat_lt, if◌then◌else◌}
+use Rattle.std.specs.Prelude.{ℕ, ◌+◌, ◌-◌, ◌/◌, min, max, Bool, true, false, nat_le, nat_lt, if◌then◌else◌}
 use Rattle.block_device.specs.Device.{capped}
 use Rattle.stack_recovery.specs.declared.piece_limit.PieceLimit.{PieceLimit}
 
@@ -16,9 +16,9 @@ abbrev pub limit_of_run : ℕ → PieceLimit
 limit_of_run first = limit_up_to (first + 128)
 
 -- After a piece of that many sectors was read, which ends before sector `at`: if the failed piece ends after `at`, the next one
--- has at most half as many; otherwise at most twice as many as this one and the limit, and never more than 128.
+-- has at most half as many; otherwise at most 128.
 abbrev pub limit_after_bytes : PieceLimit → ℕ → ℕ → PieceLimit
-limit_after_bytes p count at = record { most = if nat_lt at p.doubt then max (count / 2) 1 else min (max count p.most) 64 * 2; doubt = p.doubt }
+limit_after_bytes p count at = record { most = if nat_lt at p.doubt then max (count / 2) 1 else 128; doubt = p.doubt }
 
 -- after lost sectors, before sector `at`: one sector, also up to the end of the failed piece; without scraping the rest of that
 -- piece, and 128 sectors after its end

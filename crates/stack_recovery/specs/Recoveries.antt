@@ -1,5 +1,5 @@
 -- The effects of a recovery.
-use Rattle.std.specs.Prelude.{◌≡◌, ◌⊎◌, ℕ, ◌+◌, ◌-◌, Bool, true, false, IsTrue, List, ◌++◌, length, map, Option, Some, None, is_some, Ok, Err}
+use Rattle.std.specs.Prelude.{◌≡◌, ◌⊎◌, ℕ, ◌+◌, ◌-◌, Bool, true, false, IsTrue, List, ◌++◌, length, map, Option, Some, None, Ok, Err}
 use Rattle.allocation.specs.Refusal.{IsOutOfMemory}
 use Rattle.block_device.specs.Device.{Device, HasFailed, IsWritten}
 use Rattle.stack_rules.specs.Names.{mapped, size}
@@ -38,13 +38,13 @@ abbrev pub sides : StackRecord → Device → Listed → Sides
 sides stack out printed = record { stack = stack; out = out; printed = printed }
 
 -- the first pieces of the device were read, and the first of their lost runs printed
-pub record IsBegunOver (makes_map : Bool) (marks : List Bool) (scan : Scanned) (old new : Sides) : Type 0 where
+pub record IsBegunOver (marks : List Bool) (scan : Scanned) (old new : Sides) : Type 0 where
   pub reads : List PieceRead
   pub left : StackRecord
   pub runs : List LostRun
   pub more : List LostRun
   pub survey : IsSurveyOver marks scan.d 0 old.stack reads left
-  pub pieces : ArePassPieces scan.no_scrape (pass_over old.stack.config scan.d marks makes_map) reads
+  pub pieces : ArePassPieces scan.no_scrape (pass_over old.stack.config scan.d marks) reads
   pub first : runs_of is_same_loss 0 (all_states reads) ≡ runs ++ more
   pub printed : Tells old.printed new.printed runs
 
@@ -60,15 +60,15 @@ IsMapRefused makes_map = (makes_map ≡ true) × IsOutOfMemory 1
 
 -- Memory ran out for a read or for the map. The sectors read so far are copied, and the output device didn't fail.
 pub record RunsShort (makes_map : Bool) (marks : List Bool) (scan : Scanned) (old new : Sides) : Type 0 where
-  pub begun : IsBegunOver makes_map marks scan old new
+  pub begun : IsBegunOver marks scan old new
   pub copied : IsCopied begun.reads old.out new.out
   pub unfailed : new.out.failures ≡ old.out.failures
   pub refused : FindsNoMemory scan.d (length (all_states begun.reads)) begun.left new.stack ⊎ IsMapRefused makes_map
 
 -- A write of the output device failed. The sectors read before are copied. Of a steady device no sector differs from that but
 -- those of the piece that was being written, which was read from where the last one ends.
-pub record FailsOutput (makes_map : Bool) (marks : List Bool) (scan : Scanned) (old new : Sides) : Type 0 where
-  pub begun : IsBegunOver makes_map marks scan old new
+pub record FailsOutput (marks : List Bool) (scan : Scanned) (old new : Sides) : Type 0 where
+  pub begun : IsBegunOver marks scan old new
   pub out : Device
   pub n : ℕ
   pub bytes : List ℕ
@@ -81,7 +81,7 @@ pub record FailsOutput (makes_map : Bool) (marks : List Bool) (scan : Scanned) (
 -- why the recovery ended early; a line that can't be written is no cause
 abbrev pub EndsEarly : Bool → List Bool → Scanned → Sides → Sides → RecoveryFault → Type 0
 EndsEarly makes_map marks scan old new NoMemory = RunsShort makes_map marks scan old new
-EndsEarly makes_map marks scan old new Output = FailsOutput makes_map marks scan old new
+EndsEarly makes_map marks scan old new Output = FailsOutput marks scan old new
 
 abbrev pub IsRescueEnd : List Bool → Scanned → Sides → Sides → RecoveryFault → Type 0
 IsRescueEnd marks scan old new fault = EndsEarly true marks scan old new fault
@@ -123,7 +123,7 @@ pub record GoesOverTo (before : List Bool) (scan : Scanned) (end : ℕ) (old : S
   pub reads : List PieceRead
   pub survey : IsSurveyOver before scan.d 0 old.stack reads new.stack
   pub whole : length (all_states reads) ≡ end
-  pub pieces : ArePassPieces scan.no_scrape (pass_over old.stack.config scan.d before (is_some made)) reads
+  pub pieces : ArePassPieces scan.no_scrape (pass_over old.stack.config scan.d before) reads
   pub copied : IsCopied reads old.out new.out
   pub unfailed : new.out.failures ≡ old.out.failures
   pub printed : Tells old.printed new.printed (runs_of is_same_loss 0 (all_states reads))

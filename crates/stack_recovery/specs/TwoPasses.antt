@@ -1,5 +1,5 @@
 -- The effects of a recovery in passes: the first one skips ahead after failed reads, the others read what is left.
-use Rattle.std.specs.Prelude.{◌≡◌, ◌⊎◌, ℕ, false, List, Some}
+use Rattle.std.specs.Prelude.{◌≡◌, ◌⊎◌, ℕ, List, Some}
 use Rattle.block_device.specs.Call.{Call}
 use Rattle.block_device.specs.Device.{Device}
 use Rattle.rescue_map.specs.declared.map.Run.{Run}
@@ -7,6 +7,8 @@ use Rattle.rescue_map.specs.Maps.{marks}
 use Rattle.stack_recovery.specs.declared.fault.RecoveryFault.{RecoveryFault}
 use Rattle.stack_recovery.specs.declared.recovery.Counts.{Counts}
 use Rattle.stack_recovery.specs.declared.rescued.Rescued.{Rescued}
+use Rattle.stack_recovery.specs.declared.skimming.Skimmed.{Skimmed}
+use Rattle.stack_recovery.specs.Skips.{least_skip}
 use Rattle.stack_recovery.specs.FirstPasses.{EndsSkim, HandsSkims, HandsSkimsPart, Skims, Transfer, transfer, unread_marks}
 use Rattle.stack_recovery.specs.Handing.{HandsOver, HandsOverPart}
 use Rattle.stack_recovery.specs.Listings.{Listed}
@@ -21,11 +23,11 @@ transfer_of s = transfer s.stack s.out
 -- the last pass, by a read of that pass. The counts are those of the last pass, to which sectors read earlier count as read before.
 pub record Recovers (t : Retried) (old : Sides) (counts : Counts) (new : Sides) : Type 0 where
   pub between : Transfer Device
-  pub map : List Run
+  pub made : Skimmed
   pub left : AfterPass Device
   pub rescued : Rescued
-  pub skims : Skims false (unread_marks old.stack.config t.d) t.d (transfer_of old) map between
-  pub retries : ReadsAgain t (after_pass between.stack between.out map) left
+  pub skims : Skims least_skip (unread_marks old.stack.config t.d) t.d (transfer_of old) made between
+  pub retries : ReadsAgain t (after_pass between.stack between.out made.map) left
   pub rescues : Rescues (marks left.map) (scan_of t) (sides left.stack left.out old.printed) rescued new
   pub counted : counts ≡ rescued.counts
 
@@ -37,13 +39,13 @@ IsLaterEnd t first old new fault =
 
 pub record IsLaterPassEnd (t : Retried) (old new : Sides) (fault : RecoveryFault) : Type 0 where
   pub between : Transfer Device
-  pub map : List Run
-  pub skims : Skims false (unread_marks old.stack.config t.d) t.d (transfer_of old) map between
-  pub ends : IsLaterEnd t (after_pass between.stack between.out map) old new fault
+  pub made : Skimmed
+  pub skims : Skims least_skip (unread_marks old.stack.config t.d) t.d (transfer_of old) made between
+  pub ends : IsLaterEnd t (after_pass between.stack between.out made.map) old new fault
 
 -- the first pass ended early, and nothing was printed
 abbrev pub IsFirstPassEnd : ℕ → Sides → Sides → RecoveryFault → Type 0
-IsFirstPassEnd d old new fault = EndsSkim false (unread_marks old.stack.config d) d (transfer_of old) (transfer_of new) fault × (new.printed ≡ old.printed)
+IsFirstPassEnd d old new fault = EndsSkim least_skip (unread_marks old.stack.config d) d (transfer_of old) (transfer_of new) fault × (new.printed ≡ old.printed)
 
 abbrev pub IsRecoveryEnd : Retried → Sides → Sides → RecoveryFault → Type 0
 IsRecoveryEnd t old new fault = IsFirstPassEnd t.d old new fault ⊎ IsLaterPassEnd t old new fault

@@ -12,8 +12,17 @@ pub struct Deadline {
     pub seconds: u64,
 }
 
-/// A pass over a mapped device: to its last sector, or up to a deadline. With `no_scrape` it doesn't search a failed piece
-/// sector by sector after its first lost sector; the first pass never does.
+/// The first pass over a mapped device: to its last sector, or up to a deadline. After its first failed read it skips `skip`
+/// sectors.
+#[derive(Clone, Copy)]
+pub struct FirstPass {
+    pub device: DevId,
+    pub skip: u64,
+    pub deadline: Option<Deadline>,
+}
+
+/// A pass over a mapped device after the first one: to its last sector, or up to a deadline. With `no_scrape` it doesn't search a
+/// failed piece sector by sector after its first lost sector.
 #[derive(Clone, Copy)]
 pub struct DevicePass {
     pub device: DevId,
@@ -36,22 +45,17 @@ fn is_up<P: Progress>(deadline: Option<Deadline>, at: u64, progress: &mut P) -> 
     }
 }
 
-/// Returns the sector before which a pass over `sectors` sectors ends that has reached sector `at`. It doesn't end early if its last
-/// read failed (`failing`).
+/// Returns the sector before which a pass over `sectors` sectors ends that has reached sector `at`.
 pub(crate) fn pass_end<P: Progress>(
     deadline: Option<Deadline>,
     at: u64,
     sectors: u64,
-    failing: bool,
     progress: &mut P,
 ) -> u64
     requires { at ≤ sectors }
     ensures few { result ≤ sectors }
     ensures ends { result ≤ at → EndsAt deadline at sectors }
 {
-    if failing {
-        return sectors;
-    }
     if is_up(deadline, at, progress) {
         return at;
     }

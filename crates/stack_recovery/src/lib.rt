@@ -16,9 +16,10 @@ mod rescued;
 mod retries;
 mod skimming;
 mod skip;
+mod stretch;
 mod tally;
 
-pub use deadline::{Deadline, DevicePass};
+pub use deadline::{Deadline, DevicePass, FirstPass};
 pub use discard::Discard;
 pub use fault::RecoveryFault;
 pub use joining::tell_among_bad;
@@ -28,4 +29,5 @@ pub use piece::{Piece, piece_at};
 pub use piece_limit::PieceLimit;
 pub use recovery::{Counts, RecoveryPlan, recover, recover_with};
 pub use rescued::{Rescued, rescue};
-pub use skimming::skim;
+pub use skimming::{Skimmed, skim};
+pub use skip::LEAST_SKIP;

@@ -7,7 +7,7 @@ ghost use Rattle.stack_recovery.specs.PieceLimits.{doubt_after_loss, first_limit
 pub(crate) const MOST_PIECE: u32 = 128;
 
 /// The most sectors of the next piece, and the end of the last piece that couldn't be read whole. Pieces get no longer up to this
-/// sector, and longer after it. Only with `no_scrape` the rest of that piece is read at once after a lost sector, and if the piece ends with
+/// sector, and have up to 128 sectors after it. Only with `no_scrape` the rest of that piece is read at once after a lost sector, and if the piece ends with
 /// lost sectors, the 128 sectors after it count as part of it.
 #[derive(Clone, Copy)]
 pub struct PieceLimit {
@@ -98,7 +98,7 @@ impl PieceLimit {
     }
 
     /// Returns the limit after a piece of `count` sectors was read; `at` is the next sector. The next piece is at most half as
-    /// long up to the end of the last piece that couldn't be read whole, and after it at most twice as long.
+    /// long up to the end of the last piece that couldn't be read whole, and after it has at most 128 sectors, so that few reads fail.
     pub fn after_bytes(self, count: u32, at: u64) -> PieceLimit
         requires { IsPieceLimit count }
         ensures piece_limit { IsPieceLimit result.most }
@@ -107,7 +107,7 @@ impl PieceLimit {
         let most = if at < self.doubt {
             (count / 2).max(1)
         } else {
-            count.max(self.most).min(MOST_PIECE / 2) * 2
+            MOST_PIECE
         };
         PieceLimit {
             most,

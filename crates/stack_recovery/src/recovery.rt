@@ -14,7 +14,7 @@ ghost use Rattle.stack_recovery.specs.TwoPasses.{EndsRecovery, HandsPasses, Hand
 ghost use Rattle.runs.specs.Runs.{run};
 ghost use Rattle.runs.specs.Tallies.{EndsAt};
 
-use crate::deadline::{DevicePass, pass_end};
+use crate::deadline::{DevicePass, FirstPass, pass_end};
 use crate::fault::RecoveryFault;
 use crate::listing::Listing;
 use crate::lost_run::{LostRun, is_same, loss_by};
@@ -24,6 +24,8 @@ use crate::piece_limit::{PieceLimit, is_given_up};
 use crate::rescued::rescue;
 use crate::retries::read_again;
 use crate::skimming::skim_ahead;
+use crate::skip::LEAST_SKIP;
+use crate::stretch::next_stretch;
 use crate::tally::Tally;
 use block_device::BlockDev;
 use device_adapters::{NoProgress, Progress};
@@ -116,14 +118,14 @@ pub fn recover_with<D: BlockDev, O: BlockDev, L: Listing, P: Progress>(
 {
     let d = plan.device;
     let no_scrape = plan.no_scrape;
-    let first = DevicePass {
+    let first = FirstPass {
         device: d,
-        no_scrape: false,
+        skip: LEAST_SKIP,
         deadline: None,
     };
     let ahead = Ahead::unread(stack.config().sectors(d));
-    let map = skim_ahead(alloc, stack, first, out, ahead, progress)?;
-    let left = read_again(alloc, stack, plan, out, map, progress)?;
+    let skimmed = skim_ahead(alloc, stack, first, out, ahead, progress)?;
+    let left = read_again(alloc, stack, plan, out, skimmed.map, progress)?;
     let last = DevicePass {
         device: d,
         no_scrape,
@@ -149,7 +151,6 @@ pub(crate) fn go_over<D: BlockDev, O: BlockDev, L: Listing, P: Progress>(
     requires room { size stack.old.config (mapped pass.device.0) ≤ (O.state out.old).size }
     requires allowed { IsTrue (O.state out.old).may_write }
     requires begun { AreMarksNoted noted.old [] }
-    requires single { is_some noted.old ≡ false → ahead.rest.now ≡ [] }
     ensures ok { IfOk result (GoesOverBy O.state L.told pass (marks_ahead ahead.entry) (parties stack.old out.old listing.old) noted.new (parties stack.new out.new listing.new)) }
     ensures err { IfErr result (EndsEarlyBy O.state L.told (is_some noted.old) pass (marks_ahead ahead.entry) (parties stack.old out.old listing.old) (parties stack.new out.new listing.new)) }
     ensures noted { OnOk result (is_some noted.new ≡ is_some noted.old) }
@@ -188,7 +189,6 @@ fn go_over_by<D: BlockDev, O: BlockDev, L: Listing, P: Progress>(
     requires room { size stack.old.config (mapped pass.device.0) ≤ (O.state out.old).size }
     requires allowed { IsTrue (O.state out.old).may_write }
     requires begun { AreMarksNoted noted.old [] }
-    requires single { is_some noted.old ≡ false → ahead.rest.now ≡ [] }
     requires buffer { length room.old ≡ 65536 }
     requires few { size stack.old.config (mapped pass.device.0) ≤ 2 ^ 54 }
     ensures ok { IfOk result (GoesOverBy O.state L.told pass (marks_ahead ahead.entry) (parties stack.old out.old listing.old) noted.new (parties stack.new out.new listing.new)) }
@@ -203,8 +203,8 @@ fn go_over_by<D: BlockDev, O: BlockDev, L: Listing, P: Progress>(
     let mut tally = Tally::new();
     let mut piece_limit = PieceLimit::of_run(0);
     let mut at = 0;
-    'pieces: while at < pass_end(pass.deadline, at, sectors, false, progress) {
-        let run = ahead.next_run();
+    'pieces: while at < pass_end(pass.deadline, at, sectors, progress) {
+        let run = next_stretch(&mut ahead);
         if run.had {
             note(noted, run.count, true)?;
             tally.close(listing);

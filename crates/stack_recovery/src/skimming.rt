@@ -1,14 +1,14 @@
 //! The first pass over a mapped device, which skips ahead after failed reads.
-ghost use Rattle.std.specs.Prelude.{◌≡◌, ◌≢◌, ◌+◌, ◌≤◌, ◌<◌, ◌^◌, [], length, true, IsTrue, IfOk, IfErr, OnErr, OnOk};
+ghost use Rattle.std.specs.Prelude.{◌≡◌, ◌≢◌, ◌+◌, ◌≤◌, ◌<◌, ◌^◌, [], length, IsTrue, IfOk, IfErr, OnErr, OnOk};
 ghost use Rattle.block_device.specs.Call.{DeviceDoes};
 ghost use Rattle.stack_rules.specs.Names.{mapped, size};
 ghost use Rattle.rescue_map.specs.Aheads.{marks_ahead};
 ghost use Rattle.rescue_map.specs.Maps.{marks};
-ghost use Rattle.stack_recovery.specs.FirstPasses.{EndsSkimBy, HandsSkimsPart, HandsSkimsUntil, SkimsBy, has_more, transfer};
+ghost use Rattle.stack_recovery.specs.FirstPasses.{EndsSkimBy, HandsSkimsPart, HandsSkimsUntil, SkimsBy, skimmed, transfer};
 ghost use Rattle.stack_recovery.specs.LeafReads.{CopiesOver};
 ghost use Rattle.stack_recovery.specs.declared.fault.RecoveryFault.TheVariants as recovery_fault;
 
-use crate::deadline::{DevicePass, pass_end};
+use crate::deadline::{FirstPass, pass_end};
 use crate::fault::RecoveryFault;
 use crate::lost_run::is_same;
 use crate::notes::mark;
@@ -16,22 +16,31 @@ use crate::piece::piece_at;
 use crate::piece_limit::MOST_PIECE;
 use crate::recovery::{ROOM, tell};
 use crate::skip::{LEAST_SKIP, longer_skip, most_skip};
+use crate::stretch::next_stretch;
 use block_device::BlockDev;
 use device_adapters::Progress;
 use rescue_map::{Ahead, Map};
 use stack_engine::{IoFault, Stack};
 use std::alloc::Global;
 
+/// The map of what was read up to the end of a first pass, and how many sectors are skipped after the next failed read.
+#[derive(Drop)]
+pub struct Skimmed {
+    pub map: Map,
+    pub skip: u64,
+}
+
 /// Reads the sectors of a mapped device that the map doesn't mark as read, from the first to the last, and returns the map of
 /// what is read afterwards. Each piece of at most 128 sectors that can be read is written to the same offset of `out`, by one
 /// call.
 ///
-/// After a failed read the pass skips ahead, so that a device that is about to fail is first read where it can be: 128 sectors
-/// after the piece, and twice as many after each further failed read, up to a hundredth of the device, but at least 128 sectors and
-/// at most 1 GiB. After a piece that can be read it begins with 128 sectors again. A skip ends before the next sector that was
-/// read before. Nothing is lost by this pass: `rescue` reads what it left.
+/// After a failed read the pass skips ahead, so that a device that is about to fail is first read where it can be: the sectors
+/// that `pass` says, at first [`LEAST_SKIP`], and twice as many after each further failed read, up to a hundredth of the device, but
+/// at least 128 sectors and at most 1 GiB. After a piece that can be read it begins with 128 sectors again. A skip ends before the
+/// next sector that was read before. Nothing is lost by this pass: `rescue` reads what it left.
 ///
-/// At its deadline the pass ends, but not after a failed read. Its map then has only the sectors up to there.
+/// At its deadline the pass ends. Its map then has only the sectors up to there, and a pass that goes on there skips as many
+/// sectors as this one would.
 ///
 /// # Errors
 ///
@@ -40,20 +49,20 @@ use std::alloc::Global;
 pub fn skim<D: BlockDev, O: BlockDev, P: Progress>(
     alloc: Global,
     stack: &mut Stack<D>,
-    pass: DevicePass,
+    pass: FirstPass,
     out: &mut O,
     map: &Map,
     progress: &mut P,
-) -> Result<Map, RecoveryFault>
+) -> Result<Skimmed, RecoveryFault>
     requires device { pass.device.0 < length stack.old.config.devices }
     requires fits { length (marks map.now) ≡ size stack.old.config (mapped pass.device.0) }
     requires room { size stack.old.config (mapped pass.device.0) ≤ (O.state out.old).size }
     requires allowed { IsTrue (O.state out.old).may_write }
-    ensures ok { IfOk result (SkimsBy O.state pass true (marks map.now) (transfer stack.old out.old) (transfer stack.new out.new)) }
-    ensures err { IfErr result (EndsSkimBy O.state true (marks map.now) pass.device.0 (transfer stack.old out.old) (transfer stack.new out.new)) }
+    ensures ok { IfOk result (SkimsBy O.state pass (marks map.now) (transfer stack.old out.old) (transfer stack.new out.new)) }
+    ensures err { IfErr result (EndsSkimBy O.state pass (marks map.now) (transfer stack.old out.old) (transfer stack.new out.new)) }
     ensures handed { IfOk result (HandsSkimsUntil (DeviceDoes O.state O.does) (marks map.now) pass.device.0 (transfer stack.old out.old) (transfer stack.new out.new)) }
     ensures stopped { IfErr result (HandsSkimsPart (DeviceDoes O.state O.does) (marks map.now) pass.device.0 (transfer stack.old out.old) (transfer stack.new out.new)) }
-    ensures called { CopiesOver D.state D.does (DeviceDoes O.state O.does) (marks map.now) pass.device.0 stack.old out.old stack.new out.new result (λ made. length (marks made)) }
+    ensures called { CopiesOver D.state D.does (DeviceDoes O.state O.does) (marks map.now) pass.device.0 stack.old out.old stack.new out.new result (λ made. length (marks made.map)) }
 {
     skim_ahead(alloc, stack, pass, out, Ahead::of_map(map), progress)
 }
@@ -62,40 +71,40 @@ pub fn skim<D: BlockDev, O: BlockDev, P: Progress>(
 pub(crate) fn skim_ahead<D: BlockDev, O: BlockDev, P: Progress>(
     alloc: Global,
     stack: &mut Stack<D>,
-    pass: DevicePass,
+    pass: FirstPass,
     out: &mut O,
     ahead: Ahead<'_>,
     progress: &mut P,
-) -> Result<Map, RecoveryFault>
+) -> Result<Skimmed, RecoveryFault>
     requires device { pass.device.0 < length stack.old.config.devices }
     requires fits { length (marks_ahead ahead) ≡ size stack.old.config (mapped pass.device.0) }
     requires room { size stack.old.config (mapped pass.device.0) ≤ (O.state out.old).size }
     requires allowed { IsTrue (O.state out.old).may_write }
-    ensures ok { IfOk result (SkimsBy O.state pass (has_more ahead.entry.rest.now) (marks_ahead ahead.entry) (transfer stack.old out.old) (transfer stack.new out.new)) }
-    ensures err { IfErr result (EndsSkimBy O.state (has_more ahead.entry.rest.now) (marks_ahead ahead.entry) pass.device.0 (transfer stack.old out.old) (transfer stack.new out.new)) }
+    ensures ok { IfOk result (SkimsBy O.state pass (marks_ahead ahead.entry) (transfer stack.old out.old) (transfer stack.new out.new)) }
+    ensures err { IfErr result (EndsSkimBy O.state pass (marks_ahead ahead.entry) (transfer stack.old out.old) (transfer stack.new out.new)) }
     ensures handed { IfOk result (HandsSkimsUntil (DeviceDoes O.state O.does) (marks_ahead ahead.entry) pass.device.0 (transfer stack.old out.old) (transfer stack.new out.new)) }
     ensures stopped { IfErr result (HandsSkimsPart (DeviceDoes O.state O.does) (marks_ahead ahead.entry) pass.device.0 (transfer stack.old out.old) (transfer stack.new out.new)) }
-    ensures called { CopiesOver D.state D.does (DeviceDoes O.state O.does) (marks_ahead ahead.entry) pass.device.0 stack.old out.old stack.new out.new result (λ made. length (marks made)) }
+    ensures called { CopiesOver D.state D.does (DeviceDoes O.state O.does) (marks_ahead ahead.entry) pass.device.0 stack.old out.old stack.new out.new result (λ made. length (marks made.map)) }
 {
     // The call provides the bound on a device's sectors.
     let _fits = out.sectors();
     let mut map = Map::new(alloc);
     let mut room = [0u8; ROOM];
     let bytes = room.as_mut_slice();
-    skim_by(stack, pass, out, ahead, &mut map, progress, bytes)?;
-    Ok(map)
+    let skip = skim_by(stack, pass, out, ahead, &mut map, progress, bytes)?;
+    Ok(Skimmed { map, skip })
 }
 
-/// Runs the first pass through the buffer `room`.
+/// Runs the first pass through the buffer `room`, and returns how many sectors are skipped after the next failed read.
 fn skim_by<D: BlockDev, O: BlockDev, P: Progress>(
     stack: &mut Stack<D>,
-    pass: DevicePass,
+    pass: FirstPass,
     out: &mut O,
     mut ahead: Ahead<'_>,
     map: &mut Map,
     progress: &mut P,
     room: &mut [u8],
-) -> Result<(), RecoveryFault>
+) -> Result<u64, RecoveryFault>
     requires device { pass.device.0 < length stack.old.config.devices }
     requires fits { length (marks_ahead ahead) ≡ size stack.old.config (mapped pass.device.0) }
     requires room { size stack.old.config (mapped pass.device.0) ≤ (O.state out.old).size }
@@ -103,19 +112,18 @@ fn skim_by<D: BlockDev, O: BlockDev, P: Progress>(
     requires begun { map.old ≡ [] }
     requires buffer { length room.old ≡ 65536 }
     requires few { size stack.old.config (mapped pass.device.0) ≤ 2 ^ 54 }
-    ensures ok { OnOk result (SkimsBy O.state pass (has_more ahead.entry.rest.now) (marks_ahead ahead.entry) (transfer stack.old out.old) (transfer stack.new out.new) map.new) }
-    ensures err { IfErr result (EndsSkimBy O.state (has_more ahead.entry.rest.now) (marks_ahead ahead.entry) pass.device.0 (transfer stack.old out.old) (transfer stack.new out.new)) }
-    ensures handed { OnOk result (HandsSkimsUntil (DeviceDoes O.state O.does) (marks_ahead ahead.entry) pass.device.0 (transfer stack.old out.old) (transfer stack.new out.new) map.new) }
+    ensures ok { IfOk result (λ skip. SkimsBy O.state pass (marks_ahead ahead.entry) (transfer stack.old out.old) (transfer stack.new out.new) (skimmed map.new skip)) }
+    ensures err { IfErr result (EndsSkimBy O.state pass (marks_ahead ahead.entry) (transfer stack.old out.old) (transfer stack.new out.new)) }
+    ensures handed { IfOk result (λ skip. HandsSkimsUntil (DeviceDoes O.state O.does) (marks_ahead ahead.entry) pass.device.0 (transfer stack.old out.old) (transfer stack.new out.new) (skimmed map.new skip)) }
     ensures stopped { IfErr result (HandsSkimsPart (DeviceDoes O.state O.does) (marks_ahead ahead.entry) pass.device.0 (transfer stack.old out.old) (transfer stack.new out.new)) }
-    ensures called { CopiesOver D.state D.does (DeviceDoes O.state O.does) (marks_ahead ahead.entry) pass.device.0 stack.old out.old stack.new out.new result (λ done. length (marks map.new)) }
+    ensures called { CopiesOver D.state D.does (DeviceDoes O.state O.does) (marks_ahead ahead.entry) pass.device.0 stack.old out.old stack.new out.new result (λ skip. length (marks map.new)) }
 {
     let sectors = stack.config().sectors(pass.device);
     let most = most_skip(sectors);
-    let mut skip = LEAST_SKIP;
-    let mut failing = false;
+    let mut skip = pass.skip;
     let mut at = 0;
-    'pieces: while at < pass_end(pass.deadline, at, sectors, failing, progress) {
-        let run = ahead.next_run();
+    'pieces: while at < pass_end(pass.deadline, at, sectors, progress) {
+        let run = next_stretch(&mut ahead);
         if run.had {
             mark(map, run.count, true)?;
             ahead.pass(run.count);
@@ -132,7 +140,6 @@ fn skim_by<D: BlockDev, O: BlockDev, P: Progress>(
                     ahead.pass(count);
                     at += count;
                     skip = LEAST_SKIP;
-                    failing = false;
                 }
                 Err(fault) => {
                     check_memory(fault)?;
@@ -141,12 +148,11 @@ fn skim_by<D: BlockDev, O: BlockDev, P: Progress>(
                     ahead.pass(left);
                     at += left;
                     skip = longer_skip(skip, most);
-                    failing = true;
                 }
             }
         }
     }
-    Ok(())
+    Ok(skip)
 }
 
 // Returns `NoMemory` if a read ran out of memory, which no other pass mends.

@@ -1,9 +1,9 @@
 //! How many sectors the first pass skips after a read that failed.
-ghost use Rattle.std.specs.Prelude.{◌≡◌, ◌≤◌, ◌^◌};
+ghost use Rattle.std.specs.Prelude.{◌≡◌};
 ghost use Rattle.stack_recovery.specs.Skips.{longer_skip, most_skip};
 
-/// The first skip, 64 KiB.
-pub(crate) const LEAST_SKIP: u64 = 128;
+/// The first skip of a device, 64 KiB.
+pub const LEAST_SKIP: u64 = 128;
 
 /// The longest skip of any device, 1 GiB.
 const MOST_SKIP: u64 = 2_097_152;
@@ -12,7 +12,6 @@ const MOST_SKIP: u64 = 2_097_152;
 #[tactic(auto, unfolding(crate::specs::Skips::most_skip))]
 pub(crate) fn most_skip(sectors: u64) -> u64
     ensures value { result ≡ most_skip sectors }
-    ensures few { result ≤ 2 ^ 21 }
 {
     (sectors / 100 / LEAST_SKIP * LEAST_SKIP)
         .max(LEAST_SKIP)
@@ -21,8 +20,7 @@ pub(crate) fn most_skip(sectors: u64) -> u64
 
 /// Returns how many sectors are skipped after the next failed read, if `skip` were after this one.
 pub(crate) fn longer_skip(skip: u64, most: u64) -> u64
-    requires { skip ≤ 2 ^ 21 }
     ensures { result ≡ longer_skip most skip }
 {
-    (skip * 2).min(most)
+    skip.saturating_mul(2).min(most)
 }

@@ -8,9 +8,9 @@ use crate::stream_fault::StreamFault;
 use crate::texts::say_stored;
 use block_device::BlockDev;
 use device_adapters::Progress;
-use image_files::Images;
+use image_files::{Images, no_use};
 use program_io::Counted;
-use stack_files::{NamedDevice, StackFile, close_stack, open_device};
+use stack_files::{NamedDevice, StackFile, close_stack, open_device_apart};
 use std::alloc::Global;
 use std::io::{Read, Write};
 
@@ -44,7 +44,7 @@ pub fn store_device<'a, I: Images, S: Read, W: Write, P: Progress>(
 {
     let Target { name, first, cache } = target;
     let device = NamedDevice { name, cache };
-    let (mut stack, device) = open_device(alloc, images, file, device)?;
+    let (mut stack, device) = open_device_apart(alloc, images, no_use(), file, device)?;
     let place = StorePlace {
         first,
         length: None,

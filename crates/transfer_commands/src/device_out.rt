@@ -7,9 +7,9 @@ use crate::output::{SectorRange, cat};
 use crate::stream_fault::StreamFault;
 use block_device::BlockDev;
 use device_adapters::Progress;
-use image_files::Images;
+use image_files::{Images, no_use};
 use program_io::Counted;
-use stack_files::{NamedDevice, StackFile, open_device};
+use stack_files::{NamedDevice, StackFile, open_device_apart};
 use std::alloc::Global;
 use std::io::Write;
 
@@ -55,7 +55,7 @@ pub fn cat_device<'a, I: Images, W: Write, P: Progress>(
         cache,
     } = wanted;
     let device = NamedDevice { name, cache };
-    let (mut stack, device) = open_device(alloc, images, file, device)?;
+    let (mut stack, device) = open_device_apart(alloc, images, no_use(), file, device)?;
     let count = count_from(count, first, stack.config().sectors(device));
     let range = SectorRange { first, count };
     match cat(&mut stack, device, range, writer, progress) {

@@ -72,6 +72,12 @@ times-next a b c n m (inr most) more failed is = inr (omega (arith, most, more))
 times-next a b c n m (inl few) more (inl less) is = inl (omega (arith, few, less, is))
 times-next a b c n m (inl few) more (inr most) is = inr (omega (arith, most, more))
 
+-- twice
+pub times-both : (a b c : Device) (n m : ℕ) → HasFailedTimes a n b → HasFailedTimes b m c → HasFailedTimes a (n + m) c
+times-both a b c n m (inl few) (inl more) = inl (omega (arith, few, more))
+times-both a b c n m (inr most) (inl more) = inr (omega (arith, most, more))
+times-both a b c n m p (inr most) = inr most
+
 -- between other reads
 pub times-within : (a b c e : Device) (n : ℕ) → a.failures ≤ b.failures → HasFailedTimes b n c → c.failures ≤ e.failures → HasFailedTimes a n e
 times-within a b c e n before (inl few) behind = inl (omega (arith, before, few, behind))

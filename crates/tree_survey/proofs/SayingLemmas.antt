@@ -1,5 +1,5 @@
 -- Hash blocks that are scanned, while some are left.
-use Rattle.std.proofs.Common.{◌≡◌, ◌≤◌, ◌<◌, ◌+◌, ◌-◌, ◌*◌, ◌/◌, ◌^◌, ℕ, suc, min, Bool, true, false, IsTrue, List, [], ◌∷◌, ◌++◌, Option, ◌⊎◌, refl, sym, ap, ◌∙◌, subst, arith, inl, inr}
+use Rattle.std.proofs.Common.{◌≡◌, ◌≤◌, ◌<◌, ◌+◌, ◌-◌, ◌*◌, ◌/◌, ◌^◌, ℕ, suc, min, Bool, true, false, IsTrue, List, [], ◌∷◌, ◌++◌, Option, ◌⊎◌, length, length-append, refl, sym, ap, ◌∙◌, subst, arith, inl, inr}
 use Rattle.std.specs.Prelude.{◌&&◌}
 use Rattle.std.specs.Io.KnownBytes.{Appends}
 use Rattle.std.proofs.KnownBytes.{Appends-nil, Appends-trans}
@@ -7,16 +7,16 @@ use Rattle.std.proofs.Math.Nat.{mul-le-mul_right, zero-mul}
 use Rattle.std.proofs.lemmas.Nat.{div-add-mod', div-mul-add}
 use Rattle.std.proofs.lemmas.Bool.{cases_lt, false≢true}
 use Rattle.std.proofs.lemmas.List.{append-nil, append_assoc}
-use Rattle.block_device.specs.Device.{Device}
+use Rattle.block_device.specs.Device.{Device, HasFailed}
 use Rattle.tree_shape.specs.Shape.{ShapeRecord, IsShape, level_blocks, levels, per_block}
 use Rattle.tree_shape.proofs.lemmas.ShapeFactLemmas.{level_blocks-is, two}
 use Rattle.tree_shape.proofs.lemmas.ShapeLemmas.{pow_pos}
 use Rattle.tree_path.specs.Path.{PathRecord, IsPathOf}
 use Rattle.verity_format.proofs.lemmas.DeviceLemmas.{steady-then}
 use Rattle.tree_survey.specs.Failing.{HasFailedRead, IsReadOver}
-use Rattle.tree_survey.specs.Hashes.{AreBad, HashBlock, IsCompared, AreWithinHashes, SaysLevel, TellsHashes, bad_of_level, bad_of_levels, first_below, hash_line, hash_lines, is_good_on, is_whole, tree_of_path, with_bad}
+use Rattle.tree_survey.specs.Hashes.{AreBad, HashBlock, HasUnreadMore, IsCompared, AreWithinHashes, SaysLevel, TellsHashes, bad_of_level, bad_of_levels, first_below, hash_line, hash_lines, is_good_on, is_whole, tree_of_path, with_bad}
 use Rattle.tree_survey.specs.Surveys.{Tree}
-use Rattle.tree_survey.proofs.FailingLemmas.{failed-later, failed-more, over-none, over-then}
+use Rattle.tree_survey.proofs.FailingLemmas.{failed-later, failed-more, over-none, over-then, times-both, times-more, times-next, times-none}
 use Rattle.tree_survey.proofs.HashLemmas.{path-none, path-then}
 
 -- the hash blocks of the levels from that one up were scanned
@@ -55,6 +55,37 @@ within-next : (good : Bool) (x : HashBlock) (xs ys : List HashBlock) → AreWith
 within-next true x xs ys h = subst (λ (zs : List HashBlock). AreWithinHashes zs (ys ++ x ∷ [])) (append-nil xs) (within-append xs [] ys (x ∷ []) h tt)
 within-next false x xs ys h = within-append xs (x ∷ []) ys (x ∷ []) h (inl (refl, tt))
 
+-- ---- listed blocks that aren't bad ones
+
+unread-none : (d : Device) → HasUnreadMore d d [] []
+unread-none d = record { unread = 0; count = refl; failed = times-none d }
+
+unread-more : (d d' d'' : Device) (xs ys : List HashBlock) → HasUnreadMore d d' xs ys → d'.failures ≤ d''.failures → HasUnreadMore d d'' xs ys
+unread-more d d' d'' xs ys u more = record { unread = u.unread; count = u.count; failed = times-more d d' d'' u.unread u.failed more }
+
+-- one that is bad, and one of which a read failed
+unread-bad : (d d' : Device) (x : HashBlock) (xs ys : List HashBlock) → HasUnreadMore d d' xs ys → HasUnreadMore d d' (xs ++ x ∷ []) (ys ++ x ∷ [])
+unread-bad d d' x xs ys u = record { unread = u.unread; count = omega (arith, u.count, length-append xs (x ∷ []), length-append ys (x ∷ [])); failed = u.failed }
+
+unread-next : (d d' d'' : Device) (x : HashBlock) (xs ys : List HashBlock) → HasUnreadMore d d' xs ys → d'.failures ≤ d''.failures → HasFailed d' d'' → HasUnreadMore d d'' xs (ys ++ x ∷ [])
+unread-next d d' d'' x xs ys u more failed = record {
+  unread = u.unread + 1;
+  count = omega (arith, u.count, length-append ys (x ∷ []));
+  failed = times-next d d' d'' u.unread (u.unread + 1) u.failed more failed refl;
+}
+
+-- whether it is bad or not
+unread-either : (d d' d'' : Device) (good : Bool) (x : HashBlock) (xs ys : List HashBlock) → HasUnreadMore d d' xs ys → d'.failures ≤ d''.failures → HasFailed d' d'' → HasUnreadMore d d'' (with_bad good x xs) (ys ++ x ∷ [])
+unread-either d d' d'' true x xs ys u more failed = unread-next d d' d'' x xs ys u more failed
+unread-either d d' d'' false x xs ys u more failed = unread-bad d d'' x xs ys (unread-more d d' d'' xs ys u more)
+
+unread-then : (d d' d'' : Device) (xs xs' ys ys' : List HashBlock) → HasUnreadMore d d' xs ys → HasUnreadMore d' d'' xs' ys' → HasUnreadMore d d'' (xs ++ xs') (ys ++ ys')
+unread-then d d' d'' xs xs' ys ys' u v = record {
+  unread = u.unread + v.unread;
+  count = omega (arith, u.count, v.count, length-append xs xs', length-append ys ys');
+  failed = times-both d d' d'' u.unread v.unread u.failed v.failed;
+}
+
 pub saying-none : (p : PathRecord) (d : Device) (level : ℕ) (old : Option (List ℕ)) → level ≡ levels p.shape → IsSayingTree p p d d level old old true
 saying-none p d level old top =
     let none : levels p.shape - level ≡ 0 = omega (arith, top) in
@@ -66,6 +97,7 @@ saying-none p d level old top =
       are = record {
         all = λ steady. subst (λ (n : ℕ). AreWithinHashes (bad_of_levels (tree_of_path p) d.image n) []) (sym none) tt;
         stored = λ steady. inl (sym (ap (bad_of_levels (tree_of_path p) d.image) none));
+        few = λ steady. subst (λ (n : ℕ). HasUnreadMore d d (bad_of_levels (tree_of_path p) d.image n) []) (sym none) (unread-none d);
       };
       whole_is = refl;
       printed_are = Appends-nil old;
@@ -76,7 +108,7 @@ level-none p d level old = record {
   same = path-none p;
   over = over-none d;
   bad = [];
-  are = record { all = λ steady. tt; stored = λ steady. inl refl };
+  are = record { all = λ steady. tt; stored = λ steady. inl refl; few = λ steady. unread-none d };
   whole_is = refl;
   printed_are = Appends-nil old;
 }
@@ -104,13 +136,16 @@ module _ (p q r : PathRecord) (d d' d'' : Device) (level n i : ℕ) (old now : O
   abbrev before : List HashBlock
   before = bad_of_level (tree_of_path p) d.image level n
 
+  good-seen : (good : Bool) → IsTrue d.steady → good ≡ is_good_on (tree_of_path q) d'.image level i → good ≡ is_good_on (tree_of_path p) d.image level (first_below p.shape level n)
+  good-seen good steady e =
+      e ∙ ap (λ (t : Tree). is_good_on t d'.image level i) (tree-same p q u.same)
+      ∙ ap (λ (im : List (List ℕ)). is_good_on (tree_of_path p) im level i) (u.over.read.image steady)
+      ∙ ap (is_good_on (tree_of_path p) d.image level) at
+
   is-good : (good : Bool) → IsCompared q r d' d'' level i good → IsTrue d.steady
       → (good ≡ is_good_on (tree_of_path p) d.image level (first_below p.shape level n)) ⊎ ((good ≡ false) × HasFailedRead d d'')
   is-good good h steady = elim (h.stored (steady-then u.over.read.same steady)) [
-    | inl e ↦
-        inl (e ∙ ap (λ (t : Tree). is_good_on t d'.image level i) (tree-same p q u.same)
-        ∙ ap (λ (im : List (List ℕ)). is_good_on (tree_of_path p) im level i) (u.over.read.image steady)
-        ∙ ap (is_good_on (tree_of_path p) d.image level) at)
+    | inl e ↦ inl (good-seen good steady e)
     | inr unread ↦ inr (unread.0, failed-later u.over over unread.1)
   ]
 
@@ -131,6 +166,7 @@ module _ (p q r : PathRecord) (d d' d'' : Device) (level n i : ℕ) (old now : O
         | inl e ↦ inl (e ∙ ap (λ (b : Bool). with_bad b here before) (seen-good h steady))
         | inr failed ↦ inr (failed-more d failed over)
       ];
+      few = λ steady. subst (λ (b : Bool). HasUnreadMore d d'' (with_bad b here before) u.bad) (seen-good h steady) (unread-more d d' d'' before u.bad (u.are.few steady) over.more);
     };
     whole_is = u.whole_is;
     printed_are = u.printed_are;
@@ -146,6 +182,12 @@ module _ (p q r : PathRecord) (d d' d'' : Device) (level n i : ℕ) (old now : O
         ]
   ]
 
+  bad-few : IsCompared q r d' d'' level i false → IsTrue d.steady → HasUnreadMore d d'' (bad_of_level (tree_of_path p) d.image level (suc n)) (u.bad ++ here ∷ [])
+  bad-few h steady = elim (h.stored (steady-then u.over.read.same steady)) [
+    | inr unread ↦ unread-either d d' d'' (is_good_on (tree_of_path p) d.image level (first_below p.shape level n)) here before u.bad (u.are.few steady) over.more unread.1.0
+    | inl e ↦ subst (λ (b : Bool). HasUnreadMore d d'' (with_bad b here before) (u.bad ++ here ∷ [])) (good-seen false steady e) (unread-bad d d'' here before u.bad (unread-more d d' d'' before u.bad (u.are.few steady) over.more))
+  ]
+
   pub level-bad : (new : Option (List ℕ)) → IsCompared q r d' d'' level i false → Appends now new (hash_line (record { level = level; number = n })) → IsSayingLevel p r d d'' level (suc n) old new false
   level-bad new h told = record {
     same = path-then p q r u.same h.same;
@@ -154,6 +196,7 @@ module _ (p q r : PathRecord) (d d' d'' : Device) (level n i : ℕ) (old now : O
     are = record {
       all = λ steady. within-next (is_good_on (tree_of_path p) d.image level (first_below p.shape level n)) here before u.bad (u.are.all steady);
       stored = bad-stored h;
+      few = bad-few h;
     };
     whole_is = last u.bad;
     printed_are = subst (Appends old new) (ap (λ (l : List ℕ). hash_lines u.bad ++ l) (sym (append-nil (hash_line here))) ∙ sym (lines-append u.bad (here ∷ [])))
@@ -210,13 +253,18 @@ module _ (p q r : PathRecord) (d d' d'' : Device) (above l : ℕ) (old now new :
       subst (λ (xs : List HashBlock). AreWithinHashes xs (u.bad ++ h.bad)) (sym levels-more)
       (within-append higher there u.bad h.bad (u.are.all steady) (subst (λ (xs : List HashBlock). AreWithinHashes xs h.bad) (level-same steady) (h.are.all (steady-then u.over.read.same steady))))
 
+  tree-few : IsTrue d.steady → HasUnreadMore d d'' (bad_of_levels (tree_of_path p) d.image (levels p.shape - l)) (u.bad ++ h.bad)
+  tree-few steady =
+      subst (λ (xs : List HashBlock). HasUnreadMore d d'' xs (u.bad ++ h.bad)) (sym levels-more)
+      (unread-then d d' d'' higher there u.bad h.bad (u.are.few steady) (subst (λ (xs : List HashBlock). HasUnreadMore d' d'' xs h.bad) (level-same steady) (h.are.few (steady-then u.over.read.same steady))))
+
   pub tree-next : IsSayingTree p r d d'' l old new (whole && good)
   tree-next = record {
     high = omega (arith, u.high, is);
     same = path-then p q r u.same h.same;
     over = over-then u.over over;
     bad = u.bad ++ h.bad;
-    are = record { all = tree-within; stored = tree-stored };
+    are = record { all = tree-within; stored = tree-stored; few = tree-few };
     whole_is = ap (λ (b : Bool). b && good) u.whole_is ∙ ap (λ (b : Bool). is_whole u.bad && b) h.whole_is ∙ sym (whole-append u.bad h.bad);
     printed_are = subst (Appends old new) (sym (lines-append u.bad h.bad)) (Appends-trans old now new (hash_lines u.bad) (hash_lines h.bad) u.printed_are h.printed_are);
   }

@@ -13,7 +13,7 @@ use Rattle.tree_survey.specs.declared.fault.SurveyFault.{SurveyFault}
 use Rattle.tree_survey.specs.declared.fault.SurveyFault.TheVariants.{Image, Write}
 use Rattle.tree_survey.specs.Causes.{IsCutOff, IsPassCause, IsSurveyCause}
 use Rattle.tree_survey.specs.Failing.{HasFailedRead, IsReadOver}
-use Rattle.tree_survey.specs.Hashes.{AreBad, HashesFound, AreWithinHashes, bad_of_levels, tree_of_path}
+use Rattle.tree_survey.specs.Hashes.{AreBad, HasUnreadMore, HashesFound, AreWithinHashes, bad_of_levels, tree_of_path}
 use Rattle.tree_survey.specs.Passes.{IsHidden, Surveys, Unreadable, pass, tree_under}
 use Rattle.tree_survey.specs.Surveys.{AllStand, IsLedTo, Tree}
 use Rattle.tree_survey.proofs.FailingLemmas.{failed-later, failed-more, or-more, times-within}
@@ -63,6 +63,10 @@ hashes-were t u h h' last same read behind f =
       all = λ steady. subst (λ (im : List (List ℕ)). AreWithinHashes (bad_of_levels t im (levels t.shape)) f.bad) (read.read.image steady) (bads.all (steady-then read.read.same steady));
       stored = λ steady. subst (λ (im : List (List ℕ)). (f.bad ≡ bad_of_levels t im (levels t.shape)) ⊎ HasFailedRead h last) (read.read.image steady)
           (or-more _ _ _ (λ failed. failed-later read behind failed) (bads.stored (steady-then read.read.same steady)));
+      few = λ steady.
+          let listed = bads.few (steady-then read.read.same steady) in
+          subst (λ (im : List (List ℕ)). HasUnreadMore h last (bad_of_levels t im (levels t.shape)) f.bad) (read.read.image steady)
+          (record { unread = listed.unread; count = listed.count; failed = times-within h h' last last listed.unread read.more listed.failed (omega arith) });
     }
 
 -- ---- why it ends

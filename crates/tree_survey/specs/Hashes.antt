@@ -1,5 +1,5 @@
 -- Hash blocks that aren't valid: their digest isn't stored in their parent, or they aren't zero after their last used entry.
-use Rattle.std.specs.Prelude.{◌≡◌, ◌⊎◌, ℕ, zero, suc, ◌+◌, ◌-◌, ◌*◌, ◌^◌, ◌<◌, ◌≤◌, ◌&&◌, Bool, true, false, IsTrue, List, [], ◌∷◌, ◌++◌, Contains, Option}
+use Rattle.std.specs.Prelude.{◌≡◌, ◌⊎◌, ℕ, zero, suc, ◌+◌, ◌-◌, ◌*◌, ◌^◌, ◌<◌, ◌≤◌, ◌&&◌, Bool, true, false, IsTrue, List, [], ◌∷◌, ◌++◌, Contains, Option, length}
 use Rattle.std.specs.List.{flat_map}
 use Rattle.std.specs.Str.{bytes_eq}
 use Rattle.std.specs.Io.KnownBytes.{Appends}
@@ -10,7 +10,7 @@ use Rattle.verity_format.specs.Image.{tree_sectors}
 use Rattle.tree_path.specs.Path.{PathRecord, IsPathOf, block_of, stored_block, stored_digest}
 use Rattle.tree_path.specs.Unused.{is_unused_zero}
 use Rattle.runs.specs.Texts.{hash_text}
-use Rattle.tree_survey.specs.Failing.{HasFailedRead}
+use Rattle.tree_survey.specs.Failing.{HasFailedRead, HasFailedTimes}
 use Rattle.tree_survey.specs.Surveys.{Tree}
 
 -- a hash block by its level, counted from the data up, and its index in that level
@@ -78,10 +78,18 @@ AreWithinHashes [] ys = Unit {0}
 AreWithinHashes (x ∷ xs) [] = ⊥
 AreWithinHashes (x ∷ xs) (y ∷ ys) = ((x ≡ y) × AreWithinHashes xs ys) ⊎ AreWithinHashes (x ∷ xs) ys
 
--- Hash blocks that were read. On a steady device each of the bad ones is among them; the two lists are equal, or a read failed.
+-- So many of the listed hash blocks aren't bad ones. For each of them a call failed, which is counted.
+pub record HasUnreadMore (device device' : Device) (bad_ones bad : List HashBlock) : Type 0 where
+  pub unread : ℕ
+  pub count : length bad ≡ length bad_ones + unread
+  pub failed : HasFailedTimes device unread device'
+
+-- Hash blocks that were read. On a steady device each of the bad ones is among them; the two lists are equal, or a read failed,
+-- and at most as many others are listed as calls failed.
 pub record AreBad (bad_ones : List (List ℕ) → List HashBlock) (device device' : Device) (bad : List HashBlock) : Type 0 where
   pub all : IsTrue device.steady → AreWithinHashes (bad_ones device.image) bad
   pub stored : IsTrue device.steady → (bad ≡ bad_ones device.image) ⊎ HasFailedRead device device'
+  pub few : IsTrue device.steady → HasUnreadMore device device' (bad_ones device.image) bad
 
 -- Hash blocks of the tree. On a steady device all that aren't valid are listed, and no others unless a read failed.
 pub record HashesFound (t : Tree) (device device' : Device) : Type 0 where

@@ -21,6 +21,6 @@ pub use decoding::{SuperFault, decode};
 pub use formatting::{FormatFault, FormatOptions, format, format_with, given_blocks};
 pub use making::{check_room, make_tree};
 pub use superblock::Superblock;
-pub use table::{table_line, table_line_at};
+pub use table::{LineDevices, LineParity, table_line, table_line_at};
 pub use tree::VerityTree;
 pub use verifying::{Verdict, VerifyFault, read_superblock, verify, verify_tree};

@@ -11,7 +11,7 @@ pub use nbd_server::{
     Export, FirstFault, FirstFaults, ServiceFault, SessionEnd, SessionLog, Tally, serve,
 };
 pub use program_io::{Counted, WriteFault};
-pub use request_queue::{BytesFault, Queue, Reply, Request, RunFault};
+pub use request_queue::{BytesFault, PieceFault, Queue, Reply, Request, RunFault};
 pub use service::serve_device;
 pub use stack_config::{Config, DevId, Leaf};
 pub use stack_engine::{Fault, IoFault, Stack};

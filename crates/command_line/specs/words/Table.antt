@@ -4,7 +4,7 @@ use Rattle.command_line.specs.FormatOptions.{OptionTexts, text_of}
 use Rattle.command_line.specs.Misuses.{Reading, when}
 use Rattle.command_line.specs.Positional.{device_names, positional, root_or_pin_first}
 use Rattle.command_line.specs.Values.{RootOrPinRecord, name_said, offset_of, root_or_pin_record}
-use Rattle.command_line.specs.OptionGroups.{in_superblock}
+use Rattle.command_line.specs.OptionGroups.{table_stated}
 use Rattle.command_line.specs.declared.words.table.TableWords.{TableWords}
 
 pub record TableRecord : Type 0 where
@@ -18,7 +18,7 @@ pub record TableRecord : Type 0 where
 unfoldable pub table_said : OptionTexts → List (List ℕ) → Reading TableRecord
 table_said texts words =
     when (positional (codes "HASH") words) (λ hash_path.
-    when (in_superblock texts) (λ a.
+    when (table_stated texts) (λ a.
     when (offset_of (codes "--hash-offset") texts.hash_offset) (λ hash_offset.
     when (name_said texts.name) (λ name.
     when (root_or_pin_first texts.pin texts.root_hash_file hash_path.1) (λ found.

@@ -1,10 +1,10 @@
 -- What `table --no-superblock --blocks N --salt HEX [OPTIONS] HASH [ROOT] DATANAME HASHNAME` says.
-use Rattle.std.specs.Prelude.{not, is_some, codes, List, Option, Ok, ℕ}
+use Rattle.std.specs.Prelude.{codes, List, Option, Ok, ℕ}
 use Rattle.command_line.specs.FormatOptions.{OptionTexts, text_of}
-use Rattle.command_line.specs.Misuses.{Reading, refuse_if, when}
+use Rattle.command_line.specs.Misuses.{Reading, when}
+use Rattle.command_line.specs.OptionGroups.{tree_given}
 use Rattle.command_line.specs.Positional.{device_names, positional, root_first}
 use Rattle.command_line.specs.Values.{RootRecord, name_said, offset_of, root_record}
-use Rattle.command_line.specs.declared.misuse.Cause.TheVariants.{Missing}
 use Rattle.command_line.specs.declared.words.tree_table.TreeTableWords.{TreeTableWords}
 
 pub record TreeTableRecord : Type 0 where
@@ -19,8 +19,7 @@ pub record TreeTableRecord : Type 0 where
 unfoldable pub tree_table_said : OptionTexts → List (List ℕ) → Reading TreeTableRecord
 tree_table_said texts words =
     when (positional (codes "HASH") words) (λ hash_path.
-    when (refuse_if (not (is_some texts.blocks)) (codes "--blocks") Missing) (λ a.
-    when (refuse_if (not (is_some texts.salt)) (codes "--salt") Missing) (λ b.
+    when (tree_given texts) (λ a.
     when (offset_of (codes "--hash-offset") texts.hash_offset) (λ hash_offset.
     when (name_said texts.name) (λ name.
     when (root_first texts.root_hash_file hash_path.1) (λ found.
@@ -32,7 +31,7 @@ tree_table_said texts words =
       hash_name = names.1;
       hash_offset = hash_offset;
       name = name;
-    }))))))))
+    })))))))
 
 -- what the program's own value says
 abbrev pub tree_table_record : TreeTableWords → TreeTableRecord

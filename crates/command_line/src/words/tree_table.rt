@@ -6,8 +6,7 @@ ghost use Rattle.command_line.specs.words.TreeTable.{tree_table_said};
 
 use crate::fault::WordsFault;
 use crate::invocation::Invocation;
-use crate::misuse::{Cause, refuse_if};
-use crate::option_words::OptionWords;
+use crate::option_words::{OptionWords, tree_given};
 use crate::positional::{device_names, positional, root_first};
 use crate::values::{RootWord, name_of, offset_of};
 
@@ -36,8 +35,7 @@ pub fn tree_table_of<'a>(
     ensures { ReadsAs table_tree (tree_table_said (option_texts options.now) (texts_of words.now)) result }
 {
     let (hash_path, words) = positional("HASH", words)?;
-    refuse_if(options.blocks.is_none(), "--blocks", Cause::Missing)?;
-    refuse_if(options.salt.is_none(), "--salt", Cause::Missing)?;
+    tree_given(options)?;
     let hash_offset = offset_of("--hash-offset", options.hash_offset)?;
     let name = name_of(options.name)?;
     match root_first(options.root_hash_file, words) {

@@ -9,7 +9,7 @@ use Rattle.image_files.specs.declared.texts.ReplaceFault.TheVariants as replace
 unfoldable pub map_message : MapFault → Option (List ℕ)
 map_message map.Status = Some (codes "the map has no status line; nothing was read: check the path of the map")
 map_message map.Block = Some (codes "a line of the map isn't a position, a size and a status; nothing was read")
-map_message map.PartSector = Some (codes "a block of the map isn't whole sectors; nothing was read")
+map_message map.PartSector = Some (codes "a block of the map is empty; nothing was read")
 map_message map.Gap = Some (codes "blocks of the map leave a gap; nothing was read")
 map_message map.Overlap = Some (codes "blocks of the map overlap; nothing was read")
 map_message map.Size = Some (codes "the map is of a device of another size; nothing was read: check the path of the map")

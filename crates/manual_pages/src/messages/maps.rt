@@ -18,7 +18,7 @@ pub fn map_message(fault: MapFault) -> Option<&'static str>
         MapFault::Block => Some(
             "a line of the map isn't a position, a size and a status; nothing was read",
         ),
-        MapFault::PartSector => Some("a block of the map isn't whole sectors; nothing was read"),
+        MapFault::PartSector => Some("a block of the map is empty; nothing was read"),
         MapFault::Gap => Some("blocks of the map leave a gap; nothing was read"),
         MapFault::Overlap => Some("blocks of the map overlap; nothing was read"),
         MapFault::Size => Some(

@@ -15,7 +15,7 @@ pub fn open_message(fault: OpenFault) -> Option<&'static str>
             "there is no such file, or no such part of it: check the path; in a service it has to be absolute",
         ),
         OpenFault::NotAllowed => Some(
-            "the file may not be opened so: check its permissions; a file bound with 'ro:' is only read",
+            "the file may not be opened so: check its permissions, or its partition table with 'dmstack partitions'; a file bound with 'ro:' is only read",
         ),
         OpenFault::TooLarge => Some(
             "the file has more than 2^54 sectors: bind a part of it with 'ro@FIRST+COUNT:FILE'",

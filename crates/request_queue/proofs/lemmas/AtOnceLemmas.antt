@@ -1,5 +1,5 @@
 -- Writes at once as runs of the queue, and one piece after those before it.
-use Rattle.std.proofs.Common.{◌≡◌, ◌≤◌, ℕ, ◌+◌, ◌*◌, ◌/◌, List, ◌++◌, length, IsTrue, refl, sym, ap, ◌∙◌, subst, arith, Result, Ok, Err}
+use Rattle.std.proofs.Common.{◌≡◌, ◌≤◌, ℕ, ◌+◌, ◌*◌, ◌/◌, List, ◌++◌, length, IsTrue, refl, sym, ap, ◌∙◌, subst, arith, Some, Result, Ok, Err}
 use Rattle.alignment.specs.Lengths.{IsAlignedLen, aligned_len}
 use Rattle.stack_rules.specs.Names.{mapped, may_write, size}
 use Rattle.stack_rules.specs.Records.{Configuration}
@@ -8,7 +8,8 @@ use Rattle.stack_engine.specs.KeptBlocks.{AreChecked}
 use Rattle.stack_engine.specs.Stacks.{StackRecord}
 use Rattle.stack_engine.specs.WritePieces.{EachWrite}
 use Rattle.request_queue.specs.declared.range.SectorRange.{SectorRange}
-use Rattle.request_queue.specs.AtOnce.{IsNextPiece, IsNextWrite, WritesBeside, WritesInSteps, no_step, a_step, last_step, bytes_after, sector_after}
+use Rattle.request_queue.specs.declared.fault.PieceFault.{PieceFault}
+use Rattle.request_queue.specs.AtOnce.{EndsRead, EndsSteps, EndsWrite, IsNextPiece, IsNextWrite, IsPieceOf, ReadsInTurn, WritesBeside, WritesInSteps, failed_read, no_read, a_read, last_read, no_step, a_step, last_step, bytes_after, sector_after}
 use Rattle.request_queue.specs.Flights.{FlightRecord}
 use Rattle.request_queue.specs.Parts.{EachPart}
 use Rattle.request_queue.specs.Runs.{IsLed}
@@ -22,6 +23,28 @@ steps-led range w bytes result w' (a_step {x = x} {y = y} {v = v} p q s) =
     led-then EachPart w v w' (steps-led range w x (Ok tt) v p) (led-one EachPart v (write_piece range.device.0 (sector_after range x) y (Ok tt)) w' s)
 steps-led range w bytes result w' (last_step {x = x} {y = y} {v = v} {fault = fault} z p q s) =
     led-then EachPart w v w' (steps-led range w x (Ok tt) v p) (led-one EachPart v (write_piece range.device.0 (sector_after range x) y (Err fault)) w' s)
+
+-- the write of these bytes to a range, however it ended, is a run of the queue
+pub ends-led : (range : SectorRange) (w : World) (bytes : List ℕ) (result : Result Unit PieceFault) (w' : World) → EndsSteps range w bytes result w' → IsLed EachPart w w'
+ends-led range w bytes (Ok done) w' s = steps-led range w bytes (Ok tt) w' s
+ends-led range w bytes (Err piece) w' s = steps-led range w bytes (Err piece.fault) w' s.0
+
+-- ---- the piece that fails
+
+piece-of : {range : SectorRange} {w : StackRecord} {answer : Result (List ℕ) IoFault} {w' : StackRecord} (turns : ReadsInTurn range w answer w') (piece : PieceFault) → failed_read turns ≡ Some piece → IsPieceOf range piece
+piece-of no_read piece is = cc
+piece-of (a_read before read) piece is = cc
+piece-of {range = range} (last_read {x = x} met before fails) piece is =
+    let same : met ≡ piece = cc in
+    subst (IsPieceOf range) same (record {
+      from = omega (arith, fails.first);
+      some = omega (arith, fails.next.some);
+      inside = omega (arith, fails.first, fails.next.some, fails.next.inside);
+    })
+
+-- a piece at which a read ended is one of its range
+pub failed-inside : (range : SectorRange) (w : StackRecord) (piece : PieceFault) (w' : StackRecord) → EndsRead range w (Err piece) w' → IsPieceOf range piece
+failed-inside range w piece w' ended = piece-of ended.0 piece ended.1
 
 -- ---- one piece more
 
@@ -53,5 +76,6 @@ module _ (range : SectorRange) (base v v' : StackRecord) (x y : List ℕ) (allow
     pub beside-more : EachWrite v range.device.0 (sector_after range x) y (Ok tt) v' → WritesBeside range base (x ++ y) (Ok tt) v'
     beside-more each = λ given fs. a_step (before given fs) next (one-step (Ok tt) each given fs)
 
-    pub beside-ends : (z : List ℕ) (fault : IoFault) → EachWrite v range.device.0 (sector_after range x) y (Err fault) v' → WritesBeside range base (x ++ (y ++ z)) (Err fault) v'
-    beside-ends z fault each = λ given fs. last_step z (before given fs) next (one-step (Err fault) each given fs)
+    pub beside-fails : (z : List ℕ) (fault : IoFault) → EachWrite v range.device.0 (sector_after range x) y (Err fault) v'
+        → EndsWrite range base (x ++ (y ++ z)) (Err (record { first = sector_after range x; count = length y / 512; fault = fault })) v'
+    beside-fails z fault each = λ given fs. (last_step z (before given fs) next (one-step (Err fault) each given fs), refl)

@@ -84,7 +84,7 @@ leaves-checked v leaves read checked = record { few = checked.few; distinct = ch
               ap (λ (m : Images). span (λ s. (said_by_name v.config one.verity.hash s).means m) (hash_place one.verity key.level key.block) (hash_sectors one.verity)) (images-kept read) ∙ one.exact before;
         }
 
-none-checked : (c : Configuration) (leaves : List Device) (capacity : ℕ) → AreChecked (record { config = c; leaves = leaves; capacity = capacity; kept = [] })
+none-checked : (c : Configuration) (leaves : List Device) (capacity : ℕ) {restored : ℕ} → AreChecked (record { config = c; leaves = leaves; capacity = capacity; kept = []; restored = restored })
 unfolding IsDistinct
 none-checked c leaves capacity = record { few = omega arith; distinct = tt; each = All-nil _ }
 

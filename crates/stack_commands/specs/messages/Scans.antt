@@ -21,7 +21,7 @@ pass_message (pass.Unwritten fault) = unwritten_map_message fault
 unfoldable pub recovering_message : RecoveringFault → Option (List ℕ)
 recovering_message recovering.NoMemory = None
 recovering_message (recovering.Stack fault) = stack_message fault
-recovering_message (recovering.OutputTooSmall needed) = Some (codes "OUT has fewer sectors than needed; nothing was written: extend it with 'truncate'")
+recovering_message (recovering.OutputTooSmall needed) = Some (codes "OUT has fewer sectors than needed; nothing was written: extend it with 'truncate', and if it was cut, begin a new map")
 recovering_message (recovering.Pass fault) = pass_message fault
 recovering_message (recovering.Lost counts) = None
 recovering_message recovering.LostAsSaid = None

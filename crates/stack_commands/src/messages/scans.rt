@@ -35,7 +35,7 @@ pub fn recovering_message(fault: RecoveringFault<'_>) -> Option<&'static str>
         RecoveringFault::NoMemory => None,
         RecoveringFault::Stack(fault) => stack_message(fault),
         RecoveringFault::OutputTooSmall { .. } => Some(
-            "OUT has fewer sectors than needed; nothing was written: extend it with 'truncate'",
+            "OUT has fewer sectors than needed; nothing was written: extend it with 'truncate', and if it was cut, begin a new map",
         ),
         RecoveringFault::Pass(fault) => pass_message(fault),
         RecoveringFault::Lost(_) => None,

@@ -61,7 +61,7 @@ ends-healed fault (Err (io.Stack vain)) calls later h k = all-append calls later
 ends-healed fault (Err (io.Device i)) calls later h k = end-append calls later h k
 ends-healed fault (Err io.NoMemory) calls later h k = all-append calls later h k
 
-reads-end : {c : Configuration} {what : ReadOf} {calls : List LeafCall} {answer : Result (List ℕ) IoFault} → ReadCalls c what calls answer → EndsAs answer calls
+reads-end : {c : Configuration} {what : ReadOf} {calls : List LeafCall} {from to : ℕ} {answer : Result (List ℕ) IoFault} → ReadCalls c what calls from to answer → EndsAs answer calls
 reads-end (leaf_read i s bytes) = (refl, tt)
 reads-end (leaf_unread i s bytes) = tt
 reads-end (none_read d s) = tt
@@ -112,7 +112,7 @@ reads-end (sums_unread sums inside at a) = reads-end a
 reads-end (parity_added sums on a) = reads-end a
 reads-end (parity_unread sums on a) = reads-end a
 
-pub reads-ended : {c : Configuration} {what : ReadOf} {calls : List LeafCall} {answer : Result (List ℕ) IoFault} → ReadCalls c what calls answer → EndAtFailure answer calls
+pub reads-ended : {c : Configuration} {what : ReadOf} {calls : List LeafCall} {from to : ℕ} {answer : Result (List ℕ) IoFault} → ReadCalls c what calls from to answer → EndAtFailure answer calls
 reads-ended {calls = calls} {answer = answer} h = as-ended answer calls (reads-end h)
 
 pub writes-ended : {c : Configuration} {to : WriteTo} {bytes : List ℕ} {calls : List LeafCall} {result : Result Unit IoFault} → WriteCalls c to bytes calls result → EndAtFailure result calls

@@ -22,12 +22,13 @@ use Rattle.stack_meaning.proofs.lemmas.FoundLemmas.{HasMore, used-append, said_a
 use Rattle.stack_meaning.proofs.lemmas.RunLemmas.{fault_passes, fill_ok, fill_err, fill_more}
 
 -- stacks with the same parts
-pub same-stack : (v w : StackRecord) → v.config ≡ w.config → v.leaves ≡ w.leaves → v.capacity ≡ w.capacity → v.kept ≡ w.kept → v ≡ w
-same-stack v w config leaves capacity kept =
+pub same-stack : (v w : StackRecord) → v.config ≡ w.config → v.leaves ≡ w.leaves → v.capacity ≡ w.capacity → v.kept ≡ w.kept → v.restored ≡ w.restored → v ≡ w
+same-stack v w config leaves capacity kept restored =
     ap (λ (c : Configuration). record v { config = c }) config
     ∙ ap (λ (l : List Device). record v { config = w.config; leaves = l }) leaves
     ∙ ap (λ (n : ℕ). record v { config = w.config; leaves = w.leaves; capacity = n }) capacity
-    ∙ ap (λ (b : List CachedBlock). record w { kept = b }) kept
+    ∙ ap (λ (b : List CachedBlock). record v { config = w.config; leaves = w.leaves; capacity = w.capacity; kept = b }) kept
+    ∙ ap (λ (n : ℕ). record w { restored = n }) restored
 
 pub piece-sound : (c : Configuration) {old new : List Device} {n : ℕ} → IsSound c old → AreRead old n new → IsSound c new
 piece-sound c {old = old} {new = new} s a = record { loaded = s.loaded; serve = leaves_kept c.leaves old new a.moved.fixed s.serve }
@@ -111,9 +112,9 @@ no-pieces c lower first leaves = record {
 
 -- a piece as the stack's own record
 pub each-piece : (c : Configuration) (d first n : ℕ) {old new : List Device} (answer : Result AnswerRecord IoFault) → Gets (piece_expected c (mapped d) first n) old new answer → AsksOnly (leaves_of c (mapped d)) old new answer
-    → {before after : CacheRecord} → after.capacity ≡ before.capacity → EachPiece (stack_with c old before) d first n answer (stack_with c new after)
-each-piece c d first n answer p asks {before = before} {after = after} capacity =
-    let any : AnyPiece (stack_with c _ before) d first n answer (stack_with c _ after) = record { config = refl; capacity = capacity; moved = p.moved; may = p.may; touches = asks-touched asks; fails = asks.ends } in
+    → {before after : CacheRecord} {was is : ℕ} → after.capacity ≡ before.capacity → EachPiece (stack_with c old before was) d first n answer (stack_with c new after is)
+each-piece c d first n answer p asks {before = before} {after = after} {was = was} {is = is} capacity =
+    let any : AnyPiece (stack_with c _ before was) d first n answer (stack_with c _ after is) = record { config = refl; capacity = capacity; moved = p.moved; may = p.may; touches = asks-touched asks; fails = asks.ends } in
     record { any = any; steady = λ steady. record { any = any; exact = p.exact steady } }
 
 -- and back

@@ -33,13 +33,14 @@ abbrev pub WritesTo : Configuration → ℕ → ℕ → List ℕ → StackRecord
 WritesTo c d first bytes w w' result = WritesSectors (destination_of c (mapped d)) first (sectors_in bytes) w.leaves w'.leaves result
 
 -- as the stack's own record
-pub each-write : {w w' : StackRecord} (d first : ℕ) (bytes : List ℕ) (result : Result Unit IoFault) → ArePiece bytes → w'.config ≡ w.config → w'.capacity ≡ w.capacity → (AllWhole w.leaves → AllWhole w'.leaves)
+pub each-write : {w w' : StackRecord} (d first : ℕ) (bytes : List ℕ) (result : Result Unit IoFault) → ArePiece bytes → w'.config ≡ w.config → w'.capacity ≡ w.capacity → w'.restored ≡ w.restored → (AllWhole w.leaves → AllWhole w'.leaves)
     → Forgets w.config (leaves_of w.config (mapped d)) w.leaves w'.leaves w.kept w'.kept → WritesTo w.config d first bytes w w' result → EachWrite w d first bytes result w'
-each-write {w = w} {w' = w'} d first bytes result piece config capacity whole forgets p =
+each-write {w = w} {w' = w'} d first bytes result piece config capacity restored whole forgets p =
     let count = length-sectors_in bytes in
     let any : AnyWrite w d first bytes result w' = record {
       config = config;
       capacity = capacity;
+      restored = restored;
       whole = whole;
       moved = subst (λ (n : ℕ). AreWritten (piece_reached w.config d first n) w.leaves (n * write_cost w.config (mapped d)) w'.leaves) count p.moved;
       ends = subst (λ (n : ℕ). MayEnd (MayFault w.config (mapped d) first n) w.leaves w'.leaves result) count p.ends;
@@ -78,7 +79,7 @@ none-written w d first bytes refused piece some = record {
 }
   where
     any : AnyWrite w d first bytes (Err io.NoMemory) w
-    any = record { config = refl; capacity = refl; whole = λ h. h; moved = AreWritten-none _ _ w.leaves; ends = (refl, refused); stops = λ counted. none-stop w d first (length bytes / 512) refused some; unread = λ none. refl; forgets = none-forgotten w d; fails = refl; short = λ is. refl }
+    any = record { config = refl; capacity = refl; restored = refl; whole = λ h. h; moved = AreWritten-none _ _ w.leaves; ends = (refl, refused); stops = λ counted. none-stop w d first (length bytes / 512) refused some; unread = λ none. refl; forgets = none-forgotten w d; fails = refl; short = λ is. refl }
 
 pub write-sound : (c : Configuration) {w w' : StackRecord} {d first : ℕ} {bytes : List ℕ} {result : Result Unit IoFault} → IsSound c w.leaves → EachWrite w d first bytes result w' → IsSound c w'.leaves
 write-sound c {w = w} {w' = w'} s p = record { loaded = s.loaded; serve = leaves_kept c.leaves w.leaves w'.leaves p.any.moved.moved.fixed s.serve }
@@ -94,7 +95,7 @@ fault_of fault e = cc
 -- nothing was written yet
 pub write-none : (w : StackRecord) (d first : ℕ) → WritesInPieces w d first [] (Ok tt) w
 write-none w d first = record {
-  any = record { config = refl; capacity = refl; whole = λ h. h; moved = AreWritten-none _ _ w.leaves; ends = tt; stops = tt; unread = λ none. refl; forgets = none-forgotten w d; fails = refl; short = λ is. refl };
+  any = record { config = refl; capacity = refl; restored = refl; whole = λ h. h; moved = AreWritten-none _ _ w.leaves; ends = tt; stops = tt; unread = λ none. refl; forgets = none-forgotten w d; fails = refl; short = λ is. refl };
   pieces = nothing;
 }
 
@@ -126,6 +127,7 @@ module _ {w w' w'' : StackRecord} (d first : ℕ) (x y z : List ℕ) (even : len
   any-then {result = result} grown q = record {
     config = q.config ∙ p.config;
     capacity = q.capacity ∙ p.capacity;
+    restored = q.restored ∙ p.restored;
     whole = λ h. q.whole (p.whole h);
     moved = both-moved q;
     ends = later result grown (subst (λ (c : Configuration). MayEnd (MayFault c (mapped d) (first + length x / 512) (length y / 512)) w'.leaves w''.leaves result) p.config q.ends);

@@ -70,5 +70,8 @@ returns-in-FormatFec c = rw c.in-FormatFec.is refl
 pub returns-in-VerifyFec : goal.returns-in-VerifyFec
 returns-in-VerifyFec c = rw c.in-VerifyFec.is refl
 
+pub returns-in-TableFec : goal.returns-in-TableFec
+returns-in-TableFec c = rw c.in-TableFec.is refl
+
 pub returns-in-Manual : goal.returns-in-Manual
 returns-in-Manual c = rw c.in-Manual.is refl

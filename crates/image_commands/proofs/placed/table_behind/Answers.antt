@@ -1,4 +1,5 @@
-use Rattle.std.proofs.Common.{◌≡◌, ◌∙◌, ℕ, ap, arith, inl, inr, refl, subst}
+use Rattle.std.proofs.Common.{◌≡◌, ◌∙◌, ℕ, None, ap, arith, inl, inr, refl, subst}
+use Rattle.std.proofs.Math.Path.{subst₂}
 use Rattle.std.proofs.lemmas.Result.{IfErr-weaker, on_ok_weaker}
 use Rattle.std.specs.Io.KnownBytes.{Appends}
 use Rattle.block_device.specs.Device.{Device}
@@ -8,6 +9,7 @@ use Rattle.image_pin.specs.Finding.{IsNoTree, ReadsSuper}
 use Rattle.image_commands.specs.Finding.{no_tree_fault}
 use Rattle.image_commands.specs.Places.{tree_start}
 use Rattle.allocation.specs.Refusal.{IsOutOfMemory}
+use Rattle.verity_format.specs.declared.tree.VerityTree.{VerityTree}
 use Rattle.image_commands.specs.PlacedImages.{RefusesLineOf}
 use Rattle.image_commands.specs.TableLines.{named_line, words_room}
 use Rattle.image_commands.proofs.lemmas.EndingLemmas.{common-as}
@@ -48,11 +50,12 @@ returns-clause-err g c =
     let b = windowed-same _ hash_dev _ (part_behind hash_dev first) (ap g.H.BlockDev.state c.behind-window.ensures.inner) c.behind-window.ensures.part in
     let found = subst (λ (v : Device). ReadsSuper v first c.args.words.root.now.pin s) b c.in_ok-superblock.ensures.ok in
     let start : c.tree_start-start.result ≡ tree_start first s.hash_block 1 = c.tree_start-start.ensures ∙ ap (λ (n : ℕ). tree_start first n 1) c.hash_block-size.ensures in
-    let refuses : IsOutOfMemory (words_room s c.args.words c.tree_start-start.result) → RefusesLineOf first c.args.words hash_dev =
+    let room : VerityTree → ℕ → ℕ = λ t n. words_room t c.args.words n None in
+    let refuses : IsOutOfMemory (room c.tree-tree.result c.tree_start-start.result) → RefusesLineOf first c.args.words hash_dev =
     (λ refused. record {
       super = s;
       super_read = found;
-      refused = subst (λ (n : ℕ). IsOutOfMemory (words_room s c.args.words n)) start refused;
+      refused = subst₂ (λ (t : VerityTree) (n : ℕ). IsOutOfMemory (room t n)) c.tree-tree.ensures.value start refused;
     }) in
     IfErr-weaker c.say_line.result _ _ (λ fault ends. inr (common-as failed refuses fault ends)) c.say_line.ensures.err
 
@@ -73,6 +76,6 @@ returns-clause-ok g c =
       read = found.read;
       pinned = found.pinned;
       allowed = found.aligned;
-      printed = subst (λ (n : ℕ). Appends old new (named_line c.args.name s c.args.words n)) start printed;
+      printed = subst₂ (λ (t : VerityTree) (n : ℕ). Appends old new (named_line c.args.name t c.args.words n None)) c.tree-tree.ensures.value start printed;
     })
     c.say_line.ensures.ok

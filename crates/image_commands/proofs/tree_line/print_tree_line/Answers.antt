@@ -1,10 +1,11 @@
-use Rattle.std.proofs.Common.{◌≡◌, ◌∙◌, ℕ, List, Bool, ap, subst}
+use Rattle.std.proofs.Common.{◌≡◌, ◌∙◌, ℕ, List, Bool, None, ap, subst}
 use Rattle.std.proofs.lemmas.Result.{IfErr-weaker, on_ok_weaker}
 use Rattle.std.specs.Io.KnownBytes.{Appends}
 use Rattle.allocation.specs.Refusal.{IsOutOfMemory}
 use Rattle.verity_format.specs.declared.formatting.FormatOptions.{FormatOptions}
 use Rattle.verity_format.specs.Options.{superblock_with}
-use Rattle.verity_format.specs.Superblock.{SuperRecord}
+use Rattle.verity_format.specs.declared.tree.VerityTree.{VerityTree}
+use Rattle.verity_format.specs.Trees.{tree_alone}
 use Rattle.image_commands.specs.declared.fault.ImageFault.{ImageFault}
 use Rattle.image_commands.specs.declared.fault.ImageFault.TheVariants.{Format, Unaligned}
 use Rattle.image_commands.specs.Endings.{IsCommonEnd}
@@ -24,8 +25,9 @@ returns-clause-err g c =
     let s = superblock_with c.args.options 0 in
     let start = c.tree_start-start.result in
     let failed = c.say_line.new.writer.failed in
-    let room : words_room c.in_ok-params.params c.args.words start ≡ words_room s c.args.words (tree_start c.args.first c.args.options.hash_block 0) =
-    ap (λ (s : SuperRecord). words_room s c.args.words start) c.in_ok-params.ensures.ok.0 ∙ ap (words_room s c.args.words) c.tree_start-start.ensures in
+    let tree : c.tree_alone-tree.result ≡ tree_alone s = c.tree_alone-tree.ensures.value ∙ ap tree_alone c.in_ok-params.ensures.ok.0 in
+    let room : words_room c.tree_alone-tree.result c.args.words start None ≡ words_room (tree_alone s) c.args.words (tree_start c.args.first c.args.options.hash_block 0) None =
+    ap (λ (t : VerityTree). words_room t c.args.words start None) tree ∙ ap (λ (n : ℕ). words_room (tree_alone s) c.args.words n None) c.tree_start-start.ensures in
     IfErr-weaker c.say_line.result _ _
     (λ fault ends. common-end _ c.args.first c.args.options failed fault (common-as failed (subst IsOutOfMemory room) fault ends))
     c.say_line.ensures.err
@@ -35,9 +37,10 @@ returns-clause-ok g c =
     let old = g.W.Write.contents c.args.writer.now.inner in
     let new = g.W.Write.contents c.say_line.new.writer.inner in
     let s = superblock_with c.args.options 0 in
-    let line : named_line c.args.name c.in_ok-params.params c.args.words c.tree_start-start.result ≡ tree_line c.args.name s c.args.words c.args.first =
-    ap (λ (s : SuperRecord). named_line c.args.name s c.args.words c.tree_start-start.result) c.in_ok-params.ensures.ok.0
-    ∙ ap (named_line c.args.name s c.args.words) c.tree_start-start.ensures in
+    let tree : c.tree_alone-tree.result ≡ tree_alone s = c.tree_alone-tree.ensures.value ∙ ap tree_alone c.in_ok-params.ensures.ok.0 in
+    let line : named_line c.args.name c.tree_alone-tree.result c.args.words c.tree_start-start.result None ≡ tree_line c.args.name s c.args.words c.args.first =
+    ap (λ (t : VerityTree). named_line c.args.name t c.args.words c.tree_start-start.result None) tree
+    ∙ ap (λ (n : ℕ). named_line c.args.name (tree_alone s) c.args.words n None) c.tree_start-start.ensures in
     on_ok_weaker c.say_line.result
     (λ printed. record {
       aligned = cc (c.if-not-is_aligned.ensures);

@@ -1,6 +1,12 @@
-use Rattle.std.proofs.Common.{inr, refl, sym, ◌∙◌}
+use Rattle.std.proofs.Common.{ap, inr, refl, sym, ◌∙◌}
+use Rattle.image_files.specs.FileUses.{has_clash}
 use Rattle.image_files.proofs.parts.open_part.Goals as goal
 
 pub returns-then-has_clash-clause-err : goal.returns-then-has_clash-clause-err
 returns-then-has_clash-clause-err g c =
-    inr (record { image = c.in-Ok.image; opened = c.in-Ok.ensures.opened; clash = sym c.has_clash.ensures ∙ c.if-has_clash.true; is = (refl, refl) })
+    let clash = sym (c.has_clash.ensures ∙ ap (has_clash c.args.files.now) c.part_use.ensures) ∙ c.if-has_clash.true in
+    inr (record { image = c.in-Ok.image; opened = c.in-Ok.ensures.opened; clash = clash; is = (refl, refl) })
+
+pub returns-clause-ok : goal.returns-clause-ok
+returns-clause-ok g c =
+    record { opened = c.in-Ok.ensures.opened; apart = sym (c.has_clash.ensures ∙ ap (has_clash c.args.files.now) c.part_use.ensures) ∙ c.if-has_clash.false }

@@ -1,7 +1,7 @@
 use Rattle.std.proofs.Common.{◌∙◌, refl}
 use Rattle.std.proofs.lemmas.Result.{err_from_is_err_and}
 use Rattle.nbd_protocol.specs.Exports.{export_record}
-use Rattle.nbd_server.proofs.DeliveryLemmas.{goes-smaller, rest-left, underway-all, underway-lost, underway-more, underway-none, underway-stuck}
+use Rattle.nbd_server.proofs.DeliveryLemmas.{goes-smaller, underway-all, underway-lost, underway-more, underway-none, underway-stuck}
 use Rattle.nbd_server.proofs.delivery.deliver.Goals as goal
 
 pub pieces-init : goal.pieces-init
@@ -26,15 +26,12 @@ returns-in_err-next-clause-stuck g c =
     let p = err_from_is_err_and c.from_residual.result c.from_residual.ensures.1 in
     rw p.1 (underway-stuck (export_record c.args.export.now) c.args.delivery c.args.queue.now c.pieces.progress c.pieces.queue c.deliver_next.new.queue old mid new c.pieces.invariant.underway c.in_err-next.ensures.err)
 
-pub sector-requires : goal.sector-requires
-sector-requires g c = rest-left c.pieces.queue.stack.config (export_record c.args.export.now) c.args.delivery c.pieces.progress c.pieces.invariant.underway.bytes c.pieces.invariant.underway.inside
-
 pub returns-in-Err-clause-reply : goal.returns-in-Err-clause-reply
 returns-in-Err-clause-reply g c =
     let old = g.W.Write.contents c.args.writer.now.inner in
     let mid = g.W.Write.contents c.pieces.writer.inner in
     let new = g.W.Write.contents c.deliver_next.new.writer.inner in
-    underway-lost (export_record c.args.export.now) c.args.delivery c.args.queue.now c.pieces.progress c.pieces.queue c.deliver_next.new.queue old mid new c.pieces.invariant.underway c.in-Err.error c.at.result (rw c.sector.ensures at c.at.ensures)
+    underway-lost (export_record c.args.export.now) c.args.delivery c.args.queue.now c.pieces.progress c.pieces.queue c.deliver_next.new.queue old mid new c.pieces.invariant.underway c.in-Err.error c.fault.result c.fault.ensures
     (rw c.in-Err.is at c.in_ok-next.ensures.ok)
 
 pub returns-in-Err-clause-kept : goal.returns-in-Err-clause-kept

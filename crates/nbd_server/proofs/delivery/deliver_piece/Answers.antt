@@ -97,7 +97,7 @@ returns-in_ok-say_error_at-in-Err-clause-ok g c =
     let size = c.args.piece.size in
     let few : touched at size ≤ 1 = omega (arith, c.touched.ensures, c.if-touched-gt1.false) in
     let lost = piece-lost (export_record c.args.export.now) c.args.delivery c.args.piece.progress c.args.queue.now c.read_piece.new.queue size at c.at-at.ensures c.requires.piece old new c.in-Err.error c.in-Err.ensures.err few in
-    (error_at_chunk c.args.delivery.cookie at (reported_error c.in-Err.error) (failure_text c.in-Err.error), lost.0, lost.1, rw (c.reported.ensures, c.as_bytes-text.ensures.value, c.text.ensures.value) at c.in_ok-say_error_at-in-Err.ensures.ok)
+    (error_at_chunk c.args.delivery.cookie at (reported_error c.in-Err.error) (failure_text c.in-Err.error), lost.0, lost.1, rw (c.reported.ensures, c.as_bytes-told.ensures.value, c.of-text.ensures) at c.in_ok-say_error_at-in-Err.ensures.ok)
 
 pub returns-in_ok-say_error_at-in-Err-clause-kept : goal.returns-in_ok-say_error_at-in-Err-clause-kept
 returns-in_ok-say_error_at-in-Err-clause-kept g c = c.in_ok-say_error_at-in-Err.ensures.kept

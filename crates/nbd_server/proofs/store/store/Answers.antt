@@ -9,7 +9,7 @@ returns-in-Ok-clause-ok g c = stored-all c.args.queue.now c.args.export.now.devi
 pub returns-in-Err-Failed-clause-err : goal.returns-in-Err-Failed-clause-err
 returns-in-Err-Failed-clause-err g c =
     let ended = rw c.in-Err-Failed.field-0-is at c.in-Err-Failed.ensures in
-    rw c.from.ensures (unstored c.args.queue.now c.args.export.now.device.0 c.args.first c.args.bytes.now c.write_bytes.new.self c.in-Err-Failed.fault ended.memory ended.written)
+    rw c.of_put.ensures (unstored c.args.queue.now c.args.export.now.device.0 c.args.first c.args.bytes.now c.write_bytes.new.self c.in-Err-Failed.piece ended.memory ended.written)
 
 pub unreachable-requires : goal.unreachable-requires
 unreachable-requires g c =

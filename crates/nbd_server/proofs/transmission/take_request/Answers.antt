@@ -247,7 +247,7 @@ returns-clause-turn g c = λ es at.
     let magic : big_endian32 bytes 0 ≡ request_magic = omega (arith, c.number32.ensures, c.if-number32-ne-MAGIC.false) in
     let other : (header_of bytes).kind ≢ 2 = λ is. c.if-header-eq-DISCONNECT.false (ap (λ (h : Header). h.kind) c.of-header.ensures ∙ is) in
     let none = rw c.of-header.ensures at (sym c.of.ensures.value ∙ c.in-None.is) in
-    rw (c.count-2.ensures, c.outcome_fault-met.ensures, c.of-header.ensures) (request-served es c.args.agreed (export_record c.args.export.now) at c.args.queue.now c.serve_request.new.queue input mid input' bytes first size magic
+    rw (c.count-2.ensures, c.outcome_fault-met.ensures) (request-served es c.args.agreed (export_record c.args.export.now) at c.args.queue.now c.serve_request.new.queue input mid input' bytes first size magic
     other (g.W.Write.contents c.args.writer.now.inner) (g.W.Write.contents c.flush-2.new.self.inner) (data_outcome c.in_ok-outcome.outcome) none c.args.state.now.log c.moved_bytes-moved.result (c.moved_bytes-moved.ensures ∙ ap moved_bytes (c.command.ensures.value ∙ ap (command_of (export_record c.args.export.now) c.args.agreed) c.of-header.ensures))
     (let p = rw c.of-header.ensures at c.in_ok-outcome.ensures.ok in (p.payload, p.size, p.consumed, p.serves))
     (Appends-kept (g.W.Write.contents c.args.writer.now.inner) (g.W.Write.contents c.say_reply.new.writer.inner) (g.W.Write.contents c.flush-2.new.self.inner) _ (rw c.of-header.ensures at c.in_ok-say_reply.ensures.ok) c.in_ok-flush.ensures.ok.0))

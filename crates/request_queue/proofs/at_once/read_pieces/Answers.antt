@@ -1,6 +1,6 @@
-use Rattle.std.proofs.Common.{◌≡◌, ◌≤◌, ℕ, List, ◌+◌, ◌-◌, ◌/◌, ◌%◌, Ok, Err, length, take, drop, refl, ◌∙◌, subst, sym, arith}
+use Rattle.std.proofs.Common.{◌≡◌, ◌≤◌, ℕ, List, ◌+◌, ◌-◌, ◌/◌, ◌%◌, Result, Ok, Err, length, take, drop, refl, ap, ◌∙◌, subst, sym, arith}
 use Rattle.std.proofs.lemmas.List.{length-drop, length-take-le}
-use Rattle.std.proofs.lemmas.Result.{err_from_is_err_and}
+use Rattle.stack_meaning.specs.declared.fault.IoFault.{IoFault}
 use Rattle.stack_engine.specs.Bytes.{EachBytes}
 use Rattle.stack_rules.specs.Records.{Configuration}
 use Rattle.stack_engine.specs.KeptBlocks.{ReadKeeps}
@@ -12,6 +12,9 @@ use Rattle.request_queue.proofs.lemmas.KeptLemmas.{keeps-then}
 use Rattle.request_queue.proofs.TurnLemmas.{given-ends, given-more, turn-ends, turn-more}
 use Rattle.request_queue.proofs.WrittenPieceLemmas.{take-all}
 use Rattle.request_queue.proofs.at_once.read_pieces.Goals as goal
+
+abbrev ended : IoFault → Result Unit IoFault
+ended fault = Err fault
 
 pub pieces-init : goal.pieces-init
 pieces-init g c = record {
@@ -35,48 +38,43 @@ piece_bytes-requires-clause-sectors g c =
       fits = omega (arith, b.sectors.fits, b.sectors.whole, b.whole, b.size, c.pieces-test.true);
     }
 
-pub returns-in_err-read_bytes-clause-read : goal.returns-in_err-read_bytes-clause-read
-returns-in_err-read_bytes-clause-read g c =
+pub returns-in-Err-clause-read : goal.returns-in-Err-clause-read
+returns-in-Err-clause-read g c =
     let b = c.pieces.invariant in
     let n = c.piece_bytes.result in
     let end = c.pieces.done + c.piece_bytes.result in
-    let fault = c.in_err-read_bytes.field-0.0 in
-    let p = err_from_is_err_and c.from_residual.result c.from_residual.ensures.1 in
+    let fault = c.in-Err.fault in
     let above : c.pieces.done ≤ end = omega arith in
     let inside : end ≤ length c.pieces.out = omega (arith, c.piece_bytes.ensures.inside, c.pieces-test.true) in
     let piece : EachBytes c.pieces.stack c.args.device.0 (c.args.first + c.pieces.done / 512) (length (take (end - c.pieces.done) (drop c.pieces.done c.pieces.out)) / 512) (Err fault) c.read_bytes.new.self =
-    record { any = c.in_err-read_bytes.ensures.any; steady = c.in_err-read_bytes.ensures.steady } in
+    record { any = c.in-Err.ensures.any; steady = c.in-Err.ensures.steady } in
     let whole = slice-end c.args.stack.now c.pieces.stack c.read_bytes.new.self c.args.device.0 c.args.first c.pieces.out c.pieces.done end b.whole above inside b.had fault piece in
     let few = piece-within c.args.stack.now c.pieces.stack c.read_bytes.new.self c.args.device.0 c.args.first c.pieces.out c.pieces.done end b.whole above inside b.had in
-    rw (p.1, p.2)
-    (record {
+    rw c.piece_fault.ensures (record {
       each = subst (λ (m : ℕ). EachBytes c.args.stack.now c.args.device.0 c.args.first (m / 512) (Err fault) c.read_bytes.new.self) b.size whole;
       kept = keeps-then c.args.stack.now c.pieces.stack c.read_bytes.new.self c.args.device.0 c.args.first (c.pieces.done / 512) (length (take (end - c.pieces.done) (drop c.pieces.done c.pieces.out)) / 512) (length c.args.out.now / 512)
-          b.had.any.config (omega (arith, few, b.size)) b.kept.same c.in_err-read_bytes.ensures.kept;
-      pieces = turn-ends c.args.stack.now c.pieces.stack c.read_bytes.new.self c.args.device.0 c.args.first (length c.args.out.now) c.pieces.out c.pieces.done n b.whole b.sectors.whole b.size inside c.piece_bytes.ensures b.turns fault piece c.in_err-read_bytes.ensures.spent;
+          b.had.any.config (omega (arith, few, b.size)) b.kept.same c.in-Err.ensures.kept;
+      pieces = turn-ends c.args.stack.now c.pieces.stack c.read_bytes.new.self c.args.device.0 c.args.first (length c.args.out.now) c.pieces.out c.pieces.done n b.whole b.sectors.whole b.size inside c.piece_bytes.ensures b.turns fault piece c.in-Err.ensures.spent;
     })
 
-pub returns-in_err-read_bytes-clause-given : goal.returns-in_err-read_bytes-clause-given
-returns-in_err-read_bytes-clause-given g c =
+pub returns-in-Err-clause-given : goal.returns-in-Err-clause-given
+returns-in-Err-clause-given g c =
     let b = c.pieces.invariant in
     let end = c.pieces.done + c.piece_bytes.result in
-    let fault = c.in_err-read_bytes.field-0.0 in
-    let p = err_from_is_err_and c.from_residual.result c.from_residual.ensures.1 in
+    let fault = c.in-Err.fault in
     let inside : end ≤ length c.pieces.out = omega (arith, c.piece_bytes.ensures.inside, c.pieces-test.true) in
-    rw (p.1, p.2)
-    (given-ends c.args.stack.now c.pieces.stack c.read_bytes.new.self c.args.device.0 c.args.first (length c.args.out.now) c.pieces.out c.pieces.done c.piece_bytes.result b.whole b.sectors.whole b.size inside c.piece_bytes.ensures b.given fault c.in_err-read_bytes.ensures.given)
+    rw c.piece_fault.ensures (given-ends c.args.stack.now c.pieces.stack c.read_bytes.new.self c.args.device.0 c.args.first (length c.args.out.now) c.pieces.out c.pieces.done c.piece_bytes.result b.whole b.sectors.whole b.size inside c.piece_bytes.ensures b.given fault c.in-Err.ensures.given)
 
-pub returns-in_err-read_bytes-clause-memory : goal.returns-in_err-read_bytes-clause-memory
-returns-in_err-read_bytes-clause-memory g c =
+pub returns-in-Err-clause-memory : goal.returns-in-Err-clause-memory
+returns-in-Err-clause-memory g c =
     let b = c.pieces.invariant in
     let end = c.pieces.done + c.piece_bytes.result in
-    let p = err_from_is_err_and c.from_residual.result c.from_residual.ensures.1 in
     let above : c.pieces.done ≤ end = omega arith in
     let inside : end ≤ length c.pieces.out = omega (arith, c.piece_bytes.ensures.inside, c.pieces-test.true) in
     let few = piece-within c.args.stack.now c.pieces.stack c.read_bytes.new.self c.args.device.0 c.args.first c.pieces.out c.pieces.done end b.whole above inside b.had in
-    rw (p.1, p.2) (λ no.
+    rw c.piece_fault.ensures (λ no.
     meets-later c.args.stack.now c.pieces.stack c.args.device.0 c.args.first (c.pieces.done / 512) (length (take (end - c.pieces.done) (drop c.pieces.done c.pieces.out)) / 512) (length c.args.out.now / 512)
-    b.had.any.config (omega (arith, few, b.size)) (c.in_err-read_bytes.ensures.memory no))
+    b.had.any.config (omega (arith, few, b.size)) (c.in-Err.ensures.memory (ap ended no)))
 
 pub returns-clause-read : goal.returns-clause-read
 returns-clause-read g c =
@@ -105,19 +103,19 @@ pieces-preserved g c =
     let inside : end ≤ length c.pieces.out = omega (arith, c.piece_bytes.ensures.inside, c.pieces-test.true) in
     let last : end % 512 ≡ 0 = omega (arith, c.piece_bytes.ensures.whole, b.whole) in
     let piece : EachBytes c.pieces.stack c.args.device.0 (c.args.first + c.pieces.done / 512) (length (take (end - c.pieces.done) (drop c.pieces.done c.pieces.out)) / 512) (Ok c.read_bytes.new.out) c.read_bytes.new.self =
-    record { any = c.in_ok-read_bytes.ensures.any; steady = c.in_ok-read_bytes.ensures.steady } in
+    record { any = c.in-Ok.ensures.any; steady = c.in-Ok.ensures.steady } in
     let few : c.pieces.done / 512 + length (take (end - c.pieces.done) (drop c.pieces.done c.pieces.out)) / 512 ≤ end / 512 =
     omega (arith, length-take-le (end - c.pieces.done) (drop c.pieces.done c.pieces.out) (omega (arith, length-drop c.pieces.done c.pieces.out, inside)), b.whole, above) in
     let size = slice-length c.args.stack.now c.pieces.stack c.read_bytes.new.self c.args.device.0 c.args.first c.pieces.out c.pieces.done end b.whole above inside b.had c.read_bytes.new.out last piece in
     record {
       turns = turn-more c.args.stack.now c.pieces.stack c.read_bytes.new.self c.args.device.0 c.args.first (length c.args.out.now) c.pieces.out c.pieces.done c.piece_bytes.result b.whole b.sectors.whole b.size inside c.piece_bytes.ensures b.turns c.read_bytes.new.out _
-          (sym (front-is c.args.stack.now c.pieces.stack c.read_bytes.new.self c.args.device.0 c.args.first c.pieces.out c.pieces.done end b.whole above inside b.had c.read_bytes.new.out last piece)) piece c.in_ok-read_bytes.ensures.spent;
+          (sym (front-is c.args.stack.now c.pieces.stack c.read_bytes.new.self c.args.device.0 c.args.first c.pieces.out c.pieces.done end b.whole above inside b.had c.read_bytes.new.out last piece)) piece c.in-Ok.ensures.spent;
       given = given-more c.args.stack.now c.pieces.stack c.read_bytes.new.self c.args.device.0 c.args.first (length c.args.out.now) c.pieces.out c.pieces.done c.piece_bytes.result b.whole b.sectors.whole b.size inside c.piece_bytes.ensures b.given c.read_bytes.new.out _
-          (sym (front-is c.args.stack.now c.pieces.stack c.read_bytes.new.self c.args.device.0 c.args.first c.pieces.out c.pieces.done end b.whole above inside b.had c.read_bytes.new.out last piece)) c.in_ok-read_bytes.ensures.given;
+          (sym (front-is c.args.stack.now c.pieces.stack c.read_bytes.new.self c.args.device.0 c.args.first c.pieces.out c.pieces.done end b.whole above inside b.had c.read_bytes.new.out last piece)) c.in-Ok.ensures.given;
       had = slice-more c.args.stack.now c.pieces.stack c.read_bytes.new.self c.args.device.0 c.args.first c.pieces.out c.pieces.done end b.whole above inside b.had c.read_bytes.new.out last piece;
-      sectors = subst (λ (k : Configuration). HaveSectors k c.args.device.0 c.args.first (length c.args.out.now)) (sym c.in_ok-read_bytes.ensures.any.config) b.sectors;
+      sectors = subst (λ (k : Configuration). HaveSectors k c.args.device.0 c.args.first (length c.args.out.now)) (sym c.in-Ok.ensures.any.config) b.sectors;
       kept = keeps-then c.args.stack.now c.pieces.stack c.read_bytes.new.self c.args.device.0 c.args.first (c.pieces.done / 512) (length (take (end - c.pieces.done) (drop c.pieces.done c.pieces.out)) / 512) (end / 512)
-          b.had.any.config few b.kept.same c.in_ok-read_bytes.ensures.kept;
+          b.had.any.config few b.kept.same c.in-Ok.ensures.kept;
       whole = last;
       within = omega (arith, inside, size);
       size = size ∙ b.size;

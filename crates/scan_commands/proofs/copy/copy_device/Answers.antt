@@ -10,12 +10,12 @@ copy_synced-left-requires g c = record { device = c.in_ok-stack.ensures.there; r
 
 pub returns-in_err-used-clause-err : goal.returns-in_err-used-clause-err
 returns-in_err-used-clause-err g c =
-    err-from c.from_residual.result _ c.in_err-used.field-0.0 c.from_residual.ensures.1 (inl (refl, inl c.in_err-used.ensures.err))
+    err-from c.from_residual.result _ c.in_err-used.field-0.0 c.from_residual.ensures.1 (inl (refl, inl (rw c.map_plan-map.ensures at c.in_err-used.ensures.err)))
 
 pub returns-in_err-stack-clause-err : goal.returns-in_err-stack-clause-err
 returns-in_err-stack-clause-err g c =
     err-from c.from_residual-in_err-stack.result _ c.in_err-stack.field-0.0 c.from_residual-in_err-stack.ensures.1
-    (inl (refl, inr (record { used = c.in_ok-used.used; first = c.use_map_beside.new.images; map_used = c.in_ok-used.ensures.ok; fails = rw c.source_beside-read.ensures at c.in_err-stack.ensures.err })))
+    (inl (refl, inr (record { used = c.in_ok-used.used; first = c.use_map_beside.new.images; map_used = rw c.map_plan-map.ensures at c.in_ok-used.ensures.ok; fails = rw c.source_beside-read.ensures at c.in_err-stack.ensures.err })))
 
 pub returns-clause-err : goal.returns-clause-err
 returns-clause-err g c = inr (inl (record {
@@ -31,7 +31,7 @@ returns-clause-err g c = inr (inl (record {
     first = c.use_map_beside.new.images;
     between = c.open_with_room.new.images;
     behind = c.copy_synced-left.new.images;
-    map_used = c.in_ok-used.ensures.ok;
+    map_used = rw c.map_plan-map.ensures at c.in_ok-used.ensures.ok;
     found = rw c.source_beside-read.ensures at c.in_ok-stack.ensures.ok;
     stops = rw c.in-Err.is at c.copy_synced-left.ensures.err;
     back = c.close.ensures;
@@ -54,7 +54,7 @@ returns-in-Ok-clause-ok g c = on_ok_weaker c.tell_counts.result (λ told. record
     first = c.use_map_beside.new.images;
     between = c.open_with_room.new.images;
     behind = c.copy_synced-left.new.images;
-    map_used = c.in_ok-used.ensures.ok;
+    map_used = rw c.map_plan-map.ensures at c.in_ok-used.ensures.ok;
     found = rw c.source_beside-read.ensures at c.in_ok-stack.ensures.ok;
     copied = rw c.in-Ok.is at c.copy_synced-left.ensures.ok;
     back = c.close.ensures;
@@ -77,7 +77,7 @@ returns-in-Ok-clause-err g c = IfErr-weaker c.tell_counts.result _ _ (λ fault e
     first = c.use_map_beside.new.images;
     between = c.open_with_room.new.images;
     behind = c.copy_synced-left.new.images;
-    map_used = c.in_ok-used.ensures.ok;
+    map_used = rw c.map_plan-map.ensures at c.in_ok-used.ensures.ok;
     found = rw c.source_beside-read.ensures at c.in_ok-stack.ensures.ok;
     copied = rw c.in-Ok.is at c.copy_synced-left.ensures.ok;
     back = c.close.ensures;

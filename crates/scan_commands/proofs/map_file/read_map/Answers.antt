@@ -13,7 +13,7 @@ returns-then-len-gt-MOST_TEXT-clause-err g c = (c.in-Ok.text, c.in-Ok.ensures.to
 
 pub returns-else-len-gt-MOST_TEXT-clause-ok : goal.returns-else-len-gt-MOST_TEXT-clause-ok
 returns-else-len-gt-MOST_TEXT-clause-ok g c =
-    IfOk-weaker c.map_in.result _ _ (λ map says. inl (record { text = c.in-Ok.text; told = c.in-Ok.ensures.told; says = rw c.as_slice.ensures.value at says })) c.map_in.ensures.ok
+    IfOk-weaker c.map_in.result _ _ (λ map says. inl (record { text = c.in-Ok.text; told = c.in-Ok.ensures.told; short = omega (arith, c.len.ensures, c.if-len-gt-MOST_TEXT.false); says = rw c.as_slice.ensures.value at says })) c.map_in.ensures.ok
 
 pub returns-else-len-gt-MOST_TEXT-clause-err : goal.returns-else-len-gt-MOST_TEXT-clause-err
 returns-else-len-gt-MOST_TEXT-clause-err g c =
@@ -28,7 +28,7 @@ returns-then-is_missing-clause-ok g c =
     IfOk-weaker c.new_map.result _ _ (λ map is. inr (record { missing = told; unread = is })) c.new_map.ensures.ok
 
 pub returns-then-is_missing-clause-sectors : goal.returns-then-is_missing-clause-sectors
-returns-then-is_missing-clause-sectors g c = IfOk-weaker c.new_map.result _ _ (λ map is. ap length is.marks_is ∙ length-replicate c.args.sectors false) c.new_map.ensures.ok
+returns-then-is_missing-clause-sectors g c = IfOk-weaker c.new_map.result _ _ (λ map is. ap length is.0 ∙ length-replicate c.args.sectors false) c.new_map.ensures.ok
 
 pub returns-then-is_missing-clause-err : goal.returns-then-is_missing-clause-err
 returns-then-is_missing-clause-err g c =

@@ -7,4 +7,4 @@ returns-then-is_block_device-clause-err g c =
 
 pub returns-else-is_block_device-clause-ok : goal.returns-else-is_block_device-clause-ok
 returns-else-is_block_device-clause-ok g c =
-    inl (record { image = c.in-Ok.image; opened = c.in-Ok.ensures.opened; regular = sym c.is_block_device.ensures ∙ c.if-is_block_device.false; is = refl })
+    inl (record { image = c.in-Ok.image; opened = c.in-Ok.ensures.opened; regular = sym c.is_block_device.ensures ∙ c.if-is_block_device.false; is = c.image_use.ensures })

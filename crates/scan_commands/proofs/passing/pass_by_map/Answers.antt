@@ -5,7 +5,7 @@ use Rattle.stack_rules.specs.Names.{mapped, size}
 use Rattle.stack_rules.specs.Records.{Configuration}
 use Rattle.stack_recovery.specs.PassPieces.{Scanned, scanned}
 use Rattle.stack_recovery.specs.Recoveries.{sides}
-use Rattle.scan_commands.specs.MapFiles.{IsMapRead, IsMapUnread, map_path_of}
+use Rattle.scan_commands.specs.MapFiles.{IsMapRead, IsMapUnread, map_path, map_path_of}
 use Rattle.scan_commands.specs.PassesInTurns.{EndsRetries, RetriesInTurns, after_turns, phase_after}
 use Rattle.scan_commands.specs.Turns.{kept, progressed}
 use Rattle.scan_commands.proofs.LastPassLemmas.{last-as, last_end-as}
@@ -60,9 +60,9 @@ returns-in_err-skimmed-clause-err g c =
     let all = c.sectors-sectors.ensures ∙ ap (λ (x : Configuration). size x (mapped c.args.passing.now.device.0)) c.config.ensures.value in
     err-from c.from_residual-in_err-skimmed.result _ c.in_err-skimmed.field-0.0 c.from_residual-in_err-skimmed.ensures.1
     (inr (record {
-      runs = c.in_ok-map.map;
+      found = c.in_ok-map.field-0;
       between = c.read_map.new.images;
-      read = subst (λ (n : ℕ). IsMapRead (calls g.I.Images.relations g.I.Dev.BlockDev.state c.args.images.now c.read_map.new.images) (map_path_of c.args.file) n c.in_ok-map.map) all c.in_ok-map.ensures.ok;
+      read = subst (λ (n : ℕ). IsMapRead (calls g.I.Images.relations g.I.Dev.BlockDev.state c.args.images.now c.read_map.new.images) (map_path_of c.args.file) n c.in_ok-map.field-0) all c.in_ok-map.ensures.ok;
       ends = inl c.in_err-skimmed.ensures.err;
     }))
 
@@ -73,18 +73,19 @@ returns-in_err-tried-clause-err g c =
     let scan : Scanned = scanned d c.args.passing.now.no_scrape in
     let replaces = g.I.Images.relations.replaces in
     let file = map_path_of c.args.file in
+    let kept_file = map_path c.args.file.path.now c.args.file.kind c.in_ok-map.field-0.tail in
     let skimmed = c.in_ok-skimmed.ensures.goes_on in
-    let between = progressed c.read_in_turns.new.images (sides c.read_in_turns.new.stack (g.O.BlockDev.state c.read_in_turns.new.out) (g.L.Listing.told c.read_in_turns.new.listing)) c.in_ok-skimmed.skimmed.map (size c.args.passing.now.stack.config (mapped d)) c.in_ok-skimmed.skimmed.untried in
+    let between = progressed c.read_in_turns.new.images (sides c.read_in_turns.new.stack (g.O.BlockDev.state c.read_in_turns.new.out) (g.L.Listing.told c.read_in_turns.new.listing)) c.in_ok-skimmed.skimmed.map (size c.args.passing.now.stack.config (mapped d)) c.in_ok-skimmed.skimmed.untried c.in_ok-skimmed.skimmed.skip in
     err-from c.from_residual-in_err-tried.result _ c.in_err-tried.field-0.0 c.from_residual-in_err-tried.ensures.1
     (inr (record {
-      runs = c.in_ok-map.map;
+      found = c.in_ok-map.field-0;
       between = c.read_map.new.images;
-      read = subst (λ (n : ℕ). IsMapRead (calls g.I.Images.relations g.I.Dev.BlockDev.state c.args.images.now c.read_map.new.images) file n c.in_ok-map.map) all c.in_ok-map.ensures.ok;
+      read = subst (λ (n : ℕ). IsMapRead (calls g.I.Images.relations g.I.Dev.BlockDev.state c.args.images.now c.read_map.new.images) file n c.in_ok-map.field-0) all c.in_ok-map.ensures.ok;
       ends = inr (record {
         between = between;
         skims = c.in_ok-skimmed.ensures.ok;
         later = (
-          inl (subst (λ (x : Configuration). EndsRetries (kept replaces file scan (size x (mapped d))) c.args.passing.now.retries
+          inl (subst (λ (x : Configuration). EndsRetries (kept replaces kept_file scan (size x (mapped d))) c.args.passing.now.retries
               (after_turns c.read_in_turns.new.images c.read_in_turns.new.stack (g.O.BlockDev.state c.read_in_turns.new.out) c.in_ok-skimmed.skimmed.map)
               c.retry_in_turns.new.images c.retry_in_turns.new.passing.stack (g.O.BlockDev.state c.retry_in_turns.new.passing.out) c.in_err-tried.field-0.0) skimmed.config c.in_err-tried.ensures.err),
           refl,
@@ -99,16 +100,17 @@ returns-clause-err g c =
     let scan : Scanned = scanned d c.args.passing.now.no_scrape in
     let replaces = g.I.Images.relations.replaces in
     let file = map_path_of c.args.file in
+    let kept_file = map_path c.args.file.path.now c.args.file.kind c.in_ok-map.field-0.tail in
     let skimmed = c.in_ok-skimmed.ensures.goes_on in
-    let between = progressed c.read_in_turns.new.images (sides c.read_in_turns.new.stack (g.O.BlockDev.state c.read_in_turns.new.out) (g.L.Listing.told c.read_in_turns.new.listing)) c.in_ok-skimmed.skimmed.map (size c.args.passing.now.stack.config (mapped d)) c.in_ok-skimmed.skimmed.untried in
+    let between = progressed c.read_in_turns.new.images (sides c.read_in_turns.new.stack (g.O.BlockDev.state c.read_in_turns.new.out) (g.L.Listing.told c.read_in_turns.new.listing)) c.in_ok-skimmed.skimmed.map (size c.args.passing.now.stack.config (mapped d)) c.in_ok-skimmed.skimmed.untried c.in_ok-skimmed.skimmed.skip in
     let left = c.in_ok-tried.ensures.left in
     let after = after_turns c.retry_in_turns.new.images c.retry_in_turns.new.passing.stack (g.O.BlockDev.state c.retry_in_turns.new.passing.out) c.in_ok-tried.tried.map in
-    let again = subst (λ (x : Configuration). RetriesInTurns (kept replaces file scan (size x (mapped d))) c.args.passing.now.retries (after_turns c.read_in_turns.new.images c.read_in_turns.new.stack (g.O.BlockDev.state c.read_in_turns.new.out) c.in_ok-skimmed.skimmed.map)
+    let again = subst (λ (x : Configuration). RetriesInTurns (kept replaces kept_file scan (size x (mapped d))) c.args.passing.now.retries (after_turns c.read_in_turns.new.images c.read_in_turns.new.stack (g.O.BlockDev.state c.read_in_turns.new.out) c.in_ok-skimmed.skimmed.map)
     c.in_ok-tried.tried.passes after) skimmed.config c.in_ok-tried.ensures.ok in
     IfErr-weaker c.report_last.result _ _ (λ fault ends. inr (record {
-      runs = c.in_ok-map.map;
+      found = c.in_ok-map.field-0;
       between = c.read_map.new.images;
-      read = subst (λ (n : ℕ). IsMapRead (calls g.I.Images.relations g.I.Dev.BlockDev.state c.args.images.now c.read_map.new.images) file n c.in_ok-map.map) all c.in_ok-map.ensures.ok;
+      read = subst (λ (n : ℕ). IsMapRead (calls g.I.Images.relations g.I.Dev.BlockDev.state c.args.images.now c.read_map.new.images) file n c.in_ok-map.field-0) all c.in_ok-map.ensures.ok;
       ends = inr (record {
         between = between;
         skims = c.in_ok-skimmed.ensures.ok;
@@ -117,7 +119,7 @@ returns-clause-err g c =
             left = after;
             passes = c.in_ok-tried.tried.passes;
             again = again;
-            ends = last_end-as replaces file c.args.passing.now.no_scrape _ d _ _ (phase_after c.in_ok-tried.tried.passes) _ _ _ _ _ _ left.device (left.config ∙ skimmed.config) c.phase_after.ensures ends.0;
+            ends = last_end-as replaces kept_file c.args.passing.now.no_scrape _ d _ _ (phase_after c.in_ok-tried.tried.passes) _ _ _ _ _ _ left.device (left.config ∙ skimmed.config) c.phase_after.ensures ends.0;
           }),
           ends.1,
         );
@@ -131,22 +133,23 @@ returns-clause-ok g c =
     let scan : Scanned = scanned d c.args.passing.now.no_scrape in
     let replaces = g.I.Images.relations.replaces in
     let file = map_path_of c.args.file in
+    let kept_file = map_path c.args.file.path.now c.args.file.kind c.in_ok-map.field-0.tail in
     let skimmed = c.in_ok-skimmed.ensures.goes_on in
-    let between = progressed c.read_in_turns.new.images (sides c.read_in_turns.new.stack (g.O.BlockDev.state c.read_in_turns.new.out) (g.L.Listing.told c.read_in_turns.new.listing)) c.in_ok-skimmed.skimmed.map (size c.args.passing.now.stack.config (mapped d)) c.in_ok-skimmed.skimmed.untried in
+    let between = progressed c.read_in_turns.new.images (sides c.read_in_turns.new.stack (g.O.BlockDev.state c.read_in_turns.new.out) (g.L.Listing.told c.read_in_turns.new.listing)) c.in_ok-skimmed.skimmed.map (size c.args.passing.now.stack.config (mapped d)) c.in_ok-skimmed.skimmed.untried c.in_ok-skimmed.skimmed.skip in
     let left = c.in_ok-tried.ensures.left in
     let after = after_turns c.retry_in_turns.new.images c.retry_in_turns.new.passing.stack (g.O.BlockDev.state c.retry_in_turns.new.passing.out) c.in_ok-tried.tried.map in
-    let again = subst (λ (x : Configuration). RetriesInTurns (kept replaces file scan (size x (mapped d))) c.args.passing.now.retries (after_turns c.read_in_turns.new.images c.read_in_turns.new.stack (g.O.BlockDev.state c.read_in_turns.new.out) c.in_ok-skimmed.skimmed.map)
+    let again = subst (λ (x : Configuration). RetriesInTurns (kept replaces kept_file scan (size x (mapped d))) c.args.passing.now.retries (after_turns c.read_in_turns.new.images c.read_in_turns.new.stack (g.O.BlockDev.state c.read_in_turns.new.out) c.in_ok-skimmed.skimmed.map)
     c.in_ok-tried.tried.passes after) skimmed.config c.in_ok-tried.ensures.ok in
     IfOk-weaker c.report_last.result _ _ (λ counts last. record {
-      runs = c.in_ok-map.map;
+      found = c.in_ok-map.field-0;
       between = c.read_map.new.images;
-      read = subst (λ (n : ℕ). IsMapRead (calls g.I.Images.relations g.I.Dev.BlockDev.state c.args.images.now c.read_map.new.images) file n c.in_ok-map.map) all c.in_ok-map.ensures.ok;
+      read = subst (λ (n : ℕ). IsMapRead (calls g.I.Images.relations g.I.Dev.BlockDev.state c.args.images.now c.read_map.new.images) file n c.in_ok-map.field-0) all c.in_ok-map.ensures.ok;
       rescued = record {
         between = between;
         passes = c.in_ok-tried.tried.passes;
         left = after;
         skims = c.in_ok-skimmed.ensures.ok;
         again = again;
-        last = last-as replaces file c.args.passing.now.no_scrape _ d _ _ (phase_after c.in_ok-tried.tried.passes) _ _ _ _ _ _ counts left.device (left.config ∙ skimmed.config) c.phase_after.ensures refl last;
+        last = last-as replaces kept_file c.args.passing.now.no_scrape _ d _ _ (phase_after c.in_ok-tried.tried.passes) _ _ _ _ _ _ counts left.device (left.config ∙ skimmed.config) c.phase_after.ensures refl last;
       };
     }) c.report_last.ensures.ok

@@ -45,7 +45,7 @@ passes-preserved g c =
     let next = after_turns c.read_in_turns.new.images c.read_in_turns.new.stack (g.O.BlockDev.state c.read_in_turns.new.out) c.in_ok-read.read.map in
     record {
       steps = more-steps (IsSilentTurns (kept replaces file scan (size c.args.passing.now.stack.config (mapped d)))) _ c.passes.passes _ now next (omega arith) u.steps
-          (_, _, c.in_ok-read.read.untried, whole-turns replaces file scan _ _ (phase_after c.passes.passes) _ _ _ _ _ u.left.config c.phase_after.ensures c.in_ok-read.ensures.ok);
+          (_, _, c.in_ok-read.read.untried, c.in_ok-read.read.skip, whole-turns replaces file scan _ _ (phase_after c.passes.passes) _ _ _ _ _ u.left.config c.phase_after.ensures c.in_ok-read.ensures.ok);
       few = omega (arith, c.passes-test.true);
       left = record {
         map = goes.map ∙ ap (λ (x : Configuration). size x (mapped d)) u.left.config;

@@ -17,9 +17,9 @@ returns-in_err-counts-in-Lines-clause-err g c = rw c.in-Lines.is (
     err-from c.from_residual.result _ (Pass c.in_err-counts-in-Lines.field-0.0) c.from_residual.ensures.1
     (inl (record {
       before = listed_by g.W.Write.contents c.args.writer.now;
-      told = listed_by g.W.Write.contents c.run_pass.new.listing;
+      told = listed_by g.W.Write.contents c.count_pass.new.listing;
       begun = refl;
-      stopped = stops-by (calls g.I.Images.relations g.I.Dev.BlockDev.state c.args.images.now c.run_pass.new.images) (option_map map_path_of c.map_at-map.result) _ (retried_of c.args.passing.now) _ c.in_err-counts-in-Lines.field-0.0 c.map_at-map.ensures c.in_err-counts-in-Lines.ensures.err;
+      stopped = stops-by (calls g.I.Images.relations g.I.Dev.BlockDev.state c.args.images.now c.count_pass.new.images) (option_map map_path_of c.map_at-map.result) _ (retried_of c.args.passing.now) _ c.in_err-counts-in-Lines.field-0.0 c.map_at-map.ensures c.in_err-counts-in-Lines.ensures.err;
       kept = refl;
     })))
 
@@ -48,9 +48,9 @@ returns-in_err-charted-in-Chart-clause-err g c = rw c.in-Chart.is (
     err-from c.from_residual-in_err-charted-in-Chart.result _ (Pass c.in_err-charted-in-Chart.field-0.0) c.from_residual-in_err-charted-in-Chart.ensures.1
     (inl (record {
       before = kept_text c.new-runs.result;
-      told = kept_text c.run_pass-in-Chart.new.listing;
+      told = kept_text c.count_pass-in-Chart.new.listing;
       begun = none-kept _ _ c.new-runs.ensures.runs c.new-runs.ensures.refused;
-      stopped = stops-by (calls g.I.Images.relations g.I.Dev.BlockDev.state c.args.images.now c.run_pass-in-Chart.new.images) (option_map map_path_of c.map_at-map.result) _ (retried_of c.args.passing.now) _ c.in_err-charted-in-Chart.field-0.0 c.map_at-map.ensures c.in_err-charted-in-Chart.ensures.err;
+      stopped = stops-by (calls g.I.Images.relations g.I.Dev.BlockDev.state c.args.images.now c.count_pass-in-Chart.new.images) (option_map map_path_of c.map_at-map.result) _ (retried_of c.args.passing.now) _ c.in_err-charted-in-Chart.field-0.0 c.map_at-map.ensures c.in_err-charted-in-Chart.ensures.err;
       kept = refl;
     })))
 
@@ -79,9 +79,9 @@ returns-in_err-found-in-Object-clause-err g c = rw c.in-Object.is (
     err-from c.from_residual-in_err-found-in-Object.result _ (Pass c.in_err-found-in-Object.field-0.0) c.from_residual-in_err-found-in-Object.ensures.1
     (inl (record {
       before = kept_text c.new-kept.result;
-      told = kept_text c.run_pass-in-Object.new.listing;
+      told = kept_text c.count_pass-in-Object.new.listing;
       begun = none-kept _ _ c.new-kept.ensures.runs c.new-kept.ensures.refused;
-      stopped = stops-by (calls g.I.Images.relations g.I.Dev.BlockDev.state c.args.images.now c.run_pass-in-Object.new.images) (option_map map_path_of c.map_at-map.result) _ (retried_of c.args.passing.now) _ c.in_err-found-in-Object.field-0.0 c.map_at-map.ensures c.in_err-found-in-Object.ensures.err;
+      stopped = stops-by (calls g.I.Images.relations g.I.Dev.BlockDev.state c.args.images.now c.count_pass-in-Object.new.images) (option_map map_path_of c.map_at-map.result) _ (retried_of c.args.passing.now) _ c.in_err-found-in-Object.field-0.0 c.map_at-map.ensures c.in_err-found-in-Object.ensures.err;
       kept = refl;
     })))
 

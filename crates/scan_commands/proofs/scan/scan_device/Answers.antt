@@ -26,12 +26,12 @@ report_scan-requires g c =
 
 pub returns-in_err-used-clause-err : goal.returns-in_err-used-clause-err
 returns-in_err-used-clause-err g c =
-    err-from c.from_residual.result _ (Pass c.in_err-used.field-0.0) c.from_residual.ensures.1 (inl (refl, inl c.in_err-used.ensures.err))
+    err-from c.from_residual.result _ (Pass c.in_err-used.field-0.0) c.from_residual.ensures.1 (inl (refl, inl (rw c.map_plan.ensures at c.in_err-used.ensures.err)))
 
 pub returns-in_err-stack-clause-err : goal.returns-in_err-stack-clause-err
 returns-in_err-stack-clause-err g c =
     err-from c.from_residual-in_err-stack.result _ (Stack c.in_err-stack.field-0.0) c.from_residual-in_err-stack.ensures.1
-    (inl (refl, inr (record { used = c.in_ok-used.used; first = c.use_map.new.images; map_used = c.in_ok-used.ensures.ok; fails = c.in_err-stack.ensures.err })))
+    (inl (refl, inr (record { used = c.in_ok-used.used; first = c.use_map.new.images; map_used = rw c.map_plan.ensures at c.in_ok-used.ensures.ok; fails = c.in_err-stack.ensures.err })))
 
 pub returns-clause-ok : goal.returns-clause-ok
 returns-clause-ok g c = on_ok_weaker c.report_scan.result (λ told. reports-more _ _ _ _ _ (λ before counts told passed. record {
@@ -42,7 +42,7 @@ returns-clause-ok g c = on_ok_weaker c.report_scan.result (λ told. reports-more
   used = c.in_ok-used.used;
   first = c.use_map.new.images;
   between = c.open_source.new.images;
-  map_used = c.in_ok-used.ensures.ok;
+  map_used = rw c.map_plan.ensures at c.in_ok-used.ensures.ok;
   found = c.in_ok-stack.ensures.ok;
   passed = passed;
 }) told) c.report_scan.ensures.ok
@@ -57,7 +57,7 @@ returns-clause-err g c = IfErr-weaker c.report_scan.result _ _ (λ fault ends. i
       used = c.in_ok-used.used;
       first = c.use_map.new.images;
       between = c.open_source.new.images;
-      map_used = c.in_ok-used.ensures.ok;
+      map_used = rw c.map_plan.ensures at c.in_ok-used.ensures.ok;
       found = c.in_ok-stack.ensures.ok;
       sure = refl;
       stops = stops;
@@ -70,7 +70,7 @@ returns-clause-err g c = IfErr-weaker c.report_scan.result _ _ (λ fault ends. i
       used = c.in_ok-used.used;
       first = c.use_map.new.images;
       between = c.open_source.new.images;
-      map_used = c.in_ok-used.ensures.ok;
+      map_used = rw c.map_plan.ensures at c.in_ok-used.ensures.ok;
       found = c.in_ok-stack.ensures.ok;
       passed = passed;
     })

@@ -62,7 +62,7 @@ turns-preserved g c =
     let u = c.turns.invariant in
     let more : c.turns.at + c.min-count.result ≤ c.sectors-sectors.result = omega (arith, c.min-count.ensures, c.turns-test.true) in
     elim c.if-is_had.branch [
-      | then-is_had w ↦ rw (w.images-is, w.stack-is, w.out-is, w.listing-is, w.map-is, w.at-is, w.untried-is) (record {
+      | then-is_had w ↦ rw (w.images-is, w.stack-is, w.out-is, w.listing-is, w.map-is, w.at-is, w.untried-is, w.skip-is) (record {
         turns = passes u.turns (record {
           span = record { first = c.turns.at; count = c.min-count.result };
           next = record {
@@ -86,7 +86,7 @@ turns-preserved g c =
         allowed = u.allowed;
       })
       | else-is_had+in_ok-ended w ↦ let t = w.in_ok-ended.ensures.ok in
-          rw (w.images-is, w.stack-is, w.out-is, w.listing-is, w.map-is, w.at-is, w.untried-is) (record {
+          rw (w.images-is, w.stack-is, w.out-is, w.listing-is, w.map-is, w.at-is, w.untried-is, w.skip-is) (record {
             turns = goes_on u.turns t;
             map = w.in_ok-ended.ensures.sectors;
             wanted = turned-wanted _ _ _ _ _ u.map u.wanted t;
@@ -109,7 +109,7 @@ returns-clause-ok g c =
     let u = c.turns.invariant in
     let end : c.turns.at ≡ c.sectors-sectors.result = omega (arith, u.within, c.turns-test.false) in
     whole-as g.I.Images.relations.replaces (map_path_of c.args.kept.file) c.args.kept.phase (scanned c.args.d.0 c.args.kept.no_scrape) c.sectors-sectors.result _ c.turns.at _ c.turns.images
-    (sides c.turns.stack (g.O.BlockDev.state c.turns.out) (g.L.Listing.told c.turns.listing)) (made_map c.turns.map c.turns.untried) u.all end u.turns
+    (sides c.turns.stack (g.O.BlockDev.state c.turns.out) (g.L.Listing.told c.turns.listing)) (made_map c.turns.map c.turns.untried c.turns.skip) u.all end u.turns
 
 pub returns-clause-goes_on : goal.returns-clause-goes_on
 returns-clause-goes_on g c =

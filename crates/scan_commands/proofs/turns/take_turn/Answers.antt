@@ -1,8 +1,8 @@
-use Rattle.std.proofs.Common.{arith, ◌≡◌, ◌∙◌, ◌+◌, min, inr, ℕ, Bool, true, List, length, replicate, Option, Ok, refl, ap, subst}
+use Rattle.std.proofs.Common.{arith, ◌≡◌, ◌∙◌, ◌+◌, ◌≤◌, min, inr, ℕ, Bool, true, List, length, replicate, Option, Ok, refl, ap, subst, sym}
 use Rattle.std.proofs.lemmas.Bool.{false≢true}
 use Rattle.std.proofs.lemmas.List.{length-replicate}
 use Rattle.block_device.specs.Device.{Device}
-use Rattle.rescue_map.specs.Maps.{settled_marks}
+use Rattle.rescue_map.specs.Maps.{marks, settled_marks}
 use Rattle.rescue_map.specs.MapText.{map_text}
 use Rattle.stack_rules.proofs.lemmas.PassingLemmas.{out_of_memory-more}
 use Rattle.stack_meaning.specs.Memory.{largest_allocation}
@@ -11,7 +11,8 @@ use Rattle.stack_recovery.specs.Recoveries.{Sides, sides}
 use Rattle.scan_commands.specs.declared.rescue_fault.PassFault.TheVariants.{NoMemory, Output}
 use Rattle.scan_commands.specs.MapFiles.{map_path_of, recovery_ending}
 use Rattle.scan_commands.specs.Turns.{ReadsSectors, is_again, kept, progressed}
-use Rattle.scan_commands.proofs.SpanLemmas.{settled-length, spliced-length}
+use Rattle.rescue_map.proofs.lemmas.SpanLemmas.{spliced-length}
+use Rattle.scan_commands.proofs.SpanLemmas.{settled-length}
 use Rattle.scan_commands.proofs.TurnLemmas.{err-from, failed-behind, reads-out, reads-unfailed, stops-reading, stops-unwritten}
 use Rattle.scan_commands.proofs.turns.take_turn.Goals as goal
 
@@ -37,7 +38,7 @@ left_map-requires-clause-inside g c = omega (arith, c.min-at.ensures, c.sectors_
 pub returns-in_err-read-clause-err : goal.returns-in_err-read-clause-err
 returns-in_err-read-clause-err g c =
     let k = kept g.I.Images.relations.replaces (map_path_of c.args.turn.file) (scanned c.args.d.0 c.args.turn.no_scrape) c.args.turn.sectors in
-    let now = progressed c.args.images.now (sides c.args.stack.now (g.O.BlockDev.state c.args.out.now) (g.L.Listing.told c.args.listing.now)) c.args.turn.map.now c.args.turn.span.first c.args.turn.untried in
+    let now = progressed c.args.images.now (sides c.args.stack.now (g.O.BlockDev.state c.args.out.now) (g.L.Listing.told c.args.listing.now)) c.args.turn.map.now c.args.turn.span.first c.args.turn.untried c.args.turn.skip in
     err-from c.from_residual.result _ (recovery_ending c.in_err-read.field-0.0) c.from_residual.ensures.1 (stops-reading k c.args.turn.phase now c.args.turn.span _ _ _ c.in_err-read.field-0.0 c.requires.next c.requires.wanted c.in_err-read.ensures.err)
 
 pub returns-in_err-sync-clause-err : goal.returns-in_err-sync-clause-err
@@ -47,8 +48,8 @@ returns-in_err-sync-clause-err g c =
     let left : Sides = sides c.read_turn.new.stack (g.O.BlockDev.state c.read_turn.new.out) (g.L.Listing.told c.read_turn.new.listing) in
     err-from c.from_residual-in_err-sync.result _ Output c.from_residual-in_err-sync.ensures.1 (
       refl,
-      failed-behind (g.O.BlockDev.state c.args.out.now) (g.O.BlockDev.state c.read_turn.new.out) (g.O.BlockDev.state c.sync.new.self) (reads-unfailed c.args.turn.phase _ (scanned c.args.d.0 c.args.turn.no_scrape) old _ left r) c.in_err-sync.ensures.err.failed,
-      λ h. false≢true (c.in_err-sync.ensures.sure ((reads-out c.args.turn.phase _ (scanned c.args.d.0 c.args.turn.no_scrape) old _ left r).never_fails h)),
+      failed-behind (g.O.BlockDev.state c.args.out.now) (g.O.BlockDev.state c.read_turn.new.out) (g.O.BlockDev.state c.sync.new.self) (reads-unfailed c.args.turn.phase _ _ (scanned c.args.d.0 c.args.turn.no_scrape) old _ left r) c.in_err-sync.ensures.err.failed,
+      λ h. false≢true (c.in_err-sync.ensures.sure ((reads-out c.args.turn.phase _ _ (scanned c.args.d.0 c.args.turn.no_scrape) old _ left r).never_fails h)),
       record {
         span = c.args.turn.span;
         end = c.args.turn.span.first + c.args.turn.span.count;
@@ -56,7 +57,7 @@ returns-in_err-sync-clause-err g c =
         fails = inr (record {
           left = left;
           made = c.in_ok-read.read;
-          reads = subst (λ (l : List Bool). ReadsSectors c.args.turn.phase l (scanned c.args.d.0 c.args.turn.no_scrape) old c.in_ok-read.read left) c.requires.wanted r;
+          reads = subst (λ (l : List Bool). ReadsSectors c.args.turn.phase c.args.turn.skip l (scanned c.args.d.0 c.args.turn.no_scrape) old c.in_ok-read.read left) c.requires.wanted r;
           unsynced = c.in_err-sync.ensures.err;
           stack = refl;
           printed = refl;
@@ -70,7 +71,7 @@ returns-in_err-map-clause-err g c =
     let left : Sides = sides c.read_turn.new.stack (g.O.BlockDev.state c.read_turn.new.out) (g.L.Listing.told c.read_turn.new.listing) in
     err-from c.from_residual-in_err-map.result _ NoMemory c.from_residual-in_err-map.ensures.1 (
       refl,
-      ap (λ (o : Device). o.failures) c.in_ok-sync.ensures.ok ∙ reads-unfailed c.args.turn.phase _ (scanned c.args.d.0 c.args.turn.no_scrape) old _ left c.in_ok-read.ensures.ok.reads,
+      ap (λ (o : Device). o.failures) c.in_ok-sync.ensures.ok ∙ reads-unfailed c.args.turn.phase _ _ (scanned c.args.d.0 c.args.turn.no_scrape) old _ left c.in_ok-read.ensures.ok.reads,
       out_of_memory-more 1 largest_allocation (omega arith) c.in_err-map.ensures.err,
       inr (inr (record {
         span = c.args.turn.span;
@@ -78,7 +79,7 @@ returns-in_err-map-clause-err g c =
         next = c.requires.next;
         left = left;
         made = c.in_ok-read.read;
-        reads = subst (λ (l : List Bool). ReadsSectors c.args.turn.phase l (scanned c.args.d.0 c.args.turn.no_scrape) old c.in_ok-read.read left) c.requires.wanted c.in_ok-read.ensures.ok.reads;
+        reads = subst (λ (l : List Bool). ReadsSectors c.args.turn.phase c.args.turn.skip l (scanned c.args.d.0 c.args.turn.no_scrape) old c.in_ok-read.read left) c.requires.wanted c.in_ok-read.ensures.ok.reads;
         on_medium = ap (λ (o : Device). sides c.read_turn.new.stack o (g.L.Listing.told c.read_turn.new.listing)) c.in_ok-sync.ensures.ok;
       })),
     )
@@ -88,17 +89,17 @@ returns-in_err-write_map-clause-err g c =
     let k = kept g.I.Images.relations.replaces (map_path_of c.args.turn.file) (scanned c.args.d.0 c.args.turn.no_scrape) c.args.turn.sectors in
     let old : Sides = sides c.args.stack.now (g.O.BlockDev.state c.args.out.now) (g.L.Listing.told c.args.listing.now) in
     let left : Sides = sides c.read_turn.new.stack (g.O.BlockDev.state c.read_turn.new.out) (g.L.Listing.told c.read_turn.new.listing) in
-    let now = progressed c.args.images.now old c.args.turn.map.now c.args.turn.span.first c.args.turn.untried in
+    let now = progressed c.args.images.now old c.args.turn.map.now c.args.turn.span.first c.args.turn.untried c.args.turn.skip in
     err-from c.from_residual-in_err-write_map.result _ c.in_err-write_map.field-0.0 c.from_residual-in_err-write_map.ensures.1
-    (stops-unwritten k c.args.turn.phase now (map_text c.args.turn.file.kind c.args.turn.no_scrape c.tried_before-tried.result c.in_ok-map.map) c.write_map.new.images (sides c.read_turn.new.stack (g.O.BlockDev.state c.sync.new.self) (g.L.Listing.told c.read_turn.new.listing)) c.in_err-write_map.field-0.0
-    (ap (λ (o : Device). o.failures) c.in_ok-sync.ensures.ok ∙ reads-unfailed c.args.turn.phase _ (scanned c.args.d.0 c.args.turn.no_scrape) old _ left c.in_ok-read.ensures.ok.reads)
+    (stops-unwritten k c.args.turn.phase now (map_text c.args.turn.file.kind c.args.turn.no_scrape c.tried_before-tried.result c.in_ok-map.map c.args.turn.file.tail) c.write_map.new.images (sides c.read_turn.new.stack (g.O.BlockDev.state c.sync.new.self) (g.L.Listing.told c.read_turn.new.listing)) c.in_err-write_map.field-0.0
+    (ap (λ (o : Device). o.failures) c.in_ok-sync.ensures.ok ∙ reads-unfailed c.args.turn.phase _ _ (scanned c.args.d.0 c.args.turn.no_scrape) old _ left c.in_ok-read.ensures.ok.reads)
     (record {
       span = c.args.turn.span;
       end = c.args.turn.span.first + c.args.turn.span.count;
       next = c.requires.next;
       left = left;
       made = c.in_ok-read.read;
-      reads = subst (λ (l : List Bool). ReadsSectors c.args.turn.phase l (scanned c.args.d.0 c.args.turn.no_scrape) old c.in_ok-read.read left) c.requires.wanted c.in_ok-read.ensures.ok.reads;
+      reads = subst (λ (l : List Bool). ReadsSectors c.args.turn.phase c.args.turn.skip l (scanned c.args.d.0 c.args.turn.no_scrape) old c.in_ok-read.read left) c.requires.wanted c.in_ok-read.ensures.ok.reads;
       on_medium = ap (λ (o : Device). sides c.read_turn.new.stack o (g.L.Listing.told c.read_turn.new.listing)) c.in_ok-sync.ensures.ok;
     })
     c.in_err-write_map.ensures.err)
@@ -113,12 +114,14 @@ returns-clause-ok g c =
       next = c.requires.next;
       left = left;
       made = c.in_ok-read.read;
-      reads = subst (λ (l : List Bool). ReadsSectors c.args.turn.phase l (scanned c.args.d.0 c.args.turn.no_scrape) old c.in_ok-read.read left) c.requires.wanted c.in_ok-read.ensures.ok.reads;
+      reads = subst (λ (l : List Bool). ReadsSectors c.args.turn.phase c.args.turn.skip l (scanned c.args.d.0 c.args.turn.no_scrape) old c.in_ok-read.read left) c.requires.wanted c.in_ok-read.ensures.ok.reads;
       on_medium = ap (λ (o : Device). sides c.read_turn.new.stack o (g.L.Listing.told c.read_turn.new.listing)) c.in_ok-sync.ensures.ok;
       some = omega (arith, c.min-at.ensures, c.sectors_of.ensures, c.in_ok-read.ensures.ok.some, c.requires.next.some);
+      few = subst (λ (n : ℕ). length (marks c.in_ok-read.read.map) ≤ n) (sym c.requires.all) c.in_ok-read.ensures.ok.few;
       here = c.min-at.ensures ∙ ap (min (c.args.turn.span.first + c.args.turn.span.count)) c.sectors_of.ensures;
       map = c.in_ok-map.ensures.marks;
       bad = c.in_ok-map.ensures.lost;
       untried = c.saturating_add-untried.ensures;
-      written = subst (λ (t : Option ℕ). g.I.Images.relations.replaces c.args.images.now c.args.turn.file.path.now (map_text c.args.turn.file.kind c.args.turn.no_scrape t c.in_ok-map.map) (Ok tt) c.write_map.new.images) c.tried_before-tried.ensures c.in_ok-write_map.ensures.ok;
+      skip = refl;
+      written = subst (λ (t : Option ℕ). g.I.Images.relations.replaces c.args.images.now c.args.turn.file.path.now (map_text c.args.turn.file.kind c.args.turn.no_scrape t c.in_ok-map.map c.args.turn.file.tail) (Ok tt) c.write_map.new.images) c.tried_before-tried.ensures c.in_ok-write_map.ensures.ok;
     }

@@ -1,3 +1,4 @@
+use Rattle.std.proofs.Common.{◌≡◌, ◌-◌, arith}
 use Rattle.nbd_protocol.specs.Exports.{export_records}
 use Rattle.nbd_server.specs.FaultLines.{fault_lines}
 use Rattle.stack_commands.specs.ServiceLog.{end_text, start_text}
@@ -11,20 +12,22 @@ returns-then-quiet-clause-served g c = record {
 }
 
 pub returns-clause-served : goal.returns-clause-served
-returns-clause-served g c = record {
-  service = c.serve_logged-outcome.ensures.service;
-  noted = noted-all
-      g.E.Write.contents
-      c.args.client.errors.now
-      c.note_start.new.errors
-      c.serve_logged-outcome.new.errors
-      c.note_end.new.errors
-      c.args.client.quiet
-      (start_text (export_records c.args.exports.now))
-      (fault_lines (export_records c.args.exports.now) c.serve_logged-outcome.new.log.first)
-      (end_text c.serve_logged-outcome.new.log c.serve_logged-outcome.result)
-      c.if-quiet.false
-      c.note_start.ensures
-      c.serve_logged-outcome.ensures.printed
-      c.note_end.ensures;
-}
+returns-clause-served g c =
+    let restored : c.restored_since-restored.result ≡ c.serve_logged-outcome.new.queue.stack.restored - c.args.queue.now.stack.restored = omega (arith, c.restored_since-before.ensures, c.restored_since-restored.ensures) in
+    record {
+      service = c.serve_logged-outcome.ensures.service;
+      noted = noted-all
+          g.E.Write.contents
+          c.args.client.errors.now
+          c.note_start.new.errors
+          c.serve_logged-outcome.new.errors
+          c.note_end.new.errors
+          c.args.client.quiet
+          (start_text (export_records c.args.exports.now))
+          (fault_lines (export_records c.args.exports.now) c.serve_logged-outcome.new.log.first)
+          (end_text c.serve_logged-outcome.new.log (c.serve_logged-outcome.new.queue.stack.restored - c.args.queue.now.stack.restored) c.serve_logged-outcome.result)
+          c.if-quiet.false
+          c.note_start.ensures
+          c.serve_logged-outcome.ensures.printed
+          (rw restored at c.note_end.ensures);
+    }

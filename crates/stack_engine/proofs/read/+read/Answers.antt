@@ -9,7 +9,7 @@ use Rattle.std.specs.Prelude.{option_map, is_ok}
 use Rattle.block_device.specs.Call.{DeviceDoes, Read}
 use Rattle.stack_engine.specs.LeafCalls.{IsLeafCall}
 use Rattle.stack_engine.specs.SectorCalls.{Gives, zeros_read, fails_read}
-use Rattle.stack_engine.proofs.LeafCallLemmas.{makes-none}
+use Rattle.stack_engine.proofs.ReadCallLemmas.{reads-none}
 use Rattle.stack_engine.specs.SectorCalls.{LeadsTo, ReadsBy, place_at, block_full, block_of, data_of, expected_hash, hash_full, hash_kept, hash_of, last_bytes, one_block, one_ignored, place_in, way_full, whole_data}
 use Rattle.stack_engine.specs.Healing.{healed_result}
 use Rattle.stack_engine.specs.ReadSteps.{block_answer, expected_in}
@@ -74,7 +74,8 @@ use Rattle.stack_engine.proofs.SpentLemmas.{IsCutBehind, block-spent, had-spent}
 use Rattle.stack_lines.proofs.lemmas.TouchLemmas.{data-within}
 use Rattle.stack_lines.proofs.lemmas.AskLemmas.{asks-none, asks-then, asks-as, asks-up}
 use Rattle.stack_engine.proofs.TouchedLemmas.{extent-touched, same-within, hash-touched, hash-within-device, data-touched}
-use Rattle.stack_engine.specs.Backings.{did, backing_of}
+use Rattle.stack_engine.specs.Backings.{did, backing_of, served}
+use Rattle.stack_engine.specs.Restored.{serving}
 use Rattle.stack_engine.specs.ReadSteps.{run_beneath, IsReadStep}
 use Rattle.stack_engine.proofs.StepLemmas.{met, step-met, step-none, below-step, units-step, part-step, zeros-step, fails-step, leaf-step, device-begin, device-step-ok, device-step-err}
 use Rattle.std.proofs.Math.Nat.{mul-le-mul_right}
@@ -134,7 +135,7 @@ read_device-loop-at-preserved g t c =
       so_far = same_reads config (mapped c.args.from.0.0) c.args.from.1 run.next (sym front) (device_ok config c.args.from.0.0 c.args.from.1 (at / 512) count source c.args.chains loaded run.some run.served inv.so_far more);
       given =
           let does = DeviceDoes g.D.BlockDev.state g.D.BlockDev.does in
-          let here = subst (λ (k : ℕ). Gives does config source k c.loop-at.backing.devices.items c.read_run.new.backing.devices.items (Ok c.read_run.new.out)) run.sectors c.in-Ok.ensures.given in
+          let here = subst (λ (k : ℕ). Gives does config source k (served c.loop-at.backing) (served c.read_run.new.backing) (Ok c.read_run.new.out)) run.sectors c.in-Ok.ensures.given in
           run-given c.args.from.0.0 c.args.from.1 (length c.args.out.now / 512) (at / 512) ((length out - at) / 512) (end / 512) next.result (take at out) c.read_run.new.out _ run.left run.next (omega (arith, run.next, run.inside)) next.ensures.run (sym front) inv.given here;
       step = device-step-ok loaded run inv.cut run.sectors inv.step c.in-Ok.ensures.step;
       cut = subst (λ (k : ℕ). IsCutBehind config c.args.from.0.0 c.args.from.1 k (length c.args.out.now / 512)) run.next run.behind;
@@ -182,8 +183,8 @@ read_lower-returns-in-Leaf-clause-step g t c =
     let cache = c.args.backing.now.cache in
     let stands : (with_items devices c.read_leaf.new.devices).items ≡ c.read_leaf.new.devices =
     with_items_is devices c.read_leaf.new.devices (c.read_leaf.auto.devices ∙ ap (λ l. length l) c.as_mut_slice.ensures.value ∙ sym devices.ok.0) in
-    subst (λ ds. IsReadStep config (run_beneath config c.args.from.0 c.args.from.1 n) (backing_of state c.args.backing.now) (record { leaves = map state ds; cache = cache }) c.read_leaf.result) (sym stands)
-    (subst (λ (x : Lower). IsReadStep config (run_beneath config x c.args.from.1 n) (backing_of state c.args.backing.now) (record { leaves = map state c.read_leaf.new.devices; cache = cache }) c.read_leaf.result) (sym c.in-Leaf.is)
+    subst (λ ds. IsReadStep config (run_beneath config c.args.from.0 c.args.from.1 n) (backing_of state c.args.backing.now) (record { leaves = map state ds; cache = cache; restored = c.args.backing.now.restored }) c.read_leaf.result) (sym stands)
+    (subst (λ (x : Lower). IsReadStep config (run_beneath config x c.args.from.1 n) (backing_of state c.args.backing.now) (record { leaves = map state c.read_leaf.new.devices; cache = cache; restored = c.args.backing.now.restored }) c.read_leaf.result) (sym c.in-Leaf.is)
     (leaf-step (backing_of state c.args.backing.now) c.read_leaf.ensures.reads (ap (map state) c.as_mut_slice.ensures.value) c.requires.stack.cached))
 
 pub read_lower-returns-in-Device-clause-step : goal.read_lower-returns-in-Device-clause-step
@@ -578,7 +579,7 @@ walk-loop-level-preserved g t c =
       touches = asks-then c.loop-level.invariant.touches (asks-as (Ok tt) tt (λ failures. refl) (hash-touched c.args.config.now v tree c.requires.stack.sound.loaded c.requires.block.lies c.hash_extent-extent.result c.hash_extent-extent.ensures c.in-Ok.ensures.touches));
       given = (
         block.items,
-        subst (λ (e : List ℕ). LeadsTo (DeviceDoes g.D.BlockDev.state g.D.BlockDev.does) c.args.config.now (whole_data (place_in v tree index) one_block) (data_of (place_in v tree index) level e block.items one_block) c.args.backing.now.devices.items c.hash_block.new.backing.devices.items) (sym expected)
+        subst (λ (e : List ℕ). LeadsTo (DeviceDoes g.D.BlockDev.state g.D.BlockDev.does) c.args.config.now (whole_data (place_in v tree index) one_block) (data_of (place_in v tree index) level e block.items one_block) (served c.args.backing.now) (served c.hash_block.new.backing)) (sym expected)
             (way-led c.loop-level.level (c.loop-level.level - 1) block.items (omega (arith, c.loop-level-test.true)) c.loop-level.invariant.given.1 (reads-expected hash_of (ap (λ (e : Extent). expected_in e v.salt c.loop-level.expected) c.hash_extent-extent.ensures.value) c.in-Ok.ensures.given)),
       );
     }
@@ -809,11 +810,11 @@ walk_path-loop-left-preserved g t c =
       given = λ next.
           let place = place_in v tree index in
           let does = DeviceDoes g.D.BlockDev.state g.D.BlockDev.does in
-          let devices = c.args.backing.now.devices.items in
-          let now = c.path_block.new.backing.devices.items in
+          let at_first = served c.args.backing.now in
+          let now = served c.path_block.new.backing in
           let goes : block ≡ last_bytes (take (at + 1) after) = sym (ap last_bytes (take_more after at no_block c.in-Ok.ensures.there) ∙ last-push (take at after) (get_or after at no_block)) in
-          subst (λ (l : List ℕ). LeadsTo does c.args.config.now (whole_data place next) (data_of place level c.digest_in-digest.result l next) devices now) goes
-          (subst (λ (e : List ℕ). LeadsTo does c.args.config.now (whole_data place next) (data_of place level e block next) devices now) (sym expected)
+          subst (λ (l : List ℕ). LeadsTo does c.args.config.now (whole_data place next) (data_of place level c.digest_in-digest.result l next) at_first now) goes
+          (subst (λ (e : List ℕ). LeadsTo does c.args.config.now (whole_data place next) (data_of place level e block next) at_first now) (sym expected)
           (way-led c.loop-left.left (c.loop-left.left - 1) block (omega (arith, c.loop-left-test.true)) (c.loop-left.invariant.given next) (c.in-Ok.ensures.given no_block)));
     }
 
@@ -1138,7 +1139,7 @@ read_blocks-checks-preserved g t c =
       });
       cached = record { capacity = settle.cached.capacity ∙ c.in-Ok-read_beneath.ensures.cached.capacity ∙ c.in-Ok.ensures.cached.capacity ∙ all.cached.capacity; sound = settle.cached.sound };
       touches = asks-then (data-touched config v tree.result b.loaded tree.ensures.tree p.device tree.ensures.device all.touches c.in-Ok.ensures.touches c.in-Ok-read_beneath.ensures.touches) (asks-up (same-within config tree.ensures.device) settle.touches);
-      given = subst (λ (k : ℕ). BlocksUpTo (DeviceDoes g.D.BlockDev.state g.D.BlockDev.does) config p (length c.args.out.now / 512) k (j + 1) (put_mid (j * v.data_block) (j * v.data_block + v.data_block - j * v.data_block) out block) c.args.backing.now.devices.items c.settle_block.new.backing.devices.items) (sym c.read_as_far-read.ensures) settled_given;
+      given = subst (λ (k : ℕ). BlocksUpTo (DeviceDoes g.D.BlockDev.state g.D.BlockDev.does) config p (length c.args.out.now / 512) k (j + 1) (put_mid (j * v.data_block) (j * v.data_block + v.data_block - j * v.data_block) out block) (served c.args.backing.now) (served c.settle_block.new.backing)) (sym c.read_as_far-read.ensures) settled_given;
     }
 
 pub read_blocks-returns-clause-reads : goal.read_blocks-returns-clause-reads
@@ -1317,8 +1318,9 @@ read_lower-returns-in-Leaf-clause-given g t c =
     let stands : (with_items devices c.read_leaf.new.devices).items ≡ c.read_leaf.new.devices =
     with_items_is devices c.read_leaf.new.devices (c.read_leaf.auto.devices ∙ ap (λ l. length l) c.as_mut_slice.ensures.value ∙ sym devices.ok.0) in
     let made = subst (λ ds. IsLeafCall does c.in-Leaf.leaf ds (Read first c.read_leaf.new.out (is_ok c.read_leaf.result)) c.read_leaf.new.devices) c.as_mut_slice.ensures.value c.read_leaf.ensures.call in
-    subst (λ ds. Gives does config (Below c.args.from.0 first) n devices.items ds answer) (sym stands)
-    (subst (λ (x : Lower). Gives does config (Below x first) n devices.items c.read_leaf.new.devices answer) (sym c.in-Leaf.is)
+    let old = served c.args.backing.now in
+    subst (λ ds. Gives does config (Below c.args.from.0 first) n old (serving ds old.restored) answer) (sym stands)
+    (subst (λ (x : Lower). Gives does config (Below x first) n old (serving c.read_leaf.new.devices old.restored) answer) (sym c.in-Leaf.is)
     (leaf-given c.in-Leaf.leaf first n c.read_leaf.new.out c.read_leaf.result (ap (λ (k : ℕ). k / 512) c.read_leaf.auto.out) c.read_leaf.ensures.err made))
 
 pub read_lower-returns-in-Device-clause-given : goal.read_lower-returns-in-Device-clause-given
@@ -1337,14 +1339,14 @@ read_run-returns-in-UnitPart-clause-given g t c = rw c.in-UnitPart.is c.read_uni
 pub read_run-returns-in-Zeros-clause-given : goal.read_run-returns-in-Zeros-clause-given
 read_run-returns-in-Zeros-clause-given g t c =
     let does = DeviceDoes g.D.BlockDev.state g.D.BlockDev.does in
-    let old = c.args.backing.now.devices.items in
+    let old = served c.args.backing.now in
     let n : ℕ = length c.args.out.now / 512 in
     let whole : length c.args.out.now ≡ 512 * n = omega (arith, c.requires.fits.sectors.whole) in
     subst (λ (s : Source). Gives does c.args.config.now s n old old (Ok c.fill_zeros.new.out)) (sym c.in-Zeros.is)
-    (subst (λ (b : List ℕ). Gives does c.args.config.now Zeros n old old (Ok b)) (sym (c.fill_zeros.ensures ∙ ap (λ (k : ℕ). replicate k 0) whole)) (makes-none (zeros_read n)))
+    (subst (λ (b : List ℕ). Gives does c.args.config.now Zeros n old old (Ok b)) (sym (c.fill_zeros.ensures ∙ ap (λ (k : ℕ). replicate k 0) whole)) (reads-none (zeros_read n)))
 
 pub read_run-returns-in-Fails-clause-given : goal.read_run-returns-in-Fails-clause-given
-read_run-returns-in-Fails-clause-given g t c = rw c.in-Fails.is (makes-none (fails_read (length c.args.out.now / 512)))
+read_run-returns-in-Fails-clause-given g t c = rw c.in-Fails.is (reads-none (fails_read (length c.args.out.now / 512)))
 
 pub read_run-returns-in-Block-clause-given : goal.read_run-returns-in-Block-clause-given
 read_run-returns-in-Block-clause-given g t c = rw c.in-Block.is c.read_block.ensures.given
@@ -1396,7 +1398,7 @@ read_device-returns-in-Err-clause-given g t c =
     let inv = c.loop-at.invariant in
     let source = next.result.source in
     let run = next-run c.args.from.1 c.loop-at.at (length c.args.out.now / 512) c.loop-at.out inv.whole c.loop-at-test.true (omega (arith, c.loop-at.auto.out)) next.ensures.run.served next.ensures.run.some next.ensures.run.most next.ensures.run.longest in
-    let here = subst (λ (k : ℕ). Gives does config source k c.loop-at.backing.devices.items c.read_run.new.backing.devices.items (Err c.in-Err.fault)) run.sectors c.in-Err.ensures.given in
+    let here = subst (λ (k : ℕ). Gives does config source k (served c.loop-at.backing) (served c.read_run.new.backing) (Err c.in-Err.fault)) run.sectors c.in-Err.ensures.given in
     run-ungiven c.args.from.0.0 c.args.from.1 (length c.args.out.now / 512) (c.loop-at.at / 512) ((length c.loop-at.out - c.loop-at.at) / 512) next.result (take c.loop-at.at c.loop-at.out) c.in-Err.fault run.left next.ensures.run inv.given here
 
 pub read_device-returns-clause-given : goal.read_device-returns-clause-given
@@ -1404,7 +1406,7 @@ read_device-returns-clause-given g t c =
     let inv = c.loop-at.invariant in
     let at = c.loop-at.at in
     let all : at / 512 ≡ length c.args.out.now / 512 = omega (arith, inv.within, c.loop-at-test.false, c.loop-at.auto.out) in
-    subst (λ (b : List ℕ). Gives (DeviceDoes g.D.BlockDev.state g.D.BlockDev.does) c.args.config.now (Below (mapped c.args.from.0.0) c.args.from.1) (length c.args.out.now / 512) c.args.backing.now.devices.items c.loop-at.backing.devices.items (Ok b)) (take_all at c.loop-at.out (omega (arith, c.loop-at-test.false)))
+    subst (λ (b : List ℕ). Gives (DeviceDoes g.D.BlockDev.state g.D.BlockDev.does) c.args.config.now (Below (mapped c.args.from.0.0) c.args.from.1) (length c.args.out.now / 512) (served c.args.backing.now) (served c.loop-at.backing) (Ok b)) (take_all at c.loop-at.out (omega (arith, c.loop-at-test.false)))
     (all-given c.args.from.0.0 c.args.from.1 (length c.args.out.now / 512) (at / 512) (take at c.loop-at.out) all inv.given)
 
 -- ---- which calls were made over `verity` lines
@@ -1420,7 +1422,7 @@ walk-loop-level-init g t c =
       walked = walk-begins (block_in config v c.args.index) (sym all) (sym (ap (map bytes) c.new-path.ensures.items));
       cached = record { capacity = refl; sound = c.requires.stack.cached };
       touches = asks-none (leaves_of config (mapped c.args.tree.now.device.0)) (map g.D.BlockDev.state devices) (Ok tt) tt refl;
-      given = ([], subst (λ (k : ℕ). LeadsTo (DeviceDoes g.D.BlockDev.state g.D.BlockDev.does) config (whole_data place one_block) (data_of place k v.root [] one_block) devices devices) (sym all) (leads-begin (whole_data place one_block)));
+      given = ([], subst (λ (k : ℕ). LeadsTo (DeviceDoes g.D.BlockDev.state g.D.BlockDev.does) config (whole_data place one_block) (data_of place k v.root [] one_block) (served c.args.backing.now) (served c.args.backing.now)) (sym all) (leads-begin (whole_data place one_block)));
     }
 
 pub walk_path-loop-left-init : goal.walk_path-loop-left-init
@@ -1436,11 +1438,11 @@ walk_path-loop-left-init g t c =
       held = c.requires.held;
       cached = record { capacity = refl; sound = c.requires.stack.cached };
       touches = asks-none (leaves_of config c.args.tree.now.hash) (map g.D.BlockDev.state devices) (Ok tt) tt refl;
-      given = λ next. subst (λ (k : ℕ). LeadsTo (DeviceDoes g.D.BlockDev.state g.D.BlockDev.does) config (whole_data place next) (data_of place k v.root [] next) devices devices) (sym all) (leads-begin (whole_data place next));
+      given = λ next. subst (λ (k : ℕ). LeadsTo (DeviceDoes g.D.BlockDev.state g.D.BlockDev.does) config (whole_data place next) (data_of place k v.root [] next) (served c.args.backing.now) (served c.args.backing.now)) (sym all) (leads-begin (whole_data place next));
     }
 
 pub read_checked-returns-in-Err-clause-given : goal.read_checked-returns-in-Err-clause-given
-read_checked-returns-in-Err-clause-given g t c = makes-none (block_full (expected_in c.args.extent c.args.salt.now c.args.expected.now))
+read_checked-returns-in-Err-clause-given g t c = reads-none (block_full (expected_in c.args.extent c.args.salt.now c.args.expected.now))
 
 pub read_checked-returns-in-Err-read_lower-clause-given : goal.read_checked-returns-in-Err-read_lower-clause-given
 read_checked-returns-in-Err-read_lower-clause-given g t c =
@@ -1461,7 +1463,7 @@ read_checked-returns-then-eq-clause-given g t c =
     let value : c.as_slice.result.now ≡ out = c.as_slice.ensures.value ∙ items in
     let good : c.digest.result ≡ expected = (bytes_eq-Decides c.digest.result expected).0 (sym c.eq.ensures ∙ c.if-eq.true) in
     let count : length c.as_mut_slice.result.now / 512 ≡ e.sectors = omega (arith, held, c.in-Ok.ensures.ok, c.read_lower.auto.out) in
-    subst (λ (b : List ℕ). ReadsBy (DeviceDoes g.D.BlockDev.state g.D.BlockDev.does) c.args.config.now (block_of (expected_in e salt expected)) c.args.backing.now.devices.items c.read_lower.new.backing.devices.items (Ok b)) (sym items)
+    subst (λ (b : List ℕ). ReadsBy (DeviceDoes g.D.BlockDev.state g.D.BlockDev.does) c.args.config.now (block_of (expected_in e salt expected)) (served c.args.backing.now) (served c.read_lower.new.backing) (Ok b)) (sym items)
     (checked-given count (ap (digest salt) (sym value) ∙ sym c.digest.ensures ∙ good) c.in-Ok-read_lower.ensures.given)
 
 pub read_checked-returns-else-eq-clause-given : goal.read_checked-returns-else-eq-clause-given
@@ -1481,13 +1483,13 @@ read_checked-returns-else-eq-clause-given g t c =
     differs-given count other c.in-Ok-read_lower.ensures.given
 
 pub hash_block-returns-in-Err-clause-given : goal.hash_block-returns-in-Err-clause-given
-hash_block-returns-in-Err-clause-given g t c = makes-none (hash_full (expected_in c.args.extent c.args.salt.now c.args.expected.now))
+hash_block-returns-in-Err-clause-given g t c = reads-none (hash_full (expected_in c.args.extent c.args.salt.now c.args.expected.now))
 
 pub hash_block-returns-in-Ok-Some-clause-given : goal.hash_block-returns-in-Ok-Some-clause-given
 hash_block-returns-in-Ok-Some-clause-given g t c =
     let hit = cached-hit c.args.config.now c.requires.key bytes c.in-Ok-Some.block c.args.expected.now (map g.D.BlockDev.state c.args.backing.now.devices.items) c.args.backing.now.cache c.requires.stack.cached
     (sym (ap (λ (o : Option (Vec ℕ Global)). option_map bytes o) c.in-Ok-Some.field-0-is) ∙ c.in-Ok-Some.ensures.answer) in
-    makes-none (hash_kept (expected_in c.args.extent c.args.salt.now c.args.expected.now) c.in-Ok-Some.block.items hit.may)
+    reads-none (hash_kept (expected_in c.args.extent c.args.salt.now c.args.expected.now) c.in-Ok-Some.block.items hit.may)
 
 pub hash_block-returns-in-Err-read_checked-clause-given : goal.hash_block-returns-in-Err-read_checked-clause-given
 hash_block-returns-in-Err-read_checked-clause-given g t c = hash-given c.in-Err-read_checked.ensures.given
@@ -1498,12 +1500,12 @@ hash_block-returns-in-Ok-clause-given g t c = hash-given c.in-Ok.ensures.given
 pub read_data-returns-in-Ok-clause-given : goal.read_data-returns-in-Ok-clause-given
 read_data-returns-in-Ok-clause-given g t c last =
     let place = place_in c.args.verity.now c.args.tree.now c.args.index in
-    let devices = c.args.backing.now.devices.items in
-    subst (λ (b : List ℕ). ReadsBy (DeviceDoes g.D.BlockDev.state g.D.BlockDev.does) c.args.config.now (data_of place 0 c.args.expected.now last one_block) devices devices (Ok b)) (sym c.in-Ok.ensures.ok)
-    (makes-none (one_ignored place c.args.expected.now last (sym c.is_ignored.ensures ∙ c.if-is_ignored.true)))
+    let at = served c.args.backing.now in
+    subst (λ (b : List ℕ). ReadsBy (DeviceDoes g.D.BlockDev.state g.D.BlockDev.does) c.args.config.now (data_of place 0 c.args.expected.now last one_block) at at (Ok b)) (sym c.in-Ok.ensures.ok)
+    (reads-none (one_ignored place c.args.expected.now last (sym c.is_ignored.ensures ∙ c.if-is_ignored.true)))
 
 pub read_data-returns-in-Err-clause-given : goal.read_data-returns-in-Err-clause-given
-read_data-returns-in-Err-clause-given g t c last = makes-none (way_full (place_in c.args.verity.now c.args.tree.now c.args.index) 0 c.args.expected.now last one_block)
+read_data-returns-in-Err-clause-given g t c last = reads-none (way_full (place_in c.args.verity.now c.args.tree.now c.args.index) 0 c.args.expected.now last one_block)
 
 pub walk-returns-in-Err-clause-given : goal.walk-returns-in-Err-clause-given
 walk-returns-in-Err-clause-given g t c =
@@ -1589,7 +1591,7 @@ path_block-returns-then-stands-clause-given g t c x =
     let digest = subst (λ (l : List CachedBlock). (get_or l w.at x).digest ≡ w.digest) value (stands.1 x).1 in
     let at = hash-lies config v tree w.level w.block c.requires.stack.sound.loaded c.requires.block.lies c.requires.block.there c.requires.level in
     let place = place_key config v tree w.level w.block c.hash_key-key.result (hash_place_of v tree w.level w.block) c.requires.block.lies c.hash_key-key.ensures at in
-    makes-none (hash_kept (expected_hash (place_in v tree w.block) w.level w.digest) _ (path-hit config place _ c.args.path.now.items w.at x w.digest c.requires.held there key digest).may)
+    reads-none (hash_kept (expected_hash (place_in v tree w.block) w.level w.digest) _ (path-hit config place _ c.args.path.now.items w.at x w.digest c.requires.held there key digest).may)
 
 pub path_block-returns-in-Err-clause-given : goal.path_block-returns-in-Err-clause-given
 path_block-returns-in-Err-clause-given g t c x =
@@ -1608,7 +1610,7 @@ path_block-returns-in-Ok-put-clause-given g t c x =
     let front : w.at ≡ length (take w.at path) = sym (length-take-le w.at path c.requires.at) in
     let here : get_or c.put.new.path.items w.at x ≡ one =
     ap (λ (l : List CachedBlock). get_or l w.at x) c.in-Ok-put.ensures.ok ∙ ap (λ (k : ℕ). get_or (take w.at path ++ (one ∷ [])) k x) front ∙ get_or-append_seam (take w.at path) one [] x in
-    subst (λ (b : List ℕ). ReadsBy (DeviceDoes g.D.BlockDev.state g.D.BlockDev.does) c.args.config.now (hash_of (expected_hash (place_in v c.args.tree.now w.block) w.level w.digest)) c.args.backing.now.devices.items c.hash_block.new.backing.devices.items (Ok b))
+    subst (λ (b : List ℕ). ReadsBy (DeviceDoes g.D.BlockDev.state g.D.BlockDev.does) c.args.config.now (hash_of (expected_hash (place_in v c.args.tree.now w.block) w.level w.digest)) (served c.args.backing.now) (served c.hash_block.new.backing) (Ok b))
     (sym (ap (λ (b : CachedBlock). b.bytes) here)) (reads-expected hash_of (ap (λ (e : Extent). expected_in e v.salt w.digest) c.hash_extent-extent.ensures.value) c.in-Ok.ensures.given)
 
 pub walk_path-returns-in-Err-clause-given : goal.walk_path-returns-in-Err-clause-given
@@ -1623,7 +1625,7 @@ walk_path-returns-clause-given g t c next =
     let path = c.loop-left.path.items in
     let none : c.loop-left.left ≡ 0 = omega (arith, c.loop-left-test.false) in
     let all : at ≡ levels (tree_of v) = omega (arith, inv.walked.count, none, inv.within, length-map (take at path) block_bytes, length-take at path) in
-    let Leads : ℕ → ℕ → Type 0 = λ l k. LeadsTo (DeviceDoes g.D.BlockDev.state g.D.BlockDev.does) c.args.config.now (whole_data place next) (data_of place l c.loop-left.digest (last_bytes (take k path)) next) c.args.backing.now.devices.items c.loop-left.backing.devices.items in
+    let Leads : ℕ → ℕ → Type 0 = λ l k. LeadsTo (DeviceDoes g.D.BlockDev.state g.D.BlockDev.does) c.args.config.now (whole_data place next) (data_of place l c.loop-left.digest (last_bytes (take k path)) next) (served c.args.backing.now) (served c.loop-left.backing) in
     subst (λ (k : ℕ). Leads 0 k) all (subst (λ (l : ℕ). Leads l at) none (inv.given next))
 
 pub read_beneath-returns-then-is_empty-clause-given : goal.read_beneath-returns-then-is_empty-clause-given
@@ -1824,7 +1826,7 @@ add_other-returns-in-Ok-clause-given g t c q has inside =
     let e = c.in-Some.extent in
     let at : other_at place q i ≡ Some e = sym (c.in-Some.ensures.is ∙ ap (λ (o : Option Parity). other_by place o i) has) in
     let count = room_sectors c.as_mut_slice-all.result.now e.sectors (ap (λ (l : List ℕ). length l) c.as_mut_slice-all.ensures.value) c.in-Some.ensures.few in
-    subst (λ (x : List ℕ). LeadsTo (DeviceDoes g.D.BlockDev.state g.D.BlockDev.does) c.args.config.now (sums_of place q i c.args.sums.now) (sums_of place q (suc i) x) c.args.backing.now.devices.items c.read_beneath.new.backing.devices.items) (sym c.add_block.ensures)
+    subst (λ (x : List ℕ). LeadsTo (DeviceDoes g.D.BlockDev.state g.D.BlockDev.does) c.args.config.now (sums_of place q i c.args.sums.now) (sums_of place q (suc i) x) (served c.args.backing.now) (served c.read_beneath.new.backing)) (sym c.add_block.ensures)
     (other-added e inside at count (c.in-Ok.ensures.given.some (omega (arith, count, c.in-Some.ensures.lies.some))))
 
 pub add_parity-read_beneath-requires : goal.add_parity-read_beneath-requires
@@ -1935,7 +1937,7 @@ add_parity-returns-in-Ok-clause-given g t c q has =
     let count = stored-room c.as_mut_slice-all.result.now at.sectors room c.in-Some.ensures.few in
     let round = is-round config v tree loaded c.requires.block.lies c.args.index c.requires.block.there q has in
     let is = stored-sums config v tree q c.args.sums.now c.read_beneath.new.out c.add_stored.new.sums c.as_mut_slice-all.result.now at loaded c.requires.block.lies c.requires.size stored.sectors c.read_beneath.auto.out room c.in-Some.ensures.few c.add_stored.ensures in
-    subst (λ (x : List ℕ). ReadsBy (DeviceDoes g.D.BlockDev.state g.D.BlockDev.does) config (sums_of place q (255 - q.roots) c.args.sums.now) c.args.backing.now.devices.items c.read_beneath.new.backing.devices.items (Ok x)) (sym is)
+    subst (λ (x : List ℕ). ReadsBy (DeviceDoes g.D.BlockDev.state g.D.BlockDev.does) config (sums_of place q (255 - q.roots) c.args.sums.now) (served c.args.backing.now) (served c.read_beneath.new.backing) (Ok x)) (sym is)
     (stored-given c.args.sums.now at stored count (c.in-Ok.ensures.given.some (stored-some config v tree q c.as_mut_slice-all.result.now at loaded c.requires.block.lies round.some stored.sectors room c.in-Some.ensures.few)))
 
 pub mend-loop-place-init : goal.mend-loop-place-init
@@ -1953,7 +1955,7 @@ mend-loop-place-init g t c =
           subst (λ (x : List ℕ). IsSummed (block_in config v index) q 0 x leaves leaves) (sym zeros) (summed-none (block_in config v index) q has round.some round.few round.low leaves);
       cached = record { capacity = refl; sound = c.requires.stack.cached };
       touches = asks-none (leaves_of config (mapped tree.device.0)) leaves (Ok tt) tt refl;
-      given = λ q has. subst (λ (x : List ℕ). LeadsTo (DeviceDoes g.D.BlockDev.state g.D.BlockDev.does) config (sums_of (place_in v tree index) q 0 (zero_block v)) (sums_of (place_in v tree index) q 0 x) c.args.backing.now.devices.items c.args.backing.now.devices.items) (sym zeros) (leads-begin (sums_of (place_in v tree index) q 0 (zero_block v)));
+      given = λ q has. subst (λ (x : List ℕ). LeadsTo (DeviceDoes g.D.BlockDev.state g.D.BlockDev.does) config (sums_of (place_in v tree index) q 0 (zero_block v)) (sums_of (place_in v tree index) q 0 x) (served c.args.backing.now) (served c.args.backing.now)) (sym zeros) (leads-begin (sums_of (place_in v tree index) q 0 (zero_block v)));
     }
 
 pub mend-returns-in-None-clause-reads : goal.mend-returns-in-None-clause-reads
@@ -2007,7 +2009,7 @@ mend-loop-place-preserved g t c =
       touches = asks-then inv.touches c.in-Ok.ensures.touches;
       given = λ q has.
           let low : place < 255 - q.roots = mend-inside v.parity c.in-Some.parity q place c.in-Some.is has (omega (arith, c.loop-place-test.true)) in
-          subst (λ (k : ℕ). LeadsTo (DeviceDoes g.D.BlockDev.state g.D.BlockDev.does) config (sums_of (place_in v tree index) q 0 (zero_block v)) (sums_of (place_in v tree index) q k c.add_other.new.sums) c.args.backing.now.devices.items c.add_other.new.backing.devices.items) next
+          subst (λ (k : ℕ). LeadsTo (DeviceDoes g.D.BlockDev.state g.D.BlockDev.does) config (sums_of (place_in v tree index) q 0 (zero_block v)) (sums_of (place_in v tree index) q k c.add_other.new.sums) (served c.args.backing.now) (served c.add_other.new.backing)) next
           (leads-then (inv.given q has) (c.in-Ok.ensures.given q has low));
     }
 
@@ -2034,7 +2036,7 @@ mend-returns-in-Err-add_parity-clause-given g t c =
     let place = place_in c.args.verity.now c.args.tree.now c.args.lost.now.index in
     let all : 255 - q.roots ≡ c.loop-place.place = omega (arith, c.loop-place-test.false, c.loop-place.invariant.within) in
     spare-lost has (c.loop-place.invariant.given q has)
-    (subst (λ (k : ℕ). ReadsBy (DeviceDoes g.D.BlockDev.state g.D.BlockDev.does) c.args.config.now (sums_of place q k c.loop-place.out) c.loop-place.backing.devices.items c.add_parity.new.backing.devices.items (Err c.in-Err-add_parity.fault)) all (c.in-Err-add_parity.ensures.given q has))
+    (subst (λ (k : ℕ). ReadsBy (DeviceDoes g.D.BlockDev.state g.D.BlockDev.does) c.args.config.now (sums_of place q k c.loop-place.out) (served c.loop-place.backing) (served c.add_parity.new.backing) (Err c.in-Err-add_parity.fault)) all (c.in-Err-add_parity.ensures.given q has))
 
 pub mend-returns-then-eq-clause-reads : goal.mend-returns-then-eq-clause-reads
 mend-returns-then-eq-clause-reads g t c =
@@ -2058,7 +2060,7 @@ mend-returns-then-eq-clause-given g t c =
     let all : 255 - q.roots ≡ c.loop-place.place = omega (arith, c.loop-place-test.false, c.loop-place.invariant.within) in
     let good : c.digest.result ≡ c.args.lost.now.digest = (bytes_eq-Decides c.digest.result c.args.lost.now.digest).0 (sym c.eq.ensures ∙ c.if-eq.true) in
     spare-given has (c.loop-place.invariant.given q has) (sym c.digest.ensures ∙ good)
-    (subst (λ (k : ℕ). ReadsBy (DeviceDoes g.D.BlockDev.state g.D.BlockDev.does) c.args.config.now (sums_of place q k c.loop-place.out) c.loop-place.backing.devices.items c.add_parity.new.backing.devices.items (Ok c.add_parity.new.sums)) all (c.in-Ok-add_parity.ensures.given q has))
+    (subst (λ (k : ℕ). ReadsBy (DeviceDoes g.D.BlockDev.state g.D.BlockDev.does) c.args.config.now (sums_of place q k c.loop-place.out) (served c.loop-place.backing) (served c.add_parity.new.backing) (Ok c.add_parity.new.sums)) all (c.in-Ok-add_parity.ensures.given q has))
 
 pub mend-returns-clause-reads : goal.mend-returns-clause-reads
 mend-returns-clause-reads g t c =
@@ -2086,7 +2088,7 @@ mend-returns-clause-given g t c =
     let clash : false ≡ true = sym c.if-eq.false ∙ c.eq.ensures ∙ (bytes_eq-Decides c.digest.result c.args.lost.now.digest).1 made in
     cc in
     spare-other has (c.loop-place.invariant.given q has) other
-    (subst (λ (k : ℕ). ReadsBy (DeviceDoes g.D.BlockDev.state g.D.BlockDev.does) c.args.config.now (sums_of place q k c.loop-place.out) c.loop-place.backing.devices.items c.add_parity.new.backing.devices.items (Ok c.add_parity.new.sums)) all (c.in-Ok-add_parity.ensures.given q has))
+    (subst (λ (k : ℕ). ReadsBy (DeviceDoes g.D.BlockDev.state g.D.BlockDev.does) c.args.config.now (sums_of place q k c.loop-place.out) (served c.loop-place.backing) (served c.add_parity.new.backing) (Ok c.add_parity.new.sums)) all (c.in-Ok-add_parity.ensures.given q has))
 
 -- ---- healing
 
@@ -2104,7 +2106,7 @@ heal-returns-in-Ok-mend-clause-reads g t c =
     let block = c.in-Ok.block in
     let out = c.mend.new.out in
     let held : length out ≡ block.len = c.mend.auto.out ∙ ap (λ (l : List ℕ). length l) c.as_mut_slice.ensures.value ∙ sym block.ok.0 in
-    heals-had g.D.BlockDev.state c.args.config.now (place_in c.args.verity.now c.args.tree.now c.args.lost.now.index) c.args.lost.now c.args.fault (with_items block out) (with_items_is block out held) c.in-Ok-mend.ensures.reads c.in-Ok-mend.ensures.given
+    heals-had g.D.BlockDev.state c.args.config.now (place_in c.args.verity.now c.args.tree.now c.args.lost.now.index) c.args.lost.now c.args.fault (with_items block out) (with_items_is block out held) c.in-Ok-mend.ensures.reads {read = served c.mend.new.backing} (ap (serving c.mend.new.backing.devices.items) c.one_more-backing.ensures) c.in-Ok-mend.ensures.given
 
 pub heal-returns-in-Err-mend-clause-reads : goal.heal-returns-in-Err-mend-clause-reads
 heal-returns-in-Err-mend-clause-reads g t c =
@@ -2132,12 +2134,12 @@ settle_block-returns-then-settle-clause-reads g t c = inl (
 pub settle_block-returns-in-Ok-clause-reads : goal.settle_block-returns-in-Ok-clause-reads
 settle_block-returns-in-Ok-clause-reads g t c =
     let other = c.if-settle.ensures.other refl in
-    inr (record { used = other.0; differs = other.1; spare = Ok c.mend.new.out; is = refl; got = c.in-Ok.ensures.reads; given = c.in-Ok.ensures.given })
+    inr (record { used = other.0; differs = other.1; spare = Ok c.mend.new.out; is = refl; got = c.in-Ok.ensures.reads; read = served c.mend.new.backing; counted = ap (serving c.mend.new.backing.devices.items) c.one_more-backing.ensures; given = c.in-Ok.ensures.given })
 
 pub settle_block-returns-in-Err-clause-reads : goal.settle_block-returns-in-Err-clause-reads
 settle_block-returns-in-Err-clause-reads g t c =
     let other = c.if-settle.ensures.other refl in
-    inr (record { used = other.0; differs = other.1; spare = Err c.in-Err.vain; is = ap Err c.unhealed.ensures; got = c.in-Err.ensures.reads; given = c.in-Err.ensures.given })
+    inr (record { used = other.0; differs = other.1; spare = Err c.in-Err.vain; is = ap Err c.unhealed.ensures; got = c.in-Err.ensures.reads; read = served c.mend.new.backing; counted = refl; given = c.in-Err.ensures.given })
 
 pub settle_block-returns-in-Err-clause-touches : goal.settle_block-returns-in-Err-clause-touches
 settle_block-returns-in-Err-clause-touches g t c = rw c.unhealed.ensures (asks-unhealed Mismatch c.in-Err.vain c.in-Err.ensures.touches)
@@ -2180,9 +2182,10 @@ read_data-returns-in-Err-Stack-clause-given g t c last =
     let healed = c.heal.ensures.reads in
     let place = place_in c.args.verity.now c.args.tree.now c.args.index in
     let fault = c.in-Err-Stack.fault in
-    subst (λ (r : Result (List ℕ) IoFault). ReadsBy (DeviceDoes g.D.BlockDev.state g.D.BlockDev.does) c.args.config.now (data_of place 0 c.args.expected.now last one_block) c.args.backing.now.devices.items c.heal.new.backing.devices.items r)
+    subst (λ (r : Result (List ℕ) IoFault). ReadsBy (DeviceDoes g.D.BlockDev.state g.D.BlockDev.does) c.args.config.now (data_of place 0 c.args.expected.now last one_block) (served c.args.backing.now) (served c.heal.new.backing) r)
     (healed-bytes fault healed.spare ∙ ap block_answer (sym healed.is))
-    (one-healed last (sym c.is_ignored.ensures ∙ c.if-is_ignored.false) c.data_extent-extent.ensures.value (rw c.in-Err-Stack.field-0-is at c.in-Err-Stack.ensures.given) healed.given)
+    (subst (λ s. ReadsBy (DeviceDoes g.D.BlockDev.state g.D.BlockDev.does) c.args.config.now (data_of place 0 c.args.expected.now last one_block) (served c.args.backing.now) s (healed_result fault (block_answer healed.spare))) (sym healed.counted)
+    (one-healed last (sym c.is_ignored.ensures ∙ c.if-is_ignored.false) c.data_extent-extent.ensures.value (rw c.in-Err-Stack.field-0-is at c.in-Err-Stack.ensures.given) healed.given))
 
 pub read_data-returns-in-Err-Device-clause-touches : goal.read_data-returns-in-Err-Device-clause-touches
 read_data-returns-in-Err-Device-clause-touches g t c =

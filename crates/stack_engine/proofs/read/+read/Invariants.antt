@@ -14,7 +14,7 @@ use Rattle.stack_lines.specs.Caches.{IsCached, KeepsCache}
 use Rattle.stack_lines.specs.Touches.{AsksOnly, leaves_of}
 use Rattle.stack_engine.proofs.SpentLemmas.{IsCutBehind}
 use Rattle.stack_engine.proofs.NextBlockLemmas.{AreChecked}
-use Rattle.stack_engine.specs.Backings.{backing_of}
+use Rattle.stack_engine.specs.Backings.{backing_of, served}
 use Rattle.stack_engine.specs.Keeping.{ReadsAs}
 use Rattle.stack_engine.specs.ReadSteps.{run_beneath, IsReadStep}
 use Rattle.stack_engine.proofs.read.+read.Given as goal
@@ -39,7 +39,7 @@ invariant-read_device-loop-at g l = record {
   within : l.at ≤ length l.out;
   so_far : ReadsAs l.chains l.config (mapped l.from.0.0) l.from.1 (l.at / 512)
       (record { old = map g.D.BlockDev.state l.fn.backing.devices.items; new = map g.D.BlockDev.state l.backing.devices.items; before = l.fn.found.items; after = l.found.items }) (Ok (take l.at l.out));
-  given : GivesUpTo (DeviceDoes g.D.BlockDev.state g.D.BlockDev.does) l.config l.from.0.0 l.from.1 (length l.fn.out / 512) (l.at / 512) (take l.at l.out) l.fn.backing.devices.items l.backing.devices.items;
+  given : GivesUpTo (DeviceDoes g.D.BlockDev.state g.D.BlockDev.does) l.config l.from.0.0 l.from.1 (length l.fn.out / 512) (l.at / 512) (take l.at l.out) (served l.fn.backing) (served l.backing);
   step : IsReadStep l.config (run_beneath l.config (mapped l.from.0.0) l.from.1 (l.at / 512)) (backing_of g.D.BlockDev.state l.fn.backing) (backing_of g.D.BlockDev.state l.backing) (Ok tt);
   cut : IsCutBehind l.config l.from.0.0 l.from.1 (l.at / 512) (length l.fn.out / 512);
 }
@@ -76,7 +76,7 @@ invariant-walk-loop-level g l = record {
   cached : KeepsCache l.config (map g.D.BlockDev.state l.backing.devices.items) l.fn.backing.cache l.backing.cache;
   touches : AsksOnly {A = Unit {0}} (leaves_of l.config (mapped l.tree.device.0)) (map g.D.BlockDev.state l.fn.backing.devices.items) (map g.D.BlockDev.state l.backing.devices.items) (Ok tt);
   given : (last : List ℕ) × LeadsTo (DeviceDoes g.D.BlockDev.state g.D.BlockDev.does) l.config (whole_data (place_in l.verity l.tree l.index) one_block) (data_of (place_in l.verity l.tree l.index) l.level l.expected last one_block)
-      l.fn.backing.devices.items l.backing.devices.items;
+      (served l.fn.backing) (served l.backing);
 }
 
 abbrev pub decreases-walk-loop-level : goal.decreases-walk-loop-level
@@ -101,7 +101,7 @@ invariant-walk_path-loop-left g l = record {
   cached : KeepsCache l.config (map g.D.BlockDev.state l.backing.devices.items) l.fn.backing.cache l.backing.cache;
   touches : AsksOnly {A = Unit {0}} (leaves_of l.config l.tree.hash) (map g.D.BlockDev.state l.fn.backing.devices.items) (map g.D.BlockDev.state l.backing.devices.items) (Ok tt);
   given : (next : DataRead) → LeadsTo (DeviceDoes g.D.BlockDev.state g.D.BlockDev.does) l.config (whole_data (place_in l.verity l.tree l.index) next)
-      (data_of (place_in l.verity l.tree l.index) l.left l.digest (last_bytes (take l.at l.path.items)) next) l.fn.backing.devices.items l.backing.devices.items;
+      (data_of (place_in l.verity l.tree l.index) l.left l.digest (last_bytes (take l.at l.path.items)) next) (served l.fn.backing) (served l.backing);
 }
 
 abbrev pub decreases-walk_path-loop-left : goal.decreases-walk_path-loop-left
@@ -117,7 +117,7 @@ invariant-read_blocks-checks g l = record {
       (map g.D.BlockDev.state l.fn.backing.devices.items) (map g.D.BlockDev.state l.backing.devices.items) l.fn.found.items l.found.items;
   cached : KeepsCache l.config (map g.D.BlockDev.state l.backing.devices.items) l.fn.backing.cache l.backing.cache;
   touches : AsksOnly {A = Unit {0}} (leaves_of l.config (mapped l.fn.part.device.0)) (map g.D.BlockDev.state l.fn.backing.devices.items) (map g.D.BlockDev.state l.backing.devices.items) (Ok tt);
-  given : BlocksUpTo (DeviceDoes g.D.BlockDev.state g.D.BlockDev.does) l.config l.fn.part (length l.fn.out / 512) l.read l.at l.out l.fn.backing.devices.items l.backing.devices.items;
+  given : BlocksUpTo (DeviceDoes g.D.BlockDev.state g.D.BlockDev.does) l.config l.fn.part (length l.fn.out / 512) l.read l.at l.out (served l.fn.backing) (served l.backing);
 }
 
 abbrev pub decreases-read_blocks-checks : goal.decreases-read_blocks-checks
@@ -146,7 +146,7 @@ invariant-mend-loop-place g l = record {
   cached : KeepsCache l.config (map g.D.BlockDev.state l.backing.devices.items) l.fn.backing.cache l.backing.cache;
   touches : AsksOnly {A = Unit {0}} (leaves_of l.config (mapped l.tree.device.0)) (map g.D.BlockDev.state l.fn.backing.devices.items) (map g.D.BlockDev.state l.backing.devices.items) (Ok tt);
   given : (q : Parity) → l.verity.parity ≡ Some q → LeadsTo (DeviceDoes g.D.BlockDev.state g.D.BlockDev.does) l.config (sums_of (place_in l.verity l.tree l.index) q 0 (zero_block l.verity)) (sums_of (place_in l.verity l.tree l.index) q l.place l.out)
-      l.fn.backing.devices.items l.backing.devices.items;
+      (served l.fn.backing) (served l.backing);
 }
 
 abbrev pub decreases-mend-loop-place : goal.decreases-mend-loop-place

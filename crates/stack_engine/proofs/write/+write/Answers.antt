@@ -501,6 +501,7 @@ write_units-returns-then-lower_cuts-clause-step g t c =
       paid = λ k. once-paid config k c.args.part n c.requires.stack.sound.loaded c.requires.fits.holds unit.result.first (length c.encrypt.new.units / 512) (map state c.args.backing.now.devices.items) (map state c.write_lower.new.backing.devices.items) unit.ensures.first (omega (arith, c.encrypt.auto.units))
           (omega (arith, c.requires.fits.sectors.some, c.requires.fits.sectors.whole)) (wrote.step.paid k);
       cached = wrote.step.cached;
+      uncounted = wrote.step.uncounted;
       forgets = wrote.step.forgets;
     }
 

@@ -1,4 +1,4 @@
-use Rattle.std.proofs.Common.{◌≡◌, ◌/◌, map, length, sym, ap, ◌∙◌, subst, ℕ}
+use Rattle.std.proofs.Common.{◌≡◌, ◌/◌, map, length, refl, sym, ap, ◌∙◌, subst, ℕ}
 use Rattle.std.proofs.lemmas.List.{with_items_is}
 use Rattle.std.specs.Vec.{with_items}
 use Rattle.std.specs.Prelude.{is_ok}
@@ -29,10 +29,11 @@ returns-clause-step g c =
     let after = c.forget_leaf.new.self in
     let stands : (with_items devices new).items ≡ new = with_items_is devices new (c.write_sectors.auto.devices ∙ ap (λ l. length l) c.as_mut_slice.ensures.value ∙ sym devices.ok.0) in
     let wrote = subst (λ ds. WritesSectors (destination_of config (Leaf leaf)) c.args.first (sectors_in bytes) (map state ds) (map state new) c.write_sectors.result) c.as_mut_slice.ensures.value c.write_sectors.ensures.writes in
-    subst (λ ds. IsWriteStep config (write_beneath config (Leaf leaf) c.args.first n) (backing_of state c.args.backing.now) (record { leaves = map state ds; cache = after })) (sym stands) (record {
+    subst (λ ds. IsWriteStep config (write_beneath config (Leaf leaf) c.args.first n) (backing_of state c.args.backing.now) (record { leaves = map state ds; cache = after; restored = c.args.backing.now.restored })) (sym stands) (record {
       uncut = λ cuts. wrote.unread (leaf-plain config leaf c.args.first _);
       paid = λ k. leaf-paid config k leaf c.args.first n (sectors_in bytes) (map state devices.items) (map state new) c.write_sectors.result (length-sectors_in bytes) wrote;
       cached = keeps-written config leaf c.args.first _ _ (map state devices.items) (map state new) cache after wrote.moved c.requires.stack.cached c.forget_leaf.ensures.blocks c.forget_leaf.ensures.sets c.forget_leaf.ensures.covers;
+      uncounted = refl;
       forgets = forgets-leaf config leaf c.args.first _ (map state devices.items) (map state new) cache.blocks.blocks after.blocks.blocks wrote.moved.others (ap (λ (k : CacheRecord). k.blocks) c.forget_leaf.ensures.blocks);
     })
 

@@ -20,5 +20,5 @@ returns-in_err-leaves-clause-err g c =
       image = c.in_ok-image.image;
       between = c.open_apart.new.images;
       told = record { between = c.read_apart.new.images; told = c.in_ok-text.ensures.ok; opened = rw c.text_use.ensures at c.in_ok-image.ensures.ok };
-      fails = rw c.text_use-2.ensures at c.in_err-leaves.ensures.err;
+      fails = rw (c.text_use-2.ensures, c.image_use.ensures) at c.in_err-leaves.ensures.err;
     })))

@@ -26,8 +26,9 @@ use Rattle.stack_recovery.specs.PassPieces.{IsNextPiece, pass_over}
 use Rattle.stack_recovery.specs.PieceLimits.{is_given_up, limit_after_bytes, limit_after_loss, limit_up_to}
 use Rattle.stack_recovery.specs.Pieces.{EndsAligned}
 use Rattle.stack_recovery.specs.Recoveries.{EndsEarly, Sides, scanned_by, sides}
+use Rattle.stack_recovery.specs.Stretches.{BeginsOtherwise}
 use Rattle.stack_recovery.specs.Surveys.{AreMarked}
-use Rattle.stack_recovery.proofs.AheadLemmas.{ahead-inside, ahead-next, ahead-some, first-run, marked-next, notes-some}
+use Rattle.stack_recovery.proofs.AheadLemmas.{ahead-few, ahead-inside, ahead-next, ahead-some, first-run, marked-next, notes-some}
 use Rattle.stack_recovery.proofs.HandingLemmas.{hands-failed, hands-in-piece, hands-over, hands-part}
 use Rattle.stack_recovery.proofs.LeafReadLemmas.{copies-again, copies-had}
 use Rattle.stack_recovery.proofs.PieceLemmas.{found-again, loss-fault, loss-found, may-lose, next-piece}
@@ -56,19 +57,23 @@ pieces-init g c =
       piece_limit = c.of_run-piece_limit.ensures.piece_limit;
       unfailed = refl;
       noted = refl;
-      single = c.requires.single;
     }
 
-pub next_run-run-requires : goal.next_run-run-requires
-next_run-run-requires g c =
+pub next_stretch-run-requires-clause-some : goal.next_stretch-run-requires-clause-some
+next_stretch-run-requires-clause-some g c =
     ahead-some _ c.pieces.at c.sectors-sectors.result _ (c.requires.fits ∙ sym c.pieces.invariant.all) c.pieces.invariant.ahead (omega (arith, c.pieces-test.true, c.pass_end.ensures.few))
+
+pub next_stretch-run-requires-clause-few : goal.next_stretch-run-requires-clause-few
+next_stretch-run-requires-clause-few g c =
+    let u = c.pieces.invariant in
+    ahead-few _ c.pieces.at c.sectors-sectors.result (2 ^ 54) _ (c.requires.fits ∙ sym u.all) u.ahead u.few
 
 pub note-requires-clause-room : goal.note-requires-clause-room
 note-requires-clause-room g c =
     let u = c.pieces.invariant in
-    let first = first-run c.pieces.ahead c.next_run-run.new.self c.next_run-run.result c.next_run-run.ensures.same c.next_run-run.ensures.first in
-    let inside = ahead-inside (marks_ahead c.args.ahead) c.pieces.at c.sectors-sectors.result c.next_run-run.result.count c.next_run-run.result.had _ _ (c.requires.fits ∙ sym u.all) u.ahead first u.within in
-    λ x e. note-room _ _ _ _ _ _ _ _ _ _ u.so_far.under c.next_run-run.result.count (omega (arith, inside, u.few)) x e
+    let first = first-run c.pieces.ahead c.next_stretch-run.new.ahead c.next_stretch-run.result c.next_stretch-run.ensures.same c.next_stretch-run.ensures.first in
+    let inside = ahead-inside (marks_ahead c.args.ahead) c.pieces.at c.sectors-sectors.result c.next_stretch-run.result.count c.next_stretch-run.result.had _ _ (c.requires.fits ∙ sym u.all) u.ahead first u.within in
+    λ x e. note-room _ _ _ _ _ _ _ _ _ _ u.so_far.under c.next_stretch-run.result.count (omega (arith, inside, u.few)) x e
 
 pub returns-in_err-note-clause-err : goal.returns-in_err-note-clause-err
 returns-in_err-note-clause-err g c =
@@ -83,34 +88,34 @@ returns-in_err-note-clause-err g c =
 pub overflow_add-at : goal.overflow_add-at
 overflow_add-at g c =
     let u = c.pieces.invariant in
-    let first = first-run c.pieces.ahead c.next_run-run.new.self c.next_run-run.result c.next_run-run.ensures.same c.next_run-run.ensures.first in
-    let inside = ahead-inside (marks_ahead c.args.ahead) c.pieces.at c.sectors-sectors.result c.next_run-run.result.count c.next_run-run.result.had _ _ (c.requires.fits ∙ sym u.all) u.ahead first u.within in
+    let first = first-run c.pieces.ahead c.next_stretch-run.new.ahead c.next_stretch-run.result c.next_stretch-run.ensures.same c.next_stretch-run.ensures.first in
+    let inside = ahead-inside (marks_ahead c.args.ahead) c.pieces.at c.sectors-sectors.result c.next_stretch-run.result.count c.next_stretch-run.result.had _ _ (c.requires.fits ∙ sym u.all) u.ahead first u.within in
     omega (arith, inside, u.few)
 
 pub of_run-piece_limit-requires-then-run : goal.of_run-piece_limit-requires-then-run
 of_run-piece_limit-requires-then-run g c =
     let u = c.pieces.invariant in
-    let first = first-run c.pieces.ahead c.next_run-run.new.self c.next_run-run.result c.next_run-run.ensures.same c.next_run-run.ensures.first in
-    let inside = ahead-inside (marks_ahead c.args.ahead) c.pieces.at c.sectors-sectors.result c.next_run-run.result.count c.next_run-run.result.had _ _ (c.requires.fits ∙ sym u.all) u.ahead first u.within in
+    let first = first-run c.pieces.ahead c.next_stretch-run.new.ahead c.next_stretch-run.result c.next_stretch-run.ensures.same c.next_stretch-run.ensures.first in
+    let inside = ahead-inside (marks_ahead c.args.ahead) c.pieces.at c.sectors-sectors.result c.next_stretch-run.result.count c.next_stretch-run.result.had _ _ (c.requires.fits ∙ sym u.all) u.ahead first u.within in
     omega (arith, inside, u.few)
 
 pub pieces-preserved-then-run : goal.pieces-preserved-then-run
 pieces-preserved-then-run g c =
     let u = c.pieces.invariant in
     let before : List Bool = marks_ahead c.args.ahead in
-    let here : Run = c.next_run-run.result in
-    let first = first-run c.pieces.ahead c.next_run-run.new.self here c.next_run-run.ensures.same c.next_run-run.ensures.first in
+    let here : Run = c.next_stretch-run.result in
+    let first = first-run c.pieces.ahead c.next_stretch-run.new.ahead here c.next_stretch-run.ensures.same c.next_stretch-run.ensures.first in
     let inside = ahead-inside before c.pieces.at c.sectors-sectors.result here.count here.had _ _ (c.requires.fits ∙ sym u.all) u.ahead first u.within in
     let marked : AreMarked before c.pieces.at here.count true = subst (AreMarked before c.pieces.at here.count) c.if-run.true (marked-next before c.pieces.at here.count here.count here.had _ (omega arith) (u.ahead ∙ first)) in
     let tally = closed-tally c.pieces.tally c.close.new.self c.close.ensures.last c.close.ensures.lost.0 c.close.ensures.lost.1 in
     record {
       so_far = record {
         calls = u.so_far.calls;
-        under = underway-kept _ _ _ _ _ _ _ _ _ _ u.so_far.under here.count (g.L.Listing.told c.close.new.listing) c.close.new.self c.note.new.noted c.of_run-piece_limit-then-run.result c.of_run-piece_limit-then-run.ensures.value c.next_run-run.ensures.some marked c.in_ok-note.ensures.ok c.close.ensures.text tally;
+        under = underway-kept _ _ _ _ _ _ _ _ _ _ u.so_far.under here.count (g.L.Listing.told c.close.new.listing) c.close.new.self c.note.new.noted c.of_run-piece_limit-then-run.result c.of_run-piece_limit-then-run.ensures.value c.next_stretch-run.ensures.some marked c.in_ok-note.ensures.ok c.close.ensures.text tally;
         did = u.so_far.did;
       };
       called = sectors_had here.count u.called marked;
-      ahead = ahead-next before c.pieces.at here.count _ _ _ (u.ahead ∙ sym c.next_run-run.ensures.same) c.pass.ensures.marks;
+      ahead = ahead-next before c.pieces.at here.count _ _ _ (u.ahead ∙ sym c.next_stretch-run.ensures.same) c.pass.ensures.marks;
       config = u.config;
       within = inside;
       all = u.all;
@@ -118,31 +123,30 @@ pieces-preserved-then-run g c =
       piece_limit = c.of_run-piece_limit-then-run.ensures.piece_limit;
       unfailed = u.unfailed;
       noted = notes-some c.pieces.noted c.note.new.noted _ c.in_ok-note.ensures.ok ∙ u.noted;
-      single = λ none. c.pass.ensures.rest ∙ c.next_run-run.ensures.single (u.single none);
     }
 
 pub overflow_add-at-else-run : goal.overflow_add-at-else-run
 overflow_add-at-else-run g c =
     let u = c.pieces.invariant in
-    let first = first-run c.pieces.ahead c.next_run-run.new.self c.next_run-run.result c.next_run-run.ensures.same c.next_run-run.ensures.first in
-    let inside = ahead-inside (marks_ahead c.args.ahead) c.pieces.at c.sectors-sectors.result c.next_run-run.result.count c.next_run-run.result.had _ _ (c.requires.fits ∙ sym u.all) u.ahead first u.within in
+    let first = first-run c.pieces.ahead c.next_stretch-run.new.ahead c.next_stretch-run.result c.next_stretch-run.ensures.same c.next_stretch-run.ensures.first in
+    let inside = ahead-inside (marks_ahead c.args.ahead) c.pieces.at c.sectors-sectors.result c.next_stretch-run.result.count c.next_stretch-run.result.had _ _ (c.requires.fits ∙ sym u.all) u.ahead first u.within in
     omega (arith, inside, u.few)
 
 pub piece_at-piece-requires-clause-inside : goal.piece_at-piece-requires-clause-inside
 piece_at-piece-requires-clause-inside g c =
     let u = c.pieces.invariant in
-    let count : ℕ = c.next_run-run.result.count in
-    let first = first-run c.pieces.ahead c.next_run-run.new.self c.next_run-run.result c.next_run-run.ensures.same c.next_run-run.ensures.first in
-    let inside = ahead-inside (marks_ahead c.args.ahead) c.pieces.at c.sectors-sectors.result count c.next_run-run.result.had _ _ (c.requires.fits ∙ sym u.all) u.ahead first u.within in
+    let count : ℕ = c.next_stretch-run.result.count in
+    let first = first-run c.pieces.ahead c.next_stretch-run.new.ahead c.next_stretch-run.result c.next_stretch-run.ensures.same c.next_stretch-run.ensures.first in
+    let inside = ahead-inside (marks_ahead c.args.ahead) c.pieces.at c.sectors-sectors.result count c.next_stretch-run.result.had _ _ (c.requires.fits ∙ sym u.all) u.ahead first u.within in
     subst (λ (x : Configuration). c.pieces.at + count ≤ size x (mapped c.args.pass.device.0)) (sym (c.config-else-run.ensures.value ∙ u.config)) (subst (λ (m : ℕ). c.pieces.at + count ≤ m) u.all inside)
 
 pub read_bytes-requires-clause-inside : goal.read_bytes-requires-clause-inside
 read_bytes-requires-clause-inside g c =
     let u = c.pieces.invariant in
-    let count : ℕ = c.next_run-run.result.count in
+    let count : ℕ = c.next_stretch-run.result.count in
     let n : ℕ = c.piece_at-piece.result.count in
-    let first = first-run c.pieces.ahead c.next_run-run.new.self c.next_run-run.result c.next_run-run.ensures.same c.next_run-run.ensures.first in
-    let inside = ahead-inside (marks_ahead c.args.ahead) c.pieces.at c.sectors-sectors.result count c.next_run-run.result.had _ _ (c.requires.fits ∙ sym u.all) u.ahead first u.within in
+    let first = first-run c.pieces.ahead c.next_stretch-run.new.ahead c.next_stretch-run.result c.next_stretch-run.ensures.same c.next_stretch-run.ensures.first in
+    let inside = ahead-inside (marks_ahead c.args.ahead) c.pieces.at c.sectors-sectors.result count c.next_stretch-run.result.had _ _ (c.requires.fits ∙ sym u.all) u.ahead first u.within in
     let wide : length (take (n * 512) c.pieces.room) ≡ n * 512 = length-take-le (n * 512) c.pieces.room (omega (arith, c.requires.buffer, c.pieces.auto.room, c.piece_at-piece.ensures.few)) in
     let within : c.pieces.at + length (take (n * 512) c.pieces.room) / 512 ≤ c.sectors-sectors.result = omega (arith, wide, inside, c.piece_at-piece.ensures.inside) in
     subst (λ (x : Configuration). c.pieces.at + length (take (n * 512) c.pieces.room) / 512 ≤ size x (mapped c.args.pass.device.0)) (sym u.config) (subst (λ (m : ℕ). c.pieces.at + length (take (n * 512) c.pieces.room) / 512 ≤ m) u.all within)
@@ -150,8 +154,8 @@ read_bytes-requires-clause-inside g c =
 pub note-requires-in-Ok-clause-room : goal.note-requires-in-Ok-clause-room
 note-requires-in-Ok-clause-room g c =
     let u = c.pieces.invariant in
-    let first = first-run c.pieces.ahead c.next_run-run.new.self c.next_run-run.result c.next_run-run.ensures.same c.next_run-run.ensures.first in
-    let inside = ahead-inside (marks_ahead c.args.ahead) c.pieces.at c.sectors-sectors.result c.next_run-run.result.count c.next_run-run.result.had _ _ (c.requires.fits ∙ sym u.all) u.ahead first u.within in
+    let first = first-run c.pieces.ahead c.next_stretch-run.new.ahead c.next_stretch-run.result c.next_stretch-run.ensures.same c.next_stretch-run.ensures.first in
+    let inside = ahead-inside (marks_ahead c.args.ahead) c.pieces.at c.sectors-sectors.result c.next_stretch-run.result.count c.next_stretch-run.result.had _ _ (c.requires.fits ∙ sym u.all) u.ahead first u.within in
     λ x e. note-room _ _ _ _ _ _ _ _ _ _ u.so_far.under c.from-count.result (omega (arith, inside, u.few, c.from-count.ensures, c.piece_at-piece.ensures.inside)) x e
 
 pub returns-in_err-note-in-Ok-clause-err : goal.returns-in_err-note-in-Ok-clause-err
@@ -168,8 +172,8 @@ pub write-requires-clause-range : goal.write-requires-clause-range
 write-requires-clause-range g c =
     let u = c.pieces.invariant in
     let n : ℕ = c.piece_at-piece.result.count in
-    let first = first-run c.pieces.ahead c.next_run-run.new.self c.next_run-run.result c.next_run-run.ensures.same c.next_run-run.ensures.first in
-    let inside = ahead-inside (marks_ahead c.args.ahead) c.pieces.at c.sectors-sectors.result c.next_run-run.result.count c.next_run-run.result.had _ _ (c.requires.fits ∙ sym u.all) u.ahead first u.within in
+    let first = first-run c.pieces.ahead c.next_stretch-run.new.ahead c.next_stretch-run.result c.next_stretch-run.ensures.same c.next_stretch-run.ensures.first in
+    let inside = ahead-inside (marks_ahead c.args.ahead) c.pieces.at c.sectors-sectors.result c.next_stretch-run.result.count c.next_stretch-run.result.had _ _ (c.requires.fits ∙ sym u.all) u.ahead first u.within in
     let wide : length (take (n * 512) c.pieces.room) ≡ n * 512 = length-take-le (n * 512) c.pieces.room (omega (arith, c.requires.buffer, c.pieces.auto.room, c.piece_at-piece.ensures.few)) in
     let number : length (take (n * 512) c.pieces.room) / 512 ≡ n = omega (arith, wide) in
     let piece = subst (λ (m : ℕ). EachBytes c.pieces.stack c.args.pass.device.0 c.pieces.at m (Ok c.read_bytes.new.out) c.read_bytes.new.self) number (record { any = c.in-Ok.ensures.any; steady = c.in-Ok.ensures.steady }) in
@@ -200,9 +204,9 @@ pub pieces-preserved-in-Ok : goal.pieces-preserved-in-Ok
 pieces-preserved-in-Ok g c =
     let u = c.pieces.invariant in
     let before : List Bool = marks_ahead c.args.ahead in
-    let here : Run = c.next_run-run.result in
+    let here : Run = c.next_stretch-run.result in
     let n : ℕ = c.piece_at-piece.result.count in
-    let first = first-run c.pieces.ahead c.next_run-run.new.self here c.next_run-run.ensures.same c.next_run-run.ensures.first in
+    let first = first-run c.pieces.ahead c.next_stretch-run.new.ahead here c.next_stretch-run.ensures.same c.next_stretch-run.ensures.first in
     let inside = ahead-inside before c.pieces.at c.sectors-sectors.result here.count here.had _ _ (c.requires.fits ∙ sym u.all) u.ahead first u.within in
     let marked : AreMarked before c.pieces.at n false = subst (AreMarked before c.pieces.at n) c.if-run.false (marked-next before c.pieces.at n here.count here.had _ (omega (arith, c.piece_at-piece.ensures.inside)) (u.ahead ∙ first)) in
     let wide : length (take (n * 512) c.pieces.room) ≡ n * 512 = length-take-le (n * 512) c.pieces.room (omega (arith, c.requires.buffer, c.pieces.auto.room, c.piece_at-piece.ensures.few)) in
@@ -216,10 +220,10 @@ pieces-preserved-in-Ok g c =
     let k : ℕ = length bytes / 512 in
     let count : length bytes / 512 ≡ n = omega (arith, len) in
     let same : c.from-count.result ≡ n = c.from-count.ensures in
-    let next : IsNextPiece (pass_over c.args.stack.now.config c.args.pass.device.0 before (is_some c.args.noted.now)) c.pieces.at c.pieces.piece_limit.most n =
-    next-piece c.args.stack.now.config c.args.pass.device.0 before (is_some c.args.noted.now) c.pieces.at here.count c.sectors-sectors.result c.pieces.piece_limit.most n (marks c.next_run-run.new.self.rest.now)
-    (u.ahead ∙ subst (λ (h : Bool). marks_ahead c.pieces.ahead ≡ replicate here.count h ++ marks c.next_run-run.new.self.rest.now) c.if-run.false first) (c.requires.fits ∙ sym u.all) u.within
-    inside u.all (λ none. ap marks (c.next_run-run.ensures.single (u.single none)))
+    let next : IsNextPiece (pass_over c.args.stack.now.config c.args.pass.device.0 before) c.pieces.at c.pieces.piece_limit.most n =
+    next-piece c.args.stack.now.config c.args.pass.device.0 before c.pieces.at here.count c.sectors-sectors.result c.pieces.piece_limit.most n (marks c.next_stretch-run.new.ahead.rest.now)
+    (u.ahead ∙ subst (λ (h : Bool). marks_ahead c.pieces.ahead ≡ replicate here.count h ++ marks c.next_stretch-run.new.ahead.rest.now) c.if-run.false first) (c.requires.fits ∙ sym u.all) u.within
+    inside u.all (subst (λ (h : Bool). BeginsOtherwise h (marks c.next_stretch-run.new.ahead.rest.now)) c.if-run.false c.next_stretch-run.ensures.longest)
     (subst (λ (x : Configuration). EndsAligned x c.args.pass.device.0 c.pieces.at (c.pieces.at + here.count) c.pieces.piece_limit.most n) (c.config-else-run.ensures.value ∙ u.config) c.piece_at-piece.ensures.ends) in
     record {
       so_far = record {
@@ -233,7 +237,7 @@ pieces-preserved-in-Ok g c =
         did = calls-last (DeviceDoes g.O.BlockDev.state g.O.BlockDev.does) c.args.out.now c.pieces.out c.write.new.self u.so_far.calls (Write c.pieces.at bytes true) u.so_far.did c.in_ok-write-in-Ok.ensures.call;
       };
       called = copies-had g.D.BlockDev.state g.D.BlockDev.does (DeviceDoes g.O.BlockDev.state g.O.BlockDev.does) before c.args.pass.device.0 c.args.stack.now c.args.out.now c.pieces.at c.pieces.stack c.read_bytes.new.self c.pieces.out u.called (length (take (n * 512) c.pieces.room) / 512) c.from-count.result bytes c.write.new.self (number ∙ sym same) c.in-Ok.ensures.given c.in_ok-write-in-Ok.ensures.call;
-      ahead = ahead-next before c.pieces.at c.from-count.result _ _ _ (u.ahead ∙ sym c.next_run-run.ensures.same) c.pass-in-Ok.ensures.marks;
+      ahead = ahead-next before c.pieces.at c.from-count.result _ _ _ (u.ahead ∙ sym c.next_stretch-run.ensures.same) c.pass-in-Ok.ensures.marks;
       config = c.in-Ok.ensures.any.config ∙ u.config;
       within = omega (arith, inside, same, c.piece_at-piece.ensures.inside);
       all = u.all;
@@ -241,15 +245,14 @@ pieces-preserved-in-Ok g c =
       piece_limit = c.after_bytes-piece_limit.ensures.piece_limit;
       unfailed = c.in_ok-write-in-Ok.ensures.moved.failures ∙ u.unfailed;
       noted = notes-some c.pieces.noted c.note-in-Ok.new.noted _ c.in_ok-note-in-Ok.ensures.ok ∙ u.noted;
-      single = λ none. c.pass-in-Ok.ensures.rest ∙ c.next_run-run.ensures.single (u.single none);
     }
 
 pub lose_piece-requires : goal.lose_piece-requires
 lose_piece-requires g c =
     let u = c.pieces.invariant in
     let n : ℕ = c.piece_at-piece.result.count in
-    let first = first-run c.pieces.ahead c.next_run-run.new.self c.next_run-run.result c.next_run-run.ensures.same c.next_run-run.ensures.first in
-    let inside = ahead-inside (marks_ahead c.args.ahead) c.pieces.at c.sectors-sectors.result c.next_run-run.result.count c.next_run-run.result.had _ _ (c.requires.fits ∙ sym u.all) u.ahead first u.within in
+    let first = first-run c.pieces.ahead c.next_stretch-run.new.ahead c.next_stretch-run.result c.next_stretch-run.ensures.same c.next_stretch-run.ensures.first in
+    let inside = ahead-inside (marks_ahead c.args.ahead) c.pieces.at c.sectors-sectors.result c.next_stretch-run.result.count c.next_stretch-run.result.had _ _ (c.requires.fits ∙ sym u.all) u.ahead first u.within in
     record {
       some = c.piece_at-piece.ensures.some;
       marks = λ x e. note-room _ _ _ _ _ _ _ _ _ _ u.so_far.under n (omega (arith, inside, u.few, c.piece_at-piece.ensures.inside)) x e;
@@ -275,9 +278,9 @@ pub pieces-preserved-then-branch : goal.pieces-preserved-then-branch
 pieces-preserved-then-branch g c =
     let u = c.pieces.invariant in
     let before : List Bool = marks_ahead c.args.ahead in
-    let here : Run = c.next_run-run.result in
+    let here : Run = c.next_stretch-run.result in
     let n : ℕ = c.piece_at-piece.result.count in
-    let first = first-run c.pieces.ahead c.next_run-run.new.self here c.next_run-run.ensures.same c.next_run-run.ensures.first in
+    let first = first-run c.pieces.ahead c.next_stretch-run.new.ahead here c.next_stretch-run.ensures.same c.next_stretch-run.ensures.first in
     let inside = ahead-inside before c.pieces.at c.sectors-sectors.result here.count here.had _ _ (c.requires.fits ∙ sym u.all) u.ahead first u.within in
     let marked : AreMarked before c.pieces.at n false = subst (AreMarked before c.pieces.at n) c.if-run.false (marked-next before c.pieces.at n here.count here.had _ (omega (arith, c.piece_at-piece.ensures.inside)) (u.ahead ∙ first)) in
     let wide : length (take (n * 512) c.pieces.room) ≡ n * 512 = length-take-le (n * 512) c.pieces.room (omega (arith, c.requires.buffer, c.pieces.auto.room, c.piece_at-piece.ensures.few)) in
@@ -300,10 +303,10 @@ pieces-preserved-then-branch g c =
     let old : Sides = sides c.args.stack.now (g.O.BlockDev.state c.args.out.now) (g.L.Listing.told c.args.listing.now) in
     let new : Sides = sides c.read_bytes.new.self (g.O.BlockDev.state c.pieces.out) (g.L.Listing.told c.lose_piece.new.listing) in
     let same : c.from-count.result ≡ n = c.from-count.ensures in
-    let next : IsNextPiece (pass_over c.args.stack.now.config c.args.pass.device.0 before (is_some c.args.noted.now)) c.pieces.at c.pieces.piece_limit.most n =
-    next-piece c.args.stack.now.config c.args.pass.device.0 before (is_some c.args.noted.now) c.pieces.at here.count c.sectors-sectors.result c.pieces.piece_limit.most n (marks c.next_run-run.new.self.rest.now)
-    (u.ahead ∙ subst (λ (h : Bool). marks_ahead c.pieces.ahead ≡ replicate here.count h ++ marks c.next_run-run.new.self.rest.now) c.if-run.false first) (c.requires.fits ∙ sym u.all) u.within
-    inside u.all (λ none. ap marks (c.next_run-run.ensures.single (u.single none)))
+    let next : IsNextPiece (pass_over c.args.stack.now.config c.args.pass.device.0 before) c.pieces.at c.pieces.piece_limit.most n =
+    next-piece c.args.stack.now.config c.args.pass.device.0 before c.pieces.at here.count c.sectors-sectors.result c.pieces.piece_limit.most n (marks c.next_stretch-run.new.ahead.rest.now)
+    (u.ahead ∙ subst (λ (h : Bool). marks_ahead c.pieces.ahead ≡ replicate here.count h ++ marks c.next_stretch-run.new.ahead.rest.now) c.if-run.false first) (c.requires.fits ∙ sym u.all) u.within
+    inside u.all (subst (λ (h : Bool). BeginsOtherwise h (marks c.next_stretch-run.new.ahead.rest.now)) c.if-run.false c.next_stretch-run.ensures.longest)
     (subst (λ (x : Configuration). EndsAligned x c.args.pass.device.0 c.pieces.at (c.pieces.at + here.count) c.pieces.piece_limit.most n) (c.config-else-run.ensures.value ∙ u.config) c.piece_at-piece.ensures.ends) in
     record {
       so_far = record {
@@ -315,7 +318,7 @@ pieces-preserved-then-branch g c =
         did = u.so_far.did;
       };
       called = piece_failed (length (take (n * 512) c.pieces.room) / 512) c.from-count.result c.in-Err.fault u.called c.in-Err.ensures.given;
-      ahead = ahead-next before c.pieces.at c.from-count.result _ _ _ (u.ahead ∙ sym c.next_run-run.ensures.same) c.pass-then-branch.ensures.marks;
+      ahead = ahead-next before c.pieces.at c.from-count.result _ _ _ (u.ahead ∙ sym c.next_stretch-run.ensures.same) c.pass-then-branch.ensures.marks;
       config = c.in-Err.ensures.any.config ∙ u.config;
       within = omega (arith, inside, same, c.piece_at-piece.ensures.inside);
       all = u.all;
@@ -323,25 +326,24 @@ pieces-preserved-then-branch g c =
       piece_limit = c.after_loss-piece_limit.ensures.piece_limit;
       unfailed = u.unfailed;
       noted = notes-some c.pieces.noted c.lose_piece.new.noted _ noting ∙ u.noted;
-      single = λ none. c.pass-then-branch.ensures.rest ∙ c.next_run-run.ensures.single (u.single none);
     }
 
 pub pieces-preserved : goal.pieces-preserved
 pieces-preserved g c =
     let u = c.pieces.invariant in
     let before : List Bool = marks_ahead c.args.ahead in
-    let here : Run = c.next_run-run.result in
+    let here : Run = c.next_stretch-run.result in
     let n : ℕ = c.piece_at-piece.result.count in
-    let first = first-run c.pieces.ahead c.next_run-run.new.self here c.next_run-run.ensures.same c.next_run-run.ensures.first in
+    let first = first-run c.pieces.ahead c.next_stretch-run.new.ahead here c.next_stretch-run.ensures.same c.next_stretch-run.ensures.first in
     let marked : AreMarked before c.pieces.at n false = subst (AreMarked before c.pieces.at n) c.if-run.false (marked-next before c.pieces.at n here.count here.had _ (omega (arith, c.piece_at-piece.ensures.inside)) (u.ahead ∙ first)) in
     let wide : length (take (n * 512) c.pieces.room) ≡ n * 512 = length-take-le (n * 512) c.pieces.room (omega (arith, c.requires.buffer, c.pieces.auto.room, c.piece_at-piece.ensures.few)) in
     let number : length (take (n * 512) c.pieces.room) / 512 ≡ n = omega (arith, wide) in
     let piece = subst (λ (m : ℕ). EachBytes c.pieces.stack c.args.pass.device.0 c.pieces.at m (Err c.in-Err.fault) c.read_bytes.new.self) number (record { any = c.in-Err.ensures.any; steady = c.in-Err.ensures.steady }) in
     let inside = ahead-inside before c.pieces.at c.sectors-sectors.result here.count here.had _ _ (c.requires.fits ∙ sym u.all) u.ahead first u.within in
-    let next : IsNextPiece (pass_over c.args.stack.now.config c.args.pass.device.0 before (is_some c.args.noted.now)) c.pieces.at c.pieces.piece_limit.most n =
-    next-piece c.args.stack.now.config c.args.pass.device.0 before (is_some c.args.noted.now) c.pieces.at here.count c.sectors-sectors.result c.pieces.piece_limit.most n (marks c.next_run-run.new.self.rest.now)
-    (u.ahead ∙ subst (λ (h : Bool). marks_ahead c.pieces.ahead ≡ replicate here.count h ++ marks c.next_run-run.new.self.rest.now) c.if-run.false first) (c.requires.fits ∙ sym u.all) u.within
-    inside u.all (λ none. ap marks (c.next_run-run.ensures.single (u.single none)))
+    let next : IsNextPiece (pass_over c.args.stack.now.config c.args.pass.device.0 before) c.pieces.at c.pieces.piece_limit.most n =
+    next-piece c.args.stack.now.config c.args.pass.device.0 before c.pieces.at here.count c.sectors-sectors.result c.pieces.piece_limit.most n (marks c.next_stretch-run.new.ahead.rest.now)
+    (u.ahead ∙ subst (λ (h : Bool). marks_ahead c.pieces.ahead ≡ replicate here.count h ++ marks c.next_stretch-run.new.ahead.rest.now) c.if-run.false first) (c.requires.fits ∙ sym u.all) u.within
+    inside u.all (subst (λ (h : Bool). BeginsOtherwise h (marks c.next_stretch-run.new.ahead.rest.now)) c.if-run.false c.next_stretch-run.ensures.longest)
     (subst (λ (x : Configuration). EndsAligned x c.args.pass.device.0 c.pieces.at (c.pieces.at + here.count) c.pieces.piece_limit.most n) (c.config-else-run.ensures.value ∙ u.config) c.piece_at-piece.ensures.ends) in
     let call = c.in_ok-lose_piece-in-Err in
     let isnt : call.field-0 ≡ false = c.if-branch.false in
@@ -360,7 +362,7 @@ pieces-preserved g c =
         did = u.so_far.did;
       };
       called = copies-again g.D.BlockDev.state g.D.BlockDev.does (DeviceDoes g.O.BlockDev.state g.O.BlockDev.does) before c.args.pass.device.0 c.args.stack.now c.args.out.now c.pieces.at c.pieces.stack c.read_bytes.new.self c.pieces.out u.called (length (take (n * 512) c.pieces.room) / 512) c.in-Err.fault c.in-Err.ensures.given;
-      ahead = u.ahead ∙ sym c.next_run-run.ensures.same;
+      ahead = u.ahead ∙ sym c.next_stretch-run.ensures.same;
       config = c.in-Err.ensures.any.config ∙ u.config;
       within = u.within;
       all = u.all;
@@ -368,7 +370,6 @@ pieces-preserved g c =
       piece_limit = c.up_to-piece_limit.ensures.piece_limit;
       unfailed = u.unfailed;
       noted = ap (λ (m : Option (List Run)). is_some m) noted ∙ u.noted;
-      single = λ none. c.next_run-run.ensures.single (u.single none);
     }
 
 -- a piece that is read again has two sectors or more, and the next one has one

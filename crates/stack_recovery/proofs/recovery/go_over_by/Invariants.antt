@@ -1,4 +1,4 @@
-use Rattle.std.proofs.Common.{◌≡◌, ◌-◌, ◌+◌, ◌*◌, ◌≤◌, ◌^◌, drop, false, [], is_some}
+use Rattle.std.proofs.Common.{◌≡◌, ◌-◌, ◌+◌, ◌*◌, ◌≤◌, ◌^◌, drop, is_some}
 use Rattle.block_device.specs.Call.{DeviceDoes}
 use Rattle.stack_rules.specs.Names.{mapped, size}
 use Rattle.rescue_map.specs.Aheads.{marks_ahead}
@@ -21,7 +21,6 @@ invariant-pieces g l = record {
   piece_limit : IsPieceLimit l.piece_limit.most;
   unfailed : (g.O.BlockDev.state l.out).failures ≡ (g.O.BlockDev.state l.fn.out).failures;
   noted : is_some l.noted ≡ is_some l.fn.noted;
-  single : is_some l.fn.noted ≡ false → l.ahead.rest.now ≡ [];
 }
 
 -- a piece that is lost in part makes the next one shorter

@@ -13,18 +13,18 @@ use Rattle.rescue_map.specs.Maps.{marks}
 use Rattle.rescue_map.specs.declared.map.Run.{Run}
 use Rattle.stack_recovery.specs.declared.fault.RecoveryFault.{RecoveryFault}
 use Rattle.stack_recovery.specs.declared.fault.RecoveryFault.TheVariants.{NoMemory, Output}
-use Rattle.stack_recovery.specs.FirstPasses.{has_more, transfer}
+use Rattle.stack_recovery.specs.FirstPasses.{transfer}
 use Rattle.stack_recovery.specs.LeafReads.{CopiesLeaves, no_piece, piece_failed, sectors_had}
 use Rattle.stack_recovery.specs.PassPieces.{IsNextPiece, pass_over}
 use Rattle.stack_recovery.specs.Pieces.{EndsAligned}
 use Rattle.stack_recovery.specs.Skims.{IsSkimFound}
 use Rattle.stack_recovery.specs.Skips.{least_skip, longer_skip, most_skip}
+use Rattle.stack_recovery.specs.Stretches.{BeginsOtherwise}
 use Rattle.stack_recovery.specs.Surveys.{AreMarked, again}
-use Rattle.stack_recovery.proofs.AheadLemmas.{ahead-inside, ahead-next, ahead-some, first-run, marked-next}
+use Rattle.stack_recovery.proofs.AheadLemmas.{ahead-few, ahead-inside, ahead-next, ahead-some, first-run, marked-next}
 use Rattle.stack_recovery.proofs.LeafReadLemmas.{copies-again, copies-had}
 use Rattle.stack_recovery.proofs.PieceLemmas.{next-piece, skipped-piece}
 use Rattle.stack_recovery.proofs.SkimLemmas.{IsSkimming, fails-skim, hands-short, hands-skims, hands-unwritten, skim-room, skimming-had, skimming-kept, skimming-none, skimming-skipped, skims-short, skims-until}
-use Rattle.stack_recovery.proofs.SkimPieceLemmas.{no-more}
 use Rattle.stack_recovery.proofs.lemmas.WritingLemmas.{err-from}
 use Rattle.stack_recovery.proofs.skimming.skim_by.Goals as goal
 
@@ -32,30 +32,33 @@ pub pieces-init : goal.pieces-init
 pieces-init g c =
     let all = c.sectors-sectors.ensures ∙ ap (λ (x : Configuration). size x (mapped c.args.pass.device.0)) c.config.ensures.value in
     record {
-      so_far = subst (λ (m : List Run). IsSkimming g.O.BlockDev.state (DeviceDoes g.O.BlockDev.state g.O.BlockDev.does) (has_more c.args.ahead.rest.now) (marks_ahead c.args.ahead) c.args.pass.device.0 (transfer c.args.stack.now c.args.out.now) (transfer c.args.stack.now c.args.out.now) 0 m least_skip) (sym c.requires.begun)
-          (skimming-none g.O.BlockDev.state (DeviceDoes g.O.BlockDev.state g.O.BlockDev.does) (has_more c.args.ahead.rest.now) (marks_ahead c.args.ahead) c.args.pass.device.0 (transfer c.args.stack.now c.args.out.now));
+      so_far = subst (λ (m : List Run). IsSkimming g.O.BlockDev.state (DeviceDoes g.O.BlockDev.state g.O.BlockDev.does) c.args.pass.skip (marks_ahead c.args.ahead) c.args.pass.device.0 (transfer c.args.stack.now c.args.out.now) (transfer c.args.stack.now c.args.out.now) 0 m c.args.pass.skip) (sym c.requires.begun)
+          (skimming-none g.O.BlockDev.state (DeviceDoes g.O.BlockDev.state g.O.BlockDev.does) c.args.pass.skip (marks_ahead c.args.ahead) c.args.pass.device.0 (transfer c.args.stack.now c.args.out.now));
       called = no_piece;
       ahead = refl;
       config = refl;
       within = omega arith;
       all = all;
       few = omega (arith, all, c.requires.few);
-      short = omega arith;
       unfailed = refl;
-      single = no-more c.args.ahead.rest.now;
     }
 
-pub next_run-run-requires : goal.next_run-run-requires
-next_run-run-requires g c =
+pub next_stretch-run-requires-clause-some : goal.next_stretch-run-requires-clause-some
+next_stretch-run-requires-clause-some g c =
     let u = c.pieces.invariant in
     ahead-some (marks_ahead c.args.ahead) c.pieces.at c.sectors-sectors.result (marks_ahead c.pieces.ahead) (c.requires.fits ∙ sym u.all) u.ahead (omega (arith, c.pieces-test.true, c.pass_end.ensures.few))
+
+pub next_stretch-run-requires-clause-few : goal.next_stretch-run-requires-clause-few
+next_stretch-run-requires-clause-few g c =
+    let u = c.pieces.invariant in
+    ahead-few (marks_ahead c.args.ahead) c.pieces.at c.sectors-sectors.result (2 ^ 54) (marks_ahead c.pieces.ahead) (c.requires.fits ∙ sym u.all) u.ahead u.few
 
 pub mark-requires-clause-room : goal.mark-requires-clause-room
 mark-requires-clause-room g c =
     let u = c.pieces.invariant in
-    let first = first-run c.pieces.ahead c.next_run-run.new.self c.next_run-run.result c.next_run-run.ensures.same c.next_run-run.ensures.first in
-    let inside = ahead-inside (marks_ahead c.args.ahead) c.pieces.at c.sectors-sectors.result c.next_run-run.result.count c.next_run-run.result.had _ _ (c.requires.fits ∙ sym u.all) u.ahead first u.within in
-    skim-room _ _ _ _ _ _ _ _ _ _ u.so_far c.next_run-run.result.count (omega (arith, inside, u.few))
+    let first = first-run c.pieces.ahead c.next_stretch-run.new.ahead c.next_stretch-run.result c.next_stretch-run.ensures.same c.next_stretch-run.ensures.first in
+    let inside = ahead-inside (marks_ahead c.args.ahead) c.pieces.at c.sectors-sectors.result c.next_stretch-run.result.count c.next_stretch-run.result.had _ _ (c.requires.fits ∙ sym u.all) u.ahead first u.within in
+    skim-room _ _ _ _ _ _ _ _ _ _ u.so_far c.next_stretch-run.result.count (omega (arith, inside, u.few))
 
 pub returns-in_err-mark-clause-err : goal.returns-in_err-mark-clause-err
 returns-in_err-mark-clause-err g c =
@@ -71,53 +74,51 @@ returns-in_err-mark-clause-stopped g c =
 pub overflow_add-at : goal.overflow_add-at
 overflow_add-at g c =
     let u = c.pieces.invariant in
-    let first = first-run c.pieces.ahead c.next_run-run.new.self c.next_run-run.result c.next_run-run.ensures.same c.next_run-run.ensures.first in
-    let inside = ahead-inside (marks_ahead c.args.ahead) c.pieces.at c.sectors-sectors.result c.next_run-run.result.count c.next_run-run.result.had _ _ (c.requires.fits ∙ sym u.all) u.ahead first u.within in
+    let first = first-run c.pieces.ahead c.next_stretch-run.new.ahead c.next_stretch-run.result c.next_stretch-run.ensures.same c.next_stretch-run.ensures.first in
+    let inside = ahead-inside (marks_ahead c.args.ahead) c.pieces.at c.sectors-sectors.result c.next_stretch-run.result.count c.next_stretch-run.result.had _ _ (c.requires.fits ∙ sym u.all) u.ahead first u.within in
     omega (arith, inside, u.few)
 
 pub pieces-preserved-then-run : goal.pieces-preserved-then-run
 pieces-preserved-then-run g c =
     let u = c.pieces.invariant in
     let before : List Bool = marks_ahead c.args.ahead in
-    let here : Run = c.next_run-run.result in
-    let first = first-run c.pieces.ahead c.next_run-run.new.self here c.next_run-run.ensures.same c.next_run-run.ensures.first in
+    let here : Run = c.next_stretch-run.result in
+    let first = first-run c.pieces.ahead c.next_stretch-run.new.ahead here c.next_stretch-run.ensures.same c.next_stretch-run.ensures.first in
     let inside = ahead-inside before c.pieces.at c.sectors-sectors.result here.count here.had _ _ (c.requires.fits ∙ sym u.all) u.ahead first u.within in
     let marked : AreMarked before c.pieces.at here.count true = subst (AreMarked before c.pieces.at here.count) c.if-run.true (marked-next before c.pieces.at here.count here.count here.had _ (omega arith) (u.ahead ∙ first)) in
     record {
-      so_far = skimming-kept _ _ _ _ _ _ _ _ _ _ u.so_far here.count c.mark.new.map c.next_run-run.ensures.some marked c.in_ok-mark.ensures.ok;
+      so_far = skimming-kept _ _ _ _ _ _ _ _ _ _ u.so_far here.count c.mark.new.map c.next_stretch-run.ensures.some marked c.in_ok-mark.ensures.ok;
       called = sectors_had here.count u.called marked;
-      ahead = ahead-next before c.pieces.at here.count _ _ _ (u.ahead ∙ sym c.next_run-run.ensures.same) c.pass.ensures.marks;
+      ahead = ahead-next before c.pieces.at here.count _ _ _ (u.ahead ∙ sym c.next_stretch-run.ensures.same) c.pass.ensures.marks;
       config = u.config;
       within = inside;
       all = u.all;
       few = u.few;
-      short = u.short;
       unfailed = u.unfailed;
-      single = λ none. c.pass.ensures.rest ∙ c.next_run-run.ensures.single (u.single none);
     }
 
 pub overflow_add-at-else-run : goal.overflow_add-at-else-run
 overflow_add-at-else-run g c =
     let u = c.pieces.invariant in
-    let first = first-run c.pieces.ahead c.next_run-run.new.self c.next_run-run.result c.next_run-run.ensures.same c.next_run-run.ensures.first in
-    let inside = ahead-inside (marks_ahead c.args.ahead) c.pieces.at c.sectors-sectors.result c.next_run-run.result.count c.next_run-run.result.had _ _ (c.requires.fits ∙ sym u.all) u.ahead first u.within in
+    let first = first-run c.pieces.ahead c.next_stretch-run.new.ahead c.next_stretch-run.result c.next_stretch-run.ensures.same c.next_stretch-run.ensures.first in
+    let inside = ahead-inside (marks_ahead c.args.ahead) c.pieces.at c.sectors-sectors.result c.next_stretch-run.result.count c.next_stretch-run.result.had _ _ (c.requires.fits ∙ sym u.all) u.ahead first u.within in
     omega (arith, inside, u.few)
 
 pub piece_at-piece-requires-clause-inside : goal.piece_at-piece-requires-clause-inside
 piece_at-piece-requires-clause-inside g c =
     let u = c.pieces.invariant in
-    let count : ℕ = c.next_run-run.result.count in
-    let first = first-run c.pieces.ahead c.next_run-run.new.self c.next_run-run.result c.next_run-run.ensures.same c.next_run-run.ensures.first in
-    let inside = ahead-inside (marks_ahead c.args.ahead) c.pieces.at c.sectors-sectors.result count c.next_run-run.result.had _ _ (c.requires.fits ∙ sym u.all) u.ahead first u.within in
+    let count : ℕ = c.next_stretch-run.result.count in
+    let first = first-run c.pieces.ahead c.next_stretch-run.new.ahead c.next_stretch-run.result c.next_stretch-run.ensures.same c.next_stretch-run.ensures.first in
+    let inside = ahead-inside (marks_ahead c.args.ahead) c.pieces.at c.sectors-sectors.result count c.next_stretch-run.result.had _ _ (c.requires.fits ∙ sym u.all) u.ahead first u.within in
     subst (λ (x : Configuration). c.pieces.at + count ≤ size x (mapped c.args.pass.device.0)) (sym (c.config-else-run.ensures.value ∙ u.config)) (subst (λ (m : ℕ). c.pieces.at + count ≤ m) u.all inside)
 
 pub read_bytes-requires-clause-inside : goal.read_bytes-requires-clause-inside
 read_bytes-requires-clause-inside g c =
     let u = c.pieces.invariant in
-    let count : ℕ = c.next_run-run.result.count in
+    let count : ℕ = c.next_stretch-run.result.count in
     let n : ℕ = c.piece_at-piece.result.count in
-    let first = first-run c.pieces.ahead c.next_run-run.new.self c.next_run-run.result c.next_run-run.ensures.same c.next_run-run.ensures.first in
-    let inside = ahead-inside (marks_ahead c.args.ahead) c.pieces.at c.sectors-sectors.result count c.next_run-run.result.had _ _ (c.requires.fits ∙ sym u.all) u.ahead first u.within in
+    let first = first-run c.pieces.ahead c.next_stretch-run.new.ahead c.next_stretch-run.result c.next_stretch-run.ensures.same c.next_stretch-run.ensures.first in
+    let inside = ahead-inside (marks_ahead c.args.ahead) c.pieces.at c.sectors-sectors.result count c.next_stretch-run.result.had _ _ (c.requires.fits ∙ sym u.all) u.ahead first u.within in
     let wide : length (take (n * 512) c.pieces.room) ≡ n * 512 = length-take-le (n * 512) c.pieces.room (omega (arith, c.requires.buffer, c.pieces.auto.room, c.piece_at-piece.ensures.few)) in
     let within : c.pieces.at + length (take (n * 512) c.pieces.room) / 512 ≤ c.sectors-sectors.result = omega (arith, wide, inside, c.piece_at-piece.ensures.inside) in
     subst (λ (x : Configuration). c.pieces.at + length (take (n * 512) c.pieces.room) / 512 ≤ size x (mapped c.args.pass.device.0)) (sym u.config) (subst (λ (m : ℕ). c.pieces.at + length (take (n * 512) c.pieces.room) / 512 ≤ m) u.all within)
@@ -125,8 +126,8 @@ read_bytes-requires-clause-inside g c =
 pub mark-requires-in-Ok-clause-room : goal.mark-requires-in-Ok-clause-room
 mark-requires-in-Ok-clause-room g c =
     let u = c.pieces.invariant in
-    let first = first-run c.pieces.ahead c.next_run-run.new.self c.next_run-run.result c.next_run-run.ensures.same c.next_run-run.ensures.first in
-    let inside = ahead-inside (marks_ahead c.args.ahead) c.pieces.at c.sectors-sectors.result c.next_run-run.result.count c.next_run-run.result.had _ _ (c.requires.fits ∙ sym u.all) u.ahead first u.within in
+    let first = first-run c.pieces.ahead c.next_stretch-run.new.ahead c.next_stretch-run.result c.next_stretch-run.ensures.same c.next_stretch-run.ensures.first in
+    let inside = ahead-inside (marks_ahead c.args.ahead) c.pieces.at c.sectors-sectors.result c.next_stretch-run.result.count c.next_stretch-run.result.had _ _ (c.requires.fits ∙ sym u.all) u.ahead first u.within in
     skim-room _ _ _ _ _ _ _ _ _ _ u.so_far c.from-count.result (omega (arith, inside, u.few, c.from-count.ensures, c.piece_at-piece.ensures.inside))
 
 pub returns-in_err-mark-in-Ok-clause-err : goal.returns-in_err-mark-in-Ok-clause-err
@@ -144,8 +145,8 @@ pub write-requires-clause-range : goal.write-requires-clause-range
 write-requires-clause-range g c =
     let u = c.pieces.invariant in
     let n : ℕ = c.piece_at-piece.result.count in
-    let first = first-run c.pieces.ahead c.next_run-run.new.self c.next_run-run.result c.next_run-run.ensures.same c.next_run-run.ensures.first in
-    let inside = ahead-inside (marks_ahead c.args.ahead) c.pieces.at c.sectors-sectors.result c.next_run-run.result.count c.next_run-run.result.had _ _ (c.requires.fits ∙ sym u.all) u.ahead first u.within in
+    let first = first-run c.pieces.ahead c.next_stretch-run.new.ahead c.next_stretch-run.result c.next_stretch-run.ensures.same c.next_stretch-run.ensures.first in
+    let inside = ahead-inside (marks_ahead c.args.ahead) c.pieces.at c.sectors-sectors.result c.next_stretch-run.result.count c.next_stretch-run.result.had _ _ (c.requires.fits ∙ sym u.all) u.ahead first u.within in
     let wide : length (take (n * 512) c.pieces.room) ≡ n * 512 = length-take-le (n * 512) c.pieces.room (omega (arith, c.requires.buffer, c.pieces.auto.room, c.piece_at-piece.ensures.few)) in
     let number : length (take (n * 512) c.pieces.room) / 512 ≡ n = omega (arith, wide) in
     let piece = subst (λ (m : ℕ). EachBytes c.pieces.stack c.args.pass.device.0 c.pieces.at m (Ok c.read_bytes.new.out) c.read_bytes.new.self) number (record { any = c.in-Ok.ensures.any; steady = c.in-Ok.ensures.steady }) in
@@ -186,10 +187,9 @@ pub pieces-preserved-in-Ok : goal.pieces-preserved-in-Ok
 pieces-preserved-in-Ok g c =
     let u = c.pieces.invariant in
     let before : List Bool = marks_ahead c.args.ahead in
-    let by_map : Bool = has_more c.args.ahead.rest.now in
-    let here : Run = c.next_run-run.result in
+    let here : Run = c.next_stretch-run.result in
     let n : ℕ = c.piece_at-piece.result.count in
-    let first = first-run c.pieces.ahead c.next_run-run.new.self here c.next_run-run.ensures.same c.next_run-run.ensures.first in
+    let first = first-run c.pieces.ahead c.next_stretch-run.new.ahead here c.next_stretch-run.ensures.same c.next_stretch-run.ensures.first in
     let inside = ahead-inside before c.pieces.at c.sectors-sectors.result here.count here.had _ _ (c.requires.fits ∙ sym u.all) u.ahead first u.within in
     let marked : AreMarked before c.pieces.at n false = subst (AreMarked before c.pieces.at n) c.if-run.false (marked-next before c.pieces.at n here.count here.had _ (omega (arith, c.piece_at-piece.ensures.inside)) (u.ahead ∙ first)) in
     let wide : length (take (n * 512) c.pieces.room) ≡ n * 512 = length-take-le (n * 512) c.pieces.room (omega (arith, c.requires.buffer, c.pieces.auto.room, c.piece_at-piece.ensures.few)) in
@@ -200,24 +200,22 @@ pieces-preserved-in-Ok g c =
     let k : ℕ = length bytes / 512 in
     let count : length bytes / 512 ≡ n = omega (arith, len) in
     let same : c.from-count.result ≡ n = c.from-count.ensures in
-    let next : IsNextPiece (pass_over c.args.stack.now.config c.args.pass.device.0 before by_map) c.pieces.at 128 n =
-    next-piece c.args.stack.now.config c.args.pass.device.0 before by_map c.pieces.at here.count c.sectors-sectors.result 128 n (marks c.next_run-run.new.self.rest.now)
-    (u.ahead ∙ subst (λ (h : Bool). marks_ahead c.pieces.ahead ≡ replicate here.count h ++ marks c.next_run-run.new.self.rest.now) c.if-run.false first) (c.requires.fits ∙ sym u.all) u.within
-    inside u.all (λ none. ap marks (c.next_run-run.ensures.single (u.single none)))
+    let next : IsNextPiece (pass_over c.args.stack.now.config c.args.pass.device.0 before) c.pieces.at 128 n =
+    next-piece c.args.stack.now.config c.args.pass.device.0 before c.pieces.at here.count c.sectors-sectors.result 128 n (marks c.next_stretch-run.new.ahead.rest.now)
+    (u.ahead ∙ subst (λ (h : Bool). marks_ahead c.pieces.ahead ≡ replicate here.count h ++ marks c.next_stretch-run.new.ahead.rest.now) c.if-run.false first) (c.requires.fits ∙ sym u.all) u.within
+    inside u.all (subst (λ (h : Bool). BeginsOtherwise h (marks c.next_stretch-run.new.ahead.rest.now)) c.if-run.false c.next_stretch-run.ensures.longest)
     (subst (λ (x : Configuration). EndsAligned x c.args.pass.device.0 c.pieces.at (c.pieces.at + here.count) 128 n) (c.config-else-run.ensures.value ∙ u.config) c.piece_at-piece.ensures.ends) in
     record {
-      so_far = subst (λ (m : ℕ). IsSkimming g.O.BlockDev.state (DeviceDoes g.O.BlockDev.state g.O.BlockDev.does) by_map before c.args.pass.device.0 (transfer c.args.stack.now c.args.out.now) (transfer c.read_bytes.new.self c.write.new.self) (c.pieces.at + m) c.mark-in-Ok.new.map least_skip) (sym same)
+      so_far = subst (λ (m : ℕ). IsSkimming g.O.BlockDev.state (DeviceDoes g.O.BlockDev.state g.O.BlockDev.does) c.args.pass.skip before c.args.pass.device.0 (transfer c.args.stack.now c.args.out.now) (transfer c.read_bytes.new.self c.write.new.self) (c.pieces.at + m) c.mark-in-Ok.new.map least_skip) (sym same)
           (skimming-had _ _ _ _ _ _ _ _ _ _ u.so_far n bytes c.read_bytes.new.self k _ c.write.new.self c.mark-in-Ok.new.map next piece marked (rw same at c.in_ok-mark-in-Ok.ensures.ok) count
           c.in_ok-write-in-Ok.ensures.moved c.in_ok-write-in-Ok.ensures.image c.in_ok-write-in-Ok.ensures.call);
       called = copies-had g.D.BlockDev.state g.D.BlockDev.does (DeviceDoes g.O.BlockDev.state g.O.BlockDev.does) before c.args.pass.device.0 c.args.stack.now c.args.out.now c.pieces.at c.pieces.stack c.read_bytes.new.self c.pieces.out u.called (length (take (n * 512) c.pieces.room) / 512) c.from-count.result bytes c.write.new.self (number ∙ sym same) c.in-Ok.ensures.given c.in_ok-write-in-Ok.ensures.call;
-      ahead = ahead-next before c.pieces.at c.from-count.result _ _ _ (u.ahead ∙ sym c.next_run-run.ensures.same) c.pass-in-Ok.ensures.marks;
+      ahead = ahead-next before c.pieces.at c.from-count.result _ _ _ (u.ahead ∙ sym c.next_stretch-run.ensures.same) c.pass-in-Ok.ensures.marks;
       config = c.in-Ok.ensures.any.config ∙ u.config;
       within = omega (arith, inside, same, c.piece_at-piece.ensures.inside);
       all = u.all;
       few = u.few;
-      short = omega arith;
       unfailed = c.in_ok-write-in-Ok.ensures.moved.failures ∙ u.unfailed;
-      single = λ none. c.pass-in-Ok.ensures.rest ∙ c.next_run-run.ensures.single (u.single none);
     }
 
 pub returns-in_err-check_memory-in-Err-clause-err : goal.returns-in_err-check_memory-in-Err-clause-err
@@ -240,9 +238,16 @@ returns-in_err-check_memory-in-Err-clause-stopped g c =
 pub mark-requires-in-Err-clause-room : goal.mark-requires-in-Err-clause-room
 mark-requires-in-Err-clause-room g c =
     let u = c.pieces.invariant in
-    let first = first-run c.pieces.ahead c.next_run-run.new.self c.next_run-run.result c.next_run-run.ensures.same c.next_run-run.ensures.first in
-    let inside = ahead-inside (marks_ahead c.args.ahead) c.pieces.at c.sectors-sectors.result c.next_run-run.result.count c.next_run-run.result.had _ _ (c.requires.fits ∙ sym u.all) u.ahead first u.within in
+    let first = first-run c.pieces.ahead c.next_stretch-run.new.ahead c.next_stretch-run.result c.next_stretch-run.ensures.same c.next_stretch-run.ensures.first in
+    let inside = ahead-inside (marks_ahead c.args.ahead) c.pieces.at c.sectors-sectors.result c.next_stretch-run.result.count c.next_stretch-run.result.had _ _ (c.requires.fits ∙ sym u.all) u.ahead first u.within in
     skim-room _ _ _ _ _ _ _ _ _ _ u.so_far (c.from-count.result + c.min.result) (omega (arith, inside, u.few, c.from-count.ensures, c.min.ensures, c.piece_at-piece.ensures.inside))
+
+pub overflow_add-at-in-Err : goal.overflow_add-at-in-Err
+overflow_add-at-in-Err g c =
+    let u = c.pieces.invariant in
+    let first = first-run c.pieces.ahead c.next_stretch-run.new.ahead c.next_stretch-run.result c.next_stretch-run.ensures.same c.next_stretch-run.ensures.first in
+    let inside = ahead-inside (marks_ahead c.args.ahead) c.pieces.at c.sectors-sectors.result c.next_stretch-run.result.count c.next_stretch-run.result.had _ _ (c.requires.fits ∙ sym u.all) u.ahead first u.within in
+    omega (arith, inside, u.few, c.from-count.ensures, c.min.ensures, c.piece_at-piece.ensures.inside)
 
 pub returns-in_err-mark-in-Err-clause-err : goal.returns-in_err-mark-in-Err-clause-err
 returns-in_err-mark-in-Err-clause-err g c =
@@ -259,10 +264,9 @@ pub pieces-preserved : goal.pieces-preserved
 pieces-preserved g c =
     let u = c.pieces.invariant in
     let before : List Bool = marks_ahead c.args.ahead in
-    let by_map : Bool = has_more c.args.ahead.rest.now in
-    let here : Run = c.next_run-run.result in
+    let here : Run = c.next_stretch-run.result in
     let n : ℕ = c.piece_at-piece.result.count in
-    let first = first-run c.pieces.ahead c.next_run-run.new.self here c.next_run-run.ensures.same c.next_run-run.ensures.first in
+    let first = first-run c.pieces.ahead c.next_stretch-run.new.ahead here c.next_stretch-run.ensures.same c.next_stretch-run.ensures.first in
     let inside = ahead-inside before c.pieces.at c.sectors-sectors.result here.count here.had _ _ (c.requires.fits ∙ sym u.all) u.ahead first u.within in
     let marked : AreMarked before c.pieces.at n false = subst (AreMarked before c.pieces.at n) c.if-run.false (marked-next before c.pieces.at n here.count here.had _ (omega (arith, c.piece_at-piece.ensures.inside)) (u.ahead ∙ first)) in
     let wide : length (take (n * 512) c.pieces.room) ≡ n * 512 = length-take-le (n * 512) c.pieces.room (omega (arith, c.requires.buffer, c.pieces.auto.room, c.piece_at-piece.ensures.few)) in
@@ -271,24 +275,22 @@ pieces-preserved g c =
     let same : c.from-count.result ≡ n = c.from-count.ensures in
     let skip : ℕ = c.min.result in
     let skipped : skip ≡ min c.pieces.skip (here.count - n) = c.min.ensures ∙ ap (λ (m : ℕ). min c.pieces.skip (here.count - m)) same in
-    let found : IsSkimFound (pass_over c.args.stack.now.config c.args.pass.device.0 before by_map) c.pieces.at c.pieces.skip n (again c.in-Err.fault) skip =
-    skipped-piece c.args.stack.now.config c.args.pass.device.0 before by_map c.pieces.at here.count c.sectors-sectors.result n c.pieces.skip skip c.in-Err.fault (marks c.next_run-run.new.self.rest.now) c.in_ok-check_memory-in-Err.ensures.ok
-    (u.ahead ∙ subst (λ (h : Bool). marks_ahead c.pieces.ahead ≡ replicate here.count h ++ marks c.next_run-run.new.self.rest.now) c.if-run.false first) (c.requires.fits ∙ sym u.all) u.within
-    inside u.all (λ none. ap marks (c.next_run-run.ensures.single (u.single none)))
+    let found : IsSkimFound (pass_over c.args.stack.now.config c.args.pass.device.0 before) c.pieces.at c.pieces.skip n (again c.in-Err.fault) skip =
+    skipped-piece c.args.stack.now.config c.args.pass.device.0 before c.pieces.at here.count c.sectors-sectors.result n c.pieces.skip skip c.in-Err.fault (marks c.next_stretch-run.new.ahead.rest.now) c.in_ok-check_memory-in-Err.ensures.ok
+    (u.ahead ∙ subst (λ (h : Bool). marks_ahead c.pieces.ahead ≡ replicate here.count h ++ marks c.next_stretch-run.new.ahead.rest.now) c.if-run.false first) (c.requires.fits ∙ sym u.all) u.within
+    inside u.all (subst (λ (h : Bool). BeginsOtherwise h (marks c.next_stretch-run.new.ahead.rest.now)) c.if-run.false c.next_stretch-run.ensures.longest)
     (subst (λ (x : Configuration). EndsAligned x c.args.pass.device.0 c.pieces.at (c.pieces.at + here.count) 128 n) (c.config-else-run.ensures.value ∙ u.config) c.piece_at-piece.ensures.ends) skipped in
     let most : c.most_skip-most.result ≡ most_skip (size c.args.stack.now.config (mapped c.args.pass.device.0)) = c.most_skip-most.ensures.value ∙ ap most_skip u.all in
     let longer : c.longer_skip-skip.result ≡ longer_skip (most_skip (size c.args.stack.now.config (mapped c.args.pass.device.0))) c.pieces.skip = c.longer_skip-skip.ensures ∙ ap (λ (m : ℕ). longer_skip m c.pieces.skip) most in
     record {
       so_far = rw (same, longer) (skimming-skipped _ _ _ _ _ _ _ _ _ _ u.so_far n skip c.in-Err.fault c.read_bytes.new.self c.mark-in-Err.new.map found piece marked (rw same at c.in_ok-mark-in-Err.ensures.ok));
       called = piece_failed (length (take (n * 512) c.pieces.room) / 512) (c.from-count.result + skip) c.in-Err.fault u.called c.in-Err.ensures.given;
-      ahead = ahead-next before c.pieces.at (c.from-count.result + skip) _ _ _ (u.ahead ∙ sym c.next_run-run.ensures.same) c.pass-in-Err.ensures.marks;
+      ahead = ahead-next before c.pieces.at (c.from-count.result + skip) _ _ _ (u.ahead ∙ sym c.next_stretch-run.ensures.same) c.pass-in-Err.ensures.marks;
       config = c.in-Err.ensures.any.config ∙ u.config;
       within = omega (arith, inside, same, skipped, c.piece_at-piece.ensures.inside);
       all = u.all;
       few = u.few;
-      short = omega (arith, c.longer_skip-skip.ensures, c.most_skip-most.ensures.few);
       unfailed = u.unfailed;
-      single = λ none. c.pass-in-Err.ensures.rest ∙ c.next_run-run.ensures.single (u.single none);
     }
 
 pub returns-clause-ok : goal.returns-clause-ok

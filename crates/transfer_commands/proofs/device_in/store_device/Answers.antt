@@ -8,7 +8,7 @@ use Rattle.transfer_commands.proofs.device_in.store_device.Goals as goal
 
 pub returns-in_err-stack-clause-err : goal.returns-in_err-stack-clause-err
 returns-in_err-stack-clause-err g c =
-    err-from c.from_residual.result _ (Stack c.in_err-stack.field-0.0) c.from_residual.ensures.1 (inl (refl, c.in_err-stack.ensures.err))
+    err-from c.from_residual.result _ (Stack c.in_err-stack.field-0.0) c.from_residual.ensures.1 (inl (refl, rw c.no_use.ensures at c.in_err-stack.ensures.err))
 
 pub returns-in_err-say_stored-in-Ok-clause-err : goal.returns-in_err-say_stored-in-Ok-clause-err
 returns-in_err-say_stored-in-Ok-clause-err g c =
@@ -18,8 +18,8 @@ returns-in_err-say_stored-in-Ok-clause-err g c =
       record {
         at = device_place c.in_ok-stack.stack c.in_ok-stack.device.0;
         left = c.store-outcome.new.stack;
-        between = c.open_device.new.images;
-        found = c.in_ok-stack.ensures.ok;
+        between = c.open_device_apart.new.images;
+        found = rw c.no_use.ensures at c.in_ok-stack.ensures.ok;
         stored = c.in-Ok.ensures.ok;
         back = c.close_stack.ensures;
       },
@@ -32,8 +32,8 @@ returns-in_ok-say_stored-in-Ok-clause-ok g c = record {
   stored = record {
     at = device_place c.in_ok-stack.stack c.in_ok-stack.device.0;
     left = c.store-outcome.new.stack;
-    between = c.open_device.new.images;
-    found = c.in_ok-stack.ensures.ok;
+    between = c.open_device_apart.new.images;
+    found = rw c.no_use.ensures at c.in_ok-stack.ensures.ok;
     stored = c.in-Ok.ensures.ok;
     back = c.close_stack.ensures;
   };
@@ -44,8 +44,8 @@ pub returns-in-Err-clause-err : goal.returns-in-Err-clause-err
 returns-in-Err-clause-err g c = inr (inl (record {
   at = device_place c.in_ok-stack.stack c.in_ok-stack.device.0;
   left = c.store-outcome.new.stack;
-  between = c.open_device.new.images;
-  found = c.in_ok-stack.ensures.ok;
+  between = c.open_device_apart.new.images;
+  found = rw c.no_use.ensures at c.in_ok-stack.ensures.ok;
   fails = end-told c.in_ok-stack.device.0 (place_from c.args.target.first) _ _ _ c.in-Err.fault c.in-Err.ensures.err;
   quiet = refl;
   back = c.close_stack.ensures;

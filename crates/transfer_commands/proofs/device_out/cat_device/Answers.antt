@@ -10,14 +10,14 @@ use Rattle.transfer_commands.proofs.device_out.cat_device.Goals as goal
 
 pub returns-in_err-stack-clause-err : goal.returns-in_err-stack-clause-err
 returns-in_err-stack-clause-err g c =
-    err-from c.from_residual.result _ (Stack c.in_err-stack.field-0.0) c.from_residual.ensures.1 (inl (refl, c.in_err-stack.ensures.err))
+    err-from c.from_residual.result _ (Stack c.in_err-stack.field-0.0) c.from_residual.ensures.1 (inl (refl, rw c.no_use.ensures at c.in_err-stack.ensures.err))
 
 pub returns-in-Ok-clause-ok : goal.returns-in-Ok-clause-ok
 returns-in-Ok-clause-ok g c =
-    bytes-printed _ _ (device_place c.in_ok-stack.stack c.in_ok-stack.device.0) c.in_ok-stack.ensures.ok _ c.count_from-count.result _
+    bytes-printed _ _ (device_place c.in_ok-stack.stack c.in_ok-stack.device.0) (rw c.no_use.ensures at c.in_ok-stack.ensures.ok) _ c.count_from-count.result _
     (c.count_from-count.ensures ∙ ap (count_from c.args.wanted.count c.args.wanted.first) (c.sectors.ensures ∙ ap (λ (x : Configuration). size x (mapped c.in_ok-stack.device.0)) c.config.ensures.value)) _ _ _ c.in-Ok.ensures.ok
 
 pub returns-clause-err : goal.returns-clause-err
 returns-clause-err g c =
-    inr (cat-ends _ _ (device_place c.in_ok-stack.stack c.in_ok-stack.device.0) c.in_ok-stack.ensures.ok _ c.count_from-count.result _
+    inr (cat-ends _ _ (device_place c.in_ok-stack.stack c.in_ok-stack.device.0) (rw c.no_use.ensures at c.in_ok-stack.ensures.ok) _ c.count_from-count.result _
     (c.count_from-count.ensures ∙ ap (count_from c.args.wanted.count c.args.wanted.first) (c.sectors.ensures ∙ ap (λ (x : Configuration). size x (mapped c.in_ok-stack.device.0)) c.config.ensures.value)) _ _ _ _ _ c.in-Err.ensures.err)

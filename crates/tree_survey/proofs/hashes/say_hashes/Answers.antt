@@ -1,5 +1,6 @@
-use Rattle.std.proofs.Common.{◌≡◌, ◌-◌, ◌+◌, ℕ, arith, sym, subst}
-use Rattle.tree_survey.proofs.SayingLemmas.{IsSayingTree, tree-all, tree-next}
+use Rattle.std.proofs.Common.{◌≡◌, ◌-◌, ◌+◌, ℕ, arith, sym, subst, ap, ◌∙◌}
+use Rattle.tree_shape.specs.Shape.{levels}
+use Rattle.tree_survey.proofs.SayingLemmas.{IsSayingTree, saying-none, tree-all, tree-next}
 use Rattle.tree_survey.proofs.hashes.say_hashes.Goals as goal
 
 pub levels-preserved : goal.levels-preserved
@@ -19,3 +20,10 @@ pub returns-clause-ok : goal.returns-clause-ok
 returns-clause-ok g c =
     tree-all c.args.path.now c.levels.path (g.H.BlockDev.state c.args.device.now) (g.H.BlockDev.state c.levels.device) c.levels.level (g.L.Listing.told c.args.listing.now) (g.L.Listing.told c.levels.listing) c.levels.whole
     (omega (arith, c.levels-test.false)) c.levels.invariant.said
+
+pub levels-init : goal.levels-init
+levels-init g c = record {
+  few = omega arith;
+  said = saying-none c.args.path.now (g.H.BlockDev.state c.args.device.now) c.levels-level.result (g.L.Listing.told c.args.listing.now)
+      (c.levels-level.ensures.value ∙ ap levels c.requires.shape_is);
+}

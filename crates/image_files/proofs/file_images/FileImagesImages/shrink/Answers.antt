@@ -1,14 +1,14 @@
-use Rattle.std.proofs.Common.{◌≡◌, ◌*◌, ◌⊎◌, ℕ, Bool, true, false, List, Result, Ok, Err, IsErrAnd, inl, inr, refl, subst, sym, ◌∙◌}
+use Rattle.std.proofs.Common.{◌≡◌, ◌⊎◌, ℕ, Bool, true, false, List, Result, Ok, Err, IsErrAnd, inl, inr, refl, subst, sym, ◌∙◌}
 use Rattle.std.proofs.lemmas.Bool.{false≢true}
 use Rattle.std.specs.Prelude.{IsTrue}
 use Rattle.block_device.specs.declared.open_fault.OpenFault.{OpenFault}
 use Rattle.block_device.specs.FileId.{file_id, file_of}
-use Rattle.image_files.specs.FileRelations.{IsUnshrunk, Shrinks}
-use Rattle.image_files.proofs.FileLemmas.{locks_at_most, made}
+use Rattle.image_files.specs.FileRelations.{IsUnshrunk, OpenerState, Shrinks}
+use Rattle.image_files.proofs.FileLemmas.{locks_at_most, locks_opened, made}
 use Rattle.image_files.proofs.file_images.FileImagesImages.shrink.Goals as goal
 
 -- what is passed on of a fault
-passes : {C : Type 0} (old : C) (path : List ℕ) (n : ℕ) (result : Result (Unit {0}) OpenFault) (new : C) (fault : OpenFault) → IsErrAnd result (λ e. e ≡ fault) → IsUnshrunk path n fault → Shrinks old path n result new
+passes : {C : Type 0} (old : OpenerState C) (path : List ℕ) (n : ℕ) (result : Result (Unit {0}) OpenFault) (new : OpenerState C) (fault : OpenFault) → IsErrAnd result (λ e. e ≡ fault) → IsUnshrunk path n fault → Shrinks old path n result new
 passes old path n (Ok done) new fault is why = absurd is
 passes old path n (Err e) new fault is why = subst (IsUnshrunk path n) (sym is) why
 
@@ -17,7 +17,8 @@ returns-in_err-metadata g c = (
   made _ _ _,
   refl,
   inl refl,
-  passes c.args.self.now.texts.calls c.args.path.now c.args.sectors c.from_residual.result c.args.self.now.texts.calls c.in_err-metadata.field-0.0 c.from_residual.ensures.1
+  passes (record { calls = c.args.self.now.texts.calls; locked = c.args.self.now.locks.files.items }) c.args.path.now c.args.sectors c.from_residual.result
+      (record { calls = c.args.self.now.texts.calls; locked = c.args.self.now.locks.files.items }) c.in_err-metadata.field-0.0 c.from_residual.ensures.1
       (inl c.in_err-metadata.ensures.err),
 )
 
@@ -26,7 +27,8 @@ returns-in_err-file g c = (
   made _ _ _,
   refl,
   inl c.in_err-file.ensures.same,
-  passes c.args.self.now.texts.calls c.args.path.now c.args.sectors c.from_residual-in_err-file.result c.args.self.now.texts.calls c.in_err-file.field-0.0 c.from_residual-in_err-file.ensures.1
+  passes (record { calls = c.args.self.now.texts.calls; locked = c.args.self.now.locks.files.items }) c.args.path.now c.args.sectors c.from_residual-in_err-file.result
+      (record { calls = c.args.self.now.texts.calls; locked = c.open_file.new.locks.files.items }) c.in_err-file.field-0.0 c.from_residual-in_err-file.ensures.1
       (inr (inr (inl c.in_err-file.ensures.err))),
 )
 
@@ -35,7 +37,8 @@ returns-in_err-shorten g c = (
   made _ _ _,
   refl,
   locks_at_most true (file_id c.in_ok-file.file) c.args.self.now.locks.files.items c.open_file.new.locks.files.items c.in_ok-file.ensures.locked.0,
-  passes c.args.self.now.texts.calls c.args.path.now c.args.sectors c.from_residual-in_err-shorten.result c.args.self.now.texts.calls c.in_err-shorten.field-0.0 c.from_residual-in_err-shorten.ensures.1
+  passes (record { calls = c.args.self.now.texts.calls; locked = c.args.self.now.locks.files.items }) c.args.path.now c.args.sectors c.from_residual-in_err-shorten.result
+      (record { calls = c.args.self.now.texts.calls; locked = c.open_file.new.locks.files.items }) c.in_err-shorten.field-0.0 c.from_residual-in_err-shorten.ensures.1
       (inr (inr (inr (record { file = file_of c.in_ok-file.file; opened = c.in_ok-file.ensures.locked.1; refused = inl c.in_err-shorten.ensures.err })))),
 )
 
@@ -49,6 +52,7 @@ returns-in-Ok g c = (
     left = file_of c.shorten.new.self;
     synced = file_of c.sync.new.self;
     opened = c.in_ok-file.ensures.locked.1;
+    locks = locks_opened c.in_ok-file.file _ _ _ c.in_ok-file.ensures.size c.in_ok-file.ensures.locked.0;
     short = c.in_ok-shorten.ensures.short;
     syncs = c.in-Ok.ensures.call.1.0;
   }),

@@ -5,7 +5,9 @@ use Rattle.block_device.specs.Call.{DeviceDoes}
 use Rattle.stack_rules.specs.Names.{mapped}
 use Rattle.stack_lines.specs.declared.source.Source.TheVariants.{Below}
 use Rattle.stack_engine.specs.SectorCalls.{Gives}
-use Rattle.stack_engine.specs.Pieces.{PieceGives, answer_bytes}
+use Rattle.stack_engine.specs.Pieces.{PieceGives, ReadRestores, answer_bytes}
+use Rattle.stack_engine.specs.Backings.{served}
+use Rattle.stack_engine.proofs.lemmas.RestoredLemmas.{reads-grow}
 use Rattle.stack_engine.proofs.LeafCallLemmas.{makes-none, makes-as}
 use Rattle.stack_meaning.specs.declared.fault.IoFault.{IoFault}
 use Rattle.stack_meaning.specs.Found.{FoundRecord}
@@ -48,7 +50,7 @@ reads g c =
     subst (λ k. R k []) (count g c) (subst (R (length c.as_mut_slice.result.now / 512)) c.new-chains.ensures.items c.read_device.ensures.reads)
 
 piece : (g : given.Over) (c : goal.Joined-read_device g)
-    → EachPiece c.args.self.now c.args.d.0 c.args.first c.args.n c.match-read_device.result (stack_with c.self.inside.config (map g.D.BlockDev.state c.read_device.new.backing.devices.items) c.read_device.new.backing.cache.blocks)
+    → EachPiece c.args.self.now c.args.d.0 c.args.first c.args.n c.match-read_device.result (stack_with c.self.inside.config (map g.D.BlockDev.state c.read_device.new.backing.devices.items) c.read_device.new.backing.cache.blocks c.read_device.new.backing.restored)
 piece g c =
     let state = g.D.BlockDev.state in
     let config = c.self.inside.config in
@@ -76,7 +78,7 @@ piece g c =
       | in-Err-read_device w ↦ subst Alike (sym w.result-is) (λ failures. sym (ap (λ (r : Result Unit IoFault). failures_behind r failures) w.in-Err-read_device.is))
       | in-Ok-read_device w ↦ subst Alike (sym w.result-is) (λ failures. sym (ap (λ (r : Result Unit IoFault). failures_behind r failures) w.in-Ok-read_device.is))
     ] in
-    subst (λ (w : StackRecord). EachPiece w c.args.d.0 c.args.first c.args.n c.match-read_device.result (stack_with config new c.read_device.new.backing.cache.blocks)) c.self.view_is
+    subst (λ (w : StackRecord). EachPiece w c.args.d.0 c.args.first c.args.n c.match-read_device.result (stack_with config new c.read_device.new.backing.cache.blocks c.read_device.new.backing.restored)) c.self.view_is
     (each-piece config c.args.d.0 c.args.first c.args.n c.match-read_device.result got (asks-as c.match-read_device.result fault alike c.read_device.ensures.step.touches) {before = c.self.inside.backing.cache.blocks} {after = c.read_device.new.backing.cache.blocks} c.read_device.ensures.step.cached.capacity)
 
 pub invariant_of-self : goal.invariant_of-self
@@ -119,7 +121,7 @@ returns-in-Err-clause-spent g c = omega arith
 pub returns-clause-kept : goal.returns-clause-kept
 returns-clause-kept g c =
     let config = c.self.inside.config in
-    let after : StackRecord = stack_with config (map g.D.BlockDev.state c.read_device.new.backing.devices.items) c.read_device.new.backing.cache.blocks in
+    let after : StackRecord = stack_with config (map g.D.BlockDev.state c.read_device.new.backing.devices.items) c.read_device.new.backing.cache.blocks c.read_device.new.backing.restored in
     let none_met = subst (λ (n : ℕ). (MeetVerity (said_at config (mapped c.args.d.0)) c.args.first n → ⊥) → c.read_device.new.backing.cache ≡ c.self.inside.backing.cache) (count g c) c.read_device.ensures.step.same in
     subst (λ (w : StackRecord). ReadKeeps w c.args.d.0 c.args.first c.args.n after) c.self.view_is
     (record { same = λ none. ap (λ (k : StackCache). k.blocks.blocks) (none_met none); checked = cached-checked config c.read_device.ensures.step.cached.sound })
@@ -136,8 +138,8 @@ returns-clause-given g c =
     let config = c.self.inside.config in
     let devices = c.self.inside.backing.devices.items in
     let new = c.read_device.new.backing.devices.items in
-    let after : StackRecord = stack_with config (map state new) c.read_device.new.backing.cache.blocks in
-    let made = subst (λ (n : ℕ). Gives (DeviceDoes state does) config (Below (mapped c.args.d.0) c.args.first) n devices new (buffer_answer c.read_device.result c.read_device.new.out)) (count g c) c.read_device.ensures.given in
+    let after : StackRecord = stack_with config (map state new) c.read_device.new.backing.cache.blocks c.read_device.new.backing.restored in
+    let made = subst (λ (n : ℕ). Gives (DeviceDoes state does) config (Below (mapped c.args.d.0) c.args.first) n (served c.self.inside.backing) (served c.read_device.new.backing) (buffer_answer c.read_device.result c.read_device.new.out)) (count g c) c.read_device.ensures.given in
     let held : length c.read_device.new.out ≡ c.in-Ok.bytes.len = c.read_device.auto.out ∙ ap (λ (l : List ℕ). length l) c.as_mut_slice.ensures.value ∙ sym c.in-Ok.bytes.ok.0 in
     let Same : Result AnswerRecord IoFault → Type 0 = λ r. buffer_answer c.read_device.result c.read_device.new.out ≡ answer_bytes r in
     let same : Same c.match-read_device.result = elim c.match-read_device.branch [
@@ -146,10 +148,23 @@ returns-clause-given g c =
     ] in
     subst (λ (answer : Result (List ℕ) IoFault). PieceGives state does c.args.self.now (c.args.d.0, c.args.first) c.args.n answer after) same
     (subst (λ (w : StackRecord). PieceGives state does w (c.args.d.0, c.args.first) c.args.n (buffer_answer c.read_device.result c.read_device.new.out) after) c.self.view_is
-    (record { before = devices; after = new; was = refl; is = refl; made = makes-as (λ calls a. inr a) made }))
+    (record { before = devices; after = new; was = refl; is = refl; made = makes-as (λ calls a. inr a) made.made }))
 
 pub returns-in-Err-clause-given : goal.returns-in-Err-clause-given
 returns-in-Err-clause-given g c =
     let devices = c.self.inside.backing.devices.items in
     let same = ap (λ (w : StackRecord). w.leaves) c.self.view_is in
-    record { before = devices; after = devices; was = same; is = same; made = makes-none (inl (refl, refl)) }
+    record { before = devices; after = devices; was = same; is = same; made = makes-none (inl (refl, refl, refl)) }
+
+-- how many blocks were restored
+
+pub returns-clause-restored : goal.returns-clause-restored
+returns-clause-restored g c =
+    let config = c.self.inside.config in
+    let after : StackRecord = stack_with config (map g.D.BlockDev.state c.read_device.new.backing.devices.items) c.read_device.new.backing.cache.blocks c.read_device.new.backing.restored in
+    let none_met = subst (λ (n : ℕ). (MeetVerity (said_at config (mapped c.args.d.0)) c.args.first n → ⊥) → c.read_device.new.backing.restored ≡ c.self.inside.backing.restored) (count g c) c.read_device.ensures.step.uncounted in
+    subst (λ (w : StackRecord). ReadRestores w c.args.d.0 c.args.first c.args.n after) c.self.view_is
+    (record { grows = reads-grow c.read_device.ensures.given.made.are; same = none_met })
+
+pub returns-in-Err-clause-restored : goal.returns-in-Err-clause-restored
+returns-in-Err-clause-restored g c = record { grows = omega arith; same = λ none. refl }

@@ -1,0 +1,125 @@
+-- Reads over lines without parity restore nothing.
+use Rattle.std.proofs.Common.{◌≡◌, ℕ, ◌-◌, arith, List, Option, Some, None, Result, Ok, Err, inl, inr, refl, sym, ◌∙◌}
+use Rattle.dm_table.specs.declared.parity.Parity.{Parity}
+use Rattle.stack_rules.specs.Records.{Configuration}
+use Rattle.stack_meaning.specs.declared.fault.IoFault.{IoFault}
+use Rattle.stack_lines.specs.declared.source.Source.{Source}
+use Rattle.stack_lines.specs.declared.source.Source.TheVariants.{Below, Units, UnitPart, Zeros, Fails, Block, Blocks}
+use Rattle.stack_lines.specs.Sources.{ComeFrom, IsServed}
+use Rattle.block_device.specs.Call.{Call}
+use Rattle.block_device.specs.Device.{Device}
+use Rattle.dm_table.specs.declared.table.Line.{Line}
+use Rattle.stack_rules.specs.Lines.{IsLine}
+use Rattle.stack_engine.specs.LeafCalls.{LeafCall}
+use Rattle.stack_engine.specs.Pieces.{PieceGives}
+use Rattle.stack_engine.specs.Unrestored.{HasNoParity}
+use Rattle.stack_engine.specs.Restored.{restored_after}
+use Rattle.stack_engine.specs.SectorCalls.{DataPlace, block_of, blocks_of, data_of, hash_of, sectors_of, spare_of, sums_of, ReadOf, ReadCalls, leaf_read, leaf_unread, none_read, line_read, line_unread, units_read, units_unread, part_read, part_unread, zeros_read, fails_read, chain_found, data_read, data_unread, data_full, blocks_read, block_checked, block_differs, block_unread, block_full, hash_kept, hash_full, hash_lost, hash_read, way_down, way_stops, way_full, one_ignored, one_read, one_healed, next_ignored, next_checked, next_healed, next_differs, together_read, together_unread, blocks_end, blocks_next, blocks_full, spare_none, spare_full, spare_checked, spare_differs, spare_unread, sums_past, sums_added, sums_unread, parity_added, parity_unread}
+use Rattle.stack_engine.specs.Stacks.{StackRecord}
+
+-- the line of a part has none
+abbrev SourceHasNone : Source → Type 0
+SourceHasNone (Below lower first) = Unit {0}
+SourceHasNone (Units u) = Unit {0}
+SourceHasNone (UnitPart u) = Unit {0}
+SourceHasNone Zeros = Unit {0}
+SourceHasNone Fails = Unit {0}
+SourceHasNone (Block x) = x.verity.now.parity ≡ None
+SourceHasNone (Blocks x) = x.verity.now.parity ≡ None
+
+abbrev HasNone : ReadOf → Type 0
+HasNone (sectors_of source n) = SourceHasNone source
+HasNone (block_of x) = Unit {0}
+HasNone (hash_of x) = Unit {0}
+HasNone (data_of p l expected last next) = p.verity.parity ≡ None
+HasNone (blocks_of p left ahead) = p.verity.parity ≡ None
+HasNone (spare_of p expected) = p.verity.parity ≡ None
+HasNone (sums_of p q i sums) = ⊥
+
+come-none : (c : Configuration) (d l : ℕ) (line : Line) (w n : ℕ) (source : Source) → HasNoParity c → IsLine c d l line → ComeFrom c (d, l) line.target w n source → SourceHasNone source
+come-none c d l line w n (Below lower first) none is come = tt
+come-none c d l line w n (Units u) none is come = tt
+come-none c d l line w n (UnitPart u) none is come = tt
+come-none c d l line w n Zeros none is come = tt
+come-none c d l line w n Fails none is come = tt
+come-none c d l line w n (Block x) none is come = none d l x.verity.now (record { line = line; is = is; has = come.0; fits = omega arith })
+come-none c d l line w n (Blocks x) none is come = none d l x.verity.now (record { line = line; is = is; has = come.0; fits = omega arith })
+
+served-none : {c : Configuration} {d s n : ℕ} {source : Source} → HasNoParity c → IsServed c d s n source → SourceHasNone source
+served-none {c = c} {d = d} {s = s} {n = n} {source = source} none h = come-none c d h.number h.line (s - h.line.start) n source none h.is h.come
+
+clash : {parity : Option Parity} {q : Parity} {X : Type 0} → parity ≡ None → parity ≡ Some q → X
+clash none has = let other : None ≡ Some _ = sym none ∙ has in absurd cc
+
+abbrev IsVain : Result (List ℕ) IoFault → Type 0
+IsVain (Ok x) = ⊥
+IsVain (Err fault) = Unit {0}
+
+vain-same : (spare : Result (List ℕ) IoFault) (n : ℕ) → IsVain spare → restored_after spare n ≡ n
+vain-same (Ok x) n vain = absurd vain
+vain-same (Err fault) n vain = refl
+
+-- a spare isn't read
+spare-vain : {c : Configuration} {p : DataPlace} {expected : List ℕ} {calls : List LeafCall} {from to : ℕ} {spare : Result (List ℕ) IoFault} → p.verity.parity ≡ None → ReadCalls c (spare_of p expected) calls from to spare → (to ≡ from) × IsVain spare
+spare-vain none (spare_none p expected is) = (refl, tt)
+spare-vain none (spare_full p expected) = (refl, tt)
+spare-vain none (spare_checked has a good) = clash none has
+spare-vain none (spare_differs has a other) = clash none has
+spare-vain none (spare_unread has a) = clash none has
+
+reads-same : {c : Configuration} {what : ReadOf} {calls : List LeafCall} {from to : ℕ} {answer : Result (List ℕ) IoFault} → HasNoParity c → ReadCalls c what calls from to answer → HasNone what → to ≡ from
+reads-same none (leaf_read i s bytes) plain = refl
+reads-same none (leaf_unread i s bytes) plain = refl
+reads-same none (none_read d s) plain = refl
+reads-same none (line_read run a b) plain = reads-same none b tt ∙ reads-same none a (served-none none run.served)
+reads-same none (line_unread run a) plain = reads-same none a (served-none none run.served)
+reads-same none (units_read a) plain = reads-same none a tt
+reads-same none (units_unread a) plain = reads-same none a tt
+reads-same none (part_read n a) plain = reads-same none a tt
+reads-same none (part_unread n a) plain = reads-same none a tt
+reads-same none (zeros_read n) plain = refl
+reads-same none (fails_read n) plain = refl
+reads-same none (chain_found n chain number good) plain = refl
+reads-same none (data_read n a) plain = reads-same none a plain
+reads-same none (data_unread n a) plain = reads-same none a plain
+reads-same none (data_full n a) plain = reads-same none a plain
+reads-same none (blocks_read a) plain = reads-same none a plain
+reads-same none (block_checked a same) plain = reads-same none a tt
+reads-same none (block_differs a other) plain = reads-same none a tt
+reads-same none (block_unread a) plain = reads-same none a tt
+reads-same none (block_full x) plain = refl
+reads-same none (hash_kept x bytes is) plain = refl
+reads-same none (hash_full x) plain = refl
+reads-same none (hash_lost a) plain = reads-same none a tt
+reads-same none (hash_read a) plain = reads-same none a tt
+reads-same none (way_down a b) plain = reads-same none b plain ∙ reads-same none a tt
+reads-same none (way_stops last next a) plain = reads-same none a tt
+reads-same none (way_full p l expected last next) plain = refl
+reads-same none (one_ignored p expected last is) plain = refl
+reads-same none (one_read last used settled a) plain = reads-same none a tt
+reads-same none (one_healed last {spare = spare} used a b) plain = let vain = spare-vain plain b in vain-same spare _ vain.1 ∙ vain.0 ∙ reads-same none a tt
+reads-same none (next_ignored last is a) plain = reads-same none a plain
+reads-same none (next_checked block last used is a) plain = reads-same none a plain
+reads-same none (next_healed block last used len other a b) plain = absurd (spare-vain plain a).1
+reads-same none (next_differs left block ahead last used len other a) plain = (spare-vain plain a).0
+reads-same none (together_read used row a b) plain = reads-same none b plain ∙ reads-same none a tt
+reads-same none (together_unread used row a) plain = reads-same none a tt
+reads-same none (blocks_end p ahead) plain = refl
+reads-same none (blocks_next a) plain = reads-same none a plain
+reads-same none (blocks_full p left ahead) plain = refl
+reads-same none (spare_none p expected lacks) plain = refl
+reads-same none (spare_full p expected) plain = refl
+reads-same none (spare_checked has a good) plain = clash plain has
+reads-same none (spare_differs has a other) plain = clash plain has
+reads-same none (spare_unread has a) plain = clash plain has
+reads-same none (sums_past inside past a) plain = absurd plain
+reads-same none (sums_added inside at a b) plain = absurd plain
+reads-same none (sums_unread sums inside at a) plain = absurd plain
+reads-same none (parity_added sums on a) plain = absurd plain
+reads-same none (parity_unread sums on a) plain = absurd plain
+
+pub none-restored : {D : Type 0} (state : D → Device) (does : D → Call → D → Type 0) (w w' : StackRecord) (at : ℕ × ℕ) (n : ℕ) (answer : Result (List ℕ) IoFault) → HasNoParity w.config → PieceGives state does w at n answer w' → w'.restored ≡ w.restored
+none-restored state does w w' at n answer none h = elim h.made.are [
+  | inl short ↦ short.1
+  | inr a ↦ reads-same none a tt
+]

@@ -1,0 +1,72 @@
+-- The count of restored blocks.
+use Rattle.std.proofs.Common.{ℕ, ◌+◌, ◌-◌, ◌≤◌, Bool, true, false, List, Result, Ok, Err, arith}
+use Rattle.std.specs.Prelude.{◌^◌, nat_lt, if◌then◌else◌}
+use Rattle.stack_rules.specs.Records.{Configuration}
+use Rattle.stack_meaning.specs.declared.fault.IoFault.{IoFault}
+use Rattle.stack_engine.specs.LeafCalls.{LeafCall}
+use Rattle.stack_engine.specs.Restored.{one_more, restored_after}
+use Rattle.stack_engine.specs.SectorCalls.{ReadOf, ReadCalls, leaf_read, leaf_unread, none_read, line_read, line_unread, units_read, units_unread, part_read, part_unread, zeros_read, fails_read, chain_found, data_read, data_unread, data_full, blocks_read, block_checked, block_differs, block_unread, block_full, hash_kept, hash_full, hash_lost, hash_read, way_down, way_stops, way_full, one_ignored, one_read, one_healed, next_ignored, next_checked, next_healed, next_differs, together_read, together_unread, blocks_end, blocks_next, blocks_full, spare_none, spare_full, spare_checked, spare_differs, spare_unread, sums_past, sums_added, sums_unread, parity_added, parity_unread}
+
+-- it doesn't fall
+one-grows : (n : ℕ) → n ≤ one_more n
+one-grows n = go (nat_lt n (2 ^ 64 - 1))
+  where
+    go : (b : Bool) → n ≤ (if b then n + 1 else n)
+    go true = omega arith
+    go false = omega arith
+
+spare-grows : (spare : Result (List ℕ) IoFault) (n : ℕ) → n ≤ restored_after spare n
+spare-grows (Ok x) n = one-grows n
+spare-grows (Err fault) n = omega arith
+
+-- after a read it is no less than before
+pub reads-grow : {c : Configuration} {what : ReadOf} {calls : List LeafCall} {from to : ℕ} {answer : Result (List ℕ) IoFault} → ReadCalls c what calls from to answer → from ≤ to
+reads-grow (leaf_read i s bytes) = omega arith
+reads-grow (leaf_unread i s bytes) = omega arith
+reads-grow (none_read d s) = omega arith
+reads-grow (line_read run a b) = omega (arith, reads-grow a, reads-grow b)
+reads-grow (line_unread run a) = reads-grow a
+reads-grow (units_read a) = reads-grow a
+reads-grow (units_unread a) = reads-grow a
+reads-grow (part_read n a) = reads-grow a
+reads-grow (part_unread n a) = reads-grow a
+reads-grow (zeros_read n) = omega arith
+reads-grow (fails_read n) = omega arith
+reads-grow (chain_found n chain number good) = omega arith
+reads-grow (data_read n a) = reads-grow a
+reads-grow (data_unread n a) = reads-grow a
+reads-grow (data_full n a) = reads-grow a
+reads-grow (blocks_read a) = reads-grow a
+reads-grow (block_checked a same) = reads-grow a
+reads-grow (block_differs a other) = reads-grow a
+reads-grow (block_unread a) = reads-grow a
+reads-grow (block_full x) = omega arith
+reads-grow (hash_kept x bytes is) = omega arith
+reads-grow (hash_full x) = omega arith
+reads-grow (hash_lost a) = reads-grow a
+reads-grow (hash_read a) = reads-grow a
+reads-grow (way_down a b) = omega (arith, reads-grow a, reads-grow b)
+reads-grow (way_stops last next a) = reads-grow a
+reads-grow (way_full p l expected last next) = omega arith
+reads-grow (one_ignored p expected last is) = omega arith
+reads-grow (one_read last used settled a) = reads-grow a
+reads-grow (one_healed {to = to} last {spare = spare} used a b) = omega (arith, reads-grow a, reads-grow b, spare-grows spare to)
+reads-grow (next_ignored last is a) = reads-grow a
+reads-grow (next_checked block last used is a) = reads-grow a
+reads-grow (next_healed {mid = mid} block last used len other a b) = omega (arith, reads-grow a, reads-grow b, one-grows mid)
+reads-grow (next_differs left block ahead last used len other a) = reads-grow a
+reads-grow (together_read used row a b) = omega (arith, reads-grow a, reads-grow b)
+reads-grow (together_unread used row a) = reads-grow a
+reads-grow (blocks_end p ahead) = omega arith
+reads-grow (blocks_next a) = reads-grow a
+reads-grow (blocks_full p left ahead) = omega arith
+reads-grow (spare_none p expected none) = omega arith
+reads-grow (spare_full p expected) = omega arith
+reads-grow (spare_checked has a good) = reads-grow a
+reads-grow (spare_differs has a other) = reads-grow a
+reads-grow (spare_unread has a) = reads-grow a
+reads-grow (sums_past inside none a) = reads-grow a
+reads-grow (sums_added inside at a b) = omega (arith, reads-grow a, reads-grow b)
+reads-grow (sums_unread sums inside at a) = reads-grow a
+reads-grow (parity_added sums on a) = reads-grow a
+reads-grow (parity_unread sums on a) = reads-grow a

@@ -1,8 +1,0 @@
-use Rattle.std.proofs.Common.{inr}
-use Rattle.stack_files.proofs.OpeningLemmas.{err-from}
-use Rattle.stack_files.proofs.stack_file.open_stack.Goals as goal
-
-pub returns-in_err-leaves-clause-err : goal.returns-in_err-leaves-clause-err
-returns-in_err-leaves-clause-err g c =
-    err-from c.from_residual-in_err-leaves.result _ c.in_err-leaves.field-0.0 c.from_residual-in_err-leaves.ensures.1
-    (inr (record { text = c.in_ok-text.text; between = c.read_stack.new.images; told = c.in_ok-text.ensures.ok; fails = rw c.text_use.ensures at c.in_err-leaves.ensures.err }))
